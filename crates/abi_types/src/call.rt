@@ -1,0 +1,55 @@
+//! Calls of the kernel and what it answers.
+use crate::bytes::Bytes;
+use crate::descriptor::Denial;
+use crate::errno::Errno;
+use crate::items::TryClone;
+use std::alloc::AllocError;
+
+/// A call, as the registers and the memory of its thread spell it (docs/ABI.md has the numbers).
+#[derive(Debug, Drop)]
+pub enum Call {
+    /// Writes the bytes, at most 65,536, to the descriptor.
+    FdWrite { fd: u32, bytes: Bytes },
+    /// Ends the process with a code.
+    ProcExit { code: u32 },
+    /// A call of this number that is refused before the kernel looks at it.
+    Refused { number: u64, errno: Errno },
+}
+
+/// What a call answers: an error, two results that are 0 unless the error is `Success`, and why it was denied.
+#[derive(Clone, Copy, Debug, PartialEq, Eq)]
+pub struct Reply {
+    pub errno: Errno,
+    pub r1: u64,
+    pub r2: u64,
+    pub denial: Option<Denial>,
+}
+
+/// What the kernel answers to a call at once.
+#[derive(Clone, Copy, Debug, PartialEq, Eq)]
+pub enum Answer {
+    /// The call is done, with this reply.
+    Reply(Reply),
+}
+
+impl TryClone for Call {
+    fn copy(&self) -> Result<Self, AllocError> {
+        match self {
+            Call::FdWrite { fd, bytes } => Ok(Call::FdWrite {
+                fd: *fd,
+                bytes: bytes.copy()?,
+            }),
+            Call::ProcExit { code } => Ok(Call::ProcExit { code: *code }),
+            Call::Refused { number, errno } => Ok(Call::Refused {
+                number: *number,
+                errno: *errno,
+            }),
+        }
+    }
+}
+
+impl TryClone for Answer {
+    fn copy(&self) -> Result<Self, AllocError> {
+        Ok(*self)
+    }
+}

@@ -1,0 +1,31 @@
+//! The names, numbers and types of the host's interface: identifiers, errors, signals, rights, registers, calls and
+//! replies, and what a program reads from and writes to outside of itself (`outside`).
+//!
+//! CloudABI gives the names. The numbers and the layouts are this project's profile, in docs/ABI.md.
+#![tactic(auto)]
+
+pub use bytes::Bytes;
+pub use call::{Answer, Call, Reply};
+pub use descriptor::{Denial, Descriptor};
+pub use errno::Errno;
+pub use grant::{Grant, GrantList, GrantTarget};
+pub use ids::{ObjId, Pid, Tid, TidList};
+pub use items::{Items, TryClone};
+pub use prot::Prot;
+pub use regs::Regs;
+pub use rights::Rights;
+pub use signal::Signal;
+pub use status::Status;
+
+mod bytes;
+mod call;
+mod descriptor;
+mod errno;
+mod grant;
+mod ids;
+mod items;
+mod prot;
+mod regs;
+mod rights;
+mod signal;
+mod status;
