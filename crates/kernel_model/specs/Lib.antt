@@ -1,0 +1,9 @@
+pub mod State
+pub mod Codes
+pub mod View
+pub mod Reply
+pub mod Need
+pub mod Cases
+pub mod Release
+pub mod Step
+pub mod Valid
