@@ -1,6 +1,6 @@
 -- The rights that a call needs of its descriptors, and the refusals for want of a descriptor or of rights. They come
 -- before the call's own case, and are the same for all calls.
-use Rattle.std.specs.Prelude.{◌≡◌, ℕ, ◌==◌, ◌&&◌, ◌||◌, not, Bool, false, List, [], ◌∷◌, Option, None, Some, if◌then◌else◌}
+use Rattle.std.specs.Prelude.{◌==◌, ◌&&◌, ◌||◌, not, Bool, false, List, [], ◌∷◌, Option, None, Some, if◌then◌else◌}
 use Rattle.std.specs.FinMap.{get, contains_key}
 use Rattle.abi_types.specs.declared.call.Call.{Call}
 use Rattle.abi_types.specs.declared.call.Call.TheVariants.{FdWrite, ProcExit, Refused}

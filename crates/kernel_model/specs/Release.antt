@@ -1,5 +1,5 @@
 -- Which opens end because nothing holds them any more.
-use Rattle.std.specs.Prelude.{◌≡◌, ℕ, ◌==◌, ◌&&◌, not, Bool, false, is_some, if◌then◌else◌}
+use Rattle.std.specs.Prelude.{ℕ, ◌==◌, ◌&&◌, not, Bool, false, is_some, if◌then◌else◌}
 use Rattle.std.specs.FinMap.{get, retain_keys}
 use Rattle.abi_types.specs.declared.descriptor.Descriptor.{Descriptor}
 use Rattle.number_map.specs.Maps.{total}

@@ -1,5 +1,5 @@
 -- One step of the kernel: a call of a thread, or the end of a process from outside.
-use Rattle.std.specs.Prelude.{◌≡◌, ◌⊎◌, ℕ, ◌+◌, Bool, false, List, [], ◌∷◌, ◌++◌, Option, None, Some}
+use Rattle.std.specs.Prelude.{◌≡◌, ◌⊎◌, ℕ, ◌+◌, false, List, [], ◌∷◌, ◌++◌, Option, None, Some}
 use Rattle.std.specs.FinMap.{get}
 use Rattle.abi_types.specs.declared.call.Answer.{Answer}
 use Rattle.abi_types.specs.declared.call.Answer.TheVariants as answer
@@ -16,7 +16,7 @@ use Rattle.kernel_model.specs.Cases.{Outcome, answers, case_of, end_updates}
 use Rattle.kernel_model.specs.Need.{need, refusal}
 use Rattle.kernel_model.specs.Release.{release, is_released}
 use Rattle.kernel_model.specs.Reply.{refused}
-use Rattle.kernel_model.specs.State.{State, Table, Part, at_clock, at_proc, at_status, at_open, at_term, has_part, Agree, put_all}
+use Rattle.kernel_model.specs.State.{State, Table, Part, at_clock, at_proc, at_status, at_open, at_term, has_part, put_all}
 use Rattle.kernel_model.specs.View.{View, restrict}
 
 -- each entry of the history takes 1000 nanoseconds

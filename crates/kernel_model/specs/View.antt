@@ -1,9 +1,9 @@
 -- What a call may read of a state: the values of some parts, and nothing of the others.
-use Rattle.std.specs.Prelude.{◌≡◌, ℕ, Bool, List, Option, None, if◌then◌else◌}
+use Rattle.std.specs.Prelude.{ℕ, Bool, List, Option, None, if◌then◌else◌}
 use Rattle.std.specs.FinMap.{get}
 use Rattle.abi_types.specs.declared.open_kind.OpenKind.{OpenKind}
 use Rattle.abi_types.specs.declared.status.Status.{Status}
-use Rattle.kernel_model.specs.State.{State, Table, Threads, Part, at_clock, at_proc, at_status, at_open, at_term, has_part}
+use Rattle.kernel_model.specs.State.{State, Table, Threads, Part, at_proc, at_status, at_open, at_term, has_part}
 
 -- what is seen of a state: the moment, and for each number the value of its part, where that is seen
 pub record View : Type 0 where

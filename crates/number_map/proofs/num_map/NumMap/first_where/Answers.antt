@@ -1,4 +1,4 @@
-use Rattle.std.proofs.Common.{◌≡◌, Bool, cond, false, true, refl, sym, ap, Some, ◌∙◌}
+use Rattle.std.proofs.Common.{cond, false, true, refl, sym, ap, Some, ◌∙◌}
 use Rattle.number_map.specs.Maps.{first_key}
 use Rattle.number_map.proofs.Entries.{least_of_entries}
 use Rattle.number_map.proofs.num_map.NumMap.first_where.Goals as goal

@@ -1,0 +1,6 @@
+pub mod Decisions
+pub mod Parts
+pub mod Refusals
+pub mod Sights
+pub mod Touches
+pub mod Valids
