@@ -29,7 +29,7 @@ pub fn end_keeps()
     ensures { EndKeeps }
 {}
 
-/// A call that answers an error changes only the clock of a valid state.
+/// A call that answers an error, want of memory among them, changes only the clock of a valid state.
 pub fn error_keeps()
     ensures { ErrorKeeps }
 {}
