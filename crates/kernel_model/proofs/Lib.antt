@@ -4,3 +4,4 @@ pub mod Refusals
 pub mod Sights
 pub mod Touches
 pub mod Valids
+pub mod Starts

@@ -22,10 +22,10 @@ use Rattle.kernel_model.specs.Step.{tick, sight, unless, act_on, unreleased, ste
 use Rattle.kernel_model.specs.Valid.{IsNamed, HasBehind, IsValid}
 use Rattle.kernel_model.specs.View.{View, restrict}
 
-none_is_no : {X : Type 0} (x : X) → None ≢ Some x
+pub none_is_no : {X : Type 0} (x : X) → None ≢ Some x
 none_is_no x e = subst T (ap is_some (sym e)) tt
 
-not_true : false ≢ true
+pub not_true : false ≢ true
 not_true e = subst T (sym e) tt
 
 -- ---- validity before the release
@@ -150,7 +150,7 @@ some_inserted m k x q h =
     ]
 
 -- two maps with the same keys still have the same keys with one more
-same_keys_inserted : {X Y : Type 0} (m : FinMap nat_cmp X) (n : FinMap nat_cmp Y) (k : ℕ) (x : X) (y : Y)
+pub same_keys_inserted : {X Y : Type 0} (m : FinMap nat_cmp X) (n : FinMap nat_cmp Y) (k : ℕ) (x : X) (y : Y)
     → ((q : ℕ) → is_some (get m q) ≡ is_some (get n q)) → (q : ℕ) → is_some (get (insert m k x) q) ≡ is_some (get (insert n k y) q)
 same_keys_inserted m n k x y same q =
     elim (eqb_tells q k) [
@@ -170,7 +170,7 @@ set_term_nearly_valid S k bytes v = record {
 
 -- ---- the end of a process
 
-same_some : {X : Type 0} (x y : X) (o : Option X) → o ≡ Some x → o ≡ Some y → x ≡ y
+pub same_some : {X : Type 0} (x y : X) (o : Option X) → o ≡ Some x → o ≡ Some y → x ≡ y
 same_some x y o a b = let both : Some x ≡ Some y = sym a ∙ b in cc
 
 -- a descriptor of a process after one is emptied was there before
