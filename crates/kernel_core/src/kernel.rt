@@ -4,16 +4,20 @@ ghost use Rattle.std.specs.FinMap as map;
 ghost use Rattle.kernel_core.specs.Kernel.{terms_after};
 ghost use Rattle.kernel_model.specs.Cases.{write_term, write_open, fd_write, end_updates};
 ghost use Rattle.kernel_model.specs.Release.{release};
+ghost use Rattle.kernel_model.specs.Start.{AreGrants, start_state};
 ghost use Rattle.kernel_model.specs.State.{put_all, Table};
 ghost use Rattle.kernel_model.specs.Step.{act, tick, MayLackMemory, IsStep, end_state};
+ghost use Rattle.kernel_model.specs.Valid.{IsValid};
 ghost use Rattle.kernel_model.specs.View.{whole};
 
+use crate::launch::Launch;
 use crate::needs::{need, refusal, refused, success};
 use crate::objects::Objects;
+use crate::start::{granted, single, unwritten};
 use crate::table::{Table as Descriptors, let_go_all};
 use abi_types::{Answer, Bytes, Call, Errno, OpenKind, Pid, Reply, Status, Thread, Tid};
 use number_map::NumMap;
-use std::alloc::AllocError;
+use std::alloc::{AllocError, Global};
 use std::marker::Model;
 
 /// The state of the kernel, in contracts a `State` (docs/MODEL.md), which is always valid.
@@ -59,6 +63,25 @@ fn write_term(terms: &mut NumMap<Bytes>, which: u32, bytes: &Bytes) -> Result<Re
 }
 
 impl Kernel {
+    /// The state that a launch starts from: process 0 is live with thread 1 and the granted descriptors, numbered from 0,
+    /// and nothing was written yet. `Err` where memory is wanting.
+    pub fn start(alloc: Global, launch: &Launch) -> Result<Kernel, AllocError>
+        requires { AreGrants launch.now.grants }
+        ensures state { IfOk result (λ kernel. kernel ≡ start_state launch.now.grants) }
+        ensures valid { IfOk result IsValid }
+    {
+        let (table, objects) = granted(alloc, launch.grants.as_slice())?;
+        let thread = single(alloc, 1, Thread::Runnable)?;
+        Ok(Kernel {
+            clock: 0,
+            tables: single(alloc, 0, table)?,
+            threads: single(alloc, 0, thread)?,
+            statuses: single(alloc, 0, Status::Live)?,
+            objects,
+            terms: unwritten(alloc)?,
+        })
+    }
+
     /// Ends a process: it has this status, no descriptor and no thread, and what nothing holds any more ends.
     fn end_process(&mut self, pid: Pid, status: Status)
         requires { IsSome (map.get self.old.statuses pid) }
