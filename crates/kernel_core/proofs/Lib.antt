@@ -5,3 +5,4 @@ pub mod Ends
 pub mod Streams
 pub mod Acts
 pub mod Starts
+pub mod Steps
