@@ -19,6 +19,7 @@ use Rattle.kernel_model.specs.Cases.{Outcome}
 use Rattle.kernel_model.specs.Laws.{HasSameSight, HasAll, IsFirstLack, IsOfFirstLack}
 use Rattle.kernel_model.specs.Need.{need, missing}
 use Rattle.kernel_model.specs.Reply.{refused, denied}
+use Rattle.kernel_model.specs.Start.{AreGrants}
 use Rattle.kernel_model.specs.State.{State, Table}
 use Rattle.kernel_model.specs.Step.{tick, outcome, step_reply, step_state, IsStep}
 use Rattle.kernel_model.specs.Valid.{IsValid}
@@ -26,11 +27,11 @@ use Rattle.kernel_model.proofs.Decisions.{sight_decides}
 use Rattle.kernel_model.proofs.Refusals.{first_lack_is_named, denial_is_of_first_lack, error_keeps}
 use Rattle.kernel_model.proofs.Tests.{none_is_no}
 use Rattle.kernel_model.proofs.Touches as touches
-use Rattle.run_model.specs.Confined.{MayAnswer, IsDenied, CallIsConfined, ActIsConfined, EntryIsConfined}
+use Rattle.run_model.specs.Confined.{MayAnswer, IsDenied, CallIsConfined, ActIsConfined, EntryIsConfined, IsConfined}
 use Rattle.run_model.specs.Legal.{FitsAct, Fits, Legal}
 use Rattle.run_model.specs.World.{World, Guest, start_world, guest_of, called_state, turned, acted, apply, world}
 use Rattle.run_model.proofs.Histories.{apply_is, legal_front, legal_next}
-use Rattle.run_model.proofs.Worlds.{legal_valid}
+use Rattle.run_model.proofs.Worlds.{world_is_valid}
 
 call_reads : (S : State) (p : ℕ) (call : Call) (given : Answer) (T U : State) → IsStep S p call given T → HasSameSight S U p call → MayAnswer U p call given
 call_reads S p call given T U (inl done) same =
@@ -76,8 +77,10 @@ entry_confined w e valid fits =
     subst (λ (v : World). ActIsConfined w.state e.pid e.act v.state) (sym (apply_is w e))
     (act_confined (turned w e.pid e.turns) e.pid e.tid (guest_of w e.pid) e.turns e.act valid fits.act)
 
--- each entry of a legal history is confined, if the launch begins with a valid state
-pub legal_confined : (launch : Launch) (front : List Entry) (e : Entry) (rest : List Entry) → IsValid (start_world launch).state
-    → Legal launch (front ++ e ∷ rest) → EntryIsConfined (world launch front) e
-legal_confined launch front e rest start legal =
-    entry_confined (world launch front) e (legal_valid launch front start (legal_front launch front (e ∷ rest) legal)) (legal_next launch front e rest legal)
+legal_entry : (launch : Launch) (front : List Entry) (e : Entry) (rest : List Entry) → AreGrants launch.grants → Legal launch (front ++ e ∷ rest)
+    → EntryIsConfined (world launch front) e
+legal_entry launch front e rest grants legal =
+    entry_confined (world launch front) e (world_is_valid launch front grants (legal_front launch front (e ∷ rest) legal)) (legal_next launch front e rest legal)
+
+pub legal_is_confined : (launch : Launch) (history : List Entry) → Legal launch history → AreGrants launch.grants → IsConfined launch history
+legal_is_confined launch history legal grants front e rest splits = legal_entry launch front e rest grants (subst (Legal launch) splits legal)

@@ -6,8 +6,10 @@ use Rattle.kernel_core.specs.declared.history.Act.{Act}
 use Rattle.kernel_core.specs.declared.history.Act.TheVariants as act
 use Rattle.kernel_core.specs.declared.history.Entry.{Entry}
 use Rattle.kernel_core.specs.declared.launch.Launch.{Launch}
+use Rattle.kernel_model.specs.Start.{AreGrants}
 use Rattle.kernel_model.specs.State.{State}
 use Rattle.kernel_model.specs.Valid.{IsValid}
+use Rattle.kernel_model.proofs.Starts.{start_valid}
 use Rattle.kernel_model.proofs.Valids.{step_keeps_valid, end_valid}
 use Rattle.number_map.specs.Maps.{get-insert-other}
 use Rattle.run_model.specs.Legal.{FitsAct, Fits, FollowsFrom, Legal}
@@ -34,10 +36,13 @@ unfolding FollowsFrom apply_all
 follows_valid w [] follows valid = valid
 follows_valid w (e ∷ history) follows valid = follows_valid (apply w e) history follows.1 (apply_valid w e follows.0 valid)
 
--- a legal history leaves a valid state, if the launch begins with one
-pub legal_valid : (launch : Launch) (history : List Entry) → IsValid (start_world launch).state → Legal launch history → IsValid (world launch history).state
+legal_valid : (launch : Launch) (history : List Entry) → IsValid (start_world launch).state → Legal launch history → IsValid (world launch history).state
 unfolding Legal world
 legal_valid launch history start legal = follows_valid (start_world launch) history legal start
+
+pub world_is_valid : (launch : Launch) (history : List Entry) → AreGrants launch.grants → Legal launch history → IsValid (world launch history).state
+world_is_valid launch history grants legal =
+    legal_valid launch history (subst IsValid (sym (first_state launch)) (start_valid launch.grants grants)) legal
 
 -- ---- the clock
 
