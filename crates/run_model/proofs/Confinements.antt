@@ -1,5 +1,5 @@
 -- Each entry of a legal history is confined.
-use Rattle.std.proofs.Common.{◌≡◌, ◌≢◌, inl, inr, ℕ, List, ◌∷◌, ◌++◌, Some, refl, sym, ap, subst, ◌∙◌}
+use Rattle.std.proofs.Common.{◌≡◌, inl, inr, ℕ, List, ◌∷◌, ◌++◌, Some, refl, sym, ap, subst, ◌∙◌}
 use Rattle.std.specs.FinMap.{get}
 use Rattle.abi_types.specs.declared.call.Answer.{Answer}
 use Rattle.abi_types.specs.declared.call.Answer.TheVariants as answer
@@ -7,7 +7,7 @@ use Rattle.abi_types.specs.declared.call.Call.{Call}
 use Rattle.abi_types.specs.declared.call.Reply.{Reply}
 use Rattle.abi_types.specs.declared.descriptor.Denial.{Denial}
 use Rattle.abi_types.specs.declared.descriptor.Descriptor.{Descriptor}
-use Rattle.abi_types.specs.declared.errno.Errno.TheVariants.{Success, Nomem}
+use Rattle.abi_types.specs.declared.errno.Errno.TheVariants.{Nomem}
 use Rattle.abi_types.specs.declared.needed.Needed.{Needed}
 use Rattle.abi_types.specs.declared.signal.Signal.TheVariants.{Xcpu}
 use Rattle.abi_types.specs.declared.status.Status.TheVariants.{Killed}
@@ -18,10 +18,10 @@ use Rattle.kernel_core.specs.declared.launch.Launch.{Launch}
 use Rattle.kernel_model.specs.Cases.{Outcome}
 use Rattle.kernel_model.specs.Laws.{HasSameSight, HasAll, IsFirstLack, IsOfFirstLack}
 use Rattle.kernel_model.specs.Need.{need, missing}
-use Rattle.kernel_model.specs.Reply.{refused, denied}
+use Rattle.kernel_model.specs.Reply.{refused}
 use Rattle.kernel_model.specs.Start.{AreGrants}
 use Rattle.kernel_model.specs.State.{State, Table}
-use Rattle.kernel_model.specs.Step.{tick, outcome, step_reply, step_state, IsStep}
+use Rattle.kernel_model.specs.Step.{tick, step_reply, step_state, IsStep}
 use Rattle.kernel_model.specs.Valid.{IsValid}
 use Rattle.kernel_model.proofs.Decisions.{sight_decides}
 use Rattle.kernel_model.proofs.Refusals.{first_lack_is_named, denial_is_of_first_lack, error_keeps}
@@ -29,7 +29,7 @@ use Rattle.kernel_model.proofs.Tests.{none_is_no}
 use Rattle.kernel_model.proofs.Touches as touches
 use Rattle.run_model.specs.Confined.{MayAnswer, IsDenied, CallIsConfined, ActIsConfined, EntryIsConfined, IsConfined}
 use Rattle.run_model.specs.Legal.{FitsAct, Fits, Legal}
-use Rattle.run_model.specs.World.{World, Guest, start_world, guest_of, called_state, turned, acted, apply, world}
+use Rattle.run_model.specs.World.{World, Guest, guest_of, called_state, turned, acted, world}
 use Rattle.run_model.proofs.Histories.{apply_is, legal_front, legal_next}
 use Rattle.run_model.proofs.Worlds.{world_is_valid}
 

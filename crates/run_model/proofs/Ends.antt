@@ -1,14 +1,13 @@
 -- Where a run is ended or stalled no entry fits, and how long a history may be.
-use Rattle.std.proofs.Common.{◌≡◌, ◌≢◌, ◌⊎◌, inl, inr, ℕ, zero, suc, ◌+◌, ◌-◌, ◌<◌, ◌≤◌, List, [], ◌∷◌, ◌++◌, length, Some, None, refl, sym, ap, subst, ◌∙◌, arith, length-append}
+use Rattle.std.proofs.Common.{◌≡◌, ◌≢◌, ◌⊎◌, inl, inr, ℕ, ◌+◌, ◌-◌, ◌<◌, ◌≤◌, List, [], ◌∷◌, length, Some, refl, sym, ap, subst, ◌∙◌, arith}
 use Rattle.std.proofs.lemmas.Bool.Decides.{eqb_tells}
 use Rattle.std.specs.Ordering.{nat_cmp}
-use Rattle.std.specs.FinMap.{empty, get, get-empty, insert}
+use Rattle.std.specs.FinMap.{empty, get, get-empty}
 use Rattle.abi_types.specs.declared.call.Answer.{Answer}
 use Rattle.abi_types.specs.declared.call.Answer.TheVariants as answer
 use Rattle.abi_types.specs.declared.call.Call.{Call}
 use Rattle.abi_types.specs.declared.signal.Signal.{Signal}
 use Rattle.abi_types.specs.declared.signal.Signal.TheVariants.{Xcpu}
-use Rattle.abi_types.specs.declared.status.Status.{Status}
 use Rattle.abi_types.specs.declared.status.Status.TheVariants.{Live, Killed}
 use Rattle.abi_types.specs.declared.thread.Thread.{Thread}
 use Rattle.abi_types.specs.declared.thread.Thread.TheVariants.{Runnable}
@@ -22,11 +21,11 @@ use Rattle.kernel_model.proofs.Tests.{none_is_no}
 use Rattle.number_map.specs.Maps.{get-insert-same, get-insert-other}
 use Rattle.rv_interp.specs.declared.turns.TurnEnd.{TurnEnd}
 use Rattle.rv_interp.specs.declared.turns.TurnEnd.TheVariants.{Ecall, Trap}
-use Rattle.run_model.specs.Ends.{NoneLive, Ended, IsParked, HasThread, AllParked, Stalled}
-use Rattle.run_model.specs.Legal.{IsRunnable, MayTurn, AreWhole, LastEnds, FitsAct, Fits, FollowsFrom, Legal}
-use Rattle.run_model.specs.World.{World, Guest, first_guest, start_world, guest_of, or_no_guest, with_registers, with_guest, called_guest, called_state, turned_guest, turned_guest_by, turned, acted, apply, world}
+use Rattle.run_model.specs.Ends.{NoneLive, Ended, IsParked, Stalled}
+use Rattle.run_model.specs.Legal.{IsRunnable, LastEnds, FitsAct, Fits, FollowsFrom, Legal}
+use Rattle.run_model.specs.World.{World, Guest, start_world, guest_of, or_no_guest, called_guest, called_state, turned_guest, turned_guest_by, turned, acted, apply, world}
 use Rattle.run_model.proofs.Calls.{only_own_status, end_only_own_status, ended_by}
-use Rattle.run_model.proofs.Histories.{apply_is, guest_set, guest_turned, turned_more, first_guest_is}
+use Rattle.run_model.proofs.Histories.{apply_is, guest_turned, turned_more, first_guest_is}
 
 -- ---- the run is ended or stalled
 
