@@ -3,18 +3,17 @@
 --     threads_stay, only_own_status, clock_moves      what a step leaves of threads, statuses and the clock
 --     exit_ends, exit_not_live, ended_by      a process that exits or is ended is not live
 --     end_only_own_status, end_clock_moves      what the end of a process leaves of statuses and the clock
-use Rattle.std.proofs.Common.{◌≡◌, ◌≢◌, ◌⊎◌, inl, inr, ℕ, ◌+◌, ◌-◌, ◌==◌, min, nat_lt, Bool, true, false, cond, List, [], ◌∷◌, ◌++◌, Option, Some, None, IsSome, Result, Ok, Err, refl, sym, ap, subst, ◌∙◌}
+use Rattle.std.proofs.Common.{◌≡◌, ◌≢◌, ◌⊎◌, inl, inr, ℕ, ◌+◌, ◌==◌, nat_lt, Bool, true, false, cond, List, [], ◌∷◌, ◌++◌, Option, Some, None, IsSome, Result, Ok, Err, refl, sym, ap, subst, ◌∙◌}
 use Rattle.std.specs.Prelude.{slice_index}
 use Rattle.std.specs.FinMap.{get}
 use Rattle.abi_types.specs.declared.call.Answer.{Answer}
-use Rattle.abi_types.specs.declared.call.Answer.TheVariants as answer
 use Rattle.abi_types.specs.declared.call.Call.{Call}
 use Rattle.abi_types.specs.declared.call.Call.TheVariants.{FdWrite, ProcExit, Refused}
 use Rattle.abi_types.specs.declared.call.Reply.{Reply}
 use Rattle.abi_types.specs.declared.descriptor.Denial.{Denial}
 use Rattle.abi_types.specs.declared.descriptor.Descriptor.{Descriptor}
 use Rattle.abi_types.specs.declared.errno.Errno.{Errno}
-use Rattle.abi_types.specs.declared.errno.Errno.TheVariants.{Success, Badf, Fault, Inval, Nomem, Nosys, Notcapable}
+use Rattle.abi_types.specs.declared.errno.Errno.TheVariants.{Success, Badf, Inval, Nomem, Nosys, Notcapable}
 use Rattle.abi_types.specs.declared.open_kind.OpenKind.{OpenKind}
 use Rattle.abi_types.specs.declared.open_kind.OpenKind.TheVariants.{Terminal}
 use Rattle.abi_types.specs.declared.status.Status.{Status}
@@ -30,7 +29,7 @@ use Rattle.kernel_model.proofs.Sights.{outcome_reads, outcome_of_table}
 use Rattle.number_map.specs.Maps.{get-insert-same, get-insert-other}
 use Rattle.rv_interp.specs.declared.memory.MemFault.{MemFault}
 use Rattle.rv_interp.specs.Page.{Pages}
-use Rattle.run_model.specs.Args.{argument, low, gathered_in, ranges_at, fd_write_with, fd_write_of, call_of, args_of}
+use Rattle.run_model.specs.Args.{argument, low, gathered_in, ranges_at, fd_write_with, fd_write_of, args_of}
 use Rattle.run_model.specs.World.{by_errno, called_state}
 
 -- ---- no reply but the allowed one is want of memory

@@ -1,2 +1,5 @@
 pub mod Calls
+pub mod Confinements
+pub mod Ends
 pub mod Histories
+pub mod Worlds
