@@ -24,6 +24,7 @@ mod errno;
 mod grant;
 mod ids;
 mod items;
+pub mod outside;
 mod prot;
 mod regs;
 mod rights;
