@@ -2,6 +2,7 @@
 ghost use Rattle.std.specs.Prelude.{◌≡◌, ◌≢◌, ◌≤◌, ℕ, List, length, IfOk, IsErr, OnOk, OnErr};
 ghost use Rattle.abi_types.specs.Outside.Source.{Lacking, Rose, IsWhole, IsLongerThan};
 ghost use Rattle.abi_types.specs.Outside.Sink.{grown, GrewByPrefix};
+ghost use Rattle.abi_types.specs.declared.outside.whole.ReadFault.TheVariants.{Failed as read_failed, NoMemory};
 
 use crate::bytes::Bytes;
 use crate::outside::sink::Sink;
@@ -25,6 +26,22 @@ pub enum ReadFault {
     NoMemory,
 }
 
+impl From<Failed> for ReadFault {
+    ghost from_gives = { λ _ fault. fault ≡ read_failed };
+
+    fn from(_failed: Failed) -> ReadFault {
+        ReadFault::Failed
+    }
+}
+
+impl From<AllocError> for ReadFault {
+    ghost from_gives = { λ _ fault. fault ≡ NoMemory };
+
+    fn from(_error: AllocError) -> ReadFault {
+        ReadFault::NoMemory
+    }
+}
+
 /// Reads all bytes of an input, in pieces, until a read gives none. At most `INPUT_LIMIT` bytes are accepted, so a
 /// source that never ends comes to `TooLong`.
 pub fn read_whole<S: Source>(alloc: Global, source: &mut S, name: &str) -> Result<Bytes, ReadFault>
@@ -41,18 +58,14 @@ pub fn read_whole<S: Source>(alloc: Global, source: &mut S, name: &str) -> Resul
     let mut buffer = [0u8; PIECE];
     let mut bytes = Bytes::new(alloc);
     loop {
-        let Ok(count) = source.read_at(name, bytes.len() as u64, &mut buffer) else {
-            return Err(ReadFault::Failed);
-        };
+        let count = source.read_at(name, bytes.len() as u64, &mut buffer)?;
         if count == 0 {
             return Ok(bytes);
         }
         if count > INPUT_LIMIT - bytes.len() {
             return Err(ReadFault::TooLong);
         }
-        if bytes.append(&buffer[..count]).is_err() {
-            return Err(ReadFault::NoMemory);
-        }
+        bytes.append(&buffer[..count])?;
     }
 }
 
