@@ -1,8 +1,8 @@
 -- Writes of a piece, part after part.
-use Rattle.std.proofs.Common.{◌≡◌, ◌+◌, ◌-◌, ◌≤◌, ◌∙◌, ℕ, List, [], ◌++◌, length, take, drop, ap, sym, refl, append_assoc, append-nil, arith, length-drop}
+use Rattle.std.proofs.Common.{◌≡◌, ◌+◌, ◌-◌, ◌≤◌, ◌∙◌, ℕ, List, [], ◌++◌, length, take, drop, min, ap, sym, refl, append_assoc, append-nil, arith, length-drop}
 use Rattle.std.specs.Prelude.{Option, None, Some, Result, Ok, Err, OnErr}
-use Rattle.std.proofs.Math.Seq.{take-add}
-use Rattle.std.proofs.lemmas.List.{take_all}
+use Rattle.std.proofs.Math.Seq.{take-add, take-append-add}
+use Rattle.std.proofs.lemmas.List.{take_all, take_min}
 use Rattle.abi_types.specs.Outside.Sink.{grown, GrewByPrefix}
 
 -- bytes after bytes
@@ -48,3 +48,11 @@ part_failed before between after piece done first more =
 pub for_err : {T E P : Type 0} (r : Result T E) → P → OnErr r P
 for_err (Ok v) p = tt
 for_err (Err e) p = p
+
+-- as much of a piece as there is room for, after what is held
+pub held_within : (held piece after : List ℕ) (room size count : ℕ) → after ≡ held ++ take count piece →
+                  count ≡ min (room - size) (length piece) → size ≡ length held → size ≤ room → after ≡ take room (held ++ piece)
+held_within held piece after room size count appended counts at early =
+    let fill : room ≡ length held + (room - size) = omega arith in
+    let part : take count piece ≡ take (room - size) piece = ap (λ n. take n piece) counts ∙ take_min (room - size) piece in
+    appended ∙ ap (λ xs. held ++ xs) part ∙ sym (take-append-add held piece (room - size)) ∙ ap (λ n. take n (held ++ piece)) (sym fill)
