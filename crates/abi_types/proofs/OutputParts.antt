@@ -29,8 +29,8 @@ within_piece piece done count early fits = omega (arith, ap length (left_is piec
 
 -- a part of what is left of a piece, after the part that was written
 pub part_written : (before between after : Option (List ℕ)) (piece : List ℕ) (done count : ℕ) →
-                   between ≡ grown before (take done piece) → after ≡ grown between (take count (left piece done)) →
-                   after ≡ grown before (take (done + count) piece)
+    between ≡ grown before (take done piece) → after ≡ grown between (take count (left piece done)) →
+    after ≡ grown before (take (done + count) piece)
 part_written before between after piece done count first more =
     more ∙ ap (λ b. grown b (take count (left piece done))) first
     ∙ ap (λ xs. grown (grown before (take done piece)) (take count xs)) (left_is piece done)
@@ -39,8 +39,8 @@ part_written before between after piece done count first more =
 
 -- a write that failed within what is left failed within the piece
 pub part_failed : (before between after : Option (List ℕ)) (piece : List ℕ) (done : ℕ) →
-                  between ≡ grown before (take done piece) → GrewByPrefix between after (left piece done) →
-                  GrewByPrefix before after piece
+    between ≡ grown before (take done piece) → GrewByPrefix between after (left piece done) →
+    GrewByPrefix before after piece
 part_failed before between after piece done first more =
     record { count = done + more.count; grew = part_written before between after piece done more.count first more.grew }
 
@@ -51,7 +51,7 @@ for_err (Err e) p = p
 
 -- as much of a piece as there is room for, after what is held
 pub held_within : (held piece after : List ℕ) (room size count : ℕ) → after ≡ held ++ take count piece →
-                  count ≡ min (room - size) (length piece) → size ≡ length held → size ≤ room → after ≡ take room (held ++ piece)
+    count ≡ min (room - size) (length piece) → size ≡ length held → size ≤ room → after ≡ take room (held ++ piece)
 held_within held piece after room size count appended counts at early =
     let fill : room ≡ length held + (room - size) = omega arith in
     let part : take count piece ≡ take (room - size) piece = ap (λ n. take n piece) counts ∙ take_min (room - size) piece in

@@ -1,5 +1,5 @@
 -- Sources and sinks in memory.
-use Rattle.std.specs.Prelude.{ℕ, ◌+◌, ◌-◌, ◌^◌, min, List, [], ◌∷◌, Option, None, Some, if◌then◌else◌}
+use Rattle.std.specs.Prelude.{ℕ, ◌+◌, ◌-◌, ◌^◌, min, List, [], ◌∷◌, Option, None, Some, unwrap_or, if◌then◌else◌}
 use Rattle.std.specs.Str.{bytes_eq}
 use Rattle.abi_types.specs.declared.outside.inputs.Input.{Input}
 use Rattle.abi_types.specs.Outside.Source.{Told, Lacking, Content}
@@ -8,6 +8,10 @@ use Rattle.abi_types.specs.Outside.Source.{Told, Lacking, Content}
 abbrev pub given : List Input → List ℕ → Option (List ℕ)
 given [] name = None
 given (input ∷ inputs) name = if bytes_eq input.name name then Some input.bytes else given inputs name
+
+-- the bytes of a name: none where it wasn't given
+abbrev pub bytes_of : List Input → List ℕ → List ℕ
+bytes_of inputs name = unwrap_or (given inputs name) []
 
 -- a name that wasn't given is lacking
 abbrev pub content_or_lacking : Option (List ℕ) → Told

@@ -1,7 +1,8 @@
 //! A source in memory, of which chosen calls fail.
-ghost use Rattle.std.specs.Prelude.{◌≡◌, ◌<◌, ◌≤◌, ◌∷◌, ⊤, ℕ, List, [], length, Contains, IfOk, IsErr, IsOk, OnOk, OnErr, ◌↔◌, IsSome};
-ghost use Rattle.abi_types.specs.Outside.Source.{Told, Lacking, Rose, IsReadAt, EndsBy};
-ghost use Rattle.abi_types.specs.Outside.Memory.{given, told_in_memory, counted};
+ghost use Rattle.std.specs.Prelude.{◌≡◌, ◌<◌, ◌≤◌, ◌∷◌, ◌-◌, ⊤, min, if◌then◌else◌, ℕ, List, [], length, Contains, IfOk, IsErr, IsOk, OnOk, OnErr, ◌↔◌, IsSome};
+ghost use Rattle.abi_types.specs.Outside.Source.{Lacking, Content, Rose, IsReadAt, EndsBy};
+ghost use Rattle.std.specs.Str.{bytes_eq};
+ghost use Rattle.abi_types.specs.Outside.Memory.{given, bytes_of, told_in_memory, counted};
 
 use crate::outside::call_counts::FailingCalls;
 use crate::outside::inputs::{Inputs, copy_from};
@@ -28,6 +29,7 @@ impl Model for MemSource {
 impl MemSource {
     /// No input yet. `failing` holds the calls that fail, counted from 0.
     pub fn new(alloc: Global, failing: Vec<u64>) -> Self
+        ensures told { (n : List ℕ) → told_in_memory result n ≡ Lacking }
         ensures inputs { result.inputs ≡ [] }
         ensures counts { result.counts ≡ record { failing = failing.items; calls = 0; faults = 0 } }
     {
@@ -39,6 +41,7 @@ impl MemSource {
 
     /// Gives a name its bytes, in place of those that it had.
     pub fn add(&mut self, name: &str, bytes: &[u8]) -> Result<(), AllocError>
+        ensures told { OnOk result ((n : List ℕ) → told_in_memory self.new n ≡ (if bytes_eq name.now n then Content bytes.now else told_in_memory self.old n)) }
         ensures ok { OnOk result (self.new.inputs ≡ record { name = name.now; bytes = bytes.now } ∷ self.old.inputs) }
         ensures err { OnErr result (self.new.inputs ≡ self.old.inputs) }
         ensures counts { self.new.counts ≡ self.old.counts }
@@ -56,7 +59,7 @@ impl Source for MemSource {
 
     fn read_at(&mut self, name: &str, at: u64, buf: &mut [u8]) -> Result<usize, Failed>
         ensures faults_never_fall { self.old.counts.faults ≤ self.new.counts.faults }
-        ensures at_most { IfOk result (λ count. count ≤ length buf.old) }
+        ensures count { IfOk result (λ count. count ≡ min (length buf.old) (length (bytes_of self.old.inputs name.now) - at)) }
         ensures content { IfOk result (λ count. IsReadAt (told_in_memory self.old name.now) at count buf.new) }
         ensures end { IfOk result (λ count. count ≡ 0 → 0 < length buf.old → EndsBy (told_in_memory self.old name.now) at) }
         ensures lacking { told_in_memory self.old name.now ≡ Lacking → IsErr result }

@@ -1,7 +1,8 @@
 //! A source in memory that never fails.
-ghost use Rattle.std.specs.Prelude.{◌≡◌, ◌<◌, ◌≤◌, ◌∷◌, ⊤, ℕ, List, [], length, IfOk, IsErr, IsOk, OnOk, OnErr};
-ghost use Rattle.abi_types.specs.Outside.Source.{Told, Lacking, Rose, IsReadAt, EndsBy};
-ghost use Rattle.abi_types.specs.Outside.Memory.{told_steadily};
+ghost use Rattle.std.specs.Prelude.{◌≡◌, ◌<◌, ◌≤◌, ◌∷◌, ◌-◌, ⊤, min, if◌then◌else◌, ℕ, List, [], length, IfOk, IsErr, IsOk, OnOk, OnErr};
+ghost use Rattle.abi_types.specs.Outside.Source.{Lacking, Content, Rose, IsReadAt, EndsBy};
+ghost use Rattle.std.specs.Str.{bytes_eq};
+ghost use Rattle.abi_types.specs.Outside.Memory.{bytes_of, told_steadily};
 
 use crate::outside::inputs::{Inputs, copy_from};
 use crate::outside::source::{Failed, Source};
@@ -26,7 +27,8 @@ impl Model for SteadySource {
 impl SteadySource {
     /// No input yet.
     pub fn new(alloc: Global) -> Self
-        ensures { result ≡ [] }
+        ensures told { (n : List ℕ) → told_steadily result n ≡ Content [] }
+        ensures inputs { result ≡ [] }
     {
         SteadySource {
             inputs: Inputs::new(alloc),
@@ -35,6 +37,7 @@ impl SteadySource {
 
     /// Gives a name its bytes, in place of those that it had.
     pub fn add(&mut self, name: &str, bytes: &[u8]) -> Result<(), AllocError>
+        ensures told { OnOk result ((n : List ℕ) → told_steadily self.new n ≡ (if bytes_eq name.now n then Content bytes.now else told_steadily self.old n)) }
         ensures ok { OnOk result (self.new ≡ record { name = name.now; bytes = bytes.now } ∷ self.old) }
         ensures err { OnErr result (self.new ≡ self.old) }
     {
@@ -50,7 +53,7 @@ impl Source for SteadySource {
     ghost faults = { λ s. 0 };
 
     fn read_at(&mut self, name: &str, at: u64, buf: &mut [u8]) -> Result<usize, Failed>
-        ensures at_most { IfOk result (λ count. count ≤ length buf.old) }
+        ensures count { IfOk result (λ count. count ≡ min (length buf.old) (length (bytes_of self.old name.now) - at)) }
         ensures content { IfOk result (λ count. IsReadAt (told_steadily self.old name.now) at count buf.new) }
         ensures end { IfOk result (λ count. count ≡ 0 → 0 < length buf.old → EndsBy (told_steadily self.old name.now) at) }
         ensures steady { IsOk result }

@@ -7,7 +7,8 @@ returns-in_err-done-clause-failed_prefix g c =
     for_err _ (part_failed _ _ _ _ _ c.loop-done.invariant.2 c.in_err-done.ensures.failed_prefix)
 
 pub loop-done-preserved : goal.loop-done-preserved
-loop-done-preserved g c =
-    ( omega arith,
-      within_piece c.args.bytes.now c.loop-done.done _ c.loop-done.invariant.1 c.in_ok-done.ensures.at_most,
-      part_written _ _ _ _ _ _ c.loop-done.invariant.2 c.in_ok-done.ensures.ok )
+loop-done-preserved g c = (
+  omega arith,
+  within_piece c.args.bytes.now c.loop-done.done _ c.loop-done.invariant.1 c.in_ok-done.ensures.at_most,
+  part_written _ _ _ _ _ _ c.loop-done.invariant.2 c.in_ok-done.ensures.ok,
+)
