@@ -34,8 +34,8 @@ after_piece : (before between after : Option (List ℕ)) (first piece : List ℕ
 after_piece before between after first piece written p = record {
   count = length first + p.count;
   grew =
-    p.grew ∙ ap (λ b. grown b (take p.count piece)) written ∙ grown_twice before first (take p.count piece)
-    ∙ ap (grown before) (sym (take-append-add first piece p.count));
+      p.grew ∙ ap (λ b. grown b (take p.count piece)) written ∙ grown_twice before first (take p.count piece)
+      ∙ ap (grown before) (sym (take-append-add first piece p.count));
 }
 
 -- the write of the first part failed

@@ -57,7 +57,7 @@ standard_input = 45 ∷ []
 abbrev pub inputs_spell : List ℕ → (List ℕ → Told) → Spelled
 inputs_spell name told =
     spelled_with name (told name) (λ program.
-      spelled_with standard_input (told standard_input) (λ text. spelled_by program text))
+    spelled_with standard_input (told standard_input) (λ text. spelled_by program text))
 
 -- what the words spell that name this program, or none
 abbrev pub words_spell : Option (List ℕ) → (List ℕ → Told) → Spelled

@@ -7,6 +7,7 @@ use std::alloc::{AllocError, Global};
 
 // The one launch text, and the same with a line feed at its end.
 const STDOUT_LAUNCH: &[u8] = b"!fd stdout";
+
 const STDOUT_LAUNCH_LINE: &[u8] = b"!fd stdout\n";
 
 // The document is a descriptor, which is the argument data: its tag, and its number in four bytes.

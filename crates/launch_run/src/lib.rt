@@ -1,11 +1,12 @@
 //! A whole run: what the words and the inputs of a run ask for, the run itself, and its report.
 #![tactic(auto)]
 
-pub use lines::Refusal;
 pub use launch_text::{is_stdout_launch, stdout_argdata, stdout_grants};
+pub use lines::Refusal;
 pub use program::{ProgramFault, program_is_decided, read_program};
 pub use words::program_word;
 
+mod inputs;
 mod launch_text;
 mod lines;
 mod program;
