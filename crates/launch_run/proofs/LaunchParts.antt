@@ -1,16 +1,14 @@
 -- What was read and refused, and what is spelled.
-use Rattle.std.proofs.Common.{◌≡◌, ◌∙◌, ◌<◌, ◌≤◌, ◌↔◌, ℕ, Bool, true, false, cond, List, [], ◌∷◌, length, ap, sym, refl, subst, inl, inr, lit<, lit≤}
-use Rattle.std.specs.Prelude.{⊤, nat_lt, Option, None, Some, Result, Ok, Err, IfOk, IfErr, All, Contains}
+use Rattle.std.proofs.Common.{◌≡◌, ◌≤◌, ℕ, Bool, true, false, cond, List, [], ◌∷◌, length, sym, refl, subst, lit<}
+use Rattle.std.specs.Prelude.{nat_lt, Option, None, Some, Result, Ok, Err, IfOk, IfErr}
 use Rattle.std.proofs.lemmas.Bool.{le-ltb, lt-ltb}
 use Rattle.abi_types.specs.Outside.Source.{Told, Untold, Lacking, Content, IsWhole, IsLongerThan}
 use Rattle.kernel_core.specs.declared.launch.Launch.{Launch}
-use Rattle.kernel_model.specs.Start.{AreGrants}
 use Rattle.launch_run.specs.Inputs.{IsUnread, IsNoLaunch, IsNoLaunchOf}
-use Rattle.launch_run.specs.Launch.{Spelled, untold, refuses, spells, input_limit, standard_input, launch_with, spelled_at, spelled_by, spelled_with, inputs_spell, words_spell, launch_of, inputs_with, inputs_of, IsToldAs, IsBuiltLaunch, IfInput, IfTooLong, IsOfTexts, IsRefusedAs, AnswersSpelled}
-use Rattle.launch_run.specs.LaunchText.{is_launch_text, launch_grants}
-use Rattle.launch_run.specs.Lines.{words_line, too_long_line, program_line, launch_text_line, line_of, status_of}
+use Rattle.launch_run.specs.Launch.{Spelled, untold, refuses, spells, input_limit, standard_input, launch_with, spelled_at, spelled_by, spelled_with, inputs_spell, IsToldAs, IsBuiltLaunch}
+use Rattle.launch_run.specs.LaunchText.{is_launch_text}
+use Rattle.launch_run.specs.Lines.{too_long_line, launch_text_line}
 use Rattle.launch_run.specs.Program.{program_at}
-use Rattle.launch_run.specs.Words.{program_of}
 use Rattle.launch_run.specs.declared.lines.Refusal.{Refusal}
 use Rattle.launch_run.specs.declared.lines.Refusal.TheVariants.{Words, Input, TooLong, Program, LaunchText, Memory}
 use Rattle.launch_run.proofs.Programs.{decided}
@@ -114,29 +112,3 @@ pub built : (program text : List ℕ) (r : Result Launch Refusal) → IfOk r (λ
     IfOk r IsBuiltLaunch
 built program text (Ok launch) e = built_at program text (program_at program) launch refl e
 built program text (Err refusal) e = tt
-
--- a launch of this width has grants of what is there
-pub granted : (r : Result Launch Refusal) → IfOk r IsBuiltLaunch → IfOk r (λ launch. AreGrants launch.grants)
-granted (Ok launch) h =
-    let there : AreGrants launch_grants = (lit≤ tt, ((lit< tt, (refl, refl)), tt)) in
-    subst AreGrants (sym h.grants) there
-granted (Err refusal) h = tt
-
--- where no fault was counted, what is spelled is answered
-answers : (s : Spelled) (names : List (List ℕ)) (rose : Type 0) (r : Result Launch Refusal) → ¬ rose →
-    IfOk r (λ launch. IsToldAs s (spells launch)) → IfErr r (IsNoLaunchOf names s rose) → AnswersSpelled s r
-answers untold names rose r calm ok err = tt
-answers (refuses status line) names rose (Ok launch) calm ok err = cc
-answers (refuses status line) names rose (Err Words) calm ok err = absurd err
-answers (refuses status line) names rose (Err (Input n)) calm ok err = absurd (calm err.1)
-answers (refuses status line) names rose (Err (TooLong n)) calm ok err = inr (cc, cc)
-answers (refuses status line) names rose (Err Program) calm ok err = inr (cc, cc)
-answers (refuses status line) names rose (Err LaunchText) calm ok err = inr (cc, cc)
-answers (refuses status line) names rose (Err Memory) calm ok err = inl refl
-answers (spells launch) names rose (Ok made) calm ok err = inl (cc)
-answers (spells launch) names rose (Err Words) calm ok err = absurd err
-answers (spells launch) names rose (Err (Input n)) calm ok err = absurd (calm err.1)
-answers (spells launch) names rose (Err (TooLong n)) calm ok err = cc
-answers (spells launch) names rose (Err Program) calm ok err = cc
-answers (spells launch) names rose (Err LaunchText) calm ok err = cc
-answers (spells launch) names rose (Err Memory) calm ok err = inr refl

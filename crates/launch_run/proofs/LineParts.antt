@@ -1,6 +1,6 @@
 -- A line written in three parts.
 use Rattle.std.proofs.Common.{◌≡◌, ◌∙◌, ◌≤◌, ◌+◌, ℕ, List, [], ◌∷◌, ◌++◌, length, take, min, ap, sym, refl, subst, arith, append_assoc}
-use Rattle.std.specs.Prelude.{Option, None, Some, Result, Ok, Err, OnOk, OnErr, codes}
+use Rattle.std.specs.Prelude.{Option, Result, Ok, Err, OnOk, OnErr, codes}
 use Rattle.std.proofs.Math.Seq.{take-append-add}
 use Rattle.std.proofs.lemmas.List.{take-append-le, take_min}
 use Rattle.abi_types.specs.Outside.Sink.{grown, GrewByPrefix}

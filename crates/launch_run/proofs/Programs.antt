@@ -1,10 +1,10 @@
 -- The decision whether bytes are a program.
-use Rattle.std.proofs.Common.{◌≡◌, ◌↔◌, ◌∙◌, ◌+◌, ◌<◌, ◌≤◌, ◌%◌, ◌^◌, ℕ, Bool, true, false, cond, List, ◌++◌, length, take, drop, Option, None, Some, arith, ap, sym, refl, subst}
+use Rattle.std.proofs.Common.{◌≡◌, ◌∙◌, ◌<◌, ◌^◌, ℕ, Bool, true, false, cond, List, ◌++◌, length, take, drop, None, Some, arith, ap, sym, refl, subst}
 use Rattle.std.proofs.lemmas.Bool.{and_parts, and_from, leb-true, le-leb, ltb-true, lt-ltb, eqb-true, eq-eqb, cond-true, cond-false}
 use Rattle.std.proofs.lemmas.List.{take-append-drop}
 use Rattle.std.proofs.lemmas.Nat.{from_le_bytes-to_le_bytes_8}
 use Rattle.std.proofs.lemmas.Slice.Eq.{bytes_eq-Decides}
-use Rattle.launch_run.specs.Program.{header, is_entry, is_program, entry_field, program_at, IsProgram, ProgramIsDecided}
+use Rattle.launch_run.specs.Program.{header, is_program, entry_field, program_at, IsProgram, ProgramIsDecided}
 
 -- a choice that gave a value was made by a test that holds
 chosen : (b : Bool) (x e : ℕ) → cond b (Some x) None ≡ Some e → (b ≡ true) × (x ≡ e)

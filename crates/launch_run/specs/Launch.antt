@@ -1,14 +1,13 @@
 -- What words and inputs spell: a launch, or the first refusal.
 use Rattle.std.specs.Prelude.{◌≡◌, ℕ, ◌⊎◌, ⊤, List, [], ◌∷◌, cond, length, nat_lt, Option, None, Some, Result, Ok, Err}
 use Rattle.abi_types.specs.Outside.Source.{Told, Untold, Lacking, Content}
-use Rattle.kernel_core.specs.declared.elf.Elf.{Elf}
 use Rattle.kernel_core.specs.declared.launch.Launch.{Launch}
 use Rattle.launch_run.specs.LaunchText.{is_launch_text, launch_grants, launch_argdata}
 use Rattle.launch_run.specs.Lines.{words_line, input_line, too_long_line, program_line, launch_text_line, line_of, status_of}
 use Rattle.launch_run.specs.Program.{program_at, image, IsProgram}
 use Rattle.launch_run.specs.Words.{program_of}
 use Rattle.launch_run.specs.declared.lines.Refusal.{Refusal}
-use Rattle.launch_run.specs.declared.lines.Refusal.TheVariants.{Words, Input, TooLong, Program, LaunchText, Memory}
+use Rattle.launch_run.specs.declared.lines.Refusal.TheVariants.{Input, TooLong, Memory}
 
 -- What is spelled: a launch; a refusal with its status and its line; or nothing that could be compared, where the
 -- source does not tell an input.

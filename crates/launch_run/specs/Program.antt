@@ -3,9 +3,7 @@
 use Rattle.std.specs.Prelude.{◌≡◌, ◌↔◌, ℕ, ◌+◌, ◌<◌, ◌≤◌, ◌%◌, ◌&&◌, ◌==◌, Bool, cond, true, false, List, [], ◌∷◌, ◌++◌, length, take, drop, nat_lt, nat_le, Option, None, Some}
 use Rattle.std.specs.Int.{w16, w32, w64, to_le_bytes, from_le_bytes}
 use Rattle.std.specs.Str.{bytes_eq}
-use Rattle.abi_types.specs.declared.prot.Prot.{Prot}
 use Rattle.kernel_core.specs.declared.elf.Elf.{Elf}
-use Rattle.kernel_core.specs.declared.elf.Segment.{Segment}
 
 -- a field of two, of four and of eight bytes, the lowest byte first
 abbrev pub half : ℕ → List ℕ

@@ -1,6 +1,7 @@
 //! A whole run: what the words and the inputs of a run ask for, the run itself, and its report.
 #![tactic(auto)]
 
+pub use inputs::read_launch;
 pub use launch_text::{is_stdout_launch, stdout_argdata, stdout_grants};
 pub use lines::Refusal;
 pub use program::{ProgramFault, program_is_decided, read_program};
@@ -10,4 +11,6 @@ mod inputs;
 mod launch_text;
 mod lines;
 mod program;
+#[cfg(test)]
+mod tests;
 mod words;
