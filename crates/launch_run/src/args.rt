@@ -2,11 +2,11 @@
 ghost use Rattle.std.specs.Prelude.{◌≡◌, ◌≤◌, IfOk, map, option_map};
 ghost use Rattle.std.specs.Result.{result_ok};
 ghost use Rattle.run_model.specs.Args.{args_of, fd_write_of, low, ranges_at, range_in, range_of, gathered, gathered_in};
-ghost use Rattle.run_model.specs.Put.{put_of, with_results};
+ghost use Rattle.run_model.specs.Put.{answered_of, put_of, with_results};
 ghost use Rattle.rv_interp.specs.Memory.{bytes_at};
 ghost use Rattle.launch_run.specs.Ranges.{range_seen};
 
-use abi_types::{Bytes, Call, Errno, Regs, Reply};
+use abi_types::{Answer, Bytes, Call, Errno, Regs, Reply};
 use rv_interp::Memory;
 use std::alloc::{AllocError, Global};
 
@@ -135,9 +135,18 @@ fn gather(alloc: Global, memory: &Memory, ranges: &[Range]) -> Result<Option<Byt
     Ok(Some(bytes))
 }
 
+/// The registers after a call that was answered so.
+pub fn put_answer(regs: &mut Regs, call: &Call, answer: &Answer)
+    ensures { regs.new ≡ answered_of regs.old call.now answer.now }
+{
+    match answer {
+        Answer::Reply(reply) => put(regs, call, reply),
+    }
+}
+
 /// The registers after a call's reply: the error in a0, and on success the results in a1 and a2. The pc goes on after
 /// the ECALL.
-pub fn put(regs: &mut Regs, call: &Call, reply: &Reply)
+fn put(regs: &mut Regs, call: &Call, reply: &Reply)
     ensures { regs.new ≡ put_of regs.old call.now reply.now }
 {
     regs.set(10, u64::from(reply.errno.number()));
