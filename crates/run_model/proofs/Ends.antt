@@ -86,10 +86,10 @@ apply_left w e =
 -- ---- only process 0 lives
 
 -- no process but process 0 is live
-abbrev OnlyFirstLives : State → Type 0
+abbrev pub OnlyFirstLives : State → Type 0
 OnlyFirstLives S = (q : ℕ) → q ≢ 0 → get S.statuses q ≢ Some Live
 
-fits_first : (w : World) (e : Entry) → OnlyFirstLives w.state → Fits w e → e.pid ≡ 0
+pub fits_first : (w : World) (e : Entry) → OnlyFirstLives w.state → Fits w e → e.pid ≡ 0
 fits_first w e only fits = elim (eqb_tells e.pid 0) [ inl is ↦ is.1 | inr other ↦ absurd (only e.pid other.1 fits.live) ]
 
 -- an act that fits changes no status but its own process's
@@ -104,7 +104,7 @@ apply_status w e q fits n =
     ap (λ (v : World). get v.state.statuses q) (apply_is w e)
     ∙ acted_status (turned w e.pid e.turns) e.pid e.tid (guest_of w e.pid) e.turns e.act q fits.act n
 
-only_first_after : (w : World) (e : Entry) → OnlyFirstLives w.state → Fits w e → OnlyFirstLives (apply w e).state
+pub only_first_after : (w : World) (e : Entry) → OnlyFirstLives w.state → Fits w e → OnlyFirstLives (apply w e).state
 only_first_after w e only fits q n live =
     only q n (sym (apply_status w e q fits (λ same. n (same ∙ fits_first w e only fits))) ∙ live)
 
@@ -123,7 +123,7 @@ act_spends S p t guest ts (act.Call call given) fits = inl (last_takes S p guest
 act_spends S p t guest ts (act.Trap signal) fits = inl (last_takes S p guest ts t (Trap signal) fits)
 act_spends S p t guest ts act.Expire fits = inr refl
 
-killed_is_not_live : (signal : Signal) → Killed signal ≢ Live
+pub killed_is_not_live : (signal : Signal) → Killed signal ≢ Live
 killed_is_not_live signal e = cc
 
 -- where process 0 expires no process is live
@@ -166,7 +166,7 @@ follows_short w (e ∷ history) only follows =
       | inr expires ↦ one_alone e history (guest_of w 0).left (ended_follows (apply w e) history (expired w e only follows.0 expires) follows.1)
     ]
 
-start_only : (launch : Launch) → OnlyFirstLives (start_world launch).state
+pub start_only : (launch : Launch) → OnlyFirstLives (start_world launch).state
 unfolding start_world
 start_only launch q n live = none_is_no Live (sym (get-insert-other empty 0 Live q n ∙ get-empty nat_cmp q) ∙ live)
 

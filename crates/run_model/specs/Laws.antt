@@ -1,5 +1,5 @@
 -- What holds of every legal history: the statements that are the contracts of the functions of src/laws.rt.
-use Rattle.std.specs.Prelude.{◌≡◌, ◌≢◌, ℕ, ◌+◌, ◌*◌, ◌≤◌, List, [], ◌∷◌, ◌++◌, length}
+use Rattle.std.specs.Prelude.{◌≡◌, ◌≢◌, ◌⊎◌, ℕ, ◌+◌, ◌*◌, ◌≤◌, List, [], ◌∷◌, ◌++◌, length}
 use Rattle.kernel_core.specs.declared.history.Entry.{Entry}
 use Rattle.kernel_core.specs.declared.launch.Launch.{Launch}
 use Rattle.kernel_model.specs.Start.{AreGrants}
@@ -60,3 +60,11 @@ StalledIsFinal = (launch : Launch) (history : List Entry) (e : Entry) → Stalle
 -- No run stalls, since no call makes a thread wait.
 abbrev pub NeverStalled : Type 0
 NeverStalled = (launch : Launch) (history : List Entry) → Legal launch history → Stalled launch history → ⊥
+
+-- The run of a legal history is ended, or some entry may follow.
+abbrev pub EndsOrGoesOn : Type 0
+EndsOrGoesOn = (launch : Launch) (history : List Entry) → Legal launch history → Ended launch history ⊎ ((e : Entry) × Fits (world launch history) e)
+
+-- Each launch has a legal history whose run is ended.
+abbrev pub RunsToItsEnd : Type 0
+RunsToItsEnd = (launch : Launch) → (history : List Entry) × Legal launch history × Ended launch history

@@ -1,6 +1,6 @@
 //! Laws of legal histories. The statements are in `specs/Laws.antt`, and each holds of every launch and history.
 ghost use Rattle.run_model.specs.Laws.{LegalBegins, LegalGoesOn, EachEntryFits, LegalIsConfined, WorldIsValid, ClockCounts};
-ghost use Rattle.run_model.specs.Laws.{OthersStay, HistoryIsShort, EndedIsFinal, StalledIsFinal, NeverStalled};
+ghost use Rattle.run_model.specs.Laws.{OthersStay, HistoryIsShort, EndedIsFinal, StalledIsFinal, NeverStalled, EndsOrGoesOn, RunsToItsEnd};
 
 /// The empty history is legal, an entry that fits the world of a legal history may follow it, and no other history is
 /// legal: what stands before each entry of a legal history is legal, and the entry fits its world.
@@ -44,4 +44,10 @@ pub fn ended_is_final()
 /// No run stalls, since no call makes a thread wait.
 pub fn never_stalled()
     ensures { NeverStalled }
+{}
+
+/// A run that is not ended may go on, and each launch has a run that ends.
+pub fn runs_to_its_end()
+    ensures goes_on { EndsOrGoesOn }
+    ensures ends { RunsToItsEnd }
 {}
