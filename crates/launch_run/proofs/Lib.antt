@@ -4,3 +4,4 @@ pub mod LaunchParts
 pub mod Gathering
 pub mod Runs
 pub mod Entries
+pub mod Begins
