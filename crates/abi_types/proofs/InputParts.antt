@@ -1,26 +1,15 @@
 -- Reads of an input from its start on, piece after piece.
-use Rattle.std.proofs.Common.{◌≡◌, ◌≢◌, ◌+◌, ◌-◌, ◌<◌, ◌≤◌, ◌∙◌, ℕ, List, [], ◌++◌, length, take, drop, arith, ap, sym, subst, refl, inl, inr, length-append, length-drop}
-use Rattle.std.specs.Prelude.{⊤, ◌⊎◌, ◌^◌}
+use Rattle.std.proofs.Common.{◌≡◌, ◌+◌, ◌-◌, ◌≤◌, ◌∙◌, ℕ, List, ◌++◌, length, take, drop, arith, ap, sym, subst, length-append}
+use Rattle.std.specs.Prelude.{⊤}
 use Rattle.std.proofs.Math.Seq.{take-add}
-use Rattle.std.proofs.lemmas.List.{length-take, length-take-le, take_all}
-use Rattle.abi_types.specs.Outside.Source.{Told, Untold, Lacking, Content, Rose, IsReadAt, EndsBy, IsWhole, IsLongerThan}
+use Rattle.std.proofs.lemmas.List.{length-take, length-take-le}
+use Rattle.abi_types.specs.Outside.Source.{Told, Untold, Lacking, Content, IsReadAt}
 
 -- what was read so far is the start of what is told
 abbrev pub IsReadSoFar : Told → List ℕ → Type 0
 IsReadSoFar Untold part = ⊤
 IsReadSoFar Lacking part = ⊤
 IsReadSoFar (Content bytes) part = part ≡ take (length part) bytes
-
--- a count that rose in a later part of a call rose in the call
-pub rose_since : (first before after : ℕ) → first ≤ before → Rose before after → Rose first after
-rose_since first before after early (inl more) = inl (omega arith)
-rose_since first before after early (inr last) = inr last
-
--- before the first read
-pub none_read : (told : Told) → IsReadSoFar told []
-none_read Untold = tt
-none_read Lacking = tt
-none_read (Content bytes) = refl
 
 -- the next piece is the start of what follows
 pub piece_read : (told : Told) (part buffer : List ℕ) (count : ℕ) → count ≤ length buffer →
@@ -49,19 +38,3 @@ pub still_within : (part buffer after : List ℕ) (place count limit : ℕ) → 
     place ≡ length part → length part ≤ limit → count ≤ limit - place → length after ≤ limit
 still_within part buffer after place count limit appended at early fits =
     omega (arith, ap length appended, length-append part (take count buffer), length-take count buffer)
-
--- at the end, what was read is all
-pub all_read : (told : Told) (part : List ℕ) → IsReadSoFar told part → EndsBy told (length part) → IsWhole told part
-all_read Untold part so_far ends = tt
-all_read Lacking part so_far ends = ends
-all_read (Content bytes) part so_far ends = so_far ∙ take_all (length part) bytes ends
-
--- a piece that goes beyond a limit shows that there are more bytes than that
-pub beyond_limit : (told : Told) (limit : ℕ) (place : ℕ) (buffer : List ℕ) (count : ℕ) → count ≤ length buffer →
-    IsReadAt told place count buffer → limit - place < count → IsLongerThan limit told
-beyond_limit Untold limit place buffer count fits next more = tt
-beyond_limit Lacking limit place buffer count fits next more = next
-beyond_limit (Content bytes) limit place buffer count fits next more =
-    let taken : count ≡ length (take count (drop place bytes)) =
-    sym (length-take-le count buffer fits) ∙ ap length next in
-    omega (arith, length-take count (drop place bytes), length-drop place bytes)

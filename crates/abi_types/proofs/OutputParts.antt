@@ -1,19 +1,10 @@
 -- Writes of a piece, part after part.
-use Rattle.std.proofs.Common.{◌≡◌, ◌+◌, ◌-◌, ◌≤◌, ◌∙◌, ℕ, List, [], ◌++◌, length, take, drop, min, ap, sym, refl, append_assoc, append-nil, arith, length-drop}
-use Rattle.std.specs.Prelude.{Option, None, Some, Result, Ok, Err, OnErr}
+use Rattle.std.proofs.Common.{◌≡◌, ◌+◌, ◌-◌, ◌≤◌, ◌∙◌, ℕ, List, ◌++◌, length, take, drop, min, ap, sym, arith, length-drop}
+use Rattle.std.specs.Prelude.{Option, Result, Ok, Err, OnErr}
 use Rattle.std.proofs.Math.Seq.{take-add, take-append-add}
 use Rattle.std.proofs.lemmas.List.{take_all, take_min}
 use Rattle.abi_types.specs.Outside.Sink.{grown, GrewByPrefix}
-
--- bytes after bytes
-pub grown_twice : (before : Option (List ℕ)) (first more : List ℕ) → grown (grown before first) more ≡ grown before (first ++ more)
-grown_twice None first more = refl
-grown_twice (Some bytes) first more = ap Some (append_assoc bytes first more)
-
--- no byte
-pub grown_none : (before : Option (List ℕ)) → before ≡ grown before []
-grown_none None = refl
-grown_none (Some bytes) = ap Some (sym (append-nil bytes))
+use Rattle.abi_types.proofs.OutsideLaws.{grown_twice}
 
 -- what is left of a piece after its first bytes
 abbrev pub left : List ℕ → ℕ → List ℕ

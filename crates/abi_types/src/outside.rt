@@ -16,4 +16,6 @@ mod sink;
 mod source;
 mod steady_sink;
 mod steady_source;
+#[cfg(test)]
+mod tests;
 mod whole;

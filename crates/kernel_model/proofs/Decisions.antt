@@ -11,6 +11,7 @@ use Rattle.kernel_model.specs.Step.{tick, sight, act, outcome, unreleased, step_
 use Rattle.kernel_model.specs.View.{only, restrict}
 use Rattle.kernel_model.proofs.Parts.{agree_at, put_same}
 use Rattle.kernel_model.proofs.Valids.{get_released}
+use Rattle.kernel_model.proofs.Tests.{or_true}
 
 only_alike : {X : Type 0} (b : Bool) (x y : Option X) → (b ≡ true → x ≡ y) → only b x ≡ only b y
 only_alike true x y h = h refl
@@ -73,10 +74,6 @@ same_itself (at_proc p) = eq-eqb p p refl
 same_itself (at_status p) = eq-eqb p p refl
 same_itself (at_open o) = eq-eqb o o refl
 same_itself (at_term k) = eq-eqb k k refl
-
-or_true : (b : Bool) → (b || true) ≡ true
-or_true true = refl
-or_true false = refl
 
 -- each part of a list
 each_part : (S T : State) (parts : List Part) → ((q : Part) → has_part parts q ≡ true → Agree S T q) → AgreeOn S T parts

@@ -1,23 +1,13 @@
 -- Parts of states, and what updates leave of them.
-use Rattle.std.proofs.Common.{◌≡◌, ◌≢◌, ℕ, ◌==◌, ◌||◌, Bool, true, false, T, List, [], ◌∷◌, ◌++◌, map, ◌⊎◌, inl, inr, refl, sym, ap, subst, ◌∙◌}
+use Rattle.std.proofs.Common.{◌≡◌, ◌≢◌, ℕ, ◌==◌, ◌||◌, Bool, true, false, T, List, [], ◌∷◌, ◌++◌, map, inl, inr, refl, sym, ap, subst, ◌∙◌}
 use Rattle.std.proofs.lemmas.Bool.Decides.{eqb_tells}
 use Rattle.std.specs.Ordering.{nat_cmp}
 use Rattle.std.specs.FinMap.{FinMap, get, insert}
 use Rattle.number_map.specs.Maps.{get-insert-same, get-insert-other}
 use Rattle.kernel_model.specs.State.{State, Part, at_clock, at_proc, at_status, at_open, at_term, same_part, has_part, Agree, AgreeOn, Update, set_table, set_threads, set_status, set_term, part_of, put_one, put_all}
-
-not_true : false ≢ true
-not_true e = subst T (sym e) tt
+use Rattle.kernel_model.proofs.Tests.{not_true, either_false, either_true}
 
 -- ---- lists of parts
-
-pub either_false : (a b : Bool) → (a || b) ≡ false → (a ≡ false) × (b ≡ false)
-either_false true b h = absurd (not_true (sym h))
-either_false false b h = (refl, h)
-
-either_true : (a b : Bool) → (a || b) ≡ true → (a ≡ true) ⊎ (b ≡ true)
-either_true true b h = inl refl
-either_true false b h = inr h
 
 -- a part outside a list is no part of it
 pub outside_cons : (part : Part) (parts : List Part) (q : Part) → has_part (part ∷ parts) q ≡ false → (same_part part q ≡ false) × (has_part parts q ≡ false)

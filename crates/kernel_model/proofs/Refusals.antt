@@ -1,7 +1,8 @@
 -- Why a call is refused: the denial of the first descriptor that lacks a right, and that an error changes nothing.
-use Rattle.std.proofs.Common.{◌≡◌, ◌≢◌, ℕ, ◌||◌, not, Bool, true, false, cond, T, List, [], ◌∷◌, ◌++◌, Option, Some, None, IsSome, is_some, refl, sym, ap, subst, ◌∙◌}
+use Rattle.std.proofs.Common.{◌≡◌, ◌≢◌, ℕ, ◌||◌, not, Bool, true, false, cond, T, List, [], ◌∷◌, ◌++◌, Option, Some, None, IsSome, inl, inr, refl, sym, ap, subst, ◌∙◌}
 use Rattle.std.specs.List.{AllByRecursion}
 use Rattle.std.specs.FinMap.{get, contains_key}
+use Rattle.abi_types.specs.declared.call.Answer.TheVariants as answer
 use Rattle.abi_types.specs.declared.call.Call.{Call}
 use Rattle.abi_types.specs.declared.call.Call.TheVariants.{FdWrite, ProcExit, Refused}
 use Rattle.abi_types.specs.declared.call.Reply.{Reply}
@@ -12,30 +13,23 @@ use Rattle.abi_types.specs.declared.needed.Needed.{Needed}
 use Rattle.abi_types.specs.declared.open_kind.OpenKind.{OpenKind}
 use Rattle.abi_types.specs.declared.open_kind.OpenKind.TheVariants.{Terminal}
 use Rattle.kernel_model.specs.Cases.{Outcome, write_term, write_open, fd_write, case_of}
-use Rattle.kernel_model.specs.Laws.{HasAll, IsMet, IsFirstLack, IsOfFirstLack, IsRefusedOtherwise}
+use Rattle.kernel_model.specs.Laws.{HasAll, IsMet, IsFirstLack, IsOfFirstLack, IsNotDeniedEarly}
 use Rattle.kernel_model.specs.Need.{need, has_needed, missing, some_absent, lack_at, either_lack, first_lack, denied_by, refusal}
 use Rattle.kernel_model.specs.Release.{release}
 use Rattle.kernel_model.specs.Reply.{refused, denied}
 use Rattle.kernel_model.specs.State.{State, Table, put_all}
-use Rattle.kernel_model.specs.Step.{tick, unless, act_on, outcome, step_reply, step_state}
+use Rattle.kernel_model.specs.Step.{tick, unless, act_on, outcome, step_reply, step_state, IsStep}
 use Rattle.kernel_model.specs.Valid.{IsValid}
 use Rattle.kernel_model.specs.View.{View, whole}
-use Rattle.kernel_model.proofs.Parts.{either_false}
-use Rattle.kernel_model.proofs.Sights.{outcome_reads}
+use Rattle.kernel_model.proofs.Sights.{outcome_reads, outcome_of_table}
 use Rattle.kernel_model.proofs.Valids.{release_valid, tick_valid}
-
-none_is_no : {X : Type 0} (x : X) → None ≢ Some x
-none_is_no x e = subst T (ap is_some (sym e)) tt
+use Rattle.kernel_model.proofs.Tests.{either_false, none_is_no, not_false, same_some}
 
 -- ---- absent descriptors
 
 present_all : (table : Table) (rows : List Needed) → HasAll table rows → some_absent table rows ≡ false
 present_all table [] h = refl
 present_all table (row ∷ rows) h = ap (λ b. not b || some_absent table rows) h.0 ∙ present_all table rows h.1
-
-not_false : (b : Bool) → not b ≡ false → b ≡ true
-not_false true h = refl
-not_false false h = sym h
 
 all_present : (table : Table) (rows : List Needed) → some_absent table rows ≡ false → HasAll table rows
 all_present table [] h = tt
@@ -81,9 +75,6 @@ after_met table first rows denial met h = (
   h.3,
 )
 
-same_some : {X : Type 0} (x y : X) → Some x ≡ Some y → x ≡ y
-same_some x y e = cc
-
 -- the first row itself, or one after it
 lack_among : (table : Table) (row : Needed) (rows : List Needed) (denial : Denial) (d : Descriptor) (b : Bool) → get table row.fd ≡ Some d → has_needed d row ≡ b
     → (first_lack table rows ≡ Some denial → HasFirstLack table rows denial)
@@ -106,17 +97,13 @@ lack_is_first table (row ∷ rows) denial all e =
 
 -- ---- denied calls
 
-own_table : (S : State) (p : ℕ) (call : Call) (table : Table) → get S.tables p ≡ Some table
-    → outcome S p call ≡ unless (refusal table (need call)) (case_of (whole (tick S)) p table call)
-own_table S p call table own = outcome_reads S p call ∙ ap (act_on (whole (tick S)) p call) own
-
 pub first_lack_is_named : (S : State) (p : ℕ) (call : Call) (table : Table) (row : Needed) (d : Descriptor) → get S.tables p ≡ Some table
     → HasAll table (need call) → IsFirstLack table (need call) row d → step_reply S p call ≡ denied (missing d row)
 first_lack_is_named S p call table row d own all first =
     let refuses : refusal table (need call) ≡ Some (denied (missing d row)) =
     ap (λ b. cond b (Some (refused Badf)) (denied_by (first_lack table (need call)))) (present_all table (need call) all)
     ∙ ap denied_by (first_lack_is table (need call) row d first) in
-    ap (λ (o : Outcome). o.reply) (own_table S p call table own ∙ ap (λ r. unless r (case_of (whole (tick S)) p table call)) refuses)
+    ap (λ (o : Outcome). o.reply) (outcome_of_table S p call table own ∙ ap (λ r. unless r (case_of (whole (tick S)) p table call)) refuses)
 
 -- ---- no case denies
 
@@ -187,7 +174,7 @@ write_otherwise : (v : View) (bytes : List ℕ) (d : Option Descriptor) → IsOt
 write_otherwise v bytes None = badf_is_other
 write_otherwise v bytes (Some d) = open_otherwise v bytes (v.opened d.id)
 
-case_otherwise : (v : View) (p : ℕ) (table : Table) (call : Call) → IsRefusedOtherwise call → IsOtherwise (case_of v p table call)
+case_otherwise : (v : View) (p : ℕ) (table : Table) (call : Call) → IsNotDeniedEarly call → IsOtherwise (case_of v p table call)
 case_otherwise v p table (FdWrite fd bytes) h = write_otherwise v bytes (get table fd)
 case_otherwise v p table (ProcExit code) h = success_is_other
 case_otherwise v p table (Refused number errno) h = h
@@ -199,13 +186,13 @@ notcapable_of true lack o other h = absurd (badf_is_other h)
 notcapable_of false None o other h = absurd (other h)
 notcapable_of false (Some x) o other h = refl
 
-notcapable_on : (v : View) (p : ℕ) (call : Call) (t : Option Table) → IsRefusedOtherwise call → (act_on v p call t).reply.errno ≡ Notcapable
+notcapable_on : (v : View) (p : ℕ) (call : Call) (t : Option Table) → IsNotDeniedEarly call → (act_on v p call t).reply.errno ≡ Notcapable
     → IsSome (act_on v p call t).reply.denial
 notcapable_on v p call None other h = absurd (badf_is_other h)
 notcapable_on v p call (Some table) other h =
     notcapable_of (some_absent table (need call)) (first_lack table (need call)) (case_of v p table call) (case_otherwise v p table call other) h
 
-pub notcapable_is_denied : (S : State) (p : ℕ) (call : Call) → IsRefusedOtherwise call → (step_reply S p call).errno ≡ Notcapable
+pub notcapable_is_denied : (S : State) (p : ℕ) (call : Call) → IsNotDeniedEarly call → (step_reply S p call).errno ≡ Notcapable
     → IsSome (step_reply S p call).denial
 notcapable_is_denied S p call other h =
     subst (λ (o : Outcome). o.reply.errno ≡ Notcapable → IsSome o.reply.denial) (sym (outcome_reads S p call))
@@ -246,6 +233,15 @@ pub sets_nothing_at_error : (S : State) (p : ℕ) (call : Call) → (step_reply 
 sets_nothing_at_error S p call =
     subst KeepsAtError (sym (outcome_reads S p call)) (act_at_error (whole (tick S)) p call (get S.tables p))
 
-pub error_keeps : (S : State) (p : ℕ) (call : Call) → IsValid S → (step_reply S p call).errno ≢ Success → step_state S p call ≡ tick S
-error_keeps S p call valid h =
+pub refused_step : (S : State) (p : ℕ) (call : Call) → IsValid S → (step_reply S p call).errno ≢ Success → step_state S p call ≡ tick S
+refused_step S p call valid h =
     ap (λ us. release (put_all us (tick S))) (sets_nothing_at_error S p call h) ∙ release_valid (tick S) (tick_valid S valid)
+
+same_reply : (a b : Reply) → answer.Reply a ≡ answer.Reply b → a ≡ b
+same_reply a b e = cc
+
+pub error_keeps : (S : State) (p : ℕ) (call : Call) (reply : Reply) (T : State) → IsStep S p call (answer.Reply reply) T → IsValid S
+    → reply.errno ≢ Success → T ≡ tick S
+error_keeps S p call reply T (inl done) valid h =
+    done.1 ∙ refused_step S p call valid (subst (λ (r : Reply). r.errno ≢ Success) (same_reply reply (step_reply S p call) done.0) h)
+error_keeps S p call reply T (inr lacking) valid h = lacking.2

@@ -82,3 +82,8 @@ sight_ticked S p call = ap (λ parts. at_clock ∷ at_proc p ∷ at_status p ∷
 pub outcome_reads : (S : State) (p : ℕ) (call : Call) → outcome S p call ≡ act (whole (tick S)) p call
 outcome_reads S p call =
     ap (λ parts. act (restrict (tick S) parts) p call) (sym (sight_ticked S p call)) ∙ reads_sight (tick S) p call
+
+-- the outcome of a call of a process that has a table
+pub outcome_of_table : (S : State) (p : ℕ) (call : Call) (table : Table) → get S.tables p ≡ Some table
+    → outcome S p call ≡ unless (refusal table (need call)) (case_of (whole (tick S)) p table call)
+outcome_of_table S p call table own = outcome_reads S p call ∙ ap (act_on (whole (tick S)) p call) own

@@ -21,12 +21,7 @@ use Rattle.kernel_model.specs.State.{State, Table, put_one, put_all, set_term}
 use Rattle.kernel_model.specs.Step.{tick, sight, unless, act_on, unreleased, step_state, IsStep, end_unreleased, end_state}
 use Rattle.kernel_model.specs.Valid.{IsNamed, HasBehind, IsValid}
 use Rattle.kernel_model.specs.View.{View, restrict}
-
-none_is_no : {X : Type 0} (x : X) → None ≢ Some x
-none_is_no x e = subst T (ap is_some (sym e)) tt
-
-not_true : false ≢ true
-not_true e = subst T (sym e) tt
+use Rattle.kernel_model.proofs.Tests.{not_true, none_is_no}
 
 -- ---- validity before the release
 
@@ -113,11 +108,15 @@ held_or_absent : {X : Type 0} (n : ℕ) (o : Option X) → (IsSome o → 0 < n) 
 held_or_absent n (Some x) h = held_stays n (Some x) (h refl)
 held_or_absent n None h = either_none (not (n == 0))
 
+-- where each open is held nothing is released
+pub release_held : (S : State) → ((o : ℕ) → IsSome (get S.opens o) → 0 < holders S o) → release S ≡ S
+release_held S held =
+    let same : (release S).opens ≡ S.opens = same_numbers _ _ (λ o. get_released S o ∙ held_or_absent (holders S o) (get S.opens o) (held o)) in
+    λ i. record S { opens = same i }
+
 -- nothing of a valid state is released
 pub release_valid : (S : State) → IsValid S → release S ≡ S
-release_valid S v =
-    let same : (release S).opens ≡ S.opens = same_numbers _ _ (λ o. get_released S o ∙ held_or_absent (holders S o) (get S.opens o) (v.held o)) in
-    λ i. record S { opens = same i }
+release_valid S v = release_held S v.held
 
 -- ---- one more moment
 
@@ -150,7 +149,7 @@ some_inserted m k x q h =
     ]
 
 -- two maps with the same keys still have the same keys with one more
-same_keys_inserted : {X Y : Type 0} (m : FinMap nat_cmp X) (n : FinMap nat_cmp Y) (k : ℕ) (x : X) (y : Y)
+pub same_keys_inserted : {X Y : Type 0} (m : FinMap nat_cmp X) (n : FinMap nat_cmp Y) (k : ℕ) (x : X) (y : Y)
     → ((q : ℕ) → is_some (get m q) ≡ is_some (get n q)) → (q : ℕ) → is_some (get (insert m k x) q) ≡ is_some (get (insert n k y) q)
 same_keys_inserted m n k x y same q =
     elim (eqb_tells q k) [
@@ -170,15 +169,15 @@ set_term_nearly_valid S k bytes v = record {
 
 -- ---- the end of a process
 
-same_some : {X : Type 0} (x y : X) (o : Option X) → o ≡ Some x → o ≡ Some y → x ≡ y
-same_some x y o a b = let both : Some x ≡ Some y = sym a ∙ b in cc
+pub same_value : {X : Type 0} (x y : X) (o : Option X) → o ≡ Some x → o ≡ Some y → x ≡ y
+same_value x y o a b = let both : Some x ≡ Some y = sym a ∙ b in cc
 
 -- a descriptor of a process after one is emptied was there before
 emptied_before : (tables : FinMap nat_cmp Table) (p q n : ℕ) (table : Table) (d : Descriptor)
     → get (insert tables p empty) q ≡ Some table → get table n ≡ Some d → get tables q ≡ Some table
 emptied_before tables p q n table d there here =
     elim (eqb_tells q p) [
-      | inl is ↦ (let bare : empty ≡ table = same_some _ _ _ (get-insert-same tables p empty) (subst (λ j. get (insert tables p empty) j ≡ Some table) is.1 there) in
+      | inl is ↦ (let bare : empty ≡ table = same_value _ _ _ (get-insert-same tables p empty) (subst (λ j. get (insert tables p empty) j ≡ Some table) is.1 there) in
           absurd (none_is_no d (sym (get-empty nat_cmp n) ∙ ap (λ (m : Table). get m n) bare ∙ here)))
       | inr other ↦ sym (get-insert-other tables p empty q other.1) ∙ there
     ]

@@ -1,18 +1,22 @@
--- What holds of every step of the kernel. Each statement is the contract of a function of the same name.
+-- What holds of every step of the kernel: the statements that are the contracts of the functions of src/laws.rt.
 use Rattle.std.specs.Prelude.{◌≡◌, ◌≢◌, ℕ, true, false, List, [], ◌∷◌, ◌++◌, Some, IsSome}
 use Rattle.std.specs.List.{AllByRecursion}
 use Rattle.std.specs.FinMap.{get}
 use Rattle.abi_types.specs.declared.call.Answer.{Answer}
+use Rattle.abi_types.specs.declared.call.Answer.TheVariants as answer
 use Rattle.abi_types.specs.declared.call.Call.{Call}
 use Rattle.abi_types.specs.declared.call.Call.TheVariants.{FdWrite, ProcExit, Refused}
+use Rattle.abi_types.specs.declared.call.Reply.{Reply}
 use Rattle.abi_types.specs.declared.descriptor.Denial.{Denial}
 use Rattle.abi_types.specs.declared.descriptor.Descriptor.{Descriptor}
 use Rattle.abi_types.specs.declared.errno.Errno.TheVariants.{Success, Notcapable}
+use Rattle.abi_types.specs.declared.grant.Grant.{Grant}
 use Rattle.abi_types.specs.declared.needed.Needed.{Needed}
 use Rattle.abi_types.specs.declared.status.Status.{Status}
 use Rattle.kernel_model.specs.Need.{need, has_needed, missing}
 use Rattle.kernel_model.specs.Release.{is_ending, is_released}
 use Rattle.kernel_model.specs.Reply.{denied}
+use Rattle.kernel_model.specs.Start.{AreGrants, start_state}
 use Rattle.kernel_model.specs.State.{State, Table, Part, at_clock, at_proc, at_status, at_open, has_part, Agree, AgreeOn}
 use Rattle.kernel_model.specs.Step.{tick, sight, act, outcome, unreleased, step_reply, step_state, IsStep, IsUntouched, end_unreleased, end_state}
 use Rattle.kernel_model.specs.Valid.{IsValid}
@@ -58,9 +62,11 @@ EndKeeps =
     (S : State) (p : ℕ) (status : Status) (q : Part) → has_part (at_clock ∷ at_proc p ∷ at_status p ∷ []) q ≡ false
     → is_released (end_unreleased S p status) q ≡ false → Agree (end_state S p status) S q
 
--- A call that answers an error changes only the clock.
+-- A call that answers an error, want of memory among them, changes only the clock of a valid state.
 abbrev pub ErrorKeeps : Type 0
-ErrorKeeps = (S : State) (p : ℕ) (call : Call) → IsValid S → (step_reply S p call).errno ≢ Success → step_state S p call ≡ tick S
+ErrorKeeps =
+    (S : State) (p : ℕ) (call : Call) (reply : Reply) (T : State) → IsStep S p call (answer.Reply reply) T → IsValid S
+    → reply.errno ≢ Success → T ≡ tick S
 
 -- ---- why a call is denied
 
@@ -102,14 +108,14 @@ abbrev pub DenialIsOfFirstLack : Type 0
 DenialIsOfFirstLack = (S : State) (p : ℕ) (call : Call) (denial : Denial) → (step_reply S p call).denial ≡ Some denial → IsOfFirstLack S p call denial
 
 -- the call is not one that is refused beforehand with NOTCAPABLE, an error that only missing rights have
-abbrev pub IsRefusedOtherwise : Call → Type 0
-IsRefusedOtherwise (FdWrite fd bytes) = Unit {0}
-IsRefusedOtherwise (ProcExit code) = Unit {0}
-IsRefusedOtherwise (Refused number errno) = errno ≢ Notcapable
+abbrev pub IsNotDeniedEarly : Call → Type 0
+IsNotDeniedEarly (FdWrite fd bytes) = Unit {0}
+IsNotDeniedEarly (ProcExit code) = Unit {0}
+IsNotDeniedEarly (Refused number errno) = errno ≢ Notcapable
 
 -- A call that answers NOTCAPABLE says what is missing.
 abbrev pub NotcapableIsDenied : Type 0
-NotcapableIsDenied = (S : State) (p : ℕ) (call : Call) → IsRefusedOtherwise call → (step_reply S p call).errno ≡ Notcapable → IsSome (step_reply S p call).denial
+NotcapableIsDenied = (S : State) (p : ℕ) (call : Call) → IsNotDeniedEarly call → (step_reply S p call).errno ≡ Notcapable → IsSome (step_reply S p call).denial
 
 -- ---- valid states
 
@@ -120,3 +126,7 @@ StepKeepsValid = (S : State) (p : ℕ) (call : Call) (given : Answer) (T : State
 -- The end of a process from outside leaves a valid state valid.
 abbrev pub EndKeepsValid : Type 0
 EndKeepsValid = (S : State) (p : ℕ) (status : Status) → IsValid S → IsValid (end_state S p status)
+
+-- The state that a launch starts from is valid, where its grants are of what is there.
+abbrev pub StartIsValid : Type 0
+StartIsValid = (grants : List Grant) → AreGrants grants → IsValid (start_state grants)

@@ -1,3 +1,6 @@
 pub mod Programs
 pub mod LineParts
 pub mod LaunchParts
+pub mod Gathering
+pub mod Runs
+pub mod Entries

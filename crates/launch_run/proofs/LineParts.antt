@@ -4,7 +4,7 @@ use Rattle.std.specs.Prelude.{Option, Result, Ok, Err, OnOk, OnErr, codes}
 use Rattle.std.proofs.Math.Seq.{take-append-add}
 use Rattle.std.proofs.lemmas.List.{take-append-le, take_min}
 use Rattle.abi_types.specs.Outside.Sink.{grown, GrewByPrefix}
-use Rattle.abi_types.proofs.OutputParts.{grown_twice}
+use Rattle.abi_types.proofs.OutsideLaws.{grown_twice}
 use Rattle.launch_run.specs.Lines.{line_of, front_of, name_of, back_of}
 use Rattle.launch_run.specs.declared.lines.Refusal.{Refusal}
 use Rattle.launch_run.specs.declared.lines.Refusal.TheVariants.{Words, Input, TooLong, Program, LaunchText, Memory}

@@ -7,10 +7,12 @@ pub use lines::Refusal;
 pub use program::{ProgramFault, program_is_decided, read_program};
 pub use words::program_word;
 
+mod args;
 mod inputs;
 mod launch_text;
 mod lines;
 mod program;
+mod run;
 #[cfg(test)]
 mod tests;
 mod words;

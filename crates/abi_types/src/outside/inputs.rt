@@ -1,5 +1,5 @@
 //! Names with their bytes, in memory.
-ghost use Rattle.std.specs.Prelude.{◌≡◌, ◌∷◌, [], ℕ, List, length, take, drop, ◌-◌, min, OnOk, OnErr};
+ghost use Rattle.std.specs.Prelude.{◌≡◌, ◌∷◌, [], List, length, take, drop, ◌-◌, min, OnOk, OnErr};
 ghost use Rattle.std.specs.Option.{option_copied};
 ghost use Rattle.abi_types.specs.Outside.Memory.{given};
 

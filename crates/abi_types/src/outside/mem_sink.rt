@@ -1,5 +1,5 @@
 //! A sink in memory, of which chosen calls fail.
-ghost use Rattle.std.specs.Prelude.{◌≡◌, ◌<◌, ◌≤◌, ◌++◌, ℕ, List, [], length, take, min, Option, Some, Contains, IfOk, IsErr, OnOk, OnErr};
+ghost use Rattle.std.specs.Prelude.{◌≡◌, ◌<◌, ◌≤◌, [], length, take, min, Some, Contains, IfOk, IsErr, OnOk, OnErr};
 ghost use Rattle.abi_types.specs.Outside.Source.{Rose};
 ghost use Rattle.abi_types.specs.Outside.Sink.{grown, GrewByPrefix};
 ghost use Rattle.abi_types.specs.Outside.Memory.{counted};

@@ -1,5 +1,5 @@
 //! A source in memory, of which chosen calls fail.
-ghost use Rattle.std.specs.Prelude.{◌≡◌, ◌<◌, ◌≤◌, ◌∷◌, ◌-◌, ⊤, min, if◌then◌else◌, ℕ, List, [], length, Contains, IfOk, IsErr, IsOk, OnOk, OnErr, ◌↔◌, IsSome};
+ghost use Rattle.std.specs.Prelude.{◌≡◌, ◌<◌, ◌≤◌, ◌∷◌, ◌-◌, ⊤, min, if◌then◌else◌, ℕ, List, [], length, Contains, IfOk, IsErr, OnOk, OnErr, IsSome};
 ghost use Rattle.abi_types.specs.Outside.Source.{Lacking, Content, Rose, IsReadAt, EndsBy};
 ghost use Rattle.std.specs.Str.{bytes_eq};
 ghost use Rattle.abi_types.specs.Outside.Memory.{given, bytes_of, told_in_memory, counted};

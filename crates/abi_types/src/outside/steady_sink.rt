@@ -1,7 +1,5 @@
 //! A sink in memory that never fails.
-ghost use Rattle.std.specs.Prelude.{◌≡◌, ◌<◌, ◌≤◌, ◌++◌, ℕ, List, [], length, take, None, IfOk, IsOk, OnErr};
-ghost use Rattle.abi_types.specs.Outside.Source.{Rose};
-ghost use Rattle.abi_types.specs.Outside.Sink.{grown, GrewByPrefix};
+ghost use Rattle.std.specs.Prelude.{◌≡◌, ◌<◌, ◌≤◌, ◌++◌, [], length, take, None, IfOk};
 
 use crate::outside::sink::Sink;
 use crate::outside::source::Failed;

@@ -1,6 +1,6 @@
 //! A source in memory that never fails.
-ghost use Rattle.std.specs.Prelude.{◌≡◌, ◌<◌, ◌≤◌, ◌∷◌, ◌-◌, ⊤, min, if◌then◌else◌, ℕ, List, [], length, IfOk, IsErr, IsOk, OnOk, OnErr};
-ghost use Rattle.abi_types.specs.Outside.Source.{Lacking, Content, Rose, IsReadAt, EndsBy};
+ghost use Rattle.std.specs.Prelude.{◌≡◌, ◌<◌, ◌∷◌, ◌-◌, ⊤, min, if◌then◌else◌, ℕ, List, [], length, IfOk, IsOk, OnOk, OnErr};
+ghost use Rattle.abi_types.specs.Outside.Source.{Content, IsReadAt, EndsBy};
 ghost use Rattle.std.specs.Str.{bytes_eq};
 ghost use Rattle.abi_types.specs.Outside.Memory.{bytes_of, told_steadily};
 

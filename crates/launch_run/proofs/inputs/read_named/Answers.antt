@@ -2,7 +2,7 @@ use Rattle.std.proofs.Common.{◌≤◌, length, subst, sym}
 use Rattle.std.specs.Prelude.{ℕ, List}
 use Rattle.std.proofs.lemmas.Result.{err_from_is_err_and}
 use Rattle.abi_types.specs.Outside.Source.{IsWhole}
-use Rattle.abi_types.proofs.InputParts.{rose_since}
+use Rattle.abi_types.proofs.OutsideLaws.{rose_since}
 use Rattle.launch_run.specs.Launch.{standard_input, input_limit}
 use Rattle.launch_run.proofs.LaunchParts.{text_unread, launch_told, refusal_told, built}
 use Rattle.launch_run.proofs.inputs.read_named.Goals as goal

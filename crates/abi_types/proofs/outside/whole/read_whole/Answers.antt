@@ -9,6 +9,6 @@ loop-bytes-preserved g c =
       λ n. c.in_ok-count.ensures.told_stays n ∙ kept.0 n,
       λ n h. c.in_ok-count.ensures.may_read_stays n (kept.1 n h),
       omega arith,
-      still_within _ _ _ _ _ _ appended c.len-in-loop-bytes.ensures kept.3 c.if-count-len.false,
+      still_within _ _ _ _ _ _ appended c.len-in-loop-bytes.ensures kept.3 (omega arith),
       next_read _ _ _ _ _ _ _ (kept.0 c.args.name.now) c.len.ensures appended (omega (arith, c.in_ok-count.ensures.at_most)) kept.4 c.in_ok-count.ensures.content,
     )

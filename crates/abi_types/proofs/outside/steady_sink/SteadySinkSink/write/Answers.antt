@@ -1,4 +1,4 @@
-use Rattle.std.proofs.Common.{◌≡◌, ◌++◌, take, arith, subst, ◌∙◌, sym}
+use Rattle.std.proofs.Common.{◌≡◌, ◌++◌, take, arith, subst, ◌∙◌}
 use Rattle.abi_types.specs.Outside.Memory.{RoomState}
 use Rattle.abi_types.proofs.OutputParts.{held_within}
 use Rattle.abi_types.proofs.outside.steady_sink.SteadySinkSink.write.Goals as goal

@@ -1,0 +1,7 @@
+pub mod Args
+pub mod Put
+pub mod World
+pub mod Legal
+pub mod Ends
+pub mod Confined
+pub mod Laws
