@@ -23,6 +23,9 @@ use number_map::NumMap;
 use std::alloc::{AllocError, Global};
 use std::marker::Model;
 
+/// How long each call takes, and each end from outside, in nanoseconds.
+const STEP_TIME: u64 = 1000;
+
 /// The state of the kernel, in contracts a `State` (docs/MODEL.md), which is always valid.
 #[derive(Drop)]
 pub struct Kernel {
@@ -146,7 +149,7 @@ impl Kernel {
         ensures step { IsStep self.old pid call.now result self.new }
         ensures valid { IsValid self.old }
     {
-        self.clock += 1000;
+        self.clock += STEP_TIME;
         match self.act(pid, call) {
             Ok(reply) => Answer::Reply(reply),
             Err(_) => Answer::Reply(refused(Errno::Nomem)),
@@ -182,7 +185,7 @@ impl Kernel {
         ensures others { (q : Part) → has_part (at_clock ∷ at_proc pid ∷ at_status pid ∷ []) q ≡ false
             → is_released (end_unreleased self.old pid status) q ≡ false → Agree self.new self.old q }
     {
-        self.clock += 1000;
+        self.clock += STEP_TIME;
         self.end_process(pid, status);
     }
 
