@@ -18,7 +18,10 @@ use crate::needs::{need, refusal, refused, success};
 use crate::objects::Objects;
 use crate::start::{granted, single, unwritten};
 use crate::table::{Table as Descriptors, let_go_all};
-use abi_types::{Answer, Bytes, Call, Denial, Descriptor, Errno, Needed, OpenKind, Pid, Reply, Status, Thread, Tid};
+use abi_types::{
+    Answer, Bytes, Call, Denial, Descriptor, Errno, Needed, OpenKind, Pid, Reply, Status, Thread,
+    Tid,
+};
 use number_map::NumMap;
 use std::alloc::{AllocError, Global};
 use std::marker::Model;

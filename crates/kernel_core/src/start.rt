@@ -54,13 +54,19 @@ fn open_of(target: GrantTarget) -> OpenKind
 }
 
 /// Puts a granted descriptor at its number, and its open, which it alone holds.
-fn put_grant(table: &mut Table, objects: &mut Objects, number: u64, grant: &Grant) -> Result<(), AllocError>
+fn put_grant(
+    table: &mut Table,
+    objects: &mut Objects,
+    number: u64,
+    grant: &Grant,
+) -> Result<(), AllocError>
     requires few { number < 1024 }
     requires free { map.get objects.old.kinds (launch_object (5 + number)) ≡ None }
     ensures table { OnOk result (table.new ≡ map.insert table.old number (granted_descriptor number grant.now)) }
     ensures objects { OnOk result (objects.new ≡ record {
-        kinds = map.insert objects.old.kinds (launch_object (5 + number)) (granted_open number grant.now);
-        counts = map.insert objects.old.counts (launch_object (5 + number)) 1 }) }
+      kinds = map.insert objects.old.kinds (launch_object (5 + number)) (granted_open number grant.now);
+      counts = map.insert objects.old.counts (launch_object (5 + number)) 1;
+    }) }
 {
     let id = launch_object(FIRST_GRANT + number);
     objects.add(id, open_of(grant.target))?;

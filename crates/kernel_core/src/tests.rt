@@ -4,12 +4,14 @@ ghost use Rattle.abi_types.specs.Rights.{has_all};
 
 use crate::{Elf, Kernel, Launch, SegmentList};
 use abi_types::{
-    Answer, Bytes, Call, Denial, Errno, Grant, GrantList, GrantTarget, Pid, Reply, Rights, Signal, Status, Thread, Tid,
+    Answer, Bytes, Call, Denial, Errno, Grant, GrantList, GrantTarget, Pid, Reply, Rights, Signal,
+    Status, Thread, Tid,
 };
 use std::alloc::{AllocError, Global};
 use std::test::Fail;
 
 const PID: Pid = Pid(0);
+
 const TID: Tid = Tid(1);
 
 /// A kernel whose process has one descriptor, of stdout, with these base rights.
@@ -114,7 +116,10 @@ fn missing_right_is_named(rt: HostRuntime) -> Result<(), Fail> {
 fn process_ends(rt: HostRuntime) -> Result<(), Fail> {
     let alloc = rt.alloc();
     let mut exited = stdout_kernel(alloc, 0x1008_0048)?;
-    assert_eq!(rt; reply_to(&mut exited, &Call::ProcExit { code: 7 }), Some(reply(Errno::Success, 0)));
+    assert_eq!(rt;
+        reply_to(&mut exited, &Call::ProcExit { code: 7 }),
+        Some(reply(Errno::Success, 0))
+    );
     assert_eq!(rt; exited.status(PID), Some(Status::Exit(7)));
     assert!(rt; !exited.live(PID));
     assert_eq!(rt; exited.thread(PID, TID), None);
