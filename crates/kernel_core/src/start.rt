@@ -10,7 +10,7 @@ use abi_types::{Bytes, Descriptor, Grant, GrantTarget, ObjId, OpenKind};
 use number_map::NumMap;
 use std::alloc::{AllocError, Global};
 
-/// The process number, in the numbers of objects, of what the launch makes. No process has it.
+/// The process number that stands in the numbers of the objects that the launch makes.
 const LAUNCH_PROCESS: u64 = 0xffff_ffff;
 
 /// The count of the first grant's open among the launch's objects: 1 to 3 are the standard streams, 4 is the root of
