@@ -1,0 +1,4 @@
+pub mod Page
+pub mod Memory
+pub mod Instruction
+pub mod Machine
