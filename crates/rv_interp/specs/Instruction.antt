@@ -1,6 +1,6 @@
 -- The words of instructions (RISC-V unprivileged manual, chapter "RV32I Base Integer Instruction Set", sections
 -- "Base Instruction Formats" and "Immediate Encoding Variants").
-use Rattle.std.specs.Prelude.{ℕ, ◌+◌, ◌*◌, ◌/◌, ◌%◌, ◌^◌, ◌==◌, cond, nat_lt, ℤ, pos, ◌-ℤ◌, Option, Some, None}
+use Rattle.std.specs.Prelude.{ℕ, ◌+◌, ◌*◌, ◌/◌, ◌%◌, ◌^◌, ◌<◌, ◌==◌, cond, nat_lt, ℤ, pos, ◌-ℤ◌, Option, Some, None}
 use Rattle.rv_interp.specs.declared.instruction.Instr.{Instr}
 use Rattle.rv_interp.specs.declared.instruction.Op.{Op}
 use Rattle.rv_interp.specs.declared.instruction.Op.TheVariants.{Addi, Lui, Ecall}
@@ -49,3 +49,7 @@ decode_of w =
     (cond (w % 128 == 0x37) (Some (format_u_of w Lui))
     (cond (w % 128 == 0x73) (system_row_of w)
     None))
+
+-- an instruction that names registers, which are 32
+abbrev pub NamesRegisters : Instr → Type 0
+NamesRegisters i = (i.rd < 32) × (i.rs1 < 32)

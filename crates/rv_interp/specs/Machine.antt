@@ -33,15 +33,16 @@ done_of r rd value = record { outcome = outcome.Done; regs = with_pc (with_x r r
 abbrev pub unchanged_of : Registers → Outcome → Step
 unchanged_of r end = record { outcome = end; regs = r }
 
--- what an instruction does (RISC-V unprivileged manual, "Integer Register-Immediate Instructions" and "Environment
+-- what each operation does (RISC-V unprivileged manual, "Integer Register-Immediate Instructions" and "Environment
 -- Call and Breakpoints", with registers of 64 bits by "RV64I"): ADDI adds modulo 2^64, LUI writes its immediate
+abbrev pub meaning_of : Op → Instr → Registers → Step
+meaning_of Addi i r = done_of r i.rd ((slice_index r.x i.rs1 + bits_of i.imm) % 2 ^ 64)
+meaning_of Lui i r = done_of r i.rd (bits_of i.imm)
+meaning_of Ecall i r = unchanged_of r outcome.Ecall
+
+-- what an instruction does
 abbrev pub execute_of : Instr → Registers → Step
-execute_of i r =
-    elim i.op [
-      | Addi ↦ done_of r i.rd ((slice_index r.x i.rs1 + bits_of i.imm) % 2 ^ 64)
-      | Lui ↦ done_of r i.rd (bits_of i.imm)
-      | Ecall ↦ unchanged_of r outcome.Ecall
-    ]
+execute_of i r = meaning_of i.op i r
 
 -- what a decoded word does; a word that is no instruction is illegal
 abbrev pub decoded_step_of : Registers → Option Instr → Step
@@ -82,19 +83,16 @@ pub record Turn : Type 0 where
   pub end : TurnEnd
   pub regs : Registers
 
--- goes on after an instruction that was done, and else ends as it says
-abbrev pub go_on : (Registers → Turn) → Step → Turn
-go_on rest step =
-    elim step.outcome [
-      | outcome.Done ↦ rest step.regs
-      | outcome.Ecall ↦ record { end = turn_end.Ecall; regs = step.regs }
-      | outcome.Trap signal ↦ record { end = turn_end.Trap signal; regs = step.regs }
-    ]
+-- goes on from these registers after an instruction that was done, and else ends as it says
+abbrev pub go_on : (Registers → Turn) → Outcome → Registers → Turn
+go_on rest outcome.Done r = rest r
+go_on rest outcome.Ecall r = record { end = turn_end.Ecall; regs = r }
+go_on rest (outcome.Trap signal) r = record { end = turn_end.Trap signal; regs = r }
 
 -- what at most n instructions do
 unfoldable pub turn_within : ℕ → Pages → Registers → Turn
 turn_within zero m r = record { end = turn_end.Quantum; regs = r }
-turn_within (suc n) m r = go_on (turn_within n m) (step_of m r)
+turn_within (suc n) m r = go_on (turn_within n m) (step_of m r).outcome (step_of m r).regs
 
 -- what a turn does
 unfoldable pub turn_of : Pages → Registers → Turn

@@ -1,5 +1,6 @@
 //! One instruction.
 ghost use Rattle.std.specs.Prelude.{◌≡◌, ◌<◌};
+ghost use Rattle.rv_interp.specs.Instruction.{NamesRegisters};
 ghost use Rattle.rv_interp.specs.Machine.{done_of, execute_of, step_of};
 
 use crate::instruction::{Instr, Op, decode};
@@ -36,8 +37,7 @@ pub fn step(regs: &mut Regs, mem: &Memory) -> Outcome
 /// Does a decoded instruction.
 #[inline]
 fn execute(regs: &mut Regs, instr: &Instr) -> Outcome
-    requires destination { instr.now.rd < 32 }
-    requires source { instr.now.rs1 < 32 }
+    requires { NamesRegisters instr.now }
     ensures { execute_of instr.now regs.old ≡ record { outcome = result; regs = regs.new } }
 {
     let imm = instr.imm.cast_unsigned();

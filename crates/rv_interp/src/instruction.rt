@@ -1,6 +1,6 @@
 //! The words of instructions (RISC-V unprivileged manual, chapter "RV32I Base Integer Instruction Set").
-ghost use Rattle.std.specs.Prelude.{◌≡◌, ◌/◌, ◌%◌, ◌^◌};
-ghost use Rattle.rv_interp.specs.Instruction.{decode_of, each, format_i_of, format_u_of, immediate_i_of, immediate_row_of, immediate_u_of, system_row_of};
+ghost use Rattle.std.specs.Prelude.{IfSome, ◌≡◌, ◌/◌, ◌%◌, ◌^◌};
+ghost use Rattle.rv_interp.specs.Instruction.{NamesRegisters, decode_of, each, format_i_of, format_u_of, immediate_i_of, immediate_row_of, immediate_u_of, system_row_of};
 
 /// What an instruction does.
 #[derive(Clone, Copy, Debug, PartialEq, Eq)]
@@ -25,7 +25,8 @@ pub struct Instr {
 /// The instruction of a word. `None` exactly for a word that is none of ADDI, LUI and ECALL.
 #[tactic(auto, unfolding(crate::specs::Instruction::decode_of))]
 pub fn decode(word: u32) -> Option<Instr>
-    ensures { result ≡ decode_of word }
+    ensures exact { result ≡ decode_of word }
+    ensures registers { IfSome result NamesRegisters }
 {
     match word % 128 {
         0x13 => format_i(word, immediate_row((word >> 12) % 8)),
@@ -37,7 +38,8 @@ pub fn decode(word: u32) -> Option<Instr>
 
 /// An instruction of format I.
 fn format_i(word: u32, op: Option<Op>) -> Option<Instr>
-    ensures { result ≡ each (format_i_of word) op }
+    ensures exact { result ≡ each (format_i_of word) op }
+    ensures registers { IfSome result NamesRegisters }
 {
     let op = op?;
     Some(Instr {
@@ -50,7 +52,8 @@ fn format_i(word: u32, op: Option<Op>) -> Option<Instr>
 
 /// An instruction of format U.
 fn format_u(word: u32, op: Option<Op>) -> Option<Instr>
-    ensures { result ≡ each (format_u_of word) op }
+    ensures exact { result ≡ each (format_u_of word) op }
+    ensures registers { IfSome result NamesRegisters }
 {
     let op = op?;
     Some(Instr {
@@ -73,7 +76,8 @@ fn immediate_row(funct3: u32) -> Option<Op>
 
 /// The instruction of a word of opcode 0x73.
 fn system_row(word: u32) -> Option<Instr>
-    ensures { result ≡ system_row_of word }
+    ensures exact { result ≡ system_row_of word }
+    ensures registers { IfSome result NamesRegisters }
 {
     match word {
         0x73 => Some(Instr {

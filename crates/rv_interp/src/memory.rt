@@ -67,8 +67,9 @@ impl MappedPage {
         requires { length bytes.now ≤ 4096 }
         ensures { IfOk result (λ page. page ≡ page_of bytes.now prot) }
     {
-        let mut page = bytes.to_vec(alloc)?;
-        page.resize(4096, 0)?;
+        let mut page = Vec::with_capacity(alloc, PAGE as usize)?;
+        page.extend_from_slice(bytes)?;
+        page.resize(PAGE as usize, 0)?;
         Ok(MappedPage { bytes: page, prot })
     }
 
