@@ -1,5 +1,5 @@
 -- The bytes of a guest's memory, and what refuses them.
-use Rattle.std.specs.Prelude.{ℕ, zero, suc, ◌+◌, ◌-◌, ◌/◌, ◌%◌, ◌^◌, Bool, if◌then◌else◌, List, [], ◌∷◌, ◌++◌, length, replicate, drop, slice_index, Option, Some, None, Result, Ok, Err}
+use Rattle.std.specs.Prelude.{◌≡◌, ◌<◌, ℕ, zero, suc, ◌+◌, ◌-◌, ◌/◌, ◌%◌, ◌^◌, Bool, if◌then◌else◌, List, [], ◌∷◌, ◌++◌, length, replicate, drop, slice_index, Option, Some, None, Result, Ok, Err, IsOk, MatchResult}
 use Rattle.std.specs.Int.{w32, from_le_bytes}
 use Rattle.std.specs.FinMap.{get}
 use Rattle.abi_types.specs.declared.prot.Prot.{Prot}
@@ -42,6 +42,22 @@ bytes_from access m a (suc n) = in_front (byte_at access m a) (bytes_from access
 -- n bytes that a program may read, from an address on
 abbrev pub bytes_at : Pages → ℕ → ℕ → Result (List ℕ) MemFault
 bytes_at m a n = bytes_from Read m a n
+
+-- n bytes from an address on can be had one by one, and are these
+pub record AreBytes (access : Access) (m : Pages) (a n : ℕ) (bytes : List ℕ) : Type 0 where
+  pub count : length bytes ≡ n
+  pub each : (k : ℕ) → k < n → byte_at access m ((a + k) % 2 ^ 64) ≡ Ok (slice_index bytes k)
+
+-- of n bytes from an address on, the first that can't be had has this fault
+pub record IsFirstFault (access : Access) (m : Pages) (a n : ℕ) (fault : MemFault) : Type 0 where
+  pub place : ℕ
+  pub within : place < n
+  pub before : (k : ℕ) → k < place → IsOk (byte_at access m ((a + k) % 2 ^ 64))
+  pub there : byte_at access m ((a + place) % 2 ^ 64) ≡ Err fault
+
+-- `bytes_from` gives the bytes one by one, or the fault of the first that has one
+abbrev pub BytesAreEach : Type 0
+BytesAreEach = (access : Access) (m : Pages) (a n : ℕ) → a < 2 ^ 64 → MatchResult (bytes_from access m a n) (AreBytes access m a n) (IsFirstFault access m a n)
 
 -- the little-endian number of four bytes
 abbrev pub word_in : Result (List ℕ) MemFault → Result ℕ MemFault

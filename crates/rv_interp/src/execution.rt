@@ -1,5 +1,5 @@
 //! One instruction.
-ghost use Rattle.std.specs.Prelude.{◌≡◌, ◌<◌};
+ghost use Rattle.std.specs.Prelude.{◌≡◌, ◌≢◌, ◌<◌};
 ghost use Rattle.rv_interp.specs.Instruction.{NamesRegisters};
 ghost use Rattle.rv_interp.specs.Machine.{done_of, execute_of, step_of};
 
@@ -23,7 +23,8 @@ pub enum Outcome {
 #[inline]
 #[tactic(auto, unfolding(crate::specs::Machine::step_of))]
 pub fn step(regs: &mut Regs, mem: &Memory) -> Outcome
-    ensures { step_of mem.now regs.old ≡ record { outcome = result; regs = regs.new } }
+    ensures exact { step_of mem.now regs.old ≡ record { outcome = result; regs = regs.new } }
+    ensures unchanged { result ≢ Outcome.Done → regs.new ≡ regs.old }
 {
     let Ok(word) = mem.fetch(regs.pc()) else {
         return Outcome::Trap(Signal::Segv);

@@ -5,7 +5,7 @@
 #![tactic(auto)]
 
 pub use execution::{Outcome, step};
-pub use memory::{Access, MemFault, Memory};
+pub use memory::{Access, MemFault, Memory, bytes_are_each};
 pub use turns::{QUANTUM, TurnEnd, turn, turn_is_one};
 
 mod execution;

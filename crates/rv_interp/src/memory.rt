@@ -1,7 +1,7 @@
 //! The memory of a guest process.
 ghost use Rattle.std.specs.Prelude.{◌≡◌, ◌≤◌, ◌+◌, ◌%◌, length, IfOk, IfErr, IsOk, MatchResult, OnErr, OnOk};
 ghost use Rattle.std.specs.FinMap as map;
-ghost use Rattle.rv_interp.specs.Memory.{allows, bytes_at, bytes_from, fetch_of, page_of, run_at, run_in};
+ghost use Rattle.rv_interp.specs.Memory.{BytesAreEach, allows, bytes_at, bytes_from, fetch_of, page_of, run_at, run_in};
 
 use abi_types::Prot;
 use number_map::NumMap;
@@ -206,4 +206,10 @@ impl Memory {
         self.copy(Access::Exec, at, &mut word);
         Ok(u32::from_le_bytes(word))
     }
+}
+
+/// What `bytes_from` says, byte by byte. It does nothing.
+pub fn bytes_are_each()
+    ensures { BytesAreEach }
+{
 }
