@@ -22,7 +22,7 @@ before_in_front x m a n b fault small e h zero below = subst IsOk (sym (byte_her
 before_in_front x m a n b fault small e h (suc k) below = subst IsOk (sym (further x m a k)) (h.before k (omega arith))
 
 each_of : (x : Access) (m : Pages) (a n : ℕ) (b : Result ℕ MemFault) (r : Result (List ℕ) MemFault) → a < 2 ^ 64 → byte_at x m a ≡ b
-  → MatchResult r (AreBytes x m ((a + 1) % 2 ^ 64) n) (IsFirstFault x m ((a + 1) % 2 ^ 64) n) → MatchResult (in_front b r) (AreBytes x m a (suc n)) (IsFirstFault x m a (suc n))
+    → MatchResult r (AreBytes x m ((a + 1) % 2 ^ 64) n) (IsFirstFault x m ((a + 1) % 2 ^ 64) n) → MatchResult (in_front b r) (AreBytes x m a (suc n)) (IsFirstFault x m a (suc n))
 each_of x m a n (Ok b) (Ok bs) small e h = record { count = ap suc h.count; each = each_in_front x m a n b bs small e h }
 each_of x m a n (Ok b) (Err fault) small e h =
     record { place = suc h.place; within = omega (arith, h.within); before = before_in_front x m a n b fault small e h; there = further x m a h.place ∙ h.there }

@@ -44,7 +44,7 @@ in_page x m p (suc (suc n)) a there allowed whole small fits =
     let place : (a + 1) % 4096 ≡ suc (a % 4096) = omega arith in
     let page : (a + 1) / 4096 ≡ a / 4096 = omega arith in
     let rest : bytes_from x m (a + 1) (suc n) ≡ Ok (take (suc n) (drop ((a + 1) % 4096) p.bytes)) =
-      in_page x m p (suc n) (a + 1) (ap (get m) page ∙ there) allowed whole (omega arith) (omega arith) in
+    in_page x m p (suc n) (a + 1) (ap (get m) page ∙ there) allowed whole (omega arith) (omega arith) in
     first x m a (suc n)
     ∙ ap (λ b. in_front b (bytes_from x m ((a + 1) % 2 ^ 64) (suc n))) (byte_there x m a p there allowed)
     ∙ ap (λ b. in_front (Ok (get_or p.bytes (a % 4096) 0)) (bytes_from x m b (suc n))) next
@@ -80,7 +80,7 @@ bytes-append x m (suc j) k a small =
     let same : suc j + k ≡ suc (j + k) = omega arith in
     let there : ((a + 1) % 2 ^ 64 + j) % 2 ^ 64 ≡ (a + suc j) % 2 ^ 64 = omega arith in
     let rest : bytes_from x m ((a + 1) % 2 ^ 64) (j + k) ≡ joined (bytes_from x m ((a + 1) % 2 ^ 64) j) (bytes_from x m (((a + 1) % 2 ^ 64 + j) % 2 ^ 64) k) =
-      bytes-append x m j k ((a + 1) % 2 ^ 64) (omega arith) in
+    bytes-append x m j k ((a + 1) % 2 ^ 64) (omega arith) in
     ap (bytes_from x m a) same
     ∙ first x m a (j + k)
     ∙ ap (in_front (byte_at x m a)) rest
@@ -186,7 +186,7 @@ not_both (Err fault) other h e = cc
 
 -- a run where all bytes can be had is no fault
 pub never_faults : {R : Type 0} (x : Access) (m : Pages) (a done n : ℕ) (now : R → List ℕ) (r : Result R MemFault) → a < 2 ^ 64 → IsOk (bytes_from x m a done) → IsOk (bytes_from x m a n) → done < n
-  → MatchResult r (λ run. run_at x m ((a + done) % 2 ^ 64) ≡ Ok (now run)) (λ fault. run_at x m ((a + done) % 2 ^ 64) ≡ Err fault) → IsOk r
+    → MatchResult r (λ run. run_at x m ((a + done) % 2 ^ 64) ≡ Ok (now run)) (λ fault. run_at x m ((a + done) % 2 ^ 64) ≡ Err fault) → IsOk r
 never_faults x m a done n now (Ok run) small before all h is = refl
 never_faults x m a done n now (Err fault) small before all h is =
     let failed : bytes_from x m a n ≡ Err fault = fault_more x m a done n fault small before is h in

@@ -102,7 +102,7 @@ unfolding Does
 one_first m n r s t e h =
     record {
       all = λ q. (s, e, h.all q);
-      stops = λ o f. let at = h.stops o f in (suc at.0, omega arith, (s, e, at.2), at.3)
+      stops = λ o f. let at = h.stops o f in (suc at.0, omega arith, (s, e, at.2), at.3);
     }
 
 stop_first : (m : Pages) (n : ℕ) (r s : Registers) (end : TurnEnd) (o : Outcome) → stop_of end ≡ Some o → step_of m r ≡ record { outcome = o; regs = s } → IsWithin m (suc n) r (record { end = end; regs = s })
@@ -111,7 +111,7 @@ stop_first m n r s end o f e =
     let same : r ≡ s = stop_unchanged m r o s e (stop_not_done end o f) in
     record {
       all = λ q. absurd (cc);
-      stops = λ p g. (0, omega arith, same, ap (step_of m) (sym same) ∙ e ∙ ap (λ (x : Outcome). let t : Step = record { outcome = x; regs = s } in t) (same_some o p (sym f ∙ g)))
+      stops = λ p g. (0, omega arith, same, ap (step_of m) (sym same) ∙ e ∙ ap (λ (x : Outcome). let t : Step = record { outcome = x; regs = s } in t) (same_some o p (sym f ∙ g)));
     }
 
 step_first : (m : Pages) (n : ℕ) (r : Registers) (o : Outcome) (s : Registers) → step_of m r ≡ record { outcome = o; regs = s } → ((x : Registers) → IsWithin m n x (turn_within n m x)) → IsWithin m (suc n) r (go_on (turn_within n m) o s)
@@ -135,7 +135,7 @@ stopped m n r s t end o f d h e =
     record {
       quantum = λ q. absurd (cc);
       stops = λ p g.
-        (n, h, subst (Does m n r) same d, ap (step_of m) (sym same) ∙ e ∙ ap (λ (x : Outcome). let u : Step = record { outcome = x; regs = t } in u) (same_some o p (sym f ∙ g)))
+          (n, h, subst (Does m n r) same d, ap (step_of m) (sym same) ∙ e ∙ ap (λ (x : Outcome). let u : Step = record { outcome = x; regs = t } in u) (same_some o p (sym f ∙ g)));
     }
 
 -- a turn of as many instructions as a turn may have

@@ -17,4 +17,4 @@ Pages = FinMap nat_cmp Page
 abbrev pub page_code : Coded Page
 page_code =
     code_by (List ℕ × (Bool × (Bool × Bool))) (coded× (coded_list coded_ℕ) (coded× coded_bool (coded× coded_bool coded_bool)))
-      (λ p. (p.bytes, (p.prot.read, (p.prot.write, p.prot.exec)))) (λ c. record { bytes = c.0; prot = record { read = c.1.0; write = c.1.1.0; exec = c.1.1.1 } }) (λ _. refl)
+    (λ p. (p.bytes, (p.prot.read, (p.prot.write, p.prot.exec)))) (λ c. record { bytes = c.0; prot = record { read = c.1.0; write = c.1.1.0; exec = c.1.1.1 } }) (λ _. refl)

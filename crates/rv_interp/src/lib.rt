@@ -11,4 +11,6 @@ pub use turns::{QUANTUM, TurnEnd, turn, turn_is_one};
 mod execution;
 mod instruction;
 mod memory;
+#[cfg(test)]
+mod tests;
 mod turns;

@@ -211,5 +211,4 @@ impl Memory {
 /// What `bytes_from` says, byte by byte. It does nothing.
 pub fn bytes_are_each()
     ensures { BytesAreEach }
-{
-}
+{}

@@ -9,5 +9,5 @@ returns c =
     let bytes : c.extend_from_slice.new.self.items ≡ c.args.bytes.now = c.in_ok-extend_from_slice.ensures.items ∙ ap (λ xs. xs ++ c.args.bytes.now) c.in_ok-page.ensures.items in
     let many : vec_len c.extend_from_slice.new.self ≡ length c.args.bytes.now = omega (arith, c.in_ok-extend_from_slice.ensures.len, c.in_ok-page.ensures.len) in
     let whole : c.resize.new.self.items ≡ c.args.bytes.now ++ replicate (4096 - length c.args.bytes.now) 0 =
-      c.in_ok-resize.ensures.items ∙ filled c.args.bytes.now c.extend_from_slice.new.self.items 4096 (vec_len c.extend_from_slice.new.self) bytes many c.requires in
+    c.in_ok-resize.ensures.items ∙ filled c.args.bytes.now c.extend_from_slice.new.self.items 4096 (vec_len c.extend_from_slice.new.self) bytes many c.requires in
     ap page whole

@@ -16,5 +16,5 @@ loop-done-preserved c =
     let part : c.min-done.result ≤ length c.in_ok-run.run'.now = omega (arith, c.min-done.ensures) in
     record {
       within = omega (arith, c.min-done.ensures);
-      had = ok_more c.args.access c.args.self.now c.args.at c.loop-done.done c.min-done.result c.in_ok-run.run'.now c.ranges.at.fits c.loop-done.invariant.had c.in_ok-run.ensures.run c.in_ok-run.ensures.len part
+      had = ok_more c.args.access c.args.self.now c.args.at c.loop-done.done c.min-done.result c.in_ok-run.run'.now c.ranges.at.fits c.loop-done.invariant.had c.in_ok-run.ensures.run c.in_ok-run.ensures.len part;
     }

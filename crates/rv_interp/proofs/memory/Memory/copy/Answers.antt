@@ -11,7 +11,7 @@ loop-done-init c = record { within = omega arith; had = none c.args.access c.arg
 pub unwrap-run-requires : goal.unwrap-run-requires
 unwrap-run-requires c =
     never_faults c.args.access c.args.self.now c.args.at c.loop-done.done (length c.args.out.now) (λ run. run.now) c.run.result c.ranges.at.fits
-      (had_ok c.args.access c.args.self.now c.args.at c.loop-done.done _ c.loop-done.invariant.had) c.requires (omega arith) c.run.ensures.run
+    (had_ok c.args.access c.args.self.now c.args.at c.loop-done.done _ c.loop-done.invariant.had) c.requires (omega arith) c.run.ensures.run
 
 pub loop-done-preserved : goal.loop-done-preserved
 loop-done-preserved c =
@@ -23,7 +23,7 @@ loop-done-preserved c =
     record {
       within = omega (arith, taken, length-take-le c.loop-done.done c.loop-done.out (omega arith), length-put_mid c.loop-done.done (c.loop-done.done + c.min-part.result - c.loop-done.done) c.loop-done.out c.copy_from_slice.new.self);
       had =
-        had_more c.args.access c.args.self.now c.args.at c.loop-done.done c.min-part.result _ c.unwrap-run.result.now c.ranges.at.fits c.loop-done.invariant.had run len part
-        ∙ ap (λ ys. Ok (take c.loop-done.done c.loop-done.out ++ ys)) (sym c.copy_from_slice.ensures.after)
-        ∙ ap Ok (sym (take-put_mid c.loop-done.done (c.loop-done.done + c.min-part.result - c.loop-done.done) c.loop-done.out c.copy_from_slice.new.self (c.loop-done.done + c.min-part.result) (omega arith) (omega arith)))
+          had_more c.args.access c.args.self.now c.args.at c.loop-done.done c.min-part.result _ c.unwrap-run.result.now c.ranges.at.fits c.loop-done.invariant.had run len part
+          ∙ ap (λ ys. Ok (take c.loop-done.done c.loop-done.out ++ ys)) (sym c.copy_from_slice.ensures.after)
+          ∙ ap Ok (sym (take-put_mid c.loop-done.done (c.loop-done.done + c.min-part.result - c.loop-done.done) c.loop-done.out c.copy_from_slice.new.self (c.loop-done.done + c.min-part.result) (omega arith) (omega arith)));
     }
