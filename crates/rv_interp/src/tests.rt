@@ -16,14 +16,14 @@ const DATA: Prot = Prot {
 };
 
 /// A memory that has these words, from 0x10000 on, in one page.
-fn memory_of(rt: &HostRuntime, words: &[u32], prot: Prot) -> Result<Memory, Fail> {
-    let mut bytes = Vec::new(rt.alloc());
+fn memory_of(alloc: Global, words: &[u32], prot: Prot) -> Result<Memory, AllocError> {
+    let mut bytes = Vec::new(alloc);
     for word in words {
         bytes.extend_from_slice(&word.to_le_bytes())?;
     }
-    let mut mem = Memory::new(rt.alloc());
+    let mut mem = Memory::new(alloc);
     let len = bytes.len().min(4096);
-    mem.map_page(rt.alloc(), 16, &bytes[..len], prot)?;
+    mem.map_page(alloc, 16, &bytes[..len], prot)?;
     Ok(mem)
 }
 
@@ -43,7 +43,7 @@ fn one_instruction(rt: HostRuntime) -> Result<(), Fail> {
         (0x0000_1513, 10, 0, Outcome::Trap(Signal::Ill)), // slli a0, zero, 0
     ];
     for (word, register, value, outcome) in rows {
-        let mem = memory_of(&rt, &[word], CODE)?;
+        let mem = memory_of(rt.alloc(), &[word], CODE)?;
         let mut regs = Regs::new(0x1_0000);
         assert_eq!(rt; step(&mut regs, &mem), outcome, "at {word}");
         assert!(rt; register < 32);
@@ -58,66 +58,68 @@ fn one_instruction(rt: HostRuntime) -> Result<(), Fail> {
     Ok(())
 }
 
-#[test]
-fn whole_turns(rt: HostRuntime) -> Result<(), Fail> {
-    let program = [0x0000_0513, 0x0001_05b7, 0x0a05_8593, 0x0000_0073];
-    let mem = memory_of(&rt, &program, CODE)?;
-    let mut regs = Regs::new(0x1_0000);
-    assert_eq!(rt; turn(&mut regs, &mem), TurnEnd::Ecall);
-    assert_eq!(rt; regs.pc(), 0x1_000c);
-    assert_eq!(rt; regs.get(11), 0x1_00a0);
-
-    let mut regs = Regs::new(0);
-    assert_eq!(rt; turn(&mut regs, &mem), TurnEnd::Trap(Signal::Segv));
-    let mem = memory_of(&rt, &program, DATA)?;
-    let mut regs = Regs::new(0x1_0000);
-    assert_eq!(rt; turn(&mut regs, &mem), TurnEnd::Trap(Signal::Segv));
-
-    // Four pages and a bit of `addi a0, a0, 1`, which begin in the middle of a word.
-    let mut mem = Memory::new(rt.alloc());
+/// Five pages, from 0x1000 on, of `addi a0, a0, 1`, each of which begins in the middle of a word.
+fn increments(alloc: Global) -> Result<Memory, AllocError> {
     let mut page = [0; 4096];
     for (k, byte) in page.iter_mut().enumerate() {
         *byte = [0x15, 0x00, 0x13, 0x05][k % 4];
     }
+    let mut mem = Memory::new(alloc);
     for number in 1..6 {
-        mem.map_page(rt.alloc(), number, &page, CODE)?;
+        mem.map_page(alloc, number, &page, CODE)?;
     }
-    let mut regs = Regs::new(0x1002);
-    assert_eq!(rt; turn(&mut regs, &mem), TurnEnd::Quantum);
-    assert_eq!(rt; regs.pc(), 0x5002);
-    assert_eq!(rt; regs.get(10), 4096);
-    assert_eq!(rt; turn(&mut regs, &mem), TurnEnd::Trap(Signal::Segv));
-    assert_eq!(rt; regs.pc(), 0x5ffe);
+    Ok(mem)
+}
+
+#[test]
+fn whole_turns(rt: HostRuntime) -> Result<(), Fail> {
+    let program = [0x0000_0513, 0x0001_05b7, 0x0a05_8593, 0x0000_0073];
+    let code = memory_of(rt.alloc(), &program, CODE)?;
+    let data = memory_of(rt.alloc(), &program, DATA)?;
+    let long = increments(rt.alloc())?;
+    let segv = TurnEnd::Trap(Signal::Segv);
+    // A memory, a pc, how the turn ends, and the pc and a1 after it.
+    let rows = [
+        (&code, 0x1_0000, TurnEnd::Ecall, 0x1_000c, 0x1_00a0),
+        (&code, 0, segv, 0, 0),
+        (&data, 0x1_0000, segv, 0x1_0000, 0),
+        (&long, 0x1002, TurnEnd::Quantum, 0x5002, 0),
+        (&long, 0x5002, segv, 0x5ffe, 0),
+    ];
+    for (mem, pc, end, after, a1) in rows {
+        let mut regs = Regs::new(pc);
+        assert_eq!(rt; turn(&mut regs, mem), end, "at {pc}");
+        assert_eq!(rt; regs.pc(), after, "at {pc}");
+        assert_eq!(rt; regs.get(11), a1, "at {pc}");
+    }
     Ok(())
+}
+
+/// Pages 0, 16, 20, 21 and the last one, of which page 21 can't be read.
+fn some_pages(alloc: Global) -> Result<Memory, AllocError> {
+    let mut mem = Memory::new(alloc);
+    mem.map_page(alloc, 0, &[7], DATA)?;
+    mem.map_page(alloc, 16, &[1, 2, 3, 4], DATA)?;
+    mem.map_page(alloc, 20, &[], DATA)?;
+    mem.map_page(alloc, 21, &[], CODE)?;
+    mem.map_page(alloc, u64::MAX / 4096, &[], DATA)?;
+    Ok(mem)
 }
 
 #[test]
 fn bytes_of_memory(rt: HostRuntime) -> Result<(), Fail> {
-    let mut mem = memory_of(&rt, &[0x0403_0201], DATA)?;
-    let mut out = [9; 6];
-    assert_eq!(rt; mem.read_bytes(0x1_0001, &mut out), Ok(()));
-    assert_eq!(rt; out, [2, 3, 4, 0, 0, 0]);
-
+    let mem = some_pages(rt.alloc())?;
     let rows = [
-        (0x1_0ffd, MemFault::NotMapped(0x1_1000)),
-        (0xfffd, MemFault::NotMapped(0xfffd)),
-        (u64::MAX, MemFault::NotMapped(u64::MAX)),
-        (0x1_2ffe, MemFault::NotMapped(0x1_2ffe)),
-        (0x1_4ffe, MemFault::NoRight(0x1_5000)),
+        (0x1_0001, Ok(()), [2, 3, 4, 0, 0, 0]),
+        (u64::MAX, Ok(()), [0, 7, 0, 0, 0, 0]),
+        (0x1_0ffd, Err(MemFault::NotMapped(0x1_1000)), [9; 6]),
+        (0xfffd, Err(MemFault::NotMapped(0xfffd)), [9; 6]),
+        (0x1_4ffe, Err(MemFault::NoRight(0x1_5000)), [9; 6]),
     ];
-    mem.map_page(rt.alloc(), 20, &[], DATA)?;
-    mem.map_page(rt.alloc(), 21, &[], CODE)?;
-    for (at, fault) in rows {
+    for (at, result, bytes) in rows {
         let mut out = [9; 6];
-        assert_eq!(rt; mem.read_bytes(at, &mut out), Err(fault), "at {at}");
-        assert_eq!(rt; out, [9; 6], "at {at}");
+        assert_eq!(rt; mem.read_bytes(at, &mut out), result, "at {at}");
+        assert_eq!(rt; out, bytes, "at {at}");
     }
-
-    // The addresses after the last one are 0 and on.
-    mem.map_page(rt.alloc(), u64::MAX / 4096, &[], DATA)?;
-    mem.map_page(rt.alloc(), 0, &[7], DATA)?;
-    assert_eq!(rt; mem.read_bytes(u64::MAX, &mut out), Ok(()));
-    assert_eq!(rt; out, [0, 7, 0, 0, 0, 0]);
-    assert_eq!(rt; mem.fetch(0), Err(MemFault::NoRight(0)));
     Ok(())
 }
