@@ -1,5 +1,5 @@
 -- Bytes in a row, one by one.
-use Rattle.std.proofs.Common.{◌≡◌, ℕ, zero, suc, ◌+◌, ◌%◌, ◌^◌, ◌<◌, List, [], ◌∷◌, length, get_or, Result, Ok, Err, IsOk, MatchResult, refl, sym, ap, subst, ◌∙◌, arith}
+use Rattle.std.proofs.Common.{◌≡◌, ℕ, zero, suc, ◌+◌, ◌%◌, ◌^◌, ◌<◌, List, ◌∷◌, get_or, Result, Ok, Err, IsOk, MatchResult, refl, sym, ap, subst, ◌∙◌, arith}
 use Rattle.rv_interp.specs.declared.memory.Access.{Access}
 use Rattle.rv_interp.specs.declared.memory.MemFault.{MemFault}
 use Rattle.rv_interp.specs.Page.{Pages}

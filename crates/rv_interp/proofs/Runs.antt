@@ -10,7 +10,7 @@ use Rattle.std.specs.FinMap.{get}
 use Rattle.rv_interp.specs.declared.memory.Access.{Access}
 use Rattle.rv_interp.specs.declared.memory.Access.TheVariants.{Exec}
 use Rattle.rv_interp.specs.declared.memory.MemFault.{MemFault}
-use Rattle.rv_interp.specs.declared.memory.MemFault.TheVariants.{NotMapped, NoRight}
+use Rattle.rv_interp.specs.declared.memory.MemFault.TheVariants.{NoRight}
 use Rattle.rv_interp.specs.Page.{Page, Pages}
 use Rattle.rv_interp.specs.Memory.{allows, byte_in, byte_at, in_front, bytes_from, word_in, fetch_of, run_in, run_at}
 

@@ -2,7 +2,7 @@
 --     stop_unchanged      an instruction that isn't done changes nothing
 --     does-none, does-more      no instruction, and one more
 --     only, is_turn      a turn is `turn_of`, and the other way round
-use Rattle.std.proofs.Common.{◌≡◌, ℕ, zero, suc, ◌+◌, ◌-◌, ◌<◌, Bool, true, false, ◌⊎◌, inl, inr, Option, Some, None, Result, Ok, Err, refl, sym, ap, subst, ◌∙◌, arith}
+use Rattle.std.proofs.Common.{◌≡◌, ℕ, zero, suc, ◌<◌, Option, Some, None, Result, Ok, Err, refl, sym, ap, subst, ◌∙◌, arith}
 use Rattle.abi_types.specs.Registers.{Registers}
 use Rattle.rv_interp.specs.declared.instruction.Instr.{Instr}
 use Rattle.rv_interp.specs.declared.instruction.Op.{Op}

@@ -1,6 +1,6 @@
 -- The words of instructions (RISC-V unprivileged manual, chapter "RV32I Base Integer Instruction Set", sections
 -- "Base Instruction Formats" and "Immediate Encoding Variants").
-use Rattle.std.specs.Prelude.{ℕ, ◌+◌, ◌*◌, ◌/◌, ◌%◌, ◌^◌, ◌<◌, ◌==◌, cond, nat_lt, ℤ, pos, ◌-ℤ◌, Option, Some, None}
+use Rattle.std.specs.Prelude.{ℕ, ◌*◌, ◌/◌, ◌%◌, ◌^◌, ◌<◌, ◌==◌, cond, nat_lt, ℤ, pos, ◌-ℤ◌, Option, Some, None}
 use Rattle.rv_interp.specs.declared.instruction.Instr.{Instr}
 use Rattle.rv_interp.specs.declared.instruction.Op.{Op}
 use Rattle.rv_interp.specs.declared.instruction.Op.TheVariants.{Addi, Lui, Ecall}

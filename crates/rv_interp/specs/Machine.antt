@@ -2,7 +2,6 @@
 use Rattle.std.specs.Prelude.{◌≡◌, ℕ, zero, suc, ◌+◌, ◌%◌, ◌^◌, ◌<◌, ℤ, slice_index, Option, Some, None, Result, Ok, Err}
 use Rattle.std.specs.Int.{w64, cast_unsigned}
 use Rattle.abi_types.specs.Registers.{Registers, with_pc, with_x}
-use Rattle.abi_types.specs.declared.signal.Signal.{Signal}
 use Rattle.abi_types.specs.declared.signal.Signal.TheVariants.{Ill, Segv}
 use Rattle.rv_interp.specs.declared.instruction.Instr.{Instr}
 use Rattle.rv_interp.specs.declared.instruction.Op.{Op}

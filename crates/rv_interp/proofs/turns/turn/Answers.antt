@@ -1,4 +1,4 @@
-use Rattle.std.proofs.Common.{◌≡◌, ◌+◌, suc, refl, sym, subst, arith}
+use Rattle.std.proofs.Common.{◌≡◌, ◌+◌, suc, refl, subst, arith}
 use Rattle.rv_interp.specs.declared.execution.Outcome.TheVariants as outcome
 use Rattle.rv_interp.specs.declared.turns.TurnEnd.TheVariants as turn_end
 use Rattle.rv_interp.specs.Machine.{Does, IsTurn}

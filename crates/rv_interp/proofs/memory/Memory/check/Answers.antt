@@ -1,4 +1,4 @@
-use Rattle.std.proofs.Common.{◌≡◌, ◌+◌, ◌≤◌, length, arith, Err}
+use Rattle.std.proofs.Common.{◌≤◌, length, arith}
 use Rattle.std.proofs.lemmas.Result.{err_from_is_err_and}
 use Rattle.rv_interp.proofs.Runs.{had_none, ok_more, fault_more}
 use Rattle.rv_interp.proofs.memory.Memory.check.Goals as goal

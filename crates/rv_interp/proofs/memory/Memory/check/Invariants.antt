@@ -1,6 +1,5 @@
 use Rattle.std.proofs.Common.{◌-◌, ◌≤◌, IsOk}
 use Rattle.rv_interp.specs.Memory.{bytes_from}
-use Rattle.rv_interp.proofs.Runs.{had_none}
 use Rattle.rv_interp.proofs.memory.Memory.check.Given as goal
 
 abbrev pub invariant-loop-done : goal.invariant-loop-done

@@ -1,4 +1,4 @@
-use Rattle.std.proofs.Common.{◌≡◌, Ok, ap, sym, ◌∙◌}
+use Rattle.std.proofs.Common.{Ok, ap, sym, ◌∙◌}
 use Rattle.std.proofs.lemmas.Result.{err_from_is_err_and}
 use Rattle.rv_interp.proofs.Runs.{fetch_word, fetch_fault}
 use Rattle.rv_interp.proofs.memory.Memory.fetch.Goals as goal
