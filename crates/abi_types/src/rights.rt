@@ -6,7 +6,7 @@ ghost use Rattle.bitflags.specs.Sets.{find_name};
 use bitflags::{Flag, Flags, bitflag_items};
 
 /// A set of rights, one bit a right, with CloudABI's names and this profile's bits (docs/ABI.md).
-#[derive(Clone, Copy, Debug, PartialEq, Eq)]
+#[derive(Clone, Copy, Debug, Default, PartialEq, Eq)]
 pub struct Rights(pub u64);
 
 bitflag_items! {

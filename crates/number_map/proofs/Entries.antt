@@ -1,5 +1,6 @@
 -- How the entries of a `BTreeMap` stand for a finite map from numbers.
-use Rattle.std.proofs.Common.{◌≡◌, ◌≢◌, ◌↔◌, ℕ, Ordering, Less, Equal, Greater, false, true, T, is_some, IsSome, IsNone, subst, ◌<◌, ◌≤◌, ◌+◌, cond, List, [], ◌∷◌, length, Option, Some, None, sym, ap, ◌∙◌, refl, arith}
+use Rattle.std.proofs.Common.{◌≡◌, ◌≢◌, ◌↔◌, ℕ, Bool, Less, Equal, Greater, false, true, T, is_some, IsSome, IsNone, IsTrue, ◌==◌, inl, inr, subst, ◌<◌, ◌≤◌, ◌+◌, cond, List, [], ◌∷◌, length, Option, Some, None, sym, ap, ◌∙◌, refl, arith}
+use Rattle.std.proofs.lemmas.Bool.Decides.{eqb_tells}
 use Rattle.std.specs.Ordering.{nat_cmp, eq_by_cmp, is_gt}
 use Rattle.std.specs.Cmp.{nat_cmp_total, eq_by_cmp_equiv, ranked}
 use Rattle.std.specs.Map.{lookup, keys_of}
@@ -7,8 +8,8 @@ use Rattle.std.specs.List.{AllByRecursion}
 use Rattle.std.specs.List.Sorted.{IsStrictlySortedBy}
 use Rattle.std.specs.BTreeMap.{is_at}
 use Rattle.std.specs.FinMap.Entries.{by_order}
-use Rattle.std.specs.FinMap.{FinMap, from_entries, find, put, get, insert, remove, empty, entries, len, len-entries, len-empty, get-empty, entries-insert, get-from_entries, get-insert, get-remove, same_map, nat_cmp-IsAntisymmetric}
-use Rattle.number_map.specs.Maps.{get-insert-same, len-removed}
+use Rattle.std.specs.FinMap.{FinMap, from_entries, find, put, get, insert, remove, empty, entries, len, len-entries, len-empty, get-empty, empty_of_len, entries-insert, get-from_entries, get-insert, get-remove, same_map, nat_cmp-IsAntisymmetric}
+use Rattle.number_map.specs.Maps.{get-insert-same, len-removed, least_key, first_key}
 
 has_none : {A : Type 0} (x : A) → Some x ≢ None
 has_none x e = subst T (ap is_some e) tt
@@ -89,3 +90,17 @@ module _ {X : Type 0} where
   empty_iff (Some a) [] m e variant = let some : 0 < 0 = variant.0 refl in absurd (omega arith)
   empty_iff (Some a) (x ∷ xs) m e variant =
       (λ none. absurd (not_true (sym none)), λ is. absurd (has_none x.1 (sym (get-insert-same (from_entries xs) x.0 x.1) ∙ ap (λ (n : FinMap nat_cmp X). get n x.0) (e ∙ is) ∙ get-empty nat_cmp x.0)))
+
+  -- the least key of a map is the first that passes of its entries
+  pub least_of_entries : (test : ℕ → X → Bool) (es : List (ℕ × X)) (m : FinMap nat_cmp X) → from_entries es ≡ m → IsStrictlySortedBy nat_cmp (keys_of es)
+      → least_key test m ≡ first_key test es
+  unfolding least_key
+  least_of_entries test es m e o = ap (λ (n : FinMap nat_cmp X). first_key test (entries n)) (sym e) ∙ ap (first_key test) (entries-from_entries es o)
+
+  -- a map has no entries exactly where their number is 0
+  pub zero_len_iff : (m : FinMap nat_cmp X) (n : ℕ) → n ≡ len m → IsTrue (n == 0) ↔ (m ≡ empty)
+  zero_len_iff m n e =
+      elim (eqb_tells n 0) [
+        | inl same ↦ (λ _. empty_of_len m (sym e ∙ same.1), λ _. same.0)
+        | inr other ↦ (λ is. absurd (not_true (sym other.0 ∙ is)), λ is. absurd (other.1 (e ∙ ap (λ (x : FinMap nat_cmp X). len x) is ∙ len-empty nat_cmp X)))
+      ]

@@ -3,17 +3,50 @@
 --     same_numbers      two maps that answer alike are equal
 --     insert-again, insert_self, put_back, remove_absent ..      changes that come to one, or to none
 --     map_induction      what holds of `empty`, and stays with each new key, holds of each map
---     total f m      the sum of what f weighs of each value, with total-..
---     least_key test m      the least key whose entry passes, with least_key-..
+--     total f m      the sum of what f weighs of each value; weight f o      what it weighs of one, and 0 at `None`
+--     total-empty, total-insert, total-remove, total-zero, total_at_least, total_none, total_same      its laws
+--     least_key test m      the least key whose entry passes; passes test q (get m q)      whether the entry at q does
+--     least_key-found, least_key-least, least_key-none, least_key_is, least_same ..      its laws
 --     number      the number, and 0 at `None`
-use Rattle.std.proofs.Common.{◌≡◌, ◌≢◌, ℕ, zero, suc, ◌+◌, ◌-◌, ◌<◌, ◌≤◌, Bool, true, false, cond, not, ◌&&◌, T, ◌⊎◌, inl, inr, List, [], ◌∷◌, map, length, sum_by, Option, Some, None, IsSome, is_some, Ordering, Less, Equal, Greater, refl, sym, ap, subst, ◌∙◌, arith}
+--     number_laws      the set of the laws on `get` and on equal maps, for `using(..)`
+use Rattle.std.proofs.Common.{◌≡◌, ◌≢◌, ℕ, zero, suc, ◌+◌, ◌<◌, ◌≤◌, Bool, true, false, cond, ◌&&◌, T, inl, inr, List, [], ◌∷◌, map, length, sum_by, Option, Some, None, IsSome, is_some, Less, Equal, Greater, refl, sym, ap, subst, ◌∙◌, arith}
 use Rattle.std.proofs.lemmas.Bool.Decides.{eqb_tells}
 use Rattle.std.proofs.lemmas.List.Recursion.{is_sum_by}
-use Rattle.std.specs.Ordering.{nat_cmp, eq_by_cmp, is_eq, is_lt, MatchOrdering}
+use Rattle.std.specs.Ordering.{nat_cmp, eq_by_cmp, is_eq, is_lt}
 use Rattle.std.specs.Cmp.{nat_cmp_total, tied_itself, ranked}
 use Rattle.std.specs.Option.{unwrap_or}
-use Rattle.std.specs.FinMap.{FinMap, empty, get, contains_key, insert, remove, retain_keys, len, entries, values, find, put, is_sorted, entries_sorted, same_map, nat_cmp-IsAntisymmetric, get-entries, get-empty, get-insert, get-remove, get-retain_keys, len-entries, len-empty, len-insert, len-remove, entries-insert, empty_of_len}
+use Rattle.std.specs.FinMap.{FinMap, empty, get, insert, remove, retain_keys, len, entries, values, find, put, is_sorted, entries_sorted, same_map, nat_cmp-IsAntisymmetric, get-entries, get-empty, get-insert, get-remove, get-retain_keys, len-entries, len-empty, len-insert, entries-insert, empty_of_len}
 use Rattle.std.specs.FinMap.Entries.{by_order, below_all}
+
+-- ---- words
+
+-- the number, and 0 at `None`
+abbrev pub number : Option ℕ → ℕ
+number None = 0
+number (Some n) = n
+
+-- what f weighs of a value, and 0 where there is none
+abbrev pub weight : {X : Type 0} → (X → ℕ) → Option X → ℕ
+weight f None = 0
+weight f (Some x) = f x
+
+-- whether there is a value that passes the test at the key q
+abbrev pub passes : {X : Type 0} → (ℕ → X → Bool) → ℕ → Option X → Bool
+passes test q None = false
+passes test q (Some x) = test q x
+
+-- the sum of what f weighs of each value
+unfoldable pub total : {X : Type 0} → (X → ℕ) → FinMap nat_cmp X → ℕ
+total f m = sum_by f (values m)
+
+-- the first key whose entry passes the test
+abbrev pub first_key : {X : Type 0} → (ℕ → X → Bool) → List (ℕ × X) → Option ℕ
+first_key test [] = None
+first_key test (e ∷ es) = cond (test e.0 e.1) (Some e.0) (first_key test es)
+
+-- the least key whose entry passes the test: the first, since entries stand in the order of their keys
+unfoldable pub least_key : {X : Type 0} → (ℕ → X → Bool) → FinMap nat_cmp X → Option ℕ
+least_key test m = first_key test (entries m)
 
 -- ---- keys that are numbers
 
@@ -63,21 +96,6 @@ one_less a b n e f = omega arith
 no_entries : {A : Type 0} (xs : List A) → length xs ≡ 0 → xs ≡ []
 no_entries [] e = refl
 no_entries (x ∷ xs) e = absurd (omega arith)
-
--- the number, and 0 at `None`
-abbrev pub number : Option ℕ → ℕ
-number None = 0
-number (Some n) = n
-
--- what f weighs of a value, and 0 where there is none
-abbrev pub weight : {X : Type 0} → (X → ℕ) → Option X → ℕ
-weight f None = 0
-weight f (Some x) = f x
-
--- whether there is a value that passes the test at the key q
-abbrev pub passes : {X : Type 0} → (ℕ → X → Bool) → ℕ → Option X → Bool
-passes test q None = false
-passes test q (Some x) = test q x
 
 some_of_passes : {X : Type 0} (test : ℕ → X → Bool) (q : ℕ) (o : Option X) → passes test q o ≡ true → IsSome o
 some_of_passes test q None h = absurd (not_true h)
@@ -202,8 +220,8 @@ module _ {X : Type 0} where
   induct_on_len P base step (suc n) m e =
       let one = first_of m (entries m) n refl e in
       subst P (put_back m one.0 one.1 one.2)
-        (step (remove m one.0) one.0 one.1 (get-remove-same m one.0)
-          (induct_on_len P base step n (remove m one.0) (one_less _ _ n (len-removed m one.0 one.1 one.2) e)))
+      (step (remove m one.0) one.0 one.1 (get-remove-same m one.0)
+      (induct_on_len P base step n (remove m one.0) (one_less _ _ n (len-removed m one.0 one.1 one.2) e)))
 
   -- what holds of the empty map, and stays as a new key comes, holds of each map
   pub map_induction : (P : FinMap nat_cmp X → Type 0) → P empty
@@ -240,10 +258,6 @@ module _ {X : Type 0} where
 
   -- ---- the sum of weights
 
-  -- the sum of what f weighs of each value
-  unfoldable pub total : (X → ℕ) → FinMap nat_cmp X → ℕ
-  total f m = sum_by f (values m)
-
   total-weigh : (f : X → ℕ) (m : FinMap nat_cmp X) → total f m ≡ weigh f (entries m)
   unfolding total
   total-weigh f m = sym (is_sum_by (added f) f refl (λ _ _. refl) (values m))
@@ -253,8 +267,8 @@ module _ {X : Type 0} where
   weigh-put f k v [] s = omega arith
   weigh-put f k v (e ∷ es) s =
       elim (nat_cmp k e.0) as (λ r. r ≡ nat_cmp k e.0
-          → weigh f (by_order r ((k, v) ∷ e ∷ es) ((e.0, v) ∷ es) (e ∷ put nat_cmp k v es)) + weight f (cond (is_eq r) (Some e.1) (find nat_cmp k es))
-            ≡ (f e.1 + weigh f es) + f v) [
+      → weigh f (by_order r ((k, v) ∷ e ∷ es) ((e.0, v) ∷ es) (e ∷ put nat_cmp k v es)) + weight f (cond (is_eq r) (Some e.1) (find nat_cmp k es))
+      ≡ (f e.1 + weigh f es) + f v) [
         | Less ↦ λ r. let none = ap (weight f) (none_below k e es (first_part _ _ s) (ranked k e.0 Less r)) in omega arith
         | Equal ↦ λ r. omega arith
         | Greater ↦ λ r. let rest : weigh f (put nat_cmp k v es) + weight f (find nat_cmp k es) ≡ weigh f es + f v = weigh-put f k v es (second_part _ _ s) in omega arith
@@ -285,33 +299,24 @@ module _ {X : Type 0} where
   pub total_at_least : (f : X → ℕ) (m : FinMap nat_cmp X) (k : ℕ) (x : X) → get m k ≡ Some x → f x ≤ total f m
   total_at_least f m k x e = let there = ap (weight f) e in let sums = total-remove f m k in omega arith
 
-  pub total_zero : (f : X → ℕ) (m : FinMap nat_cmp X) (k : ℕ) (x : X) → total f m ≡ 0 → get m k ≡ Some x → f x ≡ 0
-  total_zero f m k x none e = let most = total_at_least f m k x e in omega arith
+  pub total-zero : (f : X → ℕ) (m : FinMap nat_cmp X) (k : ℕ) (x : X) → total f m ≡ 0 → get m k ≡ Some x → f x ≡ 0
+  total-zero f m k x none e = let most = total_at_least f m k x e in omega arith
 
   -- where each weighs 0
   pub total_none : (f : X → ℕ) (m : FinMap nat_cmp X) → ((q : ℕ) → weight f (get m q) ≡ 0) → total f m ≡ 0
   total_none f m =
       map_induction (λ n. ((q : ℕ) → weight f (get n q) ≡ 0) → total f n ≡ 0) (λ _. total-empty f)
-        (λ n k v new rest none.
-          let here : f v ≡ 0 = ap (weight f) (sym (get-insert-same n k v)) ∙ none k in
-          let others : total f n ≡ 0 = rest (λ q. elim (eqb_tells q k) [
-            | inl same ↦ ap (λ j. weight f (get n j)) same.1 ∙ ap (weight f) new
-            | inr other ↦ ap (weight f) (sym (get-insert-other n k v q other.1)) ∙ none q
-          ]) in
-          let sums = total-insert_new f n k v new in
-          omega arith)
-        m
+      (λ n k v new rest none.
+      let here : f v ≡ 0 = ap (weight f) (sym (get-insert-same n k v)) ∙ none k in
+      let others : total f n ≡ 0 = rest (λ q. elim (eqb_tells q k) [
+        | inl same ↦ ap (λ j. weight f (get n j)) same.1 ∙ ap (weight f) new
+        | inr other ↦ ap (weight f) (sym (get-insert-other n k v q other.1)) ∙ none q
+      ]) in
+      let sums = total-insert_new f n k v new in
+      omega arith)
+      m
 
   -- ---- the least key that passes
-
-  -- the first key whose entry passes
-  abbrev pub first_key : (ℕ → X → Bool) → List (ℕ × X) → Option ℕ
-  first_key test [] = None
-  first_key test (e ∷ es) = cond (test e.0 e.1) (Some e.0) (first_key test es)
-
-  -- the least key whose entry passes
-  unfoldable pub least_key : (ℕ → X → Bool) → FinMap nat_cmp X → Option ℕ
-  least_key test m = first_key test (entries m)
 
   first_found : (test : ℕ → X → Bool) (es : List (ℕ × X)) (k : ℕ) → T (is_sorted nat_cmp es)
       → first_key test es ≡ Some k → passes test k (find nat_cmp k es) ≡ true
@@ -392,17 +397,17 @@ module _ {X Y : Type 0} where
   pub total_same : (f : X → ℕ) (g : Y → ℕ) (m : FinMap nat_cmp X) (n : FinMap nat_cmp Y) → ((q : ℕ) → weight f (get m q) ≡ weight g (get n q)) → total f m ≡ total g n
   total_same f g m =
       map_induction (λ a. (n : FinMap nat_cmp Y) → ((q : ℕ) → weight f (get a q) ≡ weight g (get n q)) → total f a ≡ total g n)
-        (λ n same. total-empty f ∙ sym (total_none g n (λ q. sym (same q) ∙ ap (weight f) (get-empty nat_cmp q))))
-        (λ a k v new rest n same.
-          let others = rest (remove n k) (λ q. elim (eqb_tells q k) [
-            | inl is ↦ ap (λ j. weight f (get a j)) is.1 ∙ ap (weight f) new ∙ sym (ap (λ j. weight g (get (remove n k) j)) is.1 ∙ ap (weight g) (get-remove-same n k))
-            | inr other ↦ ap (weight f) (sym (get-insert-other a k v q other.1)) ∙ same q ∙ ap (weight g) (sym (get-remove-other n k q other.1))
-          ]) in
-          let here : f v ≡ weight g (get n k) = ap (weight f) (sym (get-insert-same a k v)) ∙ same k in
-          let left = total-insert_new f a k v new in
-          let right = total-remove g n k in
-          omega arith)
-        m
+      (λ n same. total-empty f ∙ sym (total_none g n (λ q. sym (same q) ∙ ap (weight f) (get-empty nat_cmp q))))
+      (λ a k v new rest n same.
+      let others = rest (remove n k) (λ q. elim (eqb_tells q k) [
+        | inl is ↦ ap (λ j. weight f (get a j)) is.1 ∙ ap (weight f) new ∙ sym (ap (λ j. weight g (get (remove n k) j)) is.1 ∙ ap (weight g) (get-remove-same n k))
+        | inr other ↦ ap (weight f) (sym (get-insert-other a k v q other.1)) ∙ same q ∙ ap (weight g) (sym (get-remove-other n k q other.1))
+      ]) in
+      let here : f v ≡ weight g (get n k) = ap (weight f) (sym (get-insert-same a k v)) ∙ same k in
+      let left = total-insert_new f a k v new in
+      let right = total-remove g n k in
+      omega arith)
+      m
 
   -- two maps that pass alike at each key have the same least key
   pub least_same : (test : ℕ → X → Bool) (other : ℕ → Y → Bool) (m : FinMap nat_cmp X) (n : FinMap nat_cmp Y)

@@ -1,9 +1,11 @@
 //! A map from numbers to values.
-ghost use Rattle.std.specs.Prelude.{◌≡◌, ◌^◌, ◌<◌, ◌+◌, ◌==◌, OnOk, OnErr, IfOk, IfErr, IfSome, IfNone, IsNone, IsSome, option_copied, ℕ, ◌≤◌, ◌↔◌};
+ghost use Rattle.std.specs.Prelude.{◌≡◌, ◌^◌, ◌<◌, ◌+◌, ◌==◌, OnOk, OnErr, IfOk, IfErr, IfSome, IfNone, IsNone, IsSome, IsTrue, option_copied, ℕ, Bool, ◌≤◌, ◌↔◌};
 ghost use Rattle.std.specs.Ordering.{nat_cmp};
 ghost use Rattle.std.specs.FinMap as map;
 ghost use Rattle.std.specs.Borrow.{sem};
+ghost use Rattle.std.specs.Fn.{FnReturnsAt};
 ghost use Rattle.number_map.specs.Lending.{LendsValue};
+ghost use Rattle.number_map.specs.Maps.{least_key};
 
 use std::alloc::{AllocFailed, Global};
 use std::collections::BTreeMap;
@@ -50,7 +52,8 @@ impl<V> NumMap<V> {
 
     /// Whether there are no entries.
     pub fn is_empty(&self) -> bool
-        ensures { result ≡ (map.len self.now == 0) }
+        ensures len { result ≡ (map.len self.now == 0) }
+        ensures empty { IsTrue result ↔ (self.now ≡ map.empty) }
     {
         self.len() == 0
     }
@@ -67,6 +70,21 @@ impl<V> NumMap<V> {
         ensures { result ≡ map.contains_key self.now key }
     {
         self.entries.contains_key(&key)
+    }
+
+    /// The least key whose value passes `test`, if there is one. Calls `test` in the keys' order.
+    ///
+    /// For every function `passes` of a value with which each answer of `test` agrees, the result is the least key at which `passes` holds.
+    pub fn first_where<F: Fn(&V) -> bool>(&self, test: F) -> Option<u64>
+        requires { F.IsAlwaysCallable test }
+        ensures { (passes : V → Bool) → ((v : V) (b : Bool) → FnReturnsAt F.Fn test v b → b ≡ passes v) → result ≡ least_key (λ _ v. passes v) self.now }
+    {
+        for (key, value) in &self.entries {
+            if test(value) {
+                return Some(*key);
+            }
+        }
+        None
     }
 
     /// Puts `value` at `key`, and returns the value that was there before.
@@ -89,7 +107,7 @@ impl<V> NumMap<V> {
         ensures old { Some result ≡ map.get self.old key }
         ensures new { self.new ≡ map.insert self.old key value }
     {
-        mem::replace(self.entries.get_mut(&key).unwrap(), value)
+        mem::replace(self.get_mut(key), value)
     }
 
     /// The value at `key`, which the map has, to be changed in place.
@@ -128,5 +146,41 @@ impl<V> NumMap<V> {
         ensures { self.new ≡ map.empty }
     {
         self.entries.clear();
+    }
+}
+
+impl NumMap<u64> {
+    /// The least key whose number is 0, if there is one.
+    pub fn first_zero(&self) -> Option<u64>
+        ensures { result ≡ least_key (λ _ n. n == 0) self.now }
+    {
+        self.first_where(|number| *number == 0)
+    }
+}
+
+#[cfg(test)]
+mod tests {
+    use super::*;
+
+    #[test]
+    fn each_call(rt: HostRuntime) -> Result<(), AllocFailed<(u64, u64)>> {
+        let mut map = NumMap::new(rt.alloc());
+        for (key, value, before) in [(7, 70, None), (3, 0, None), (9, 0, None), (7, 71, Some(70))] {
+            assert_eq!(rt; map.insert(key, value)?, before, "at {key}");
+        }
+        assert_eq!(rt; map.len(), 3);
+        assert!(rt; !map.is_empty());
+        assert_eq!(rt; map.get(7).copied(), Some(71));
+        assert!(rt; map.contains(9));
+        assert_eq!(rt; map.first_zero(), Some(3));
+        assert_eq!(rt; map.first_where(|value| *value > 70), Some(7));
+        assert_eq!(rt; map.replace(9, 90), 0);
+        assert!(rt; map.contains(3));
+        *map.get_mut(3) = 30;
+        assert_eq!(rt; map.pop_first(), Some((3, 30)));
+        assert_eq!(rt; map.remove(9), Some(90));
+        map.clear();
+        assert!(rt; map.is_empty());
+        Ok(())
     }
 }

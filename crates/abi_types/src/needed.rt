@@ -1,0 +1,11 @@
+//! What a call needs of a descriptor.
+use crate::rights::Rights;
+
+/// The rights that a call needs of the descriptor `fd`: base rights, and rights that it asks of the inheriting ones.
+/// A descriptor that need only be there has no right in either.
+#[derive(Clone, Copy, Debug, Default, PartialEq, Eq)]
+pub struct Needed {
+    pub fd: u32,
+    pub base: Rights,
+    pub inheriting: Rights,
+}

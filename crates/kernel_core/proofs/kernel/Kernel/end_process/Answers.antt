@@ -1,0 +1,68 @@
+use Rattle.std.proofs.Common.{◌≡◌, ℕ, ◌==◌, not, Some, sym, ap, subst, ◌∙◌}
+use Rattle.std.specs.Ordering.{nat_cmp}
+use Rattle.std.specs.FinMap.{FinMap, get, insert, empty, retain_keys}
+use Rattle.abi_types.specs.declared.open_kind.OpenKind.{OpenKind}
+use Rattle.number_map.specs.Maps.{number, total}
+use Rattle.kernel_core.specs.Objects.{Held, is_held}
+use Rattle.kernel_model.specs.Cases.{end_updates}
+use Rattle.kernel_model.specs.Release.{count_in, holders, release}
+use Rattle.kernel_model.specs.State.{State, Table, Threads, put_all}
+use Rattle.kernel_model.specs.Valid.{IsValid}
+use Rattle.kernel_model.proofs.Valids.{nearly_valid, end_nearly_valid, release_restores}
+use Rattle.kernel_core.specs.contracts.kernel.Kernel.{the_view}
+use Rattle.kernel_core.proofs.Ends.{covered, left_holders, retain_same, number-retain}
+use Rattle.kernel_core.proofs.kernel.Kernel.end_process.Goals as goal
+use Rattle.kernel_core.proofs.kernel.Kernel.end_process.Goals.{After-remove_unheld}
+
+pub let_go_all-requires : goal.let_go_all-requires
+let_go_all-requires c = λ o. rw c.self.invariant.counted (covered _ _ _ (sym c.get_mut-2.ensures.value) o)
+
+-- the holders that are left once the table is empty
+left : (c : After-remove_unheld) (o : ℕ) → number (get c.let_go_all.new.objects.counts o) ≡ total (count_in o) (insert c.self.inside.tables c.args.pid empty)
+left c =
+    let k = c.self.inside in
+    let there : get k.tables c.args.pid ≡ Some c.get_mut-2.result.now =
+    ap (get k.tables) (sym (c.from-p.ensures ∙ c.pid.view_is)) ∙ sym c.get_mut-2.ensures.value in
+    left_holders k.tables c.args.pid c.get_mut-2.result.now k.objects.counts c.let_go_all.new.objects.counts there c.self.invariant.counted c.let_go_all.ensures.counts
+
+-- the fields as they are in the end
+abbrev fields : After-remove_unheld → State
+fields c = record {
+  clock = c.self.inside.clock;
+  tables = insert c.self.inside.tables c.from-p.result c.let_go_all.new.table;
+  threads = insert c.self.inside.threads c.from-p.result c.clear.new.self;
+  statuses = c.replace.new.self;
+  opens = c.remove_unheld.new.self.kinds;
+  terms = c.self.inside.terms;
+}
+
+after : (c : After-remove_unheld) → fields c ≡ release (put_all (end_updates c.args.pid c.args.status) (the_view c.self.inside))
+after c =
+    let k = c.self.inside in
+    let same : c.from-p.result ≡ c.args.pid = c.from-p.ensures ∙ c.pid.view_is in
+    let tables : insert k.tables c.from-p.result c.let_go_all.new.table ≡ insert k.tables c.args.pid empty =
+    ap (insert k.tables c.from-p.result) c.let_go_all.ensures.empty ∙ ap (λ (p : ℕ). insert k.tables p empty) same in
+    let threads : insert k.threads c.from-p.result c.clear.new.self ≡ insert k.threads c.args.pid empty =
+    ap (insert k.threads c.from-p.result) c.clear.ensures ∙ ap (λ (p : ℕ). insert k.threads p empty) same in
+    let statuses : c.replace.new.self ≡ insert k.statuses c.args.pid c.args.status =
+    c.replace.ensures.new ∙ ap (λ (p : ℕ). insert k.statuses p c.args.status) same in
+    let opens : c.remove_unheld.new.self.kinds ≡ retain_keys k.objects.kinds (λ o. not (total (count_in o) (insert k.tables c.args.pid empty) == 0)) =
+    ap (λ (h : Held). h.kinds) c.remove_unheld.ensures
+    ∙ ap (λ (m : FinMap nat_cmp OpenKind). retain_keys m (is_held c.let_go_all.new.objects.counts)) c.let_go_all.ensures.kinds
+    ∙ retain_same _ _ _ (λ o. ap (λ (n : ℕ). not (n == 0)) (left c o)) in
+    λ i. record { clock = k.clock; tables = tables i; threads = threads i; statuses = statuses i; opens = opens i; terms = k.terms }
+
+pub invariant_of-self : goal.invariant_of-self
+invariant_of-self c =
+    let a = (goal.at.invariant_of-self c).After-remove_unheld in
+    record {
+      valid = subst IsValid (sym (after a)) (release_restores _ (end_nearly_valid (the_view a.self.inside) a.args.pid a.args.status (nearly_valid _ a.self.invariant.valid)));
+      counted = λ o.
+          ap (λ (h : Held). number (get h.counts o)) a.remove_unheld.ensures
+          ∙ number-retain a.let_go_all.new.objects.counts o
+          ∙ left a o
+          ∙ sym (ap (λ (S : State). holders S o) (after a));
+    }
+
+pub returns : goal.returns
+returns c = rw (← c.self.view_is) (after (goal.at.returns c).After-remove_unheld)

@@ -1,0 +1,9 @@
+use Rattle.kernel_core.specs.contracts.kernel.Kernel.{the_view}
+use Rattle.kernel_core.proofs.Streams.{written_valid}
+use Rattle.kernel_core.proofs.kernel.Kernel.fd_write.Goals as goal
+
+pub invariant_of-self : goal.invariant_of-self
+invariant_of-self c = record {
+  valid = written_valid (the_view c.self.inside) c.write_term.new.terms c.write_term.ensures.there c.self.invariant.valid;
+  counted = c.self.invariant.counted;
+}

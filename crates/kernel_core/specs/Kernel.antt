@@ -1,0 +1,21 @@
+-- What the kernel's code keeps beside its state.
+use Rattle.std.specs.Prelude.{◌≡◌, ℕ, List, [], ◌∷◌}
+use Rattle.std.specs.Ordering.{nat_cmp}
+use Rattle.std.specs.FinMap.{FinMap, get, insert}
+use Rattle.number_map.specs.Maps.{number}
+use Rattle.kernel_model.specs.Release.{holders}
+use Rattle.kernel_model.specs.State.{State, Update, set_table, set_threads, set_status, set_term}
+use Rattle.kernel_model.specs.Valid.{IsValid}
+
+-- the state is valid, and each open's count is that of its holders
+pub record IsKept (S : State) (counts : FinMap nat_cmp ℕ) : Type 0 where
+  pub valid : IsValid S
+  pub counted : (o : ℕ) → number (get counts o) ≡ holders S o
+
+-- the standard streams after these updates
+abbrev pub terms_after : List Update → FinMap nat_cmp (List ℕ) → FinMap nat_cmp (List ℕ)
+terms_after [] terms = terms
+terms_after (set_term k bytes ∷ updates) terms = terms_after updates (insert terms k bytes)
+terms_after (set_table p table ∷ updates) terms = terms_after updates terms
+terms_after (set_threads p threads ∷ updates) terms = terms_after updates terms
+terms_after (set_status p status ∷ updates) terms = terms_after updates terms

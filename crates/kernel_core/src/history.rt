@@ -1,0 +1,35 @@
+//! What a run keeps of itself.
+use crate::launch::Launch;
+use abi_types::{Answer, Call, Items, Pid, Signal, Tid, TidList};
+
+/// What an entry of a history does.
+#[derive(Drop)]
+pub enum Act {
+    /// A thread's call, and what the kernel answered.
+    Call { call: Call, answer: Answer },
+    /// A thread's instruction trapped, and its process ended by this signal.
+    Trap(Signal),
+    /// A thread's turn would have been next, and its process had no turn left.
+    Expire,
+}
+
+/// An entry: the moment after it in nanoseconds, the process and thread that it is of, the threads of the process that
+/// took a turn since the process's last entry, in order, and what it does.
+#[derive(Drop)]
+pub struct Entry {
+    pub moment: u64,
+    pub pid: Pid,
+    pub tid: Tid,
+    pub turns: TidList,
+    pub act: Act,
+}
+
+/// The entries of a run, in their order.
+pub type History = Items<Entry>;
+
+/// A launch and the history of its run.
+#[derive(Drop)]
+pub struct Record {
+    pub launch: Launch,
+    pub history: History,
+}

@@ -1,0 +1,96 @@
+-- What a call sees decides its outcome, and the values after the step of all that it sees.
+use Rattle.std.proofs.Common.{◌≡◌, ℕ, ◌+◌, ◌==◌, ◌&&◌, ◌||◌, not, Bool, true, false, cond, T, List, [], ◌∷◌, Option, Some, None, is_some, refl, sym, ap, subst, ◌∙◌}
+use Rattle.std.proofs.lemmas.Bool.{eq-eqb}
+use Rattle.std.specs.FinMap.{get}
+use Rattle.abi_types.specs.declared.call.Call.{Call}
+use Rattle.kernel_model.specs.Cases.{Outcome}
+use Rattle.kernel_model.specs.Laws.{HasSameSight, EndsAlike}
+use Rattle.kernel_model.specs.Release.{holders, is_ending, release}
+use Rattle.kernel_model.specs.State.{State, Part, at_clock, at_proc, at_status, at_open, at_term, same_part, has_part, Agree, AgreeOn, put_all}
+use Rattle.kernel_model.specs.Step.{tick, sight, act, outcome, unreleased, step_reply, step_state}
+use Rattle.kernel_model.specs.View.{only, restrict}
+use Rattle.kernel_model.proofs.Parts.{agree_at, put_same}
+use Rattle.kernel_model.proofs.Valids.{get_released}
+use Rattle.kernel_model.proofs.Tests.{or_true}
+
+only_alike : {X : Type 0} (b : Bool) (x y : Option X) → (b ≡ true → x ≡ y) → only b x ≡ only b y
+only_alike true x y h = h refl
+only_alike false x y h = refl
+
+-- what is seen of two states at their next moment is the same where they agree on the parts seen
+restrict_alike : (S T : State) (parts : List Part) → S.clock ≡ T.clock → AgreeOn S T parts → restrict (tick S) parts ≡ restrict (tick T) parts
+restrict_alike S T parts now all =
+    λ i. record {
+      clock = now i + 1000;
+      table = λ p. only_alike (has_part parts (at_proc p)) (get S.tables p) (get T.tables p) (λ h. (agree_at S T parts (at_proc p) all h).0) i;
+      threads = λ p. only_alike (has_part parts (at_proc p)) (get S.threads p) (get T.threads p) (λ h. (agree_at S T parts (at_proc p) all h).1) i;
+      status = λ p. only_alike (has_part parts (at_status p)) (get S.statuses p) (get T.statuses p) (λ h. agree_at S T parts (at_status p) all h) i;
+      opened = λ o. only_alike (has_part parts (at_open o)) (get S.opens o) (get T.opens o) (λ h. agree_at S T parts (at_open o) all h) i;
+      term = λ k. only_alike (has_part parts (at_term k)) (get S.terms k) (get T.terms k) (λ h. agree_at S T parts (at_term k) all h) i;
+    }
+
+pub sight_decides : (S T : State) (p : ℕ) (call : Call) → HasSameSight S T p call → outcome S p call ≡ outcome T p call
+sight_decides S T p call same =
+    ap (λ v. act v p call) (restrict_alike S T (sight S p call) same.1.0 same.1)
+    ∙ ap (λ parts. act (restrict (tick T) parts) p call) same.0
+
+-- ---- after the step
+
+tick_alike : (S T : State) (q : Part) → Agree S T q → Agree (tick S) (tick T) q
+tick_alike S T at_clock h = ap (λ n. n + 1000) h
+tick_alike S T (at_proc p) h = h
+tick_alike S T (at_status p) h = h
+tick_alike S T (at_open o) h = h
+tick_alike S T (at_term k) h = h
+
+-- two states that agree on a part, where the same updates are put into both
+unreleased_alike : (S T : State) (p : ℕ) (call : Call) (q : Part) → outcome S p call ≡ outcome T p call → Agree S T q
+    → Agree (unreleased S p call) (unreleased T p call) q
+unreleased_alike S T p call q same h =
+    subst (λ (o : Outcome). Agree (unreleased S p call) (put_all o.updates (tick T)) q) same
+    (put_same (outcome S p call).updates (tick S) (tick T) q (tick_alike S T q h))
+
+by_ending_one : {X : Type 0} (b c : Bool) (x : Option X) → (is_some x && b) ≡ (is_some x && c) → cond (not b) x None ≡ cond (not c) x None
+by_ending_one b c (Some x) h = ap (λ d. cond (not d) (Some x) None) h
+by_ending_one true true None h = refl
+by_ending_one true false None h = refl
+by_ending_one false true None h = refl
+by_ending_one false false None h = refl
+
+by_ending : {X : Type 0} (b c : Bool) (x y : Option X) → x ≡ y → (is_some x && b) ≡ (is_some y && c) → cond (not b) x None ≡ cond (not c) y None
+by_ending {X} b c x y e h = subst (λ z. (is_some x && b) ≡ (is_some z && c) → cond (not b) x None ≡ cond (not c) z None) e (by_ending_one b c x) h
+
+release_alike : (S T : State) (q : Part) → Agree S T q → ((o : ℕ) → q ≡ at_open o → is_ending S o ≡ is_ending T o) → Agree (release S) (release T) q
+release_alike S T at_clock h ends = h
+release_alike S T (at_proc p) h ends = h
+release_alike S T (at_status p) h ends = h
+release_alike S T (at_open o) h ends =
+    get_released S o ∙ by_ending (holders S o == 0) (holders T o == 0) (get S.opens o) (get T.opens o) h (ends o refl) ∙ sym (get_released T o)
+release_alike S T (at_term k) h ends = h
+
+same_itself : (q : Part) → same_part q q ≡ true
+same_itself at_clock = refl
+same_itself (at_proc p) = eq-eqb p p refl
+same_itself (at_status p) = eq-eqb p p refl
+same_itself (at_open o) = eq-eqb o o refl
+same_itself (at_term k) = eq-eqb k k refl
+
+-- each part of a list
+each_part : (S T : State) (parts : List Part) → ((q : Part) → has_part parts q ≡ true → Agree S T q) → AgreeOn S T parts
+each_part S T [] h = tt
+each_part S T (part ∷ parts) h = (
+  h part (ap (λ b. b || has_part parts part) (same_itself part)),
+  each_part S T parts (λ q there. h q (ap (λ b. same_part part q || b) there ∙ or_true (same_part part q))),
+)
+
+pub step_decided : (S T : State) (p : ℕ) (call : Call) → HasSameSight S T p call
+    → (step_reply S p call ≡ step_reply T p call)
+    × (EndsAlike (unreleased S p call) (unreleased T p call) (sight S p call) → AgreeOn (step_state S p call) (step_state T p call) (sight S p call))
+step_decided S T p call same =
+    let alike : outcome S p call ≡ outcome T p call = sight_decides S T p call same in (
+      ap (λ (o : Outcome). o.reply) alike,
+      λ ends. each_part (step_state S p call) (step_state T p call) (sight S p call) (λ q there.
+          release_alike (unreleased S p call) (unreleased T p call) q
+          (unreleased_alike S T p call q alike (agree_at S T (sight S p call) q same.1 there))
+          (λ o is. ends o (subst (λ r. has_part (sight S p call) r ≡ true) is there))),
+    )

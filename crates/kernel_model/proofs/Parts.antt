@@ -1,0 +1,105 @@
+-- Parts of states, and what updates leave of them.
+use Rattle.std.proofs.Common.{◌≡◌, ◌≢◌, ℕ, ◌==◌, ◌||◌, Bool, true, false, T, List, [], ◌∷◌, ◌++◌, map, inl, inr, refl, sym, ap, subst, ◌∙◌}
+use Rattle.std.proofs.lemmas.Bool.Decides.{eqb_tells}
+use Rattle.std.specs.Ordering.{nat_cmp}
+use Rattle.std.specs.FinMap.{FinMap, get, insert}
+use Rattle.number_map.specs.Maps.{get-insert-same, get-insert-other}
+use Rattle.kernel_model.specs.State.{State, Part, at_clock, at_proc, at_status, at_open, at_term, same_part, has_part, Agree, AgreeOn, Update, set_table, set_threads, set_status, set_term, part_of, put_one, put_all}
+use Rattle.kernel_model.proofs.Tests.{not_true, either_false, either_true}
+
+-- ---- lists of parts
+
+-- a part outside a list is no part of it
+pub outside_cons : (part : Part) (parts : List Part) (q : Part) → has_part (part ∷ parts) q ≡ false → (same_part part q ≡ false) × (has_part parts q ≡ false)
+outside_cons part parts q h = either_false (same_part part q) (has_part parts q) h
+
+regrouped : (a b c : Bool) → (a || (b || c)) ≡ ((a || b) || c)
+regrouped true b c = refl
+regrouped false b c = refl
+
+-- a part is in two lists joined where it is in one of them
+pub has_part-append : (parts more : List Part) (q : Part) → has_part (parts ++ more) q ≡ (has_part parts q || has_part more q)
+has_part-append [] more q = refl
+has_part-append (part ∷ parts) more q = ap (λ b. same_part part q || b) (has_part-append parts more q) ∙ regrouped (same_part part q) (has_part parts q) (has_part more q)
+
+-- ---- the same values
+
+pub agree_self : (S : State) (q : Part) → Agree S S q
+agree_self S at_clock = refl
+agree_self S (at_proc p) = (refl, refl)
+agree_self S (at_status p) = refl
+agree_self S (at_open o) = refl
+agree_self S (at_term k) = refl
+
+pub agree_turned : (S T : State) (q : Part) → Agree S T q → Agree T S q
+agree_turned S T at_clock h = sym h
+agree_turned S T (at_proc p) h = (sym h.0, sym h.1)
+agree_turned S T (at_status p) h = sym h
+agree_turned S T (at_open o) h = sym h
+agree_turned S T (at_term k) h = sym h
+
+pub agree_through : (S T U : State) (q : Part) → Agree S T q → Agree T U q → Agree S U q
+agree_through S T U at_clock a b = a ∙ b
+agree_through S T U (at_proc p) a b = (a.0 ∙ b.0, a.1 ∙ b.1)
+agree_through S T U (at_status p) a b = a ∙ b
+agree_through S T U (at_open o) a b = a ∙ b
+agree_through S T U (at_term k) a b = a ∙ b
+
+same_number : (a b : ℕ) → (a == b) ≡ true → a ≡ b
+same_number a b h = elim (eqb_tells a b) [ inl is ↦ is.1 | inr other ↦ absurd (not_true (sym other.0 ∙ h)) ]
+
+other_number : (a b : ℕ) → (a == b) ≡ false → b ≢ a
+other_number a b h e = elim (eqb_tells a b) [ inl is ↦ not_true (sym h ∙ is.0) | inr other ↦ other.1 (sym e) ]
+
+-- the same part is the same
+pub same_part_is : (a b : Part) → same_part a b ≡ true → a ≡ b
+same_part_is at_clock at_clock h = refl
+same_part_is (at_proc p) (at_proc q) h = ap at_proc (same_number p q h)
+same_part_is (at_status p) (at_status q) h = ap at_status (same_number p q h)
+same_part_is (at_open o) (at_open r) h = ap at_open (same_number o r h)
+same_part_is (at_term k) (at_term j) h = ap at_term (same_number k j h)
+same_part_is a b h = absurd (not_true h)
+
+-- states that agree on a list of parts agree on each part of it
+pub agree_at : (S T : State) (parts : List Part) (q : Part) → AgreeOn S T parts → has_part parts q ≡ true → Agree S T q
+agree_at S T [] q all h = absurd (not_true h)
+agree_at S T (part ∷ parts) q all h =
+    elim (either_true (same_part part q) (has_part parts q) h) [
+      | inl here ↦ subst (λ r. Agree S T r) (same_part_is part q here) all.0
+      | inr there ↦ agree_at S T parts q all.1 there
+    ]
+
+-- ---- updates
+
+pub put_one_keeps : (u : Update) (S : State) (q : Part) → same_part (part_of u) q ≡ false → Agree (put_one u S) S q
+put_one_keeps (set_table p t) S (at_proc q) h = (get-insert-other S.tables p t q (other_number p q h), refl)
+put_one_keeps (set_threads p ts) S (at_proc q) h = (refl, get-insert-other S.threads p ts q (other_number p q h))
+put_one_keeps (set_status p s) S (at_status q) h = get-insert-other S.statuses p s q (other_number p q h)
+put_one_keeps (set_term k bytes) S (at_term j) h = get-insert-other S.terms k bytes j (other_number k j h)
+put_one_keeps u S q h = agree_self S q
+
+-- a part that no update sets keeps its value
+pub put_keeps : (us : List Update) (S : State) (q : Part) → has_part (map part_of us) q ≡ false → Agree (put_all us S) S q
+put_keeps [] S q h = agree_self S q
+put_keeps (u ∷ us) S q h =
+    let apart = outside_cons (part_of u) (map part_of us) q h in
+    agree_through (put_all us (put_one u S)) (put_one u S) S q (put_keeps us (put_one u S) q apart.1) (put_one_keeps u S q apart.0)
+
+insert_alike : {X : Type 0} (m n : FinMap nat_cmp X) (k : ℕ) (x : X) (q : ℕ) → get m q ≡ get n q → get (insert m k x) q ≡ get (insert n k x) q
+insert_alike m n k x q e =
+    elim (eqb_tells q k) [
+      | inl is ↦ subst (λ j. get (insert m k x) j ≡ get (insert n k x) j) (sym is.1) (get-insert-same m k x ∙ sym (get-insert-same n k x))
+      | inr other ↦ get-insert-other m k x q other.1 ∙ e ∙ sym (get-insert-other n k x q other.1)
+    ]
+
+pub put_one_same : (u : Update) (S T : State) (q : Part) → Agree S T q → Agree (put_one u S) (put_one u T) q
+put_one_same (set_table p t) S T (at_proc q) h = (insert_alike S.tables T.tables p t q h.0, h.1)
+put_one_same (set_threads p ts) S T (at_proc q) h = (h.0, insert_alike S.threads T.threads p ts q h.1)
+put_one_same (set_status p s) S T (at_status q) h = insert_alike S.statuses T.statuses p s q h
+put_one_same (set_term k bytes) S T (at_term j) h = insert_alike S.terms T.terms k bytes j h
+put_one_same u S T q h = h
+
+-- states that agree on a part still agree on it after the same updates
+pub put_same : (us : List Update) (S T : State) (q : Part) → Agree S T q → Agree (put_all us S) (put_all us T) q
+put_same [] S T q h = h
+put_same (u ∷ us) S T q h = put_same us (put_one u S) (put_one u T) q (put_one_same u S T q h)

@@ -1,0 +1,259 @@
+-- What a kernel does keeps its state valid: a call, the end of a process from outside, and the release after both.
+use Rattle.std.proofs.Common.{◌≡◌, ◌≢◌, inl, inr, ℕ, ◌+◌, ◌<◌, ◌≤◌, ◌==◌, Bool, true, false, not, cond, T, List, ◌++◌, Option, Some, None, IsSome, is_some, refl, sym, ap, subst, ◌∙◌, arith}
+use Rattle.std.proofs.lemmas.Bool.Decides.{eqb_tells}
+use Rattle.std.proofs.lemmas.Bool.{eq-eqb}
+use Rattle.std.specs.Ordering.{nat_cmp}
+use Rattle.std.specs.FinMap.{FinMap, get, get-empty, insert, empty}
+use Rattle.abi_types.specs.declared.call.Answer.{Answer}
+use Rattle.abi_types.specs.declared.call.Call.{Call}
+use Rattle.abi_types.specs.declared.call.Call.TheVariants.{FdWrite, ProcExit, Refused}
+use Rattle.abi_types.specs.declared.call.Reply.{Reply}
+use Rattle.abi_types.specs.declared.descriptor.Descriptor.{Descriptor}
+use Rattle.abi_types.specs.declared.open_kind.OpenKind.{OpenKind}
+use Rattle.abi_types.specs.declared.open_kind.OpenKind.TheVariants.{Terminal}
+use Rattle.abi_types.specs.declared.status.Status.{Status}
+use Rattle.abi_types.specs.declared.status.Status.TheVariants.{Live, Exit}
+use Rattle.number_map.specs.Maps.{get-insert-same, get-insert-other, get-retain, same_numbers, total, weight, total-empty, total-insert, total_at_least}
+use Rattle.kernel_model.specs.Cases.{Outcome, write_term, write_open, fd_write, end_updates, case_of}
+use Rattle.kernel_model.specs.Need.{need, refusal}
+use Rattle.kernel_model.specs.Release.{names_open, count_in, holders, release}
+use Rattle.kernel_model.specs.State.{State, Table, put_one, put_all, set_term}
+use Rattle.kernel_model.specs.Step.{tick, sight, unless, act_on, unreleased, step_state, IsStep, end_unreleased, end_state}
+use Rattle.kernel_model.specs.Valid.{IsNamed, HasBehind, IsValid}
+use Rattle.kernel_model.specs.View.{View, restrict}
+use Rattle.kernel_model.proofs.Tests.{not_true, none_is_no}
+
+-- ---- validity before the release
+
+-- all of validity but that each open is held; the release brings that
+pub record IsNearlyValid (S : State) : Type 0 where
+  pub named : (p n : ℕ) (table : Table) (d : Descriptor) → get S.tables p ≡ Some table → get table n ≡ Some d → IsNamed (get S.opens d.id) d
+  pub behind : (o : ℕ) (kind : OpenKind) → get S.opens o ≡ Some kind → HasBehind S kind
+  pub tables : (p : ℕ) → is_some (get S.tables p) ≡ is_some (get S.statuses p)
+  pub threads : (p : ℕ) → is_some (get S.threads p) ≡ is_some (get S.statuses p)
+  pub ended : (p : ℕ) (status : Status) → get S.statuses p ≡ Some status → status ≢ Live → (get S.tables p ≡ Some empty) × (get S.threads p ≡ Some empty)
+
+pub nearly_valid : (S : State) → IsValid S → IsNearlyValid S
+nearly_valid S v = record { named = v.named; behind = v.behind; tables = v.tables; threads = v.threads; ended = v.ended }
+
+-- ---- what holds an open
+
+names_itself : (d : Descriptor) → names_open d.id d ≡ 1
+names_itself d = ap (λ b. cond b 1 0) (eq-eqb d.id d.id refl)
+
+-- an open that a descriptor names is held
+pub named_is_held : (S : State) (p n : ℕ) (table : Table) (d : Descriptor) → get S.tables p ≡ Some table → get table n ≡ Some d → 0 < holders S d.id
+named_is_held S p n table d there here =
+    let one : names_open d.id d ≡ 1 = names_itself d in
+    let inside : names_open d.id d ≤ count_in d.id table = total_at_least (names_open d.id) table n d here in
+    let all : count_in d.id table ≤ holders S d.id = total_at_least (count_in d.id) S.tables p table there in
+    omega arith
+
+-- a process that gives up its descriptors takes just its own holders along
+pub emptied_holders : (tables : FinMap nat_cmp Table) (p o : ℕ) (table : Table) → get tables p ≡ Some table
+    → total (count_in o) (insert tables p empty) + count_in o table ≡ total (count_in o) tables
+emptied_holders tables p o table there =
+    let own : weight (count_in o) (get tables p) ≡ count_in o table = ap (weight (count_in o)) there in
+    let none : count_in o empty ≡ 0 = total-empty (names_open o) in
+    let sums = total-insert (count_in o) tables p empty in
+    omega arith
+
+-- ---- the release
+
+above_zero : (n : ℕ) → 0 < n → not (n == 0) ≡ true
+above_zero n h =
+    elim (eqb_tells n 0) [ inl is ↦ (let same : n ≡ 0 = is.1 in absurd (omega arith)) | inr other ↦ ap not other.0 ]
+
+some_above_zero : {X : Type 0} (n : ℕ) (o : Option X) → IsSome (cond (not (n == 0)) o None) → 0 < n
+some_above_zero n o h =
+    elim (eqb_tells n 0) [
+      | inl is ↦ absurd (not_true (subst (λ b. IsSome (cond (not b) o None)) is.0 h))
+      | inr other ↦ (let apart : n ≢ 0 = other.1 in omega arith)
+    ]
+
+kept_some : {X : Type 0} (b : Bool) (o : Option X) (x : X) → cond b o None ≡ Some x → o ≡ Some x
+kept_some true o x e = e
+kept_some false o x e = absurd (none_is_no x e)
+
+held_stays : {X : Type 0} (n : ℕ) (o : Option X) → 0 < n → cond (not (n == 0)) o None ≡ o
+held_stays n o h = ap (λ b. cond b o None) (above_zero n h)
+
+-- an open after the release: as before where it is held, else nothing
+pub get_released : (S : State) (o : ℕ) → get (release S).opens o ≡ cond (not (holders S o == 0)) (get S.opens o) None
+get_released S o = get-retain S.opens (λ r. not (holders S r == 0)) o
+
+-- what stands behind an open does not depend on the other parts
+behind_same : (S T : State) → ((k : ℕ) → IsSome (get S.terms k) → IsSome (get T.terms k)) → (kind : OpenKind) → HasBehind S kind → HasBehind T kind
+behind_same S T more (Terminal which flags) h = more which h
+
+pub release_restores : (S : State) → IsNearlyValid S → IsValid (release S)
+release_restores S v = record {
+  named = λ p n table d there here.
+      subst (λ o. IsNamed o d) (sym (get_released S d.id ∙ held_stays (holders S d.id) (get S.opens d.id) (named_is_held S p n table d there here)))
+      (v.named p n table d there here);
+  held = λ o h. some_above_zero (holders S o) (get S.opens o) (subst IsSome (get_released S o) h);
+  behind = λ o kind e.
+      behind_same S (release S) (λ _ h. h) kind
+      (v.behind o kind (kept_some (not (holders S o == 0)) (get S.opens o) kind (sym (get_released S o) ∙ e)));
+  tables = v.tables;
+  threads = v.threads;
+  ended = v.ended;
+}
+
+either_none : {X : Type 0} (b : Bool) → cond {A = Option X} b None None ≡ None
+either_none true = refl
+either_none false = refl
+
+held_or_absent : {X : Type 0} (n : ℕ) (o : Option X) → (IsSome o → 0 < n) → cond (not (n == 0)) o None ≡ o
+held_or_absent n (Some x) h = held_stays n (Some x) (h refl)
+held_or_absent n None h = either_none (not (n == 0))
+
+-- where each open is held nothing is released
+pub release_held : (S : State) → ((o : ℕ) → IsSome (get S.opens o) → 0 < holders S o) → release S ≡ S
+release_held S held =
+    let same : (release S).opens ≡ S.opens = same_numbers _ _ (λ o. get_released S o ∙ held_or_absent (holders S o) (get S.opens o) (held o)) in
+    λ i. record S { opens = same i }
+
+-- nothing of a valid state is released
+pub release_valid : (S : State) → IsValid S → release S ≡ S
+release_valid S v = release_held S v.held
+
+-- ---- one more moment
+
+pub tick_nearly_valid : (S : State) → IsNearlyValid S → IsNearlyValid (tick S)
+tick_nearly_valid S v = record {
+  named = v.named;
+  behind = λ o kind e. behind_same S (tick S) (λ _ h. h) kind (v.behind o kind e);
+  tables = v.tables;
+  threads = v.threads;
+  ended = v.ended;
+}
+
+pub tick_valid : (S : State) → IsValid S → IsValid (tick S)
+tick_valid S v = record {
+  named = v.named;
+  held = v.held;
+  behind = λ o kind e. behind_same S (tick S) (λ _ h. h) kind (v.behind o kind e);
+  tables = v.tables;
+  threads = v.threads;
+  ended = v.ended;
+}
+
+-- ---- one part set
+
+some_inserted : {X : Type 0} (m : FinMap nat_cmp X) (k : ℕ) (x : X) (q : ℕ) → IsSome (get m q) → IsSome (get (insert m k x) q)
+some_inserted m k x q h =
+    elim (eqb_tells q k) [
+      | inl is ↦ subst (λ j. IsSome (get (insert m k x) j)) (sym is.1) (ap is_some (get-insert-same m k x))
+      | inr other ↦ ap is_some (get-insert-other m k x q other.1) ∙ h
+    ]
+
+-- two maps with the same keys still have the same keys with one more
+same_keys_inserted : {X Y : Type 0} (m : FinMap nat_cmp X) (n : FinMap nat_cmp Y) (k : ℕ) (x : X) (y : Y)
+    → ((q : ℕ) → is_some (get m q) ≡ is_some (get n q)) → (q : ℕ) → is_some (get (insert m k x) q) ≡ is_some (get (insert n k y) q)
+same_keys_inserted m n k x y same q =
+    elim (eqb_tells q k) [
+      | inl is ↦ subst (λ j. is_some (get (insert m k x) j) ≡ is_some (get (insert n k y) j)) (sym is.1)
+          (ap is_some (get-insert-same m k x) ∙ sym (ap is_some (get-insert-same n k y)))
+      | inr other ↦ ap is_some (get-insert-other m k x q other.1) ∙ same q ∙ sym (ap is_some (get-insert-other n k y q other.1))
+    ]
+
+pub set_term_nearly_valid : (S : State) (k : ℕ) (bytes : List ℕ) → IsNearlyValid S → IsNearlyValid (put_one (set_term k bytes) S)
+set_term_nearly_valid S k bytes v = record {
+  named = v.named;
+  behind = λ o kind e. behind_same S (put_one (set_term k bytes) S) (some_inserted S.terms k bytes) kind (v.behind o kind e);
+  tables = v.tables;
+  threads = v.threads;
+  ended = v.ended;
+}
+
+-- ---- the end of a process
+
+same_value : {X : Type 0} (x y : X) (o : Option X) → o ≡ Some x → o ≡ Some y → x ≡ y
+same_value x y o a b = let both : Some x ≡ Some y = sym a ∙ b in cc
+
+-- a descriptor of a process after one is emptied was there before
+emptied_before : (tables : FinMap nat_cmp Table) (p q n : ℕ) (table : Table) (d : Descriptor)
+    → get (insert tables p empty) q ≡ Some table → get table n ≡ Some d → get tables q ≡ Some table
+emptied_before tables p q n table d there here =
+    elim (eqb_tells q p) [
+      | inl is ↦ (let bare : empty ≡ table = same_value _ _ _ (get-insert-same tables p empty) (subst (λ j. get (insert tables p empty) j ≡ Some table) is.1 there) in
+          absurd (none_is_no d (sym (get-empty nat_cmp n) ∙ ap (λ (m : Table). get m n) bare ∙ here)))
+      | inr other ↦ sym (get-insert-other tables p empty q other.1) ∙ there
+    ]
+
+emptied_stays : {X : Type 0} (m : FinMap nat_cmp (FinMap nat_cmp X)) (p q : ℕ) → get m q ≡ Some empty → get (insert m p empty) q ≡ Some empty
+emptied_stays m p q e =
+    elim (eqb_tells q p) [
+      | inl is ↦ subst (λ j. get (insert m p empty) j ≡ Some empty) (sym is.1) (get-insert-same m p empty)
+      | inr other ↦ get-insert-other m p empty q other.1 ∙ e
+    ]
+
+-- what an ended process has left, where one more has ended
+ended_after : {X : Type 0} (m : FinMap nat_cmp (FinMap nat_cmp X)) (statuses : FinMap nat_cmp Status) (p : ℕ) (status : Status)
+    → ((q : ℕ) (s : Status) → get statuses q ≡ Some s → s ≢ Live → get m q ≡ Some empty)
+    → (q : ℕ) (s : Status) → get (insert statuses p status) q ≡ Some s → s ≢ Live → get (insert m p empty) q ≡ Some empty
+ended_after m statuses p status before q s e ends =
+    elim (eqb_tells q p) [
+      | inl is ↦ subst (λ j. get (insert m p empty) j ≡ Some empty) (sym is.1) (get-insert-same m p empty)
+      | inr other ↦ emptied_stays m p q (before q s (sym (get-insert-other statuses p status q other.1) ∙ e) ends)
+    ]
+
+pub end_nearly_valid : (S : State) (p : ℕ) (status : Status) → IsNearlyValid S → IsNearlyValid (put_all (end_updates p status) S)
+end_nearly_valid S p status v = record {
+  named = λ q n table d there here. v.named q n table d (emptied_before S.tables p q n table d there here) here;
+  behind = λ o kind e. behind_same S (put_all (end_updates p status) S) (λ _ h. h) kind (v.behind o kind e);
+  tables = same_keys_inserted S.tables S.statuses p empty status v.tables;
+  threads = same_keys_inserted S.threads S.statuses p empty status v.threads;
+  ended = λ q s e ends. (
+    ended_after S.tables S.statuses p status (λ r t f live. (v.ended r t f live).0) q s e ends,
+    ended_after S.threads S.statuses p status (λ r t f live. (v.ended r t f live).1) q s e ends,
+  );
+}
+
+pub end_valid : (S : State) (p : ℕ) (status : Status) → IsValid S → IsValid (end_state S p status)
+end_valid S p status v =
+    release_restores (end_unreleased S p status) (end_nearly_valid (tick S) p status (tick_nearly_valid S (nearly_valid S v)))
+
+-- ---- a call
+
+write_term_keeps : (S : State) (bytes : List ℕ) (which : ℕ) (written : Option (List ℕ)) → IsNearlyValid S
+    → IsNearlyValid (put_all (write_term bytes which written).updates S)
+write_term_keeps S bytes which None v = v
+write_term_keeps S bytes which (Some written) v = set_term_nearly_valid S which (written ++ bytes) v
+
+write_open_keeps : (S : State) (view : View) (bytes : List ℕ) (kind : Option OpenKind) → IsNearlyValid S
+    → IsNearlyValid (put_all (write_open view bytes kind).updates S)
+write_open_keeps S view bytes None v = v
+write_open_keeps S view bytes (Some (Terminal which flags)) v = write_term_keeps S bytes which (view.term which) v
+
+fd_write_keeps : (S : State) (view : View) (bytes : List ℕ) (d : Option Descriptor) → IsNearlyValid S
+    → IsNearlyValid (put_all (fd_write view bytes d).updates S)
+fd_write_keeps S view bytes None v = v
+fd_write_keeps S view bytes (Some d) v = write_open_keeps S view bytes (view.opened d.id) v
+
+case_keeps : (S : State) (view : View) (p : ℕ) (table : Table) (call : Call) → IsNearlyValid S
+    → IsNearlyValid (put_all (case_of view p table call).updates S)
+case_keeps S view p table (FdWrite fd bytes) v = fd_write_keeps S view bytes (get table fd) v
+case_keeps S view p table (ProcExit code) v = end_nearly_valid S p (Exit code) v
+case_keeps S view p table (Refused number errno) v = v
+
+unless_keeps : (S : State) (o : Outcome) (r : Option Reply) → IsNearlyValid S → IsNearlyValid (put_all o.updates S)
+    → IsNearlyValid (put_all (unless r o).updates S)
+unless_keeps S o None v after = after
+unless_keeps S o (Some reply) v after = v
+
+act_keeps : (S : State) (view : View) (p : ℕ) (call : Call) (t : Option Table) → IsNearlyValid S
+    → IsNearlyValid (put_all (act_on view p call t).updates S)
+act_keeps S view p call None v = v
+act_keeps S view p call (Some table) v =
+    unless_keeps S (case_of view p table call) (refusal table (need call)) v (case_keeps S view p table call v)
+
+pub step_valid : (S : State) (p : ℕ) (call : Call) → IsValid S → IsValid (step_state S p call)
+step_valid S p call v =
+    release_restores (unreleased S p call)
+    (act_keeps (tick S) (restrict (tick S) (sight S p call)) p call ((restrict (tick S) (sight S p call)).table p) (tick_nearly_valid S (nearly_valid S v)))
+
+pub step_keeps_valid : (S : State) (p : ℕ) (call : Call) (given : Answer) (T : State) → IsStep S p call given T → IsValid S → IsValid T
+step_keeps_valid S p call given T (inl done) v = subst IsValid (sym done.1) (step_valid S p call v)
+step_keeps_valid S p call given T (inr lacking) v = subst IsValid (sym lacking.2) (tick_valid S v)

@@ -1,0 +1,11 @@
+pub mod State
+pub mod Codes
+pub mod View
+pub mod Reply
+pub mod Need
+pub mod Cases
+pub mod Release
+pub mod Step
+pub mod Valid
+pub mod Laws
+pub mod Start

@@ -1,0 +1,18 @@
+-- Replies of calls.
+use Rattle.std.specs.Prelude.{ℕ, None, Some}
+use Rattle.abi_types.specs.declared.call.Reply.{Reply}
+use Rattle.abi_types.specs.declared.descriptor.Denial.{Denial}
+use Rattle.abi_types.specs.declared.errno.Errno.{Errno}
+use Rattle.abi_types.specs.declared.errno.Errno.TheVariants.{Success, Notcapable}
+
+-- the call is done, with these two results
+abbrev pub success : ℕ → ℕ → Reply
+success r1 r2 = record { errno = Success; r1 = r1; r2 = r2; denial = None }
+
+-- the call is refused by this error
+abbrev pub refused : Errno → Reply
+refused errno = record { errno = errno; r1 = 0; r2 = 0; denial = None }
+
+-- the call is refused for want of rights
+abbrev pub denied : Denial → Reply
+denied denial = record { errno = Notcapable; r1 = 0; r2 = 0; denial = Some denial }

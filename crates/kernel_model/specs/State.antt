@@ -1,0 +1,88 @@
+-- The state of a kernel: what it keeps between two calls.
+use Rattle.std.specs.Prelude.{◌≡◌, ℕ, ◌==◌, ◌||◌, Bool, true, false, List, [], ◌∷◌}
+use Rattle.std.specs.Ordering.{nat_cmp}
+use Rattle.std.specs.FinMap.{FinMap, get, insert}
+use Rattle.abi_types.specs.declared.descriptor.Descriptor.{Descriptor}
+use Rattle.abi_types.specs.declared.open_kind.OpenKind.{OpenKind}
+use Rattle.abi_types.specs.declared.status.Status.{Status}
+use Rattle.abi_types.specs.declared.thread.Thread.{Thread}
+
+-- a process's descriptors by number
+abbrev pub Table : Type 0
+Table = FinMap nat_cmp Descriptor
+
+-- a process's live threads by number
+abbrev pub Threads : Type 0
+Threads = FinMap nat_cmp Thread
+
+-- the moment in nanoseconds; each process's descriptors, threads and status; the opens that descriptors name; and the
+-- bytes that were written to each standard stream
+pub record State : Type 0 where
+  pub clock : ℕ
+  pub tables : FinMap nat_cmp Table
+  pub threads : FinMap nat_cmp Threads
+  pub statuses : FinMap nat_cmp Status
+  pub opens : FinMap nat_cmp OpenKind
+  pub terms : FinMap nat_cmp (List ℕ)
+
+-- A state is a map from parts to values. Its parts are the clock, what a process has of its own (descriptors and
+-- threads), its status, an open, and a standard stream.
+pub data Part : Type 0 where
+  at_clock : Part
+  at_proc : ℕ → Part
+  at_status : ℕ → Part
+  at_open : ℕ → Part
+  at_term : ℕ → Part
+
+-- whether two parts are one
+abbrev pub same_part : Part → Part → Bool
+same_part at_clock at_clock = true
+same_part (at_proc p) (at_proc q) = p == q
+same_part (at_status p) (at_status q) = p == q
+same_part (at_open o) (at_open r) = o == r
+same_part (at_term k) (at_term j) = k == j
+same_part _ _ = false
+
+-- whether the list has the part
+abbrev pub has_part : List Part → Part → Bool
+has_part [] q = false
+has_part (part ∷ parts) q = same_part part q || has_part parts q
+
+-- the part has the same value in both states
+abbrev pub Agree : State → State → Part → Type 0
+Agree S T at_clock = S.clock ≡ T.clock
+Agree S T (at_proc p) = (get S.tables p ≡ get T.tables p) × (get S.threads p ≡ get T.threads p)
+Agree S T (at_status p) = get S.statuses p ≡ get T.statuses p
+Agree S T (at_open o) = get S.opens o ≡ get T.opens o
+Agree S T (at_term k) = get S.terms k ≡ get T.terms k
+
+-- each part of the list has the same value in both states
+abbrev pub AgreeOn : State → State → List Part → Type 0
+AgreeOn S T [] = Unit {0}
+AgreeOn S T (part ∷ parts) = Agree S T part × AgreeOn S T parts
+
+-- a new value of one part
+pub data Update : Type 0 where
+  set_table : ℕ → Table → Update
+  set_threads : ℕ → Threads → Update
+  set_status : ℕ → Status → Update
+  set_term : ℕ → List ℕ → Update
+
+-- the part that an update sets
+abbrev pub part_of : Update → Part
+part_of (set_table p t) = at_proc p
+part_of (set_threads p ts) = at_proc p
+part_of (set_status p s) = at_status p
+part_of (set_term k bytes) = at_term k
+
+-- the state with one part set
+abbrev pub put_one : Update → State → State
+put_one (set_table p t) S = record S { tables = insert S.tables p t }
+put_one (set_threads p ts) S = record S { threads = insert S.threads p ts }
+put_one (set_status p s) S = record S { statuses = insert S.statuses p s }
+put_one (set_term k bytes) S = record S { terms = insert S.terms k bytes }
+
+-- the state with the parts set, one after another
+abbrev pub put_all : List Update → State → State
+put_all [] S = S
+put_all (update ∷ updates) S = put_all updates (put_one update S)

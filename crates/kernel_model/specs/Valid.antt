@@ -1,0 +1,46 @@
+-- States that a kernel may be in.
+use Rattle.std.specs.Prelude.{◌≡◌, ◌≢◌, ℕ, ◌==◌, ◌<◌, Option, None, Some, IsSome, IsTrue, is_some, if◌then◌else◌}
+use Rattle.std.specs.FinMap.{get, empty}
+use Rattle.abi_types.specs.declared.descriptor.Descriptor.{Descriptor}
+use Rattle.abi_types.specs.declared.open_kind.OpenKind.{OpenKind}
+use Rattle.abi_types.specs.declared.open_kind.OpenKind.TheVariants.{Terminal}
+use Rattle.abi_types.specs.declared.status.Status.{Status}
+use Rattle.abi_types.specs.declared.status.Status.TheVariants.{Live}
+use Rattle.abi_types.specs.Rights.{has_all}
+use Rattle.kernel_model.specs.Release.{holders}
+use Rattle.kernel_model.specs.State.{State, Table}
+
+-- all rights that a descriptor of a standard stream may have: stdin is read, stdout and stderr are written
+abbrev pub stream_rights : ℕ → ℕ
+stream_rights which = if which == 0 then 0x1008000a else 0x10080048
+
+-- the base rights that a descriptor of the open may have, and the inheriting rights
+abbrev pub fits : OpenKind → ℕ
+fits (Terminal which flags) = stream_rights which
+
+abbrev pub fits_inheriting : OpenKind → ℕ
+fits_inheriting (Terminal which flags) = 0
+
+-- the descriptor's rights are among those of its open's type
+abbrev pub HasRightsOf : Descriptor → OpenKind → Type 0
+HasRightsOf d kind = IsTrue (has_all (fits kind) d.base.0) × IsTrue (has_all (fits_inheriting kind) d.inheriting.0)
+
+-- the open is there, and the descriptor's rights are among those of its type
+abbrev pub IsNamed : Option OpenKind → Descriptor → Type 0
+IsNamed None d = ⊥
+IsNamed (Some kind) d = HasRightsOf d kind
+
+-- what stands behind the open is there
+abbrev pub HasBehind : State → OpenKind → Type 0
+HasBehind S (Terminal which flags) = IsSome (get S.terms which)
+
+-- A state is valid where each descriptor's open is there with its rights, each open is held and has what stands behind
+-- it, each process has a table, threads and a status or none of these, and an ended process has no descriptor and no
+-- thread.
+pub record IsValid (S : State) : Type 0 where
+  pub named : (p n : ℕ) (table : Table) (d : Descriptor) → get S.tables p ≡ Some table → get table n ≡ Some d → IsNamed (get S.opens d.id) d
+  pub held : (o : ℕ) → IsSome (get S.opens o) → 0 < holders S o
+  pub behind : (o : ℕ) (kind : OpenKind) → get S.opens o ≡ Some kind → HasBehind S kind
+  pub tables : (p : ℕ) → is_some (get S.tables p) ≡ is_some (get S.statuses p)
+  pub threads : (p : ℕ) → is_some (get S.threads p) ≡ is_some (get S.statuses p)
+  pub ended : (p : ℕ) (status : Status) → get S.statuses p ≡ Some status → status ≢ Live → (get S.tables p ≡ Some empty) × (get S.threads p ≡ Some empty)

@@ -1,0 +1,54 @@
+//! Laws of the kernel's steps. The statements are in `specs/Laws.antt`, and each holds of every state, process and call.
+ghost use Rattle.kernel_model.specs.Laws.{ReadsSight, SightDecides, StepDecided, OthersStay, EndKeeps, ErrorKeeps};
+ghost use Rattle.kernel_model.specs.Laws.{FirstLackIsNamed, DenialIsOfFirstLack, NotcapableIsDenied, StepKeepsValid, EndKeepsValid};
+
+/// A call's outcome, which sees only what is in its sight, is what it would be if it saw the whole state.
+pub fn reads_sight()
+    ensures { ReadsSight }
+{}
+
+/// A call that sees the same in two states answers the same in both, and sets the same parts to the same values.
+pub fn sight_decides()
+    ensures { SightDecides }
+{}
+
+/// A call that sees the same in two states answers the same in both. Where the release after it ends the same of the
+/// opens that it sees, each part that it sees has the same value in both states after the step.
+pub fn step_decided()
+    ensures { StepDecided }
+{}
+
+/// After a step each part that the call does not touch and that the release after it does not end has the value it had.
+pub fn others_stay()
+    ensures { OthersStay }
+{}
+
+/// After the end of a process from outside each part that is not the clock, the process's own or its status, and that
+/// the release does not end, has the value it had.
+pub fn end_keeps()
+    ensures { EndKeeps }
+{}
+
+/// A call that answers an error, want of memory among them, changes only the clock of a valid state.
+pub fn error_keeps()
+    ensures { ErrorKeeps }
+{}
+
+/// Where each needed descriptor is there and some lacks a right, the call is denied, with exactly the rights that the
+/// first of these lacks. A call is denied in no other case. A call that answers `Notcapable` says what is missing, but
+/// for one that is refused with that error before the kernel looks at it.
+pub fn refusal_names_lack()
+    ensures named { FirstLackIsNamed }
+    ensures only { DenialIsOfFirstLack }
+    ensures denied { NotcapableIsDenied }
+{}
+
+/// A step leaves a valid state valid.
+pub fn step_keeps_valid()
+    ensures { StepKeepsValid }
+{}
+
+/// The end of a process from outside leaves a valid state valid.
+pub fn end_keeps_valid()
+    ensures { EndKeepsValid }
+{}

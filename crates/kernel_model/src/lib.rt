@@ -1,0 +1,10 @@
+//! What the kernel is: its state, what a call needs, reads and changes, and what it answers, as definitions (`specs/`).
+//! The functions here are laws over these definitions: they do nothing, and their contracts say the law.
+#![tactic(auto)]
+
+pub mod laws;
+
+pub use laws::{
+    end_keeps, end_keeps_valid, error_keeps, others_stay, reads_sight, refusal_names_lack,
+    sight_decides, step_decided, step_keeps_valid,
+};

@@ -1,0 +1,36 @@
+-- How a run may end.
+use Rattle.std.specs.Prelude.{◌≡◌, ◌≢◌, ℕ, List, Some}
+use Rattle.std.specs.FinMap.{get}
+use Rattle.abi_types.specs.declared.status.Status.TheVariants.{Live}
+use Rattle.abi_types.specs.declared.thread.Thread.{Thread}
+use Rattle.abi_types.specs.declared.thread.Thread.TheVariants.{Runnable}
+use Rattle.kernel_core.specs.declared.history.Entry.{Entry}
+use Rattle.kernel_core.specs.declared.launch.Launch.{Launch}
+use Rattle.kernel_model.specs.State.{State, Threads}
+use Rattle.run_model.specs.World.{world}
+
+-- no process is live
+abbrev pub NoneLive : State → Type 0
+NoneLive S = (p : ℕ) → get S.statuses p ≢ Some Live
+
+-- the run is ended
+abbrev pub Ended : Launch → List Entry → Type 0
+Ended launch history = NoneLive (world launch history).state
+
+-- whether a live thread waits
+abbrev pub IsParked : Thread → Type 0
+IsParked Runnable = ⊥
+
+-- the process has this thread
+abbrev pub HasThread : State → ℕ → ℕ → Thread → Type 0
+HasThread S p t thread = (threads : Threads) × (get S.threads p ≡ Some threads) × (get threads t ≡ Some thread)
+
+-- some thread is live, and each live thread waits
+abbrev pub AllParked : State → Type 0
+AllParked S =
+    ((p : ℕ) × (t : ℕ) × (thread : Thread) × HasThread S p t thread)
+    × ((p t : ℕ) (thread : Thread) → HasThread S p t thread → IsParked thread)
+
+-- the run is stalled
+abbrev pub Stalled : Launch → List Entry → Type 0
+Stalled launch history = AllParked (world launch history).state

@@ -1,0 +1,66 @@
+-- Which histories a launch may have.
+use Rattle.std.specs.Prelude.{◌≡◌, ℕ, ◌<◌, ◌==◌, List, [], ◌∷◌, ◌++◌, Some, filter}
+use Rattle.std.specs.FinMap.{get}
+use Rattle.abi_types.specs.declared.call.Answer.{Answer}
+use Rattle.abi_types.specs.declared.call.Call.{Call}
+use Rattle.abi_types.specs.declared.status.Status.TheVariants.{Live}
+use Rattle.abi_types.specs.declared.thread.Thread.TheVariants.{Runnable}
+use Rattle.kernel_core.specs.declared.history.Act.{Act}
+use Rattle.kernel_core.specs.declared.history.Act.TheVariants as act
+use Rattle.kernel_core.specs.declared.history.Entry.{Entry}
+use Rattle.kernel_core.specs.declared.launch.Launch.{Launch}
+use Rattle.kernel_model.specs.State.{State, Threads}
+use Rattle.kernel_model.specs.Step.{IsStep}
+use Rattle.rv_interp.specs.declared.turns.TurnEnd.{TurnEnd}
+use Rattle.rv_interp.specs.declared.turns.TurnEnd.TheVariants as turn_end_is
+use Rattle.run_model.specs.Args.{args_of}
+use Rattle.run_model.specs.World.{World, Guest, guest_of, registers_of, turn_end, turned_guest, turned_guest_by, turned, called_state, apply, start_world}
+
+-- the thread is live and takes its turns
+abbrev pub IsRunnable : State → ℕ → ℕ → Type 0
+IsRunnable S p t = (threads : Threads) × (get S.threads p ≡ Some threads) × (get threads t ≡ Some Runnable)
+
+-- a turn may be the thread's: it is runnable, and its process has a turn left
+abbrev pub MayTurn : State → ℕ → Guest → ℕ → Type 0
+MayTurn S p guest t = IsRunnable S p t × (0 < guest.left)
+
+-- turns of these threads, each of which ends because it did as many instructions as a turn has
+abbrev pub AreWhole : State → ℕ → Guest → List ℕ → Type 0
+AreWhole S p guest [] = Unit {0}
+AreWhole S p guest (t ∷ ts) = MayTurn S p guest t × (turn_end guest t ≡ turn_end_is.Quantum) × AreWhole S p (turned_guest guest t) ts
+
+-- turns of which the last is the thread's and ends so, and the others are whole
+abbrev pub LastEnds : State → ℕ → Guest → List ℕ → ℕ → TurnEnd → Type 0
+LastEnds S p guest ts t end =
+    (front : List ℕ) × (ts ≡ front ++ t ∷ []) × AreWhole S p guest front
+    × MayTurn S p (turned_guest_by front guest) t × (turn_end (turned_guest_by front guest) t ≡ end)
+
+-- What an act wants of the world before its entry, S being the kernel's state and guest the process's:
+-- A call is the one that the thread's registers and memory spell at the ECALL that ended the last turn, and its answer
+-- is the kernel's. A trap is the one that ended the last turn. A process expires where a runnable thread has no turn left.
+abbrev pub FitsAct : State → ℕ → ℕ → Guest → List ℕ → Act → Type 0
+FitsAct S p t guest ts (act.Call call given) =
+    LastEnds S p guest ts t turn_end_is.Ecall
+    × (call ≡ args_of (turned_guest_by ts guest).memory (registers_of (turned_guest_by ts guest) t))
+    × IsStep S p call given (called_state S p call given)
+FitsAct S p t guest ts (act.Trap signal) = LastEnds S p guest ts t (turn_end_is.Trap signal)
+FitsAct S p t guest ts act.Expire = AreWhole S p guest ts × IsRunnable S p t × ((turned_guest_by ts guest).left ≡ 0)
+
+-- the entry may follow where the world is so
+pub record Fits (w : World) (e : Entry) : Type 0 where
+  pub live : get w.state.statuses e.pid ≡ Some Live
+  pub act : FitsAct w.state e.pid e.tid (guest_of w e.pid) e.turns e.act
+  pub moment : e.moment ≡ (apply w e).state.clock
+
+-- each entry fits the world of those before it
+unfoldable pub FollowsFrom : World → List Entry → Type 0
+FollowsFrom w [] = Unit {0}
+FollowsFrom w (e ∷ es) = Fits w e × FollowsFrom (apply w e) es
+
+-- the history is one that the launch may have
+unfoldable pub Legal : Launch → List Entry → Type 0
+Legal launch history = FollowsFrom (start_world launch) history
+
+-- the entries of one process
+abbrev pub own : List Entry → ℕ → List Entry
+own history p = filter (λ e. e.pid == p) history

@@ -1,0 +1,5 @@
+pub mod Args
+pub mod Put
+pub mod World
+pub mod Legal
+pub mod Ends

@@ -1,0 +1,141 @@
+-- A kernel's state together with its processes' memories, registers and turns, and how an entry changes them.
+use Rattle.std.specs.Prelude.{◌≡◌, ℕ, ◌+◌, ◌-◌, ◌/◌, ◌==◌, Bool, true, false, List, [], ◌∷◌, ◌++◌, Option, None, Some, if◌then◌else◌}
+use Rattle.std.specs.Ordering.{nat_cmp}
+use Rattle.std.specs.FinMap.{FinMap, empty, get, insert}
+use Rattle.abi_types.specs.declared.call.Answer.{Answer}
+use Rattle.abi_types.specs.declared.call.Answer.TheVariants as answer
+use Rattle.abi_types.specs.declared.call.Call.{Call}
+use Rattle.abi_types.specs.declared.errno.Errno.{Errno}
+use Rattle.abi_types.specs.declared.errno.Errno.TheVariants.{Nomem}
+use Rattle.abi_types.specs.declared.signal.Signal.TheVariants.{Xcpu}
+use Rattle.abi_types.specs.declared.status.Status.TheVariants.{Killed}
+use Rattle.abi_types.specs.Registers.{Registers, start_registers, with_x}
+use Rattle.kernel_core.specs.declared.elf.Elf.{Elf}
+use Rattle.kernel_core.specs.declared.elf.Segment.{Segment}
+use Rattle.kernel_core.specs.declared.history.Act.{Act}
+use Rattle.kernel_core.specs.declared.history.Act.TheVariants as act
+use Rattle.kernel_core.specs.declared.history.Entry.{Entry}
+use Rattle.kernel_core.specs.declared.launch.Launch.{Launch}
+use Rattle.kernel_model.specs.Start.{start_state}
+use Rattle.kernel_model.specs.State.{State}
+use Rattle.kernel_model.specs.Step.{tick, step_state, end_state}
+use Rattle.rv_interp.specs.declared.turns.TurnEnd.{TurnEnd}
+use Rattle.rv_interp.specs.Machine.{turn_of}
+use Rattle.rv_interp.specs.Memory.{page_of}
+use Rattle.rv_interp.specs.Page.{Pages}
+use Rattle.run_model.specs.Put.{put_of}
+
+-- a process's memory, the registers of its threads, and the turns that it has left
+pub record Guest : Type 0 where
+  pub memory : Pages
+  pub regs : FinMap nat_cmp Registers
+  pub left : ℕ
+
+-- a kernel's state, and its processes' guests
+pub record World : Type 0 where
+  pub state : State
+  pub guests : FinMap nat_cmp Guest
+
+-- ---- the start
+
+-- the memory of an image: each segment is one page, which begins at its address
+abbrev pub image_of : List Segment → Pages
+image_of [] = empty
+image_of (segment ∷ segments) = insert (image_of segments) (segment.at / 4096) (page_of segment.bytes segment.prot)
+
+-- the first thread stands at the entry, with sp at the stack's end, and a0 at the start block
+abbrev pub first_registers : ℕ → Registers
+first_registers entry = with_x (with_x (start_registers entry) 2 0x3efff00000) 10 0x3f00000000
+
+abbrev pub first_guest : Launch → Guest
+first_guest launch = record {
+  memory = image_of launch.elf.segments;
+  regs = insert empty 1 (first_registers launch.elf.entry);
+  left = launch.turns;
+}
+
+-- the world that a launch starts from: process 0 with thread 1
+unfoldable pub start_world : Launch → World
+start_world launch = record { state = start_state launch.grants; guests = insert empty 0 (first_guest launch) }
+
+-- ---- a guest of a world, and its registers; what isn't there is empty
+
+abbrev pub no_guest : Guest
+no_guest = record { memory = empty; regs = empty; left = 0 }
+
+abbrev pub or_no_guest : Option Guest → Guest
+or_no_guest None = no_guest
+or_no_guest (Some guest) = guest
+
+abbrev pub guest_of : World → ℕ → Guest
+guest_of w p = or_no_guest (get w.guests p)
+
+abbrev pub or_no_registers : Option Registers → Registers
+or_no_registers None = start_registers 0
+or_no_registers (Some r) = r
+
+abbrev pub registers_of : Guest → ℕ → Registers
+registers_of guest t = or_no_registers (get guest.regs t)
+
+-- the guest with a thread's registers set
+abbrev pub with_registers : Guest → ℕ → Registers → Guest
+with_registers guest t r = record guest { regs = insert guest.regs t r }
+
+abbrev pub with_guest : World → ℕ → Guest → World
+with_guest w p guest = record w { guests = insert w.guests p guest }
+
+-- ---- turns
+
+-- a turn takes one of the process's turns and leaves its thread's registers as the machine does
+abbrev pub turned_guest : Guest → ℕ → Guest
+turned_guest guest t = record guest {
+  regs = insert guest.regs t (turn_of guest.memory (registers_of guest t)).regs;
+  left = guest.left - 1;
+}
+
+-- how a turn of the thread ends
+abbrev pub turn_end : Guest → ℕ → TurnEnd
+turn_end guest t = (turn_of guest.memory (registers_of guest t)).end
+
+-- turns of these threads, one after another
+abbrev pub turned_guest_by : List ℕ → Guest → Guest
+turned_guest_by [] guest = guest
+turned_guest_by (t ∷ ts) guest = turned_guest_by ts (turned_guest guest t)
+
+-- turns change their own process's guest alone
+abbrev pub turned : World → ℕ → List ℕ → World
+turned w p ts = with_guest w p (turned_guest_by ts (guest_of w p))
+
+-- ---- acts
+
+-- a reply of want of memory leaves only the clock moved, and every other reply what the call does
+abbrev pub by_errno : Errno → State → State → State
+by_errno Nomem lacking done = lacking
+by_errno _ lacking done = done
+
+-- the kernel's state after a call that was answered so
+abbrev pub called_state : State → ℕ → Call → Answer → State
+called_state S p call (answer.Reply reply) = by_errno reply.errno (tick S) (step_state S p call)
+
+-- the guest after a call of its thread that was answered so
+abbrev pub called_guest : Guest → ℕ → Call → Answer → Guest
+called_guest guest t call (answer.Reply reply) = with_registers guest t (put_of (registers_of guest t) call reply)
+
+-- the world after an act of a thread
+abbrev pub acted : World → ℕ → ℕ → Act → World
+acted w p t (act.Call call given) = record { state = called_state w.state p call given; guests = insert w.guests p (called_guest (guest_of w p) t call given) }
+acted w p t (act.Trap signal) = record w { state = end_state w.state p (Killed signal) }
+acted w p t act.Expire = record w { state = end_state w.state p (Killed Xcpu) }
+
+-- the world after an entry: its turns, and then its act
+unfoldable pub apply : World → Entry → World
+apply w e = acted (turned w e.pid e.turns) e.pid e.tid e.act
+
+-- the world after these entries, one after another
+unfoldable pub apply_all : World → List Entry → World
+apply_all w [] = w
+apply_all w (e ∷ es) = apply_all (apply w e) es
+
+-- the world of a launch and a history
+unfoldable pub world : Launch → List Entry → World
+world launch history = apply_all (start_world launch) history
