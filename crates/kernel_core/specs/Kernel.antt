@@ -1,8 +1,10 @@
 -- What the kernel's code keeps beside its state.
-use Rattle.std.specs.Prelude.{◌≡◌, ℕ, List, [], ◌∷◌}
+use Rattle.std.specs.Prelude.{◌≡◌, ℕ, Bool, true, false, List, [], ◌∷◌, is_some}
 use Rattle.std.specs.Ordering.{nat_cmp}
 use Rattle.std.specs.FinMap.{FinMap, get, insert}
-use Rattle.number_map.specs.Maps.{number}
+use Rattle.abi_types.specs.declared.status.Status.{Status}
+use Rattle.abi_types.specs.declared.status.Status.TheVariants.{Live, Exit, Killed}
+use Rattle.number_map.specs.Maps.{number, least_key}
 use Rattle.kernel_model.specs.Release.{holders}
 use Rattle.kernel_model.specs.State.{State, Update, set_table, set_threads, set_status, set_term}
 use Rattle.kernel_model.specs.Valid.{IsValid}
@@ -19,3 +21,13 @@ terms_after (set_term k bytes ∷ updates) terms = terms_after updates (insert t
 terms_after (set_table p table ∷ updates) terms = terms_after updates terms
 terms_after (set_threads p threads ∷ updates) terms = terms_after updates terms
 terms_after (set_status p status ∷ updates) terms = terms_after updates terms
+
+-- whether the status is that of a live process
+abbrev pub is_live : Status → Bool
+is_live Live = true
+is_live (Exit code) = false
+is_live (Killed signal) = false
+
+-- whether some process is live
+abbrev pub any_live : State → Bool
+any_live S = is_some (least_key (λ _ status. is_live status) S.statuses)

@@ -1,7 +1,7 @@
 //! The kernel's state, and its steps.
 ghost use Rattle.std.specs.Prelude.{◌≡◌, ◌≢◌, ◌^◌, ◌<◌, ◌≤◌, ◌↔◌, ℕ, [], Some, None, IsSome, IfOk, OnErr, IsTrue, length, unwrap_or};
 ghost use Rattle.std.specs.FinMap as map;
-ghost use Rattle.kernel_core.specs.Kernel.{terms_after};
+ghost use Rattle.kernel_core.specs.Kernel.{terms_after, is_live, any_live};
 ghost use Rattle.kernel_model.specs.Cases.{write_term, write_open, fd_write, end_updates};
 ghost use Rattle.kernel_model.specs.Release.{release};
 ghost use Rattle.kernel_model.specs.State.{put_all, Table};
@@ -56,6 +56,13 @@ fn write_term(terms: &mut NumMap<Bytes>, which: u32, bytes: &Bytes) -> Result<Re
         Ok(()) => Ok(success(bytes.len() as u64, 0)),
         Err(error) => Err(error),
     }
+}
+
+/// Whether the status is that of a live process.
+fn is_live(status: &Status) -> bool
+    ensures { result ≡ is_live status.now }
+{
+    matches!(status, Status::Live)
 }
 
 impl Kernel {
@@ -142,6 +149,14 @@ impl Kernel {
         ensures { IsTrue result ↔ (map.get self.now.statuses pid ≡ Some Status.Live) }
     {
         self.status(pid) == Some(Status::Live)
+    }
+
+    /// Whether some process is live.
+    pub fn any_live(&self) -> bool
+        ensures value { result ≡ any_live self.now }
+        ensures live { IsTrue result ↔ ((p : ℕ) × (map.get self.now.statuses p ≡ Some Status.Live)) }
+    {
+        self.statuses.first_where(|status| is_live(status)).is_some()
     }
 
     /// The moment, in nanoseconds.

@@ -1,0 +1,42 @@
+use Rattle.std.proofs.Common.{◌≡◌, ℕ, Bool, true, false, Option, Some, None, IsSome, IsTrue, is_some, refl, ap, sym, ◌∙◌, rules}
+use Rattle.std.specs.Ordering.{nat_cmp}
+use Rattle.std.specs.FinMap.{FinMap, get}
+use Rattle.number_map.specs.Maps.{least_key, least_key-entry, least_key-none, passes}
+use Rattle.abi_types.specs.declared.status.Status.{Status}
+use Rattle.abi_types.specs.declared.status.Status.TheVariants.{Live, Exit, Killed}
+use Rattle.kernel_core.specs.Kernel.{is_live, any_live}
+use Rattle.kernel_core.proofs.kernel.Kernel.any_live.Goals as goal
+
+-- only a live process's status passes the test
+is_live_alone : (status : Status) → is_live status ≡ true → status ≡ Live
+is_live_alone Live e = refl
+is_live_alone (Exit code) e = absurd (cc)
+is_live_alone (Killed signal) e = absurd (cc)
+
+-- a least key is that of a live process
+some_live : (statuses : FinMap nat_cmp Status) (o : Option ℕ) → o ≡ least_key (λ _ status. is_live status) statuses
+    → IsSome o → (p : ℕ) × (get statuses p ≡ Some Live)
+some_live statuses None e h = absurd (cc)
+some_live statuses (Some p) e h =
+    let entry = least_key-entry (λ _ status. is_live status) statuses p (sym e) in
+    (p, entry.1 ∙ ap Some (is_live_alone entry.0 entry.2))
+
+-- where there is a live process there is a least key
+live_some : (statuses : FinMap nat_cmp Status) (o : Option ℕ) → o ≡ least_key (λ _ status. is_live status) statuses
+    → (p : ℕ) → get statuses p ≡ Some Live → IsSome o
+live_some statuses (Some p) e q h = refl
+live_some statuses None e q h =
+    let none = least_key-none (λ _ status. is_live status) statuses (sym e) q in
+    let some = ap (passes (λ _ status. is_live status) q) h in
+    absurd (cc)
+
+pub returns-clause-value : goal.returns-clause-value
+returns-clause-value c =
+    let least = c.first_where.ensures is_live (λ v b h. search rules) in
+    c.is_some.ensures ∙ ap is_some least ∙ ap any_live c.self.view_is
+
+pub returns-clause-live : goal.returns-clause-live
+returns-clause-live c =
+    let least = c.first_where.ensures is_live (λ v b h. search rules) in
+    let here = least ∙ ap (λ S. least_key (λ _ status. is_live status) S.statuses) c.self.view_is in
+    (λ h. some_live _ _ here (sym c.is_some.ensures ∙ h), λ live. c.is_some.ensures ∙ live_some _ _ here live.0 live.1)
