@@ -1,0 +1,4 @@
+//! A whole run of a program: the report of what it did.
+#![tactic(auto)]
+
+pub mod report;
