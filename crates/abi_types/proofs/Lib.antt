@@ -1,1 +1,4 @@
 pub mod Bits
+pub mod InputParts
+pub mod OutputParts
+pub mod OutsideLaws

@@ -29,6 +29,7 @@ mod ids;
 mod items;
 mod needed;
 mod open_kind;
+pub mod outside;
 mod prot;
 mod regs;
 mod rights;

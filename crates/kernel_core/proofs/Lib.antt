@@ -4,3 +4,5 @@ pub mod Counts
 pub mod Ends
 pub mod Streams
 pub mod Acts
+pub mod Starts
+pub mod Steps

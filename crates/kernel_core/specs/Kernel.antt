@@ -1,18 +1,28 @@
 -- What the kernel's code keeps beside its state.
-use Rattle.std.specs.Prelude.{◌≡◌, ℕ, Bool, true, false, List, [], ◌∷◌, is_some}
+use Rattle.std.specs.Prelude.{◌≡◌, ℕ, Bool, true, false, List, [], ◌∷◌, Option, None, Some, is_some}
 use Rattle.std.specs.Ordering.{nat_cmp}
 use Rattle.std.specs.FinMap.{FinMap, get, insert}
 use Rattle.abi_types.specs.declared.status.Status.{Status}
 use Rattle.abi_types.specs.declared.status.Status.TheVariants.{Live, Exit, Killed}
+use Rattle.abi_types.specs.declared.thread.Thread.{Thread}
 use Rattle.number_map.specs.Maps.{number, least_key}
 use Rattle.kernel_model.specs.Release.{holders}
-use Rattle.kernel_model.specs.State.{State, Update, set_table, set_threads, set_status, set_term}
+use Rattle.kernel_model.specs.State.{State, Threads, Update, set_table, set_threads, set_status, set_term}
 use Rattle.kernel_model.specs.Valid.{IsValid}
 
 -- the state is valid, and each open's count is that of its holders
 pub record IsKept (S : State) (counts : FinMap nat_cmp ℕ) : Type 0 where
   pub valid : IsValid S
   pub counted : (o : ℕ) → number (get counts o) ≡ holders S o
+
+-- the thread with this number, if there is one
+abbrev pub thread_in : Option Threads → ℕ → Option Thread
+thread_in None t = None
+thread_in (Some threads) t = get threads t
+
+-- what a live thread of a process does
+abbrev pub thread_of : State → ℕ → ℕ → Option Thread
+thread_of S p t = thread_in (get S.threads p) t
 
 -- the standard streams after these updates
 abbrev pub terms_after : List Update → FinMap nat_cmp (List ℕ) → FinMap nat_cmp (List ℕ)

@@ -1,19 +1,26 @@
 //! The kernel's state, and its steps.
-ghost use Rattle.std.specs.Prelude.{◌≡◌, ◌≢◌, ◌^◌, ◌<◌, ◌≤◌, ◌↔◌, ℕ, [], Some, None, IsSome, IfOk, OnErr, IsTrue, length, unwrap_or};
+ghost use Rattle.std.specs.Prelude.{◌≡◌, ◌≢◌, ◌⊎◌, ◌∷◌, ◌^◌, ◌<◌, ◌≤◌, ◌↔◌, ℕ, [], Some, None, IsSome, IfOk, OnErr, IsTrue, false, length, unwrap_or};
 ghost use Rattle.std.specs.FinMap as map;
-ghost use Rattle.kernel_core.specs.Kernel.{terms_after, is_live, any_live};
+ghost use Rattle.kernel_core.specs.Kernel.{terms_after, thread_of, is_live, any_live};
 ghost use Rattle.kernel_model.specs.Cases.{write_term, write_open, fd_write, end_updates};
-ghost use Rattle.kernel_model.specs.Release.{release};
-ghost use Rattle.kernel_model.specs.State.{put_all, Table};
-ghost use Rattle.kernel_model.specs.Step.{act, tick, MayLackMemory, IsStep, end_state};
+ghost use Rattle.kernel_model.specs.Laws.{HasAll, IsFirstLack, IsOfFirstLack};
+ghost use Rattle.kernel_model.specs.Need.{need, missing};
+ghost use Rattle.kernel_model.specs.Release.{release, is_released};
+ghost use Rattle.kernel_model.specs.Reply.{refused, denied};
+ghost use Rattle.kernel_model.specs.Start.{AreGrants, start_state};
+ghost use Rattle.kernel_model.specs.State.{put_all, Table, Part, at_clock, at_proc, at_status, has_part, Agree};
+ghost use Rattle.kernel_model.specs.Step.{act, tick, MayLackMemory, IsStep, IsUntouched, end_unreleased, end_state};
+ghost use Rattle.kernel_model.specs.Valid.{IsValid};
 ghost use Rattle.kernel_model.specs.View.{whole};
 
+use crate::launch::Launch;
 use crate::needs::{need, refusal, refused, success};
 use crate::objects::Objects;
+use crate::start::{granted, single, unwritten};
 use crate::table::{Table as Descriptors, let_go_all};
-use abi_types::{Answer, Bytes, Call, Errno, OpenKind, Pid, Reply, Status, Thread, Tid};
+use abi_types::{Answer, Bytes, Call, Denial, Descriptor, Errno, Needed, OpenKind, Pid, Reply, Status, Thread, Tid};
 use number_map::NumMap;
-use std::alloc::AllocError;
+use std::alloc::{AllocError, Global};
 use std::marker::Model;
 
 /// The state of the kernel, in contracts a `State` (docs/MODEL.md), which is always valid.
@@ -66,6 +73,25 @@ fn is_live(status: &Status) -> bool
 }
 
 impl Kernel {
+    /// The state that a launch starts from: process 0 is live with thread 1 and the granted descriptors, numbered from 0,
+    /// and nothing was written yet. `Err` where memory is wanting.
+    pub fn start(alloc: Global, launch: &Launch) -> Result<Kernel, AllocError>
+        requires { AreGrants launch.now.grants }
+        ensures state { IfOk result (λ kernel. kernel ≡ start_state launch.now.grants) }
+        ensures valid { IfOk result IsValid }
+    {
+        let (table, objects) = granted(alloc, launch.grants.as_slice())?;
+        let thread = single(alloc, 1, Thread::Runnable)?;
+        Ok(Kernel {
+            clock: 0,
+            tables: single(alloc, 0, table)?,
+            threads: single(alloc, 0, thread)?,
+            statuses: single(alloc, 0, Status::Live)?,
+            objects,
+            terms: unwritten(alloc)?,
+        })
+    }
+
     /// Ends a process: it has this status, no descriptor and no thread, and what nothing holds any more ends.
     fn end_process(&mut self, pid: Pid, status: Status)
         requires { IsSome (map.get self.old.statuses pid) }
@@ -120,12 +146,12 @@ impl Kernel {
         }
     }
 
-    /// A call of a live process's thread: the answer, and the state after it. Each call takes 1000 nanoseconds.
-    /// `Errno::Nomem` comes only where memory is wanting, and then only the clock has moved.
-    pub fn step(&mut self, pid: Pid, tid: Tid, call: &Call) -> Answer
+    /// A call, with the clock.
+    fn run(&mut self, pid: Pid, call: &Call) -> Answer
         requires live { map.get self.old.statuses pid ≡ Some Status.Live }
         requires early { self.old.clock < 2 ^ 63 }
         ensures step { IsStep self.old pid call.now result self.new }
+        ensures valid { IsValid self.old }
     {
         self.clock += 1000;
         match self.act(pid, call) {
@@ -134,11 +160,34 @@ impl Kernel {
         }
     }
 
+    /// A call of a live process's runnable thread: the answer, and the state after it. Each call takes 1000 nanoseconds.
+    /// `Errno::Nomem` comes only where memory is wanting, and then only the clock has moved. A call that answers any
+    /// other error moves only the clock too. `Errno::Notcapable` comes with exactly the rights that are missing.
+    pub fn step(&mut self, pid: Pid, tid: Tid, call: &Call) -> Answer
+        requires live { map.get self.old.statuses pid ≡ Some Status.Live }
+        requires runnable { thread_of self.old pid tid ≡ Some Thread.Runnable }
+        requires early { self.old.clock < 2 ^ 63 }
+        ensures step { IsStep self.old pid call.now result self.new }
+        ensures valid { IsValid self.new }
+        ensures others { (q : Part) → IsUntouched self.old pid call.now q → Agree self.new self.old q }
+        ensures denied { (table : Table) (row : Needed) (d : Descriptor) → map.get self.old.tables pid ≡ Some table
+            → HasAll table (need call.now) → IsFirstLack table (need call.now) row d
+            → (result ≡ Answer.Reply (denied (missing d row))) ⊎ (result ≡ Answer.Reply (refused Errno.Nomem)) }
+        ensures only { (reply : Reply) (denial : Denial) → result ≡ Answer.Reply reply → reply.denial ≡ Some denial
+            → IsOfFirstLack self.old pid call.now denial }
+        ensures refused { (reply : Reply) → result ≡ Answer.Reply reply → reply.errno ≢ Errno.Success → self.new ≡ tick self.old }
+    {
+        self.run(pid, call)
+    }
+
     /// Ends a live process from outside, by a trap or at the end of its turns. It takes 1000 nanoseconds.
     pub fn end(&mut self, pid: Pid, status: Status)
         requires live { map.get self.old.statuses pid ≡ Some Status.Live }
         requires early { self.old.clock < 2 ^ 63 }
         ensures end { self.new ≡ end_state self.old pid status }
+        ensures valid { IsValid self.new }
+        ensures others { (q : Part) → has_part (at_clock ∷ at_proc pid ∷ at_status pid ∷ []) q ≡ false
+            → is_released (end_unreleased self.old pid status) q ≡ false → Agree self.new self.old q }
     {
         self.clock += 1000;
         self.end_process(pid, status);
@@ -171,6 +220,14 @@ impl Kernel {
         ensures { result ≡ map.get self.now.statuses pid }
     {
         self.statuses.get(u64::from(pid.0)).copied()
+    }
+
+    /// What a thread does. `None` exactly where the process has no such live thread.
+    pub fn thread(&self, pid: Pid, tid: Tid) -> Option<Thread>
+        ensures { result ≡ thread_of self.now pid tid }
+    {
+        let threads = self.threads.get(u64::from(pid.0))?;
+        threads.get(u64::from(tid.0)).copied()
     }
 
     /// What was written to stdout, 1, or to stderr, 2.

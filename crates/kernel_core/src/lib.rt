@@ -12,4 +12,5 @@ mod kernel;
 mod launch;
 mod needs;
 mod objects;
+mod start;
 mod table;

@@ -5,3 +5,4 @@ pub mod Sights
 pub mod Tests
 pub mod Touches
 pub mod Valids
+pub mod Starts

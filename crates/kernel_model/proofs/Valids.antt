@@ -149,7 +149,7 @@ some_inserted m k x q h =
     ]
 
 -- two maps with the same keys still have the same keys with one more
-same_keys_inserted : {X Y : Type 0} (m : FinMap nat_cmp X) (n : FinMap nat_cmp Y) (k : ℕ) (x : X) (y : Y)
+pub same_keys_inserted : {X Y : Type 0} (m : FinMap nat_cmp X) (n : FinMap nat_cmp Y) (k : ℕ) (x : X) (y : Y)
     → ((q : ℕ) → is_some (get m q) ≡ is_some (get n q)) → (q : ℕ) → is_some (get (insert m k x) q) ≡ is_some (get (insert n k y) q)
 same_keys_inserted m n k x y same q =
     elim (eqb_tells q k) [
@@ -169,7 +169,7 @@ set_term_nearly_valid S k bytes v = record {
 
 -- ---- the end of a process
 
-same_value : {X : Type 0} (x y : X) (o : Option X) → o ≡ Some x → o ≡ Some y → x ≡ y
+pub same_value : {X : Type 0} (x y : X) (o : Option X) → o ≡ Some x → o ≡ Some y → x ≡ y
 same_value x y o a b = let both : Some x ≡ Some y = sym a ∙ b in cc
 
 -- a descriptor of a process after one is emptied was there before

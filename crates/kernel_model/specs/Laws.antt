@@ -10,11 +10,13 @@ use Rattle.abi_types.specs.declared.call.Reply.{Reply}
 use Rattle.abi_types.specs.declared.descriptor.Denial.{Denial}
 use Rattle.abi_types.specs.declared.descriptor.Descriptor.{Descriptor}
 use Rattle.abi_types.specs.declared.errno.Errno.TheVariants.{Success, Notcapable}
+use Rattle.abi_types.specs.declared.grant.Grant.{Grant}
 use Rattle.abi_types.specs.declared.needed.Needed.{Needed}
 use Rattle.abi_types.specs.declared.status.Status.{Status}
 use Rattle.kernel_model.specs.Need.{need, has_needed, missing}
 use Rattle.kernel_model.specs.Release.{is_ending, is_released}
 use Rattle.kernel_model.specs.Reply.{denied}
+use Rattle.kernel_model.specs.Start.{AreGrants, start_state}
 use Rattle.kernel_model.specs.State.{State, Table, Part, at_clock, at_proc, at_status, at_open, has_part, Agree, AgreeOn}
 use Rattle.kernel_model.specs.Step.{tick, sight, act, outcome, unreleased, step_reply, step_state, IsStep, IsUntouched, end_unreleased, end_state}
 use Rattle.kernel_model.specs.Valid.{IsValid}
@@ -124,3 +126,7 @@ StepKeepsValid = (S : State) (p : ℕ) (call : Call) (given : Answer) (T : State
 -- The end of a process from outside leaves a valid state valid.
 abbrev pub EndKeepsValid : Type 0
 EndKeepsValid = (S : State) (p : ℕ) (status : Status) → IsValid S → IsValid (end_state S p status)
+
+-- The state that a launch starts from is valid, where its grants are of what is there.
+abbrev pub StartIsValid : Type 0
+StartIsValid = (grants : List Grant) → AreGrants grants → IsValid (start_state grants)

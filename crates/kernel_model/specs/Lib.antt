@@ -7,5 +7,5 @@ pub mod Cases
 pub mod Release
 pub mod Step
 pub mod Valid
-pub mod Laws
 pub mod Start
+pub mod Laws

@@ -1,6 +1,6 @@
 //! Laws of the kernel's steps. The statements are in `specs/Laws.antt`, and each holds of every state, process and call.
 ghost use Rattle.kernel_model.specs.Laws.{ReadsSight, SightDecides, StepDecided, OthersStay, EndKeeps, ErrorKeeps};
-ghost use Rattle.kernel_model.specs.Laws.{FirstLackIsNamed, DenialIsOfFirstLack, NotcapableIsDenied, StepKeepsValid, EndKeepsValid};
+ghost use Rattle.kernel_model.specs.Laws.{FirstLackIsNamed, DenialIsOfFirstLack, NotcapableIsDenied, StepKeepsValid, EndKeepsValid, StartIsValid};
 
 /// A call's outcome, which sees only what is in its sight, is what it would be if it saw the whole state.
 pub fn reads_sight()
@@ -51,4 +51,9 @@ pub fn step_keeps_valid()
 /// The end of a process from outside leaves a valid state valid.
 pub fn end_keeps_valid()
     ensures { EndKeepsValid }
+{}
+
+/// The state that a launch starts from is valid, where its grants are of what is there.
+pub fn start_is_valid()
+    ensures { StartIsValid }
 {}

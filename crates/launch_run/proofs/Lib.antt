@@ -1,1 +1,5 @@
-mod Texts
+pub mod Gathering
+pub mod Runs
+pub mod Entries
+mod ReportTexts
+mod ReportLines

@@ -1,4 +1,6 @@
-//! A whole run of a program: the report of what it did.
+//! The launcher: from words and inputs to a run and its report.
 #![tactic(auto)]
 
+mod args;
 pub mod report;
+mod run;

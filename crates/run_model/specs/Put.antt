@@ -1,6 +1,8 @@
 -- The registers after a call's reply: a0 has the error, on SUCCESS a1 and a2 have the call's results, and the pc goes on
 -- after the ECALL. Every other register stays.
 use Rattle.std.specs.Prelude.{◌≡◌, ℕ, ◌+◌, ◌%◌, ◌^◌}
+use Rattle.abi_types.specs.declared.call.Answer.{Answer}
+use Rattle.abi_types.specs.declared.call.Answer.TheVariants as answer
 use Rattle.abi_types.specs.declared.call.Call.{Call}
 use Rattle.abi_types.specs.declared.call.Call.TheVariants.{FdWrite, ProcExit, Refused}
 use Rattle.abi_types.specs.declared.call.Reply.{Reply}
@@ -22,3 +24,7 @@ on_success _ with_them without = without
 abbrev pub put_of : Registers → Call → Reply → Registers
 put_of r call reply =
     with_pc (on_success reply.errno (with_results (with_x r 10 (number_of reply.errno)) call reply) (with_x r 10 (number_of reply.errno))) ((r.pc + 4) % 2 ^ 64)
+
+-- the registers after an answer
+abbrev pub answered_of : Registers → Call → Answer → Registers
+answered_of r call (answer.Reply reply) = put_of r call reply

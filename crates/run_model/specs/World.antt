@@ -38,10 +38,10 @@ pub record World : Type 0 where
 
 -- ---- the start
 
--- the memory of an image: each segment is one page, which begins at its address
-abbrev pub image_of : List Segment → Pages
-image_of [] = empty
-image_of (segment ∷ segments) = insert (image_of segments) (segment.at / 4096) (page_of segment.bytes segment.prot)
+-- the memory with the segments' pages: each segment is one page, which begins at its address
+abbrev pub with_segments : Pages → List Segment → Pages
+with_segments memory [] = memory
+with_segments memory (segment ∷ segments) = with_segments (insert memory (segment.at / 4096) (page_of segment.bytes segment.prot)) segments
 
 -- the first thread stands at the entry, with sp at the stack's end, and a0 at the start block
 abbrev pub first_registers : ℕ → Registers
@@ -49,7 +49,7 @@ first_registers entry = with_x (with_x (start_registers entry) 2 0x3efff00000) 1
 
 abbrev pub first_guest : Launch → Guest
 first_guest launch = record {
-  memory = image_of launch.elf.segments;
+  memory = with_segments empty launch.elf.segments;
   regs = insert empty 1 (first_registers launch.elf.entry);
   left = launch.turns;
 }

@@ -123,11 +123,7 @@ run_fault x m a zero fault e h = absurd (omega arith)
 run_fault x m a (suc n) fault e h =
     first x m a n ∙ ap (λ b. in_front b (bytes_from x m ((a + 1) % 2 ^ 64) n)) (fault_of x a (get m (a / 4096)) fault e)
 
--- the bytes so far can be had
-pub record IsHad (x : Access) (m : Pages) (a n : ℕ) : Type 0 where
-  pub bytes : List ℕ
-  pub are : bytes_from x m a n ≡ Ok bytes
-
+-- the bytes of an outcome that has them
 had : (r : Result (List ℕ) MemFault) → IsOk r → (xs : List ℕ) × (r ≡ Ok xs)
 had (Ok xs) h = (xs, refl)
 had (Err fault) h = absurd (cc)

@@ -27,22 +27,23 @@ fn memory_of(alloc: Global, words: &[u32], prot: Prot) -> Result<Memory, AllocEr
     Ok(mem)
 }
 
+/// Words that an assembler gives, the register that is looked at, what it has afterwards, and how the instruction ends.
+const INSTRUCTIONS: [(u32, u32, u64, Outcome); 10] = [
+    (0x0000_0513, 10, 0, Outcome::Done), // addi a0, zero, 0
+    (0x0001_05b7, 11, 0x1_0000, Outcome::Done), // lui a1, 0x10
+    (0x0a05_8593, 11, 0xa0, Outcome::Done), // addi a1, a1, 0xa0
+    (0x8000_0537, 10, 0xffff_ffff_8000_0000, Outcome::Done), // lui a0, 0x80000
+    (0xfff0_0513, 10, u64::MAX, Outcome::Done), // addi a0, zero, -1
+    (0x0010_0013, 0, 0, Outcome::Done), // addi zero, zero, 1
+    (0x0000_0073, 10, 0, Outcome::Ecall), // ecall
+    (0x0010_0073, 10, 0, Outcome::Trap(Signal::Ill)), // ebreak
+    (0xffff_ffff, 10, 0, Outcome::Trap(Signal::Ill)), // no instruction
+    (0x0000_1513, 10, 0, Outcome::Trap(Signal::Ill)), // slli a0, zero, 0
+];
+
 #[test]
 fn one_instruction(rt: HostRuntime) -> Result<(), Fail> {
-    // Words that an assembler gives, the register that is looked at, and what it then has.
-    let rows = [
-        (0x0000_0513, 10, 0, Outcome::Done), // addi a0, zero, 0
-        (0x0001_05b7, 11, 0x1_0000, Outcome::Done), // lui a1, 0x10
-        (0x0a05_8593, 11, 0xa0, Outcome::Done), // addi a1, a1, 0xa0
-        (0x8000_0537, 10, 0xffff_ffff_8000_0000, Outcome::Done), // lui a0, 0x80000
-        (0xfff0_0513, 10, u64::MAX, Outcome::Done), // addi a0, zero, -1
-        (0x0010_0013, 0, 0, Outcome::Done), // addi zero, zero, 1
-        (0x0000_0073, 10, 0, Outcome::Ecall), // ecall
-        (0x0010_0073, 10, 0, Outcome::Trap(Signal::Ill)), // ebreak
-        (0xffff_ffff, 10, 0, Outcome::Trap(Signal::Ill)), // no instruction
-        (0x0000_1513, 10, 0, Outcome::Trap(Signal::Ill)), // slli a0, zero, 0
-    ];
-    for (word, register, value, outcome) in rows {
+    for (word, register, value, outcome) in INSTRUCTIONS {
         let mem = memory_of(rt.alloc(), &[word], CODE)?;
         let mut regs = Regs::new(0x1_0000);
         assert_eq!(rt; step(&mut regs, &mem), outcome, "at {word}");
@@ -106,17 +107,19 @@ fn some_pages(alloc: Global) -> Result<Memory, AllocError> {
     Ok(mem)
 }
 
+/// Addresses, how six bytes are read there, and what is then in a buffer of nines.
+const READS: [(u64, Result<(), MemFault>, [u8; 6]); 5] = [
+    (0x1_0001, Ok(()), [2, 3, 4, 0, 0, 0]),
+    (u64::MAX, Ok(()), [0, 7, 0, 0, 0, 0]),
+    (0x1_0ffd, Err(MemFault::NotMapped(0x1_1000)), [9; 6]),
+    (0xfffd, Err(MemFault::NotMapped(0xfffd)), [9; 6]),
+    (0x1_4ffe, Err(MemFault::NoRight(0x1_5000)), [9; 6]),
+];
+
 #[test]
 fn bytes_of_memory(rt: HostRuntime) -> Result<(), Fail> {
     let mem = some_pages(rt.alloc())?;
-    let rows = [
-        (0x1_0001, Ok(()), [2, 3, 4, 0, 0, 0]),
-        (u64::MAX, Ok(()), [0, 7, 0, 0, 0, 0]),
-        (0x1_0ffd, Err(MemFault::NotMapped(0x1_1000)), [9; 6]),
-        (0xfffd, Err(MemFault::NotMapped(0xfffd)), [9; 6]),
-        (0x1_4ffe, Err(MemFault::NoRight(0x1_5000)), [9; 6]),
-    ];
-    for (at, result, bytes) in rows {
+    for (at, result, bytes) in READS {
         let mut out = [9; 6];
         assert_eq!(rt; mem.read_bytes(at, &mut out), result, "at {at}");
         assert_eq!(rt; out, bytes, "at {at}");

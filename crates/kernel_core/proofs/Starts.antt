@@ -1,0 +1,111 @@
+-- What a launch's grants leave in the table and among the opens.
+use Rattle.std.proofs.Common.{◌≡◌, ◌≢◌, inl, inr, ℕ, ◌+◌, ◌<◌, ◌≤◌, cond, List, [], ◌∷◌, ◌++◌, length, take, get_or, Option, None, Some, refl, sym, ap, subst, ◌∙◌, arith}
+use Rattle.std.proofs.lemmas.Bool.Decides.{eqb_tells}
+use Rattle.std.proofs.lemmas.List.{take_more, length-take-le}
+use Rattle.std.specs.Ordering.{nat_cmp}
+use Rattle.std.specs.Cmp.{nat_cmp_total}
+use Rattle.std.specs.FinMap.{FinMap, get, get-empty, get-from_entries, insert, empty, from_entries}
+use Rattle.abi_types.specs.declared.grant.Grant.{Grant}
+use Rattle.abi_types.specs.declared.open_kind.OpenKind.{OpenKind}
+use Rattle.number_map.specs.Maps.{number, weight, get-insert-same, get-insert-other, insert-again, total, total-empty, total-insert, total-insert_new}
+use Rattle.kernel_core.specs.Kernel.{IsKept}
+use Rattle.kernel_core.specs.Objects.{Held}
+use Rattle.kernel_core.specs.Start.{granted_objects}
+use Rattle.kernel_model.specs.Release.{names_open, count_in, holders}
+use Rattle.kernel_model.specs.Start.{launch_object, numbered, granted_descriptor, granted_open, granted_table, AreGrants, start_state}
+use Rattle.kernel_model.specs.State.{State, Table}
+use Rattle.kernel_model.specs.Valid.{IsValid}
+use Rattle.kernel_model.proofs.Starts.{find_below, find_above, from_numbered-push, start_valid}
+
+-- a new open that is then held once
+pub new_count : (before after : Held) (o : ℕ) (kind : OpenKind) → after ≡ record { kinds = insert before.kinds o kind; counts = insert before.counts o 0 }
+    → get after.counts o ≡ Some 0
+new_count before after o kind added = ap (λ (h : Held). get h.counts o) added ∙ get-insert-same before.counts o 0
+
+pub held_once : (before added after : Held) (o : ℕ) (kind : OpenKind)
+    → added ≡ record { kinds = insert before.kinds o kind; counts = insert before.counts o 0 }
+    → after ≡ record added { counts = insert added.counts o (number (get added.counts o) + 1) }
+    → after ≡ record { kinds = insert before.kinds o kind; counts = insert before.counts o 1 }
+held_once before added after o kind is then =
+    let once : insert (insert before.counts o 0) o (number (get (insert before.counts o 0) o) + 1) ≡ insert before.counts o 1 =
+    insert-again before.counts o 0 _ ∙ ap (λ (c : Option ℕ). insert before.counts o (number c + 1)) (get-insert-same before.counts o 0) in
+    then
+    ∙ ap (λ (h : Held). record h { counts = insert h.counts o (number (get h.counts o) + 1) }) is
+    ∙ (λ i. record { kinds = insert before.kinds o kind; counts = once i })
+
+-- the next grant's open is not there yet
+pub next_free : (grants : List Grant) (n : ℕ) → n ≡ length grants → get (granted_objects grants).kinds (launch_object (5 + n)) ≡ None
+next_free grants n e =
+    get-from_entries nat_cmp_total _ (launch_object (5 + n)) ∙ find_above granted_open (launch_object 5) grants (launch_object (5 + n)) (omega (arith, e))
+
+pub table-push : (grants : List Grant) (grant : Grant) (n : ℕ) → n ≡ length grants
+    → granted_table (grants ++ grant ∷ []) ≡ insert (granted_table grants) n (granted_descriptor n grant)
+table-push grants grant n e = from_numbered-push granted_descriptor 0 grants grant n (omega (arith, e))
+
+pub objects-push : (grants : List Grant) (grant : Grant) (n : ℕ) → n ≡ length grants
+    → granted_objects (grants ++ grant ∷ []) ≡ record {
+        kinds = insert (granted_objects grants).kinds (launch_object (5 + n)) (granted_open n grant);
+        counts = insert (granted_objects grants).counts (launch_object (5 + n)) 1 }
+objects-push grants grant n e =
+    let place : launch_object (5 + n) ≡ launch_object 5 + length grants = omega (arith, e) in
+    let kinds = from_numbered-push granted_open (launch_object 5) grants grant (launch_object (5 + n)) place in
+    let counts = from_numbered-push (λ (_ : ℕ) (_ : Grant). 1) (launch_object 5) grants grant (launch_object (5 + n)) place in
+    λ i. record { kinds = kinds i; counts = counts i }
+
+-- one grant more of a list
+pub table_next : (grants : List Grant) (i : ℕ) (d : Grant) (before after : Table) → i < length grants → before ≡ granted_table (take i grants)
+    → after ≡ insert before i (granted_descriptor i (get_or grants i d)) → after ≡ granted_table (take (i + 1) grants)
+table_next grants i d before after within so_far then =
+    then
+    ∙ ap (λ (t : Table). insert t i (granted_descriptor i (get_or grants i d))) so_far
+    ∙ sym (ap granted_table (take_more grants i d within) ∙ table-push (take i grants) (get_or grants i d) i (sym (length-take-le i grants (omega (arith, within)))))
+
+pub objects_next : (grants : List Grant) (i : ℕ) (d : Grant) (before after : Held) → i < length grants → before ≡ granted_objects (take i grants)
+    → after ≡ record {
+        kinds = insert before.kinds (launch_object (5 + i)) (granted_open i (get_or grants i d));
+        counts = insert before.counts (launch_object (5 + i)) 1 }
+    → after ≡ granted_objects (take (i + 1) grants)
+objects_next grants i d before after within so_far then =
+    then
+    ∙ ap (λ (h : Held). record { kinds = insert h.kinds (launch_object (5 + i)) (granted_open i (get_or grants i d)); counts = insert h.counts (launch_object (5 + i)) 1 }) so_far
+    ∙ sym (ap granted_objects (take_more grants i d within) ∙ objects-push (take i grants) (get_or grants i d) i (sym (length-take-le i grants (omega (arith, within)))))
+
+-- each open's count is how many descriptors name it
+numbered_counts : (grants : List Grant) (n m o : ℕ) → m ≡ launch_object (5 + n)
+    → number (get (from_entries {R = nat_cmp} (numbered (λ _ _. 1) m grants)) o) ≡ count_in o (from_entries (numbered granted_descriptor n grants))
+numbered_counts [] n m o e = ap number (get-empty nat_cmp o) ∙ sym (total-empty (names_open o))
+numbered_counts (grant ∷ grants) n m o e =
+    let counts : FinMap nat_cmp ℕ = from_entries (numbered (λ _ _. 1) (m + 1) grants) in
+    let table : Table = from_entries (numbered granted_descriptor (n + 1) grants) in
+    let rest : number (get counts o) ≡ count_in o table = numbered_counts grants (n + 1) (m + 1) o (omega (arith, e)) in
+    let sums = total-insert_new (names_open o) table n (granted_descriptor n grant)
+      (get-from_entries nat_cmp_total _ n ∙ find_below granted_descriptor (n + 1) grants n (omega arith)) in
+    elim (eqb_tells (launch_object (5 + n)) o) [
+      | inl is ↦
+          let own : o ≡ m = omega (arith, is.1, e) in
+          let one : names_open o (granted_descriptor n grant) ≡ 1 = ap (λ b. cond b 1 0) is.0 in
+          let here : number (get (insert counts m 1) o) ≡ 1 = ap (λ j. number (get (insert counts m 1) j)) own ∙ ap number (get-insert-same counts m 1) in
+          let before : number (get counts o) ≡ 0 = ap (λ j. number (get counts j)) own
+            ∙ ap number (get-from_entries nat_cmp_total _ m ∙ find_below (λ (_ : ℕ) (_ : Grant). 1) (m + 1) grants m (omega arith)) in
+          omega (arith, rest, sums, one, here, before)
+      | inr other ↦
+          let apart : launch_object (5 + n) ≢ o = other.1 in
+          let none : names_open o (granted_descriptor n grant) ≡ 0 = ap (λ b. cond b 1 0) other.0 in
+          let here : number (get (insert counts m 1) o) ≡ number (get counts o) =
+            ap number (get-insert-other counts m 1 o (λ same. apart (omega (arith, same, e)))) in
+          omega (arith, rest, sums, none, here)
+    ]
+
+pub start_counted : (grants : List Grant) (o : ℕ) → number (get (granted_objects grants).counts o) ≡ holders (start_state grants) o
+start_counted grants o =
+    let counts = numbered_counts grants 0 (launch_object 5) o refl in
+    let bare : total (count_in o) (empty {X = Table} {R = nat_cmp}) ≡ 0 = total-empty (count_in o) in
+    let sums = total-insert_new (count_in o) empty 0 (granted_table grants) (get-empty nat_cmp 0) in
+    omega (arith, counts, bare, sums)
+
+pub start_kept : (grants : List Grant) (S : State) (counts : FinMap nat_cmp ℕ) → AreGrants grants → S ≡ start_state grants
+    → counts ≡ (granted_objects grants).counts → IsKept S counts
+start_kept grants S counts all is counted = record {
+  valid = subst IsValid (sym is) (start_valid grants all);
+  counted = λ o. ap (λ (m : FinMap nat_cmp ℕ). number (get m o)) counted ∙ start_counted grants o ∙ sym (ap (λ (T : State). holders T o) is);
+}

@@ -1,0 +1,19 @@
+use Rattle.std.proofs.Common.{◌≡◌, sym, ap, subst, ◌∙◌}
+use Rattle.kernel_model.specs.State.{State, Agree}
+use Rattle.kernel_model.specs.Step.{end_state}
+use Rattle.kernel_model.specs.Valid.{IsValid}
+use Rattle.kernel_model.proofs.Touches.{end_keeps}
+use Rattle.kernel_model.proofs.Valids.{end_valid}
+use Rattle.kernel_core.proofs.kernel.Kernel.end.Goals as goal
+use Rattle.kernel_core.proofs.kernel.Kernel.end.Goals.{After-end_process}
+
+after : (c : After-end_process) → c.end_process.new.self ≡ end_state c.args.self.now c.args.pid c.args.status
+after c = c.end_process.ensures ∙ ap (λ (S : State). end_state S c.args.pid c.args.status) c.self.view_is
+
+pub returns-clause-valid : goal.returns-clause-valid
+returns-clause-valid c =
+    subst IsValid (sym (after c)) (end_valid c.args.self.now c.args.pid c.args.status (subst IsValid c.self.view_is c.self.invariant.valid))
+
+pub returns-clause-others : goal.returns-clause-others
+returns-clause-others c = λ q outside stays.
+    subst (λ (T : State). Agree T c.args.self.now q) (sym (after c)) (end_keeps c.args.self.now c.args.pid c.args.status q outside stays)

@@ -1,0 +1,11 @@
+use Rattle.std.proofs.Common.{◌≡◌, take}
+use Rattle.kernel_core.specs.Start.{granted_objects}
+use Rattle.kernel_model.specs.Start.{granted_table}
+use Rattle.kernel_core.proofs.start.granted.Given as goal
+
+-- the grants so far are in the table and among the opens
+abbrev pub invariant-loop-number : goal.invariant-loop-number
+invariant-loop-number l = record {
+  table : l.table ≡ granted_table (take l.number l.grants);
+  objects : l.objects ≡ granted_objects (take l.number l.grants);
+}

@@ -1,0 +1,20 @@
+use Rattle.std.proofs.Common.{ap, sym, subst, is_some, refl, arith, ◌∙◌, ◌≡◌, ℕ, ◌+◌}
+use Rattle.std.specs.FinMap.{insert}
+use Rattle.number_map.specs.Maps.{number}
+use Rattle.kernel_core.specs.Objects.{Held}
+use Rattle.kernel_model.specs.Start.{launch_object, granted_open}
+use Rattle.kernel_core.proofs.Starts.{new_count, held_once}
+use Rattle.kernel_core.proofs.start.put_grant.Goals as goal
+
+pub hold-requires-clause-there : goal.hold-requires-clause-there
+hold-requires-clause-there c = ap is_some (new_count _ _ _ _ c.in_ok-add.ensures.ok)
+
+pub hold-requires-clause-few : goal.hold-requires-clause-few
+hold-requires-clause-few c = let none = ap number (new_count _ _ _ _ c.in_ok-add.ensures.ok) in omega (arith, none)
+
+pub returns-clause-objects : goal.returns-clause-objects
+returns-clause-objects c =
+    let id = c.launch_object-id.ensures in
+    let kind = c.open_of.ensures in
+    held_once c.args.objects.now c.add.new.self c.hold.new.self c.launch_object-id.result c.open_of.result c.in_ok-add.ensures.ok c.hold.ensures
+    ∙ (λ i. record { kinds = insert c.args.objects.now.kinds (id i) (kind i); counts = insert c.args.objects.now.counts (id i) 1 })

@@ -1,0 +1,88 @@
+//! What a launched process starts with: its descriptors and their opens.
+ghost use Rattle.std.specs.Prelude.{◌≡◌, ◌+◌, ◌^◌, ◌<◌, ◌≤◌, [], length, IfOk, OnOk, None};
+ghost use Rattle.std.specs.FinMap as map;
+ghost use Rattle.kernel_model.specs.Start.{launch_object, open_of, granted_descriptor, granted_open, granted_table};
+ghost use Rattle.kernel_core.specs.Start.{granted_objects};
+
+use crate::objects::Objects;
+use crate::table::Table;
+use abi_types::{Bytes, Descriptor, Grant, GrantTarget, ObjId, OpenKind};
+use number_map::NumMap;
+use std::alloc::{AllocError, Global};
+
+/// The process number, in the numbers of objects, of what the launch makes. No process has it.
+const LAUNCH_PROCESS: u64 = 0xffff_ffff;
+
+/// The count of the first grant's open among the launch's objects: 1 to 3 are the standard streams, 4 is the root of
+/// the file tree, and from 5 on come the opens of the granted descriptors.
+const FIRST_GRANT: u64 = 5;
+
+/// The number of the launch's object with this count.
+pub fn launch_object(count: u64) -> ObjId
+    requires { count < 2 ^ 32 }
+    ensures { result ≡ launch_object count }
+{
+    ObjId((LAUNCH_PROCESS << 32) + count)
+}
+
+/// A map with one entry.
+pub fn single<V: Drop>(alloc: Global, key: u64, value: V) -> Result<NumMap<V>, AllocError>
+    ensures { IfOk result (λ made. made ≡ map.insert map.empty key value) }
+{
+    let mut made = NumMap::new(alloc);
+    made.insert(key, value)?;
+    Ok(made)
+}
+
+/// The three standard streams, with nothing written.
+pub fn unwritten(alloc: Global) -> Result<NumMap<Bytes>, AllocError>
+    ensures { IfOk result (λ made. made ≡ map.insert (map.insert (map.insert map.empty 0 []) 1 []) 2 []) }
+{
+    let mut made = single(alloc, 0, Bytes::new(alloc))?;
+    made.insert(1, Bytes::new(alloc))?;
+    made.insert(2, Bytes::new(alloc))?;
+    Ok(made)
+}
+
+/// What a grant opens.
+fn open_of(target: GrantTarget) -> OpenKind
+    ensures { result ≡ open_of target }
+{
+    match target {
+        GrantTarget::Terminal(which) => OpenKind::Terminal { which, flags: 0 },
+    }
+}
+
+/// Puts a granted descriptor at its number, and its open, which it alone holds.
+fn put_grant(table: &mut Table, objects: &mut Objects, number: u64, grant: &Grant) -> Result<(), AllocError>
+    requires few { number < 1024 }
+    requires free { map.get objects.old.kinds (launch_object (5 + number)) ≡ None }
+    ensures table { OnOk result (table.new ≡ map.insert table.old number (granted_descriptor number grant.now)) }
+    ensures objects { OnOk result (objects.new ≡ record {
+        kinds = map.insert objects.old.kinds (launch_object (5 + number)) (granted_open number grant.now);
+        counts = map.insert objects.old.counts (launch_object (5 + number)) 1 }) }
+{
+    let id = launch_object(FIRST_GRANT + number);
+    objects.add(id, open_of(grant.target))?;
+    objects.hold(id);
+    let descriptor = Descriptor {
+        id,
+        base: grant.base,
+        inheriting: grant.inheriting,
+    };
+    table.insert(number, descriptor)?;
+    Ok(())
+}
+
+/// The table of the granted descriptors, and their opens, each held once.
+pub fn granted(alloc: Global, grants: &[Grant]) -> Result<(Table, Objects), AllocError>
+    requires { length grants.now ≤ 1024 }
+    ensures { IfOk result (λ made. (made.0 ≡ granted_table grants.now) × (made.1 ≡ granted_objects grants.now)) }
+{
+    let mut table = Table::new(alloc);
+    let mut objects = Objects::new(alloc);
+    for (number, grant) in grants.iter().enumerate() {
+        put_grant(&mut table, &mut objects, number as u64, grant)?;
+    }
+    Ok((table, objects))
+}

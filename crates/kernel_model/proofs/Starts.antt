@@ -1,0 +1,191 @@
+-- The state that a launch starts from is valid.
+use Rattle.std.proofs.Common.{◌≡◌, ◌≢◌, inl, inr, ℕ, zero, suc, ◌+◌, ◌-◌, ◌<◌, ◌≤◌, ◌⊎◌, true, cond, T, List, [], ◌∷◌, ◌++◌, length, Option, Some, None, IsSome, is_some, refl, sym, ap, subst, ◌∙◌, arith}
+use Rattle.std.proofs.lemmas.Bool.Decides.{eqb_tells}
+use Rattle.std.specs.Prelude.{option_map, slice_get}
+use Rattle.std.specs.Ordering.{nat_cmp, eq_by_cmp, is_eq}
+use Rattle.std.specs.Cmp.{nat_cmp_total, tied_itself, ranked}
+use Rattle.std.specs.List.{AllByRecursion}
+use Rattle.std.specs.FinMap.{FinMap, get, get-empty, get-from_entries, insert, empty, find, from_entries, from_entries_push, nat_cmp-IsAntisymmetric}
+use Rattle.abi_types.specs.declared.descriptor.Descriptor.{Descriptor}
+use Rattle.abi_types.specs.declared.grant.Grant.{Grant}
+use Rattle.abi_types.specs.declared.grant.GrantTarget.{GrantTarget}
+use Rattle.abi_types.specs.declared.grant.GrantTarget.TheVariants as target
+use Rattle.abi_types.specs.declared.open_kind.OpenKind.{OpenKind}
+use Rattle.abi_types.specs.declared.status.Status.{Status}
+use Rattle.abi_types.specs.declared.status.Status.TheVariants.{Live}
+use Rattle.number_map.specs.Maps.{get-insert-same, get-insert-other}
+use Rattle.kernel_model.specs.Release.{holders}
+use Rattle.kernel_model.specs.Start.{launch_object, numbered, granted_descriptor, open_of, granted_open, granted_table, IsTarget, IsGrant, AreGrants, start_state}
+use Rattle.kernel_model.specs.State.{State, Table}
+use Rattle.kernel_model.specs.Valid.{HasRightsOf, IsNamed, HasBehind, IsValid}
+use Rattle.kernel_model.proofs.Tests.{none_is_no, not_true}
+use Rattle.kernel_model.proofs.Valids.{same_value, named_is_held, same_keys_inserted}
+
+-- ---- numbered values
+
+tie_same : (k : ℕ) → eq_by_cmp nat_cmp k k ≡ true
+tie_same k = ap is_eq (tied_itself nat_cmp_total k)
+
+module _ {Y : Type 0} where
+  find_own : (q : ℕ) (y : Y) (es : List (ℕ × Y)) → find nat_cmp q ((q, y) ∷ es) ≡ Some y
+  find_own q y es = ap (λ b. cond b (Some y) (find nat_cmp q es)) (tie_same q)
+
+  find_later : (q k : ℕ) (y : Y) (es : List (ℕ × Y)) → q ≢ k → find nat_cmp q ((k, y) ∷ es) ≡ find nat_cmp q es
+  find_later q k y es other =
+      sym (get-from_entries nat_cmp_total ((k, y) ∷ es) q) ∙ get-insert-other (from_entries es) k y q other ∙ get-from_entries nat_cmp_total es q
+
+module _ {X Y : Type 0} where
+  -- no number is below the first
+  pub find_below : (f : ℕ → X → Y) (n : ℕ) (xs : List X) (q : ℕ) → q < n → find nat_cmp q (numbered f n xs) ≡ None
+  find_below f n [] q below = refl
+  find_below f n (x ∷ xs) q below = find_later q n (f n x) (numbered f (n + 1) xs) (λ e. omega (arith, below, e)) ∙ find_below f (n + 1) xs q (omega (arith, below))
+
+  -- the value with a number
+  pub find_numbered : (f : ℕ → X → Y) (n : ℕ) (xs : List X) (k q : ℕ) → q ≡ n + k → find nat_cmp q (numbered f n xs) ≡ option_map (f q) (slice_get xs k)
+  find_numbered f n [] k q e = refl
+  find_numbered f n (x ∷ xs) zero q e =
+      let own : q ≡ n = omega (arith, e) in
+      subst (λ j. find nat_cmp j (numbered f n (x ∷ xs)) ≡ Some (f j x)) (sym own) (find_own n (f n x) (numbered f (n + 1) xs))
+  find_numbered f n (x ∷ xs) (suc k) q e =
+      find_later q n (f n x) (numbered f (n + 1) xs) (λ same. omega (arith, e, same)) ∙ find_numbered f (n + 1) xs k q (omega (arith, e))
+
+  -- no number is above the last
+  pub find_above : (f : ℕ → X → Y) (n : ℕ) (xs : List X) (q : ℕ) → n + length xs ≤ q → find nat_cmp q (numbered f n xs) ≡ None
+  find_above f n [] q above = refl
+  find_above f n (x ∷ xs) q above =
+      find_later q n (f n x) (numbered f (n + 1) xs) (λ e. omega (arith, above, e)) ∙ find_above f (n + 1) xs q (omega (arith, above))
+
+  -- a value more has the next number
+  numbered-push : (f : ℕ → X → Y) (n : ℕ) (xs : List X) (x : X) (m : ℕ) → m ≡ n + length xs
+      → numbered f n (xs ++ x ∷ []) ≡ numbered f n xs ++ (m, f m x) ∷ []
+  numbered-push f n [] x m e = let same : n ≡ m = omega (arith, e) in ap (λ j. (j, f j x) ∷ []) same
+  numbered-push f n (y ∷ xs) x m e = ap (λ es. (n, f n y) ∷ es) (numbered-push f (n + 1) xs x m (omega (arith, e)))
+
+  pub from_numbered-push : (f : ℕ → X → Y) (n : ℕ) (xs : List X) (x : X) (m : ℕ) → m ≡ n + length xs
+      → from_entries {R = nat_cmp} (numbered f n (xs ++ x ∷ [])) ≡ insert (from_entries (numbered f n xs)) m (f m x)
+  from_numbered-push f n xs x m e =
+      ap (from_entries {R = nat_cmp}) (numbered-push f n xs x m e)
+      ∙ from_entries_push nat_cmp_total nat_cmp-IsAntisymmetric (numbered f n xs) m (f m x) (find_above f n xs m (omega (arith, e)))
+
+-- a value that is found has a number from the first on
+at_number : {X Y : Type 0} (f : ℕ → X → Y) (n : ℕ) (xs : List X) (q : ℕ) (y : Y) → find nat_cmp q (numbered f n xs) ≡ Some y → (k : ℕ) × (q ≡ n + k)
+at_number f n xs q y there =
+    (q - n, elim (eqb_tells (n - q) 0) [
+      | inl within ↦ (let reaches : n - q ≡ 0 = within.1 in omega arith)
+      | inr below ↦ (let apart : n - q ≢ 0 = below.1 in absurd (none_is_no y (sym (find_below f n xs q (omega arith)) ∙ there)))
+    ])
+
+from_option_map : {X Y : Type 0} (f : X → Y) (o : Option X) (y : Y) → option_map f o ≡ Some y → (x : X) × (o ≡ Some x) × (f x ≡ y)
+from_option_map f None y e = absurd (none_is_no y e)
+from_option_map f (Some x) y e = (x, refl, same_value (f x) y (Some (f x)) refl e)
+
+all_at : {X : Type 0} (P : X → Type 0) (xs : List X) (k : ℕ) (x : X) → AllByRecursion P xs → slice_get xs k ≡ Some x → P x
+all_at P [] k x all e = absurd (none_is_no x e)
+all_at P (y ∷ ys) zero x all e = subst P (same_value y x (Some y) refl e) all.0
+all_at P (y ∷ ys) (suc k) x all e = all_at P ys k x all.1 e
+
+some_of : {X : Type 0} (o : Option X) → IsSome o → (x : X) × (o ≡ Some x)
+some_of None h = absurd (not_true h)
+some_of (Some x) h = (x, refl)
+
+-- ---- the launched process alone
+
+-- what is at a key of a map of one is its value
+only_one : {X : Type 0} (x y : X) (p : ℕ) → get (insert (empty {R = nat_cmp}) 0 x) p ≡ Some y → (p ≡ 0) × (x ≡ y)
+only_one x y p there =
+    elim (eqb_tells p 0) [
+      | inl is ↦ (is.1, same_value x y _ (get-insert-same empty 0 x) (subst (λ j. get (insert (empty {R = nat_cmp}) 0 x) j ≡ Some y) is.1 there))
+      | inr other ↦ absurd (none_is_no y (sym (get-insert-other empty 0 x p other.1 ∙ get-empty nat_cmp p) ∙ there))
+    ]
+
+-- ---- grants
+
+-- what is granted under a number: its descriptor, and the open that it names
+record IsGranted (grants : List Grant) (k : ℕ) (grant : Grant) : Type 0 where
+  allowed : IsGrant grant
+  held : get (granted_table grants) k ≡ Some (granted_descriptor k grant)
+  opened : get (start_state grants).opens (launch_object (5 + k)) ≡ Some (open_of grant.target)
+
+granted_at : (grants : List Grant) (k : ℕ) (grant : Grant) → AreGrants grants → slice_get grants k ≡ Some grant → IsGranted grants k grant
+granted_at grants k grant all there = record {
+  allowed = all_at IsGrant grants k grant all.1 there;
+  held = get-from_entries nat_cmp_total _ k ∙ find_numbered granted_descriptor 0 grants k k (omega arith) ∙ ap (option_map (granted_descriptor k)) there;
+  opened = get-from_entries nat_cmp_total _ (launch_object (5 + k))
+      ∙ find_numbered granted_open (launch_object 5) grants k (launch_object (5 + k)) (omega arith)
+      ∙ ap (option_map (granted_open (launch_object (5 + k)))) there;
+}
+
+-- a descriptor of the table is that of a grant
+of_descriptor : (grants : List Grant) (n : ℕ) (d : Descriptor) → AreGrants grants → get (granted_table grants) n ≡ Some d
+    → (grant : Grant) × IsGranted grants n grant × (granted_descriptor n grant ≡ d)
+of_descriptor grants n d all there =
+    let at = from_option_map (granted_descriptor n) (slice_get grants n) d
+      (sym (find_numbered granted_descriptor 0 grants n n (omega arith)) ∙ sym (get-from_entries nat_cmp_total _ n) ∙ there) in
+    (at.0, granted_at grants n at.0 all at.1, at.2)
+
+-- an open is that of a grant
+of_open : (grants : List Grant) (o : ℕ) (kind : OpenKind) → AreGrants grants → get (start_state grants).opens o ≡ Some kind
+    → (k : ℕ) × (grant : Grant) × (o ≡ launch_object (5 + k)) × IsGranted grants k grant × (open_of grant.target ≡ kind)
+of_open grants o kind all there =
+    let found = sym (get-from_entries nat_cmp_total (numbered granted_open (launch_object 5) grants) o) ∙ there in
+    let number = at_number granted_open (launch_object 5) grants o kind found in
+    let at = from_option_map (granted_open o) (slice_get grants number.0) kind
+      (sym (find_numbered granted_open (launch_object 5) grants number.0 o number.1) ∙ found) in
+    let place = number.1 in
+    (number.0, at.0, omega (arith, place), granted_at grants number.0 at.0 all at.1, at.2)
+
+named : (grants : List Grant) (k : ℕ) (grant : Grant) → IsGranted grants k grant
+    → IsNamed (get (start_state grants).opens (granted_descriptor k grant).id) (granted_descriptor k grant)
+named grants k grant at = subst (λ o. IsNamed o (granted_descriptor k grant)) (sym at.opened) at.allowed.1
+
+-- ---- the standard streams
+
+stream_there : (grants : List Grant) (which : ℕ) → which < 3 → IsSome (get (start_state grants).terms which)
+stream_there grants which few =
+    elim (eqb_tells which 2) [
+      | inl is ↦ ap (λ j. is_some (get (start_state grants).terms j)) is.1 ∙ ap is_some (get-insert-same _ 2 _)
+      | inr not_2 ↦ ap is_some (get-insert-other _ 2 _ which not_2.1) ∙ elim (eqb_tells which 1) [
+        | inl is ↦ ap (λ j. is_some (get (insert (insert (empty {X = List ℕ} {R = nat_cmp}) 0 []) 1 []) j)) is.1 ∙ ap is_some (get-insert-same _ 1 _)
+        | inr not_1 ↦ ap is_some (get-insert-other _ 1 _ which not_1.1) ∙
+            (let apart_2 : which ≢ 2 = not_2.1 in let apart_1 : which ≢ 1 = not_1.1 in let zeroth : which ≡ 0 = omega arith in
+            ap (λ j. is_some (get (insert (empty {X = List ℕ} {R = nat_cmp}) 0 []) j)) zeroth ∙ ap is_some (get-insert-same _ 0 _))
+      ]
+    ]
+
+behind_there : (grants : List Grant) (t : GrantTarget) → IsTarget t → HasBehind (start_state grants) (open_of t)
+behind_there grants (target.Terminal which) few = stream_there grants which few
+
+-- ---- the state
+
+start_named : (grants : List Grant) → AreGrants grants → (p n : ℕ) (table : Table) (d : Descriptor)
+    → get (start_state grants).tables p ≡ Some table → get table n ≡ Some d → IsNamed (get (start_state grants).opens d.id) d
+start_named grants all p n table d there here =
+    let own = only_one (granted_table grants) table p there in
+    let at = of_descriptor grants n d all (ap (λ (m : Table). get m n) own.1 ∙ here) in
+    subst (λ (e : Descriptor). IsNamed (get (start_state grants).opens e.id) e) at.2 (named grants n at.0 at.1)
+
+start_held : (grants : List Grant) → AreGrants grants → (o : ℕ) → IsSome (get (start_state grants).opens o) → 0 < holders (start_state grants) o
+start_held grants all o h =
+    let there = some_of (get (start_state grants).opens o) h in
+    let at = of_open grants o there.0 all there.1 in
+    subst (λ r. 0 < holders (start_state grants) r) (sym at.2)
+    (named_is_held (start_state grants) 0 at.0 (granted_table grants) (granted_descriptor at.0 at.1) (get-insert-same empty 0 _) at.3.held)
+
+start_behind : (grants : List Grant) → AreGrants grants → (o : ℕ) (kind : OpenKind) → get (start_state grants).opens o ≡ Some kind
+    → HasBehind (start_state grants) kind
+start_behind grants all o kind there =
+    let at = of_open grants o kind all there in
+    subst (HasBehind (start_state grants)) at.4 (behind_there grants at.1.target at.3.allowed.0)
+
+same_keys_one : {X Y : Type 0} (x : X) (y : Y) (p : ℕ) → is_some (get (insert (empty {R = nat_cmp}) 0 x) p) ≡ is_some (get (insert (empty {R = nat_cmp}) 0 y) p)
+same_keys_one x y = same_keys_inserted empty empty 0 x y (λ q. ap is_some (get-empty nat_cmp q) ∙ sym (ap is_some (get-empty nat_cmp q)))
+
+pub start_valid : (grants : List Grant) → AreGrants grants → IsValid (start_state grants)
+start_valid grants all = record {
+  named = start_named grants all;
+  held = start_held grants all;
+  behind = start_behind grants all;
+  tables = same_keys_one _ _;
+  threads = same_keys_one _ _;
+  ended = λ p status there ends. absurd (ends (sym (only_one Live status p there).1));
+}

@@ -1,0 +1,22 @@
+use Rattle.std.proofs.Common.{◌≡◌, ◌-◌, ◌<◌, ◌++◌, [], ◌∷◌, map, Some, sym, ap, ◌∙◌, append-nil, arith}
+use Rattle.std.proofs.lemmas.List.{map-append}
+use Rattle.launch_run.specs.Ranges.{range_seen}
+use Rattle.launch_run.proofs.Gathering.{after_front, ranges_none, ranges_fault, ranges_next}
+use Rattle.launch_run.proofs.args.read_ranges.Goals as goal
+
+pub returns-in_default : goal.returns-in_default
+returns-in_default c =
+    let some : 0 < c.args.count - c.loop.counter = omega arith in
+    sym (ap (after_front (map range_seen c.loop.ranges.items)) (ranges_fault c.args.memory.now c.loop.next _ some c.in_default.ensures)) ∙ c.loop.invariant
+
+pub loop-preserved : goal.loop-preserved
+loop-preserved c =
+    let ranges : map range_seen c.push.new.self.items ≡ map range_seen c.loop.ranges.items ++ range_seen c.in-Some.range ∷ [] =
+    ap (map range_seen) c.in_ok-push.ensures.items ∙ map-append range_seen c.loop.ranges.items (c.in-Some.range ∷ []) in
+    rw ranges (sym (ranges_next (map range_seen c.loop.ranges.items) (range_seen c.in-Some.range) c.args.memory.now c.loop.next c.args.count c.loop.counter c.loop-test.true c.in-Some.ensures) ∙ c.loop.invariant)
+
+pub returns : goal.returns
+returns c =
+    let over : c.args.count - c.loop.counter ≡ 0 = omega arith in
+    let none = ranges_none c.args.memory.now c.loop.next _ over in
+    ap Some (sym (append-nil (map range_seen c.loop.ranges.items))) ∙ sym (ap (after_front (map range_seen c.loop.ranges.items)) none) ∙ c.loop.invariant
