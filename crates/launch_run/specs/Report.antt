@@ -19,9 +19,13 @@ written_to which S = unwrap_or (get S.terms which) []
 abbrev pub ending : List ℕ → List ℕ
 ending bytes = if (length bytes == 0) || (slice_index bytes (length bytes - 1) == 10) then [] else 10 ∷ []
 
--- what was written to a standard stream, under a line with its length
+-- the line above what was written to a standard stream, with its length
+abbrev pub stream_line : List ℕ → List ℕ → List ℕ
+stream_line name bytes = codes "== " ++ (name ++ (codes " " ++ decimal (length bytes)))
+
+-- what was written to a standard stream, under its line
 abbrev pub stream_text : List ℕ → List ℕ → List ℕ
-stream_text name bytes = codes "== " ++ name ++ codes " " ++ decimal (length bytes) ++ 10 ∷ [] ++ bytes ++ ending bytes
+stream_text name bytes = stream_line name bytes ++ (10 ∷ (bytes ++ ending bytes))
 
 -- the end of a process by a signal, in words
 abbrev pub signal_text : Signal → List ℕ

@@ -13,7 +13,7 @@ mod inputs;
 mod launch_text;
 mod lines;
 mod program;
-mod report;
+pub mod report;
 mod run;
 #[cfg(test)]
 mod tests;

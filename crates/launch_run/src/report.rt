@@ -11,6 +11,8 @@ use std::alloc::{AllocError, Global};
 mod call_names;
 mod denials;
 pub mod laws;
+#[cfg(test)]
+mod tests;
 
 /// The report of a run whose kernel stands so and whose history is this one.
 ///
