@@ -5,3 +5,5 @@ pub mod Gathering
 pub mod Runs
 pub mod Entries
 pub mod Begins
+pub mod Texts
+pub mod TopCalls

@@ -1,31 +1,26 @@
 -- What the top call answers and writes. The words are those of its caller; what a source tells of its inputs and what a
 -- sink tells of its bytes are as the traits say (a source or a sink may tell nothing). A count of faults rose in a call
 -- where it is greater afterwards, or stands at its last value.
-use Rattle.std.specs.Prelude.{◌≡◌, ◌≢◌, ◌⊎◌, ℕ, List, [], ◌∷◌, Option, None, Some, IfSome, IsSome}
+use Rattle.std.specs.Prelude.{◌≡◌, ◌⊎◌, ◌==◌, ℕ, List, Option, None, Some, IfSome, if◌then◌else◌}
 use Rattle.std.specs.FinMap.{get}
 use Rattle.abi_types.specs.Outside.Sink.{grown, GrewByPrefix}
 use Rattle.abi_types.specs.declared.status.Status.{Status}
 use Rattle.abi_types.specs.declared.status.Status.TheVariants.{Live, Exit, Killed}
 use Rattle.kernel_core.specs.declared.history.Record.{Record}
+use Rattle.kernel_core.specs.declared.launch.Launch.{Launch}
 use Rattle.kernel_model.specs.State.{State}
-use Rattle.run_model.specs.Confined.{IsConfined}
 use Rattle.run_model.specs.Ends.{Ended}
 use Rattle.run_model.specs.Legal.{Legal}
 use Rattle.run_model.specs.World.{world}
-use Rattle.launch_run.specs.Launch.{Spelled, spells, refuses, IsToldAs, IsBuiltLaunch}
-use Rattle.launch_run.specs.Lines.{input_line, too_long_line}
 use Rattle.launch_run.specs.Report.{report_of}
-use Rattle.launch_run.specs.declared.top.Finished.{Finished}
+use Rattle.launch_run.specs.declared.top.RunEnd.{RunEnd}
+use Rattle.launch_run.specs.declared.top.RunEnd.TheVariants.{Reported, Unwritten, NoMemory}
 
 -- the text was written whole, or a front of it where the sink's count of faults rose
 abbrev pub Wrote : Option (List ℕ) → Option (List ℕ) → Type 0 → List ℕ → Type 0
 Wrote before after rose text = (after ≡ grown before text) ⊎ (rose × GrewByPrefix before after text)
 
 -- the status of a run whose process 0 has this status: 0 where it exited with 0
-abbrev pub exit_number : ℕ → ℕ
-exit_number 0 = 0
-exit_number _ = 1
-
 abbrev pub status_number : Option Status → ℕ
 status_number None = 1
 status_number (Some Live) = 1
@@ -40,15 +35,15 @@ state_of r = (world r.launch r.history).state
 abbrev pub record_report : Record → List ℕ
 record_report r = report_of (state_of r) r.history
 
--- what every record that is kept is: a legal history of its launch, each entry confined to what its descriptors reach,
--- and the launch is the one that is spelled, where anything is told of it
-pub record IsKept (spelled : Spelled) (r : Record) : Type 0 where
-  pub legal : Legal r.launch r.history
-  pub confined : IsConfined r.launch r.history
-  pub launch : IsToldAs spelled (spells r.launch)
-  pub built : IsBuiltLaunch r.launch
+-- a record of a run of the launch: its history is legal
+abbrev pub IsRecordOf : Launch → Record → Type 0
+IsRecordOf launch r = (r.launch ≡ launch) × Legal r.launch r.history
 
--- the run of the record has ended, and the status is that of its process 0
-pub record HasEnded (r : Record) (status : ℕ) : Type 0 where
-  pub ended : Ended r.launch r.history
-  pub status : status ≡ status_number (get (state_of r).statuses 0)
+-- How a run of the launch came to its end, where before and after are what the sink tells of its bytes, and rose says
+-- that its count of faults rose. The report is of an ended run, and was written whole, or a front of it where the sink
+-- failed; for want of memory nothing was written of it.
+abbrev pub IsEndOf : Launch → Option (List ℕ) → Option (List ℕ) → Type 0 → RunEnd → Type 0
+IsEndOf launch before after rose (Reported r status) =
+    IsRecordOf launch r × Ended r.launch r.history × (status ≡ get (state_of r).statuses 0) × (after ≡ grown before (record_report r))
+IsEndOf launch before after rose (Unwritten r) = IsRecordOf launch r × Ended r.launch r.history × rose × GrewByPrefix before after (record_report r)
+IsEndOf launch before after rose (NoMemory r) = IfSome r (IsRecordOf launch) × (after ≡ before)

@@ -8,7 +8,7 @@ ghost use Rattle.launch_run.specs.Run.{IsBounded, IsAt, IsBetween, IsStopped, Is
 
 use crate::args::{args, put_answer};
 use abi_types::{Pid, Regs, Signal, Status, Tid, TidList};
-use kernel_core::{Act, Entry, History, Kernel, Launch, Segment};
+use kernel_core::{Act, Entry, History, Kernel, Launch, Record, Segment};
 use rv_interp::{Memory, TurnEnd, turn};
 use std::alloc::{AllocError, Global};
 use std::mem;
@@ -150,7 +150,7 @@ impl Run {
     }
 
     /// Rounds until process 0 has ended.
-    fn go_on(&mut self, alloc: Global) -> Result<(), AllocError>
+    pub fn go_on(&mut self, alloc: Global) -> Result<(), AllocError>
         requires { IsBetween self.old }
         ensures ok { OnOk result (IsBetween self.new × ¬ IsLive self.new) }
         ensures launch { self.new.launch ≡ self.old.launch }
@@ -160,5 +160,16 @@ impl Run {
             self.round(alloc)?;
         }
         Ok(())
+    }
+
+    /// The record of the run so far.
+    pub fn into_record(self) -> Record
+        ensures launch { result.launch ≡ self.launch }
+        ensures history { result.history ≡ self.history }
+    {
+        let Run {
+            launch, history, ..
+        } = self;
+        Record { launch, history }
     }
 }

@@ -23,7 +23,7 @@ use Rattle.rv_interp.specs.declared.turns.TurnEnd.{TurnEnd}
 use Rattle.rv_interp.specs.declared.turns.TurnEnd.TheVariants.{Ecall, Trap}
 use Rattle.run_model.specs.Ends.{NoneLive, Ended, IsParked, Stalled}
 use Rattle.run_model.specs.Legal.{IsRunnable, LastEnds, FitsAct, Fits, FollowsFrom, Legal}
-use Rattle.run_model.specs.World.{World, Guest, start_world, guest_of, or_no_guest, called_guest, called_state, turned_guest, turned_guest_by, turned, acted, apply, world}
+use Rattle.run_model.specs.World.{World, Guest, start_world, guest_of, or_no_guest, called_guest, called_state, turned_guest, turned_guest_by, turned, acted, apply, apply_all, world}
 use Rattle.run_model.proofs.Calls.{only_own_status, end_only_own_status, ended_by}
 use Rattle.run_model.proofs.Histories.{apply_is, guest_turned, turned_more, first_guest_is}
 
@@ -174,3 +174,21 @@ pub history_is_short : (launch : Launch) (history : List Entry) → Legal launch
 unfolding Legal
 history_is_short launch history legal =
     subst (λ (g : Guest). length history ≤ g.left + 1) (first_guest_is launch) (follows_short (start_world launch) history (start_only launch) legal)
+
+-- at each moment of a legal history no process but 0 is live
+follows_only : (w : World) (history : List Entry) → OnlyFirstLives w.state → FollowsFrom w history → OnlyFirstLives (apply_all w history).state
+unfolding FollowsFrom apply_all
+follows_only w [] only follows = only
+follows_only w (e ∷ history) only follows = follows_only (apply w e) history (only_first_after w e only follows.0) follows.1
+
+pub only_first : (launch : Launch) (history : List Entry) → Legal launch history → OnlyFirstLives (world launch history).state
+unfolding Legal world
+only_first launch history legal = follows_only (start_world launch) history (start_only launch) legal
+
+-- a run whose process 0 isn't live is ended
+pub ended_where : (launch : Launch) (history : List Entry) → Legal launch history → get (world launch history).state.statuses 0 ≢ Some Live → Ended launch history
+ended_where launch history legal dead p live =
+    elim (eqb_tells p 0) [
+      | inl h ↦ dead (ap (get (world launch history).state.statuses) (sym h.1) ∙ live)
+      | inr h ↦ only_first launch history legal p h.1 live
+    ]
