@@ -1,10 +1,9 @@
 -- A line written in three parts.
-use Rattle.std.proofs.Common.{◌≡◌, ◌∙◌, ◌≤◌, ◌+◌, ℕ, List, [], ◌∷◌, ◌++◌, length, take, min, ap, sym, refl, subst, arith, append_assoc}
-use Rattle.std.specs.Prelude.{Option, Result, Ok, Err, OnOk, OnErr, codes}
-use Rattle.std.proofs.Math.Seq.{take-append-add}
+use Rattle.std.proofs.Common.{◌≡◌, ◌∙◌, ◌≤◌, ℕ, List, [], ◌∷◌, ◌++◌, length, min, ap, sym, refl, subst, arith, append_assoc}
+use Rattle.std.specs.Prelude.{Option, codes}
 use Rattle.std.proofs.lemmas.List.{take-append-le, take_min}
 use Rattle.abi_types.specs.Outside.Sink.{grown, GrewByPrefix}
-use Rattle.abi_types.proofs.OutsideLaws.{grown_twice}
+use Rattle.abi_types.proofs.OutsideLaws.{grown_twice, grew_later}
 use Rattle.launch_run.specs.Lines.{line_of, front_of, name_of, back_of}
 use Rattle.launch_run.specs.declared.lines.Refusal.{Refusal}
 use Rattle.launch_run.specs.declared.lines.Refusal.TheVariants.{Words, Input, TooLong, Program, LaunchText, Memory}
@@ -28,16 +27,6 @@ longer before after piece more p =
       grew = p.grew ∙ ap (grown before) (sym (take-append-le (min p.count (length piece)) piece more within ∙ take_min p.count piece));
     }
 
--- a piece of which the first bytes were written after another piece
-after_piece : (before between after : Option (List ℕ)) (first piece : List ℕ) → between ≡ grown before first →
-    GrewByPrefix between after piece → GrewByPrefix before after (first ++ piece)
-after_piece before between after first piece written p = record {
-  count = length first + p.count;
-  grew =
-      p.grew ∙ ap (λ b. grown b (take p.count piece)) written ∙ grown_twice before first (take p.count piece)
-      ∙ ap (grown before) (sym (take-append-add first piece p.count));
-}
-
 -- the write of the first part failed
 pub failed_front : (r : Refusal) (before after : Option (List ℕ)) (front : List ℕ) → front ≡ front_of r →
     GrewByPrefix before after front → GrewByPrefix before after (line_of r)
@@ -56,7 +45,7 @@ pub failed_name : (r : Refusal) (before between after : Option (List ℕ)) (fron
 failed_name r before between after front name is_front is_name written p =
     subst (GrewByPrefix before after) (line_parts r)
     (longer before after _ (back_of r)
-    (after_piece before between after (front_of r) (name_of r) (written ∙ ap (grown before) is_front) (subst (GrewByPrefix between after) is_name p)))
+    (grew_later before between after (front_of r) (name_of r) (written ∙ ap (grown before) is_front) (subst (GrewByPrefix between after) is_name p)))
 
 -- all three parts were written
 pub written_line : (r : Refusal) (before one two after : Option (List ℕ)) (front name back : List ℕ) → front ≡ front_of r → name ≡ name_of r →
@@ -72,20 +61,6 @@ pub failed_back : (r : Refusal) (before one two after : Option (List ℕ)) (fron
     GrewByPrefix before after (line_of r)
 failed_back r before one two after front name back is_front is_name is_back first second p =
     subst (GrewByPrefix before after) (line_parts r)
-    (after_piece before two after (front_of r ++ name_of r) (back_of r)
+    (grew_later before two after (front_of r ++ name_of r) (back_of r)
     (both before one two (front_of r) (name_of r) (first ∙ ap (grown before) is_front) (second ∙ ap (grown one) is_name))
     (subst (GrewByPrefix two after) is_back p))
-
--- what holds in any case holds for an error
-pub for_err : {T E P : Type 0} (r : Result T E) → P → OnErr r P
-for_err (Ok v) p = tt
-for_err (Err e) p = p
-
--- what follows from what holds of a success or of an error
-pub on_ok : {T E P Q : Type 0} (r : Result T E) → (P → Q) → OnOk r P → OnOk r Q
-on_ok (Ok v) follows p = follows p
-on_ok (Err e) follows p = tt
-
-pub on_err : {T E P Q : Type 0} (r : Result T E) → (P → Q) → OnErr r P → OnErr r Q
-on_err (Ok v) follows p = tt
-on_err (Err e) follows p = follows p
