@@ -211,7 +211,9 @@ impl Kernel {
         ensures value { result ≡ any_live self.now }
         ensures live { IsTrue result ↔ ((p : ℕ) × (map.get self.now.statuses p ≡ Some Status.Live)) }
     {
-        self.statuses.first_where(|status| is_live(status)).is_some()
+        self.statuses
+            .first_where(|status| is_live(status))
+            .is_some()
     }
 
     /// The moment, in nanoseconds.

@@ -1,23 +1,22 @@
 -- The state that a launch starts from is valid.
-use Rattle.std.proofs.Common.{◌≡◌, ◌≢◌, inl, inr, ℕ, zero, suc, ◌+◌, ◌-◌, ◌<◌, ◌≤◌, ◌⊎◌, true, cond, T, List, [], ◌∷◌, ◌++◌, length, Option, Some, None, IsSome, is_some, refl, sym, ap, subst, ◌∙◌, arith}
+use Rattle.std.proofs.Common.{◌≡◌, ◌≢◌, inl, inr, ℕ, zero, suc, ◌+◌, ◌-◌, ◌<◌, ◌≤◌, true, cond, List, [], ◌∷◌, ◌++◌, length, Option, Some, None, IsSome, is_some, refl, sym, ap, subst, ◌∙◌, arith}
 use Rattle.std.proofs.lemmas.Bool.Decides.{eqb_tells}
 use Rattle.std.specs.Prelude.{option_map, slice_get}
 use Rattle.std.specs.Ordering.{nat_cmp, eq_by_cmp, is_eq}
-use Rattle.std.specs.Cmp.{nat_cmp_total, tied_itself, ranked}
+use Rattle.std.specs.Cmp.{nat_cmp_total, tied_itself}
 use Rattle.std.specs.List.{AllByRecursion}
-use Rattle.std.specs.FinMap.{FinMap, get, get-empty, get-from_entries, insert, empty, find, from_entries, from_entries_push, nat_cmp-IsAntisymmetric}
+use Rattle.std.specs.FinMap.{get, get-empty, get-from_entries, insert, empty, find, from_entries, from_entries_push, nat_cmp-IsAntisymmetric}
 use Rattle.abi_types.specs.declared.descriptor.Descriptor.{Descriptor}
 use Rattle.abi_types.specs.declared.grant.Grant.{Grant}
 use Rattle.abi_types.specs.declared.grant.GrantTarget.{GrantTarget}
 use Rattle.abi_types.specs.declared.grant.GrantTarget.TheVariants as target
 use Rattle.abi_types.specs.declared.open_kind.OpenKind.{OpenKind}
-use Rattle.abi_types.specs.declared.status.Status.{Status}
 use Rattle.abi_types.specs.declared.status.Status.TheVariants.{Live}
 use Rattle.number_map.specs.Maps.{get-insert-same, get-insert-other}
 use Rattle.kernel_model.specs.Release.{holders}
 use Rattle.kernel_model.specs.Start.{launch_object, numbered, granted_descriptor, open_of, granted_open, granted_table, IsTarget, IsGrant, AreGrants, start_state}
-use Rattle.kernel_model.specs.State.{State, Table}
-use Rattle.kernel_model.specs.Valid.{HasRightsOf, IsNamed, HasBehind, IsValid}
+use Rattle.kernel_model.specs.State.{Table}
+use Rattle.kernel_model.specs.Valid.{IsNamed, HasBehind, IsValid}
 use Rattle.kernel_model.proofs.Tests.{none_is_no, not_true}
 use Rattle.kernel_model.proofs.Valids.{same_value, named_is_held, same_keys_inserted}
 
@@ -69,11 +68,13 @@ module _ {X Y : Type 0} where
 
 -- a value that is found has a number from the first on
 at_number : {X Y : Type 0} (f : ℕ → X → Y) (n : ℕ) (xs : List X) (q : ℕ) (y : Y) → find nat_cmp q (numbered f n xs) ≡ Some y → (k : ℕ) × (q ≡ n + k)
-at_number f n xs q y there =
-    (q - n, elim (eqb_tells (n - q) 0) [
-      | inl within ↦ (let reaches : n - q ≡ 0 = within.1 in omega arith)
-      | inr below ↦ (let apart : n - q ≢ 0 = below.1 in absurd (none_is_no y (sym (find_below f n xs q (omega arith)) ∙ there)))
-    ])
+at_number f n xs q y there = (
+  q - n,
+  elim (eqb_tells (n - q) 0) [
+    | inl within ↦ (let reaches : n - q ≡ 0 = within.1 in omega arith)
+    | inr below ↦ (let apart : n - q ≢ 0 = below.1 in absurd (none_is_no y (sym (find_below f n xs q (omega arith)) ∙ there)))
+  ],
+)
 
 from_option_map : {X Y : Type 0} (f : X → Y) (o : Option X) (y : Y) → option_map f o ≡ Some y → (x : X) × (o ≡ Some x) × (f x ≡ y)
 from_option_map f None y e = absurd (none_is_no y e)
@@ -120,7 +121,7 @@ of_descriptor : (grants : List Grant) (n : ℕ) (d : Descriptor) → AreGrants g
     → (grant : Grant) × IsGranted grants n grant × (granted_descriptor n grant ≡ d)
 of_descriptor grants n d all there =
     let at = from_option_map (granted_descriptor n) (slice_get grants n) d
-      (sym (find_numbered granted_descriptor 0 grants n n (omega arith)) ∙ sym (get-from_entries nat_cmp_total _ n) ∙ there) in
+    (sym (find_numbered granted_descriptor 0 grants n n (omega arith)) ∙ sym (get-from_entries nat_cmp_total _ n) ∙ there) in
     (at.0, granted_at grants n at.0 all at.1, at.2)
 
 -- an open is that of a grant
@@ -130,7 +131,7 @@ of_open grants o kind all there =
     let found = sym (get-from_entries nat_cmp_total (numbered granted_open (launch_object 5) grants) o) ∙ there in
     let number = at_number granted_open (launch_object 5) grants o kind found in
     let at = from_option_map (granted_open o) (slice_get grants number.0) kind
-      (sym (find_numbered granted_open (launch_object 5) grants number.0 o number.1) ∙ found) in
+    (sym (find_numbered granted_open (launch_object 5) grants number.0 o number.1) ∙ found) in
     let place = number.1 in
     (number.0, at.0, omega (arith, place), granted_at grants number.0 at.0 all at.1, at.2)
 

@@ -134,3 +134,6 @@ pub fn run_launch<S: Source, K: Sink>(
         Err(refusal) => refuse(&refusal, sink),
     }
 }
+
+#[cfg(test)]
+mod tests;

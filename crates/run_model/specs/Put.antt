@@ -1,6 +1,6 @@
 -- The registers after a call's reply: a0 has the error, on SUCCESS a1 and a2 have the call's results, and the pc goes on
 -- after the ECALL. Every other register stays.
-use Rattle.std.specs.Prelude.{◌≡◌, ℕ, ◌+◌, ◌%◌, ◌^◌}
+use Rattle.std.specs.Prelude.{◌+◌, ◌%◌, ◌^◌}
 use Rattle.abi_types.specs.declared.call.Answer.{Answer}
 use Rattle.abi_types.specs.declared.call.Answer.TheVariants as answer
 use Rattle.abi_types.specs.declared.call.Call.{Call}

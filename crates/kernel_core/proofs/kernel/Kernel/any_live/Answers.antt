@@ -1,4 +1,4 @@
-use Rattle.std.proofs.Common.{◌≡◌, ℕ, Bool, true, false, Option, Some, None, IsSome, IsTrue, is_some, refl, ap, sym, ◌∙◌, rules}
+use Rattle.std.proofs.Common.{◌≡◌, ℕ, true, Option, Some, None, IsSome, is_some, refl, ap, sym, ◌∙◌, rules}
 use Rattle.std.specs.Ordering.{nat_cmp}
 use Rattle.std.specs.FinMap.{FinMap, get}
 use Rattle.number_map.specs.Maps.{least_key, least_key-entry, least_key-none, passes}
