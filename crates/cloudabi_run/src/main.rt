@@ -1,22 +1,36 @@
-//! Writes its standard input to its standard output.
+//! `cloudabi-run PROGRAM`: runs a program on the launch text of standard input, and prints its report.
 #![tactic(auto)]
 
 mod file_source;
 mod out_sink;
 
-use abi_types::outside::{read_whole, write_whole};
 use file_source::FileSource;
+use launch_run::{Refusal, run_launch};
 use out_sink::OutSink;
-use std::io;
+use std::process::ExitCode;
+use std::rt::Env;
+use std::{env, io};
 
-fn main(rt: HostRuntime) -> io::Result<()> {
-    let mut source = FileSource::new(rt.alloc(), &rt);
+/// The words of the command line. Words that aren't text are refused like words that aren't in the grammar.
+fn command_line(rt: &(impl Env + AllocGlobal)) -> Result<Vec<String>, Refusal<'static>> {
+    match env::args(rt) {
+        Ok(args) => args.collect(rt.alloc()).map_err(|_| Refusal::Memory),
+        Err(error) if error.kind() == io::ErrorKind::OutOfMemory => Err(Refusal::Memory),
+        Err(_) => Err(Refusal::Words),
+    }
+}
+
+fn main(rt: HostRuntime) -> ExitCode {
     let mut sink = OutSink::new(&rt);
-    let Ok(bytes) = read_whole(rt.alloc(), &mut source, "-") else {
-        return Err(io::Error::from(io::ErrorKind::Other));
+    let status = match command_line(&rt) {
+        Ok(words) => {
+            let mut source = FileSource::new(rt.alloc(), &rt);
+            run_launch(rt.alloc(), &words, &mut source, &mut sink).status
+        }
+        Err(refusal) => {
+            let _ = refusal.write_line(&mut sink);
+            refusal.status()
+        }
     };
-    let Ok(()) = write_whole(&mut sink, bytes.as_slice()) else {
-        return Err(io::Error::from(io::ErrorKind::Other));
-    };
-    Ok(())
+    ExitCode::from(status)
 }

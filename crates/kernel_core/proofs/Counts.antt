@@ -1,10 +1,10 @@
 -- How the holders change as descriptors are let go.
-use Rattle.std.proofs.Common.{◌≡◌, ◌≢◌, ℕ, ◌+◌, ◌-◌, ◌<◌, ◌≤◌, Bool, true, false, cond, eq-eqb, Option, None, Some, refl, sym, ap, ◌∙◌, inl, inr, arith}
+use Rattle.std.proofs.Common.{◌≡◌, ℕ, ◌+◌, ◌-◌, ◌<◌, ◌≤◌, cond, eq-eqb, Some, refl, sym, ap, ◌∙◌, inl, inr, arith}
 use Rattle.std.proofs.lemmas.Bool.Decides.{eqb_tells}
 use Rattle.std.specs.Ordering.{nat_cmp}
-use Rattle.std.specs.FinMap.{FinMap, empty, get, insert, remove}
+use Rattle.std.specs.FinMap.{FinMap, get, insert, remove}
 use Rattle.abi_types.specs.declared.descriptor.Descriptor.{Descriptor}
-use Rattle.number_map.specs.Maps.{number, weight, get-insert-same, get-insert-other, total-remove, total-empty, total_at_least}
+use Rattle.number_map.specs.Maps.{number, weight, get-insert-same, get-insert-other, total-remove, total_at_least}
 use Rattle.kernel_model.specs.Release.{names_open, count_in}
 use Rattle.kernel_model.specs.State.{Table}
 

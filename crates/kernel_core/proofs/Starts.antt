@@ -1,5 +1,5 @@
 -- What a launch's grants leave in the table and among the opens.
-use Rattle.std.proofs.Common.{◌≡◌, ◌≢◌, inl, inr, ℕ, ◌+◌, ◌<◌, ◌≤◌, cond, List, [], ◌∷◌, ◌++◌, length, take, get_or, Option, None, Some, refl, sym, ap, subst, ◌∙◌, arith}
+use Rattle.std.proofs.Common.{◌≡◌, ◌≢◌, inl, inr, ℕ, ◌+◌, ◌<◌, cond, List, [], ◌∷◌, ◌++◌, length, take, get_or, Option, None, Some, refl, sym, ap, subst, ◌∙◌, arith}
 use Rattle.std.proofs.lemmas.Bool.Decides.{eqb_tells}
 use Rattle.std.proofs.lemmas.List.{take_more, length-take-le}
 use Rattle.std.specs.Ordering.{nat_cmp}
@@ -7,7 +7,7 @@ use Rattle.std.specs.Cmp.{nat_cmp_total}
 use Rattle.std.specs.FinMap.{FinMap, get, get-empty, get-from_entries, insert, empty, from_entries}
 use Rattle.abi_types.specs.declared.grant.Grant.{Grant}
 use Rattle.abi_types.specs.declared.open_kind.OpenKind.{OpenKind}
-use Rattle.number_map.specs.Maps.{number, weight, get-insert-same, get-insert-other, insert-again, total, total-empty, total-insert, total-insert_new}
+use Rattle.number_map.specs.Maps.{number, get-insert-same, get-insert-other, insert-again, total, total-empty, total-insert_new}
 use Rattle.kernel_core.specs.Kernel.{IsKept}
 use Rattle.kernel_core.specs.Objects.{Held}
 use Rattle.kernel_core.specs.Start.{granted_objects}
@@ -44,8 +44,9 @@ table-push grants grant n e = from_numbered-push granted_descriptor 0 grants gra
 
 pub objects-push : (grants : List Grant) (grant : Grant) (n : ℕ) → n ≡ length grants
     → granted_objects (grants ++ grant ∷ []) ≡ record {
-        kinds = insert (granted_objects grants).kinds (launch_object (5 + n)) (granted_open n grant);
-        counts = insert (granted_objects grants).counts (launch_object (5 + n)) 1 }
+      kinds = insert (granted_objects grants).kinds (launch_object (5 + n)) (granted_open n grant);
+      counts = insert (granted_objects grants).counts (launch_object (5 + n)) 1;
+    }
 objects-push grants grant n e =
     let place : launch_object (5 + n) ≡ launch_object 5 + length grants = omega (arith, e) in
     let kinds = from_numbered-push granted_open (launch_object 5) grants grant (launch_object (5 + n)) place in
@@ -62,8 +63,9 @@ table_next grants i d before after within so_far then =
 
 pub objects_next : (grants : List Grant) (i : ℕ) (d : Grant) (before after : Held) → i < length grants → before ≡ granted_objects (take i grants)
     → after ≡ record {
-        kinds = insert before.kinds (launch_object (5 + i)) (granted_open i (get_or grants i d));
-        counts = insert before.counts (launch_object (5 + i)) 1 }
+      kinds = insert before.kinds (launch_object (5 + i)) (granted_open i (get_or grants i d));
+      counts = insert before.counts (launch_object (5 + i)) 1;
+    }
     → after ≡ granted_objects (take (i + 1) grants)
 objects_next grants i d before after within so_far then =
     then
@@ -79,20 +81,20 @@ numbered_counts (grant ∷ grants) n m o e =
     let table : Table = from_entries (numbered granted_descriptor (n + 1) grants) in
     let rest : number (get counts o) ≡ count_in o table = numbered_counts grants (n + 1) (m + 1) o (omega (arith, e)) in
     let sums = total-insert_new (names_open o) table n (granted_descriptor n grant)
-      (get-from_entries nat_cmp_total _ n ∙ find_below granted_descriptor (n + 1) grants n (omega arith)) in
+    (get-from_entries nat_cmp_total _ n ∙ find_below granted_descriptor (n + 1) grants n (omega arith)) in
     elim (eqb_tells (launch_object (5 + n)) o) [
       | inl is ↦
           let own : o ≡ m = omega (arith, is.1, e) in
           let one : names_open o (granted_descriptor n grant) ≡ 1 = ap (λ b. cond b 1 0) is.0 in
           let here : number (get (insert counts m 1) o) ≡ 1 = ap (λ j. number (get (insert counts m 1) j)) own ∙ ap number (get-insert-same counts m 1) in
           let before : number (get counts o) ≡ 0 = ap (λ j. number (get counts j)) own
-            ∙ ap number (get-from_entries nat_cmp_total _ m ∙ find_below (λ (_ : ℕ) (_ : Grant). 1) (m + 1) grants m (omega arith)) in
+          ∙ ap number (get-from_entries nat_cmp_total _ m ∙ find_below (λ (_ : ℕ) (_ : Grant). 1) (m + 1) grants m (omega arith)) in
           omega (arith, rest, sums, one, here, before)
       | inr other ↦
           let apart : launch_object (5 + n) ≢ o = other.1 in
           let none : names_open o (granted_descriptor n grant) ≡ 0 = ap (λ b. cond b 1 0) other.0 in
           let here : number (get (insert counts m 1) o) ≡ number (get counts o) =
-            ap number (get-insert-other counts m 1 o (λ same. apart (omega (arith, same, e)))) in
+          ap number (get-insert-other counts m 1 o (λ same. apart (omega (arith, same, e)))) in
           omega (arith, rest, sums, none, here)
     ]
 

@@ -1,11 +1,11 @@
 -- Taking the opens away that nothing holds, one after another.
-use Rattle.std.proofs.Common.{◌≡◌, ◌≢◌, ℕ, ◌==◌, ◌+◌, ◌<◌, Bool, true, false, cond, not, Option, Some, None, is_some, refl, sym, ap, ◌∙◌, inl, inr, arith}
+use Rattle.std.proofs.Common.{◌≡◌, ℕ, ◌==◌, ◌<◌, Bool, true, false, cond, not, Option, Some, None, is_some, refl, sym, ap, ◌∙◌, inl, inr, arith}
 use Rattle.std.proofs.lemmas.Bool.Decides.{eqb_tells}
 use Rattle.std.specs.Ordering.{nat_cmp}
 use Rattle.std.specs.FinMap.{FinMap, empty, get, get-empty, insert, remove, retain_keys, len}
 use Rattle.abi_types.specs.declared.open_kind.OpenKind.{OpenKind}
 use Rattle.number_map.specs.Maps.{number, passes, get-insert-same, get-insert-other, get-remove-same, get-remove-other, get-retain, same_numbers, same_around, least_key, least_key-entry, least_key-none, len-removed}
-use Rattle.kernel_core.specs.Objects.{Held, is_held, unheld_removed, HasCounts}
+use Rattle.kernel_core.specs.Objects.{is_held, unheld_removed, HasCounts}
 
 -- nothing is left at a key that is not held
 dropped : {X : Type 0} (m : FinMap nat_cmp X) (p : ℕ → Bool) (q : ℕ) → p q ≡ false → get (retain_keys m p) q ≡ None

@@ -18,10 +18,16 @@ use crate::needs::{need, refusal, refused, success};
 use crate::objects::Objects;
 use crate::start::{granted, single, unwritten};
 use crate::table::{Table as Descriptors, let_go_all};
-use abi_types::{Answer, Bytes, Call, Denial, Descriptor, Errno, Needed, OpenKind, Pid, Reply, Status, Thread, Tid};
+use abi_types::{
+    Answer, Bytes, Call, Denial, Descriptor, Errno, Needed, OpenKind, Pid, Reply, Status, Thread,
+    Tid,
+};
 use number_map::NumMap;
 use std::alloc::{AllocError, Global};
 use std::marker::Model;
+
+/// How long each call takes, and each end from outside, in nanoseconds.
+const STEP_TIME: u64 = 1000;
 
 /// The state of the kernel, in contracts a `State` (docs/MODEL.md), which is always valid.
 #[derive(Drop)]
@@ -153,7 +159,7 @@ impl Kernel {
         ensures step { IsStep self.old pid call.now result self.new }
         ensures valid { IsValid self.old }
     {
-        self.clock += 1000;
+        self.clock += STEP_TIME;
         match self.act(pid, call) {
             Ok(reply) => Answer::Reply(reply),
             Err(_) => Answer::Reply(refused(Errno::Nomem)),
@@ -189,7 +195,7 @@ impl Kernel {
         ensures others { (q : Part) → has_part (at_clock ∷ at_proc pid ∷ at_status pid ∷ []) q ≡ false
             → is_released (end_unreleased self.old pid status) q ≡ false → Agree self.new self.old q }
     {
-        self.clock += 1000;
+        self.clock += STEP_TIME;
         self.end_process(pid, status);
     }
 

@@ -14,3 +14,5 @@ mod needs;
 mod objects;
 mod start;
 mod table;
+#[cfg(test)]
+mod tests;

@@ -10,7 +10,7 @@ use abi_types::{Bytes, Descriptor, Grant, GrantTarget, ObjId, OpenKind};
 use number_map::NumMap;
 use std::alloc::{AllocError, Global};
 
-/// The process number, in the numbers of objects, of what the launch makes. No process has it.
+/// The process number that stands in the numbers of the objects that the launch makes.
 const LAUNCH_PROCESS: u64 = 0xffff_ffff;
 
 /// The count of the first grant's open among the launch's objects: 1 to 3 are the standard streams, 4 is the root of
@@ -54,13 +54,19 @@ fn open_of(target: GrantTarget) -> OpenKind
 }
 
 /// Puts a granted descriptor at its number, and its open, which it alone holds.
-fn put_grant(table: &mut Table, objects: &mut Objects, number: u64, grant: &Grant) -> Result<(), AllocError>
+fn put_grant(
+    table: &mut Table,
+    objects: &mut Objects,
+    number: u64,
+    grant: &Grant,
+) -> Result<(), AllocError>
     requires few { number < 1024 }
     requires free { map.get objects.old.kinds (launch_object (5 + number)) ≡ None }
     ensures table { OnOk result (table.new ≡ map.insert table.old number (granted_descriptor number grant.now)) }
     ensures objects { OnOk result (objects.new ≡ record {
-        kinds = map.insert objects.old.kinds (launch_object (5 + number)) (granted_open number grant.now);
-        counts = map.insert objects.old.counts (launch_object (5 + number)) 1 }) }
+      kinds = map.insert objects.old.kinds (launch_object (5 + number)) (granted_open number grant.now);
+      counts = map.insert objects.old.counts (launch_object (5 + number)) 1;
+    }) }
 {
     let id = launch_object(FIRST_GRANT + number);
     objects.add(id, open_of(grant.target))?;

@@ -1,5 +1,5 @@
 -- The state that a launch starts from.
-use Rattle.std.specs.Prelude.{◌≡◌, ℕ, ◌+◌, ◌*◌, ◌^◌, ◌<◌, ◌≤◌, List, [], ◌∷◌, length}
+use Rattle.std.specs.Prelude.{ℕ, ◌+◌, ◌*◌, ◌^◌, ◌<◌, ◌≤◌, List, [], ◌∷◌, length}
 use Rattle.std.specs.FinMap.{empty, insert, from_entries}
 use Rattle.std.specs.List.{AllByRecursion}
 use Rattle.abi_types.specs.declared.descriptor.Descriptor.{Descriptor}

@@ -1,5 +1,10 @@
+pub mod Programs
+pub mod LineParts
+pub mod LaunchParts
 pub mod Gathering
 pub mod Runs
 pub mod Entries
-mod ReportTexts
+pub mod Begins
+pub mod Texts
+pub mod TopCalls
 mod ReportLines

@@ -1,7 +1,7 @@
 -- What a run's parts are at each moment of it: those of the world of its history.
 use Rattle.std.specs.Prelude.{◌≡◌, ◌⊎◌, ℕ, ◌+◌, ◌*◌, ◌<◌, ◌≤◌, List, length, Option, Some, None}
 use Rattle.std.specs.FinMap.{get}
-use Rattle.std.specs.List.{AllByRecursion}
+use Rattle.std.specs.List.{All}
 use Rattle.abi_types.specs.declared.status.Status.{Status}
 use Rattle.abi_types.specs.declared.status.Status.TheVariants.{Live, Exit, Killed}
 use Rattle.abi_types.specs.declared.signal.Signal.TheVariants.{Xcpu}
@@ -18,7 +18,7 @@ use Rattle.launch_run.specs.declared.run.Run.{Run}
 -- most 1,000,000,000 turns.
 pub record IsBounded (launch : Launch) : Type 0 where
   pub grants : AreGrants launch.grants
-  pub pages : AllByRecursion (λ segment. length segment.bytes ≤ 4096) launch.elf.segments
+  pub pages : All (λ segment. length segment.bytes ≤ 4096) launch.elf.segments
   pub turns : launch.turns ≤ 1000000000
 
 -- process 0's guest in the world of the history

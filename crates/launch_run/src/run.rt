@@ -1,12 +1,14 @@
 //! The plain run of a launch: process 0's thread takes turns, and each call, trap and expiry is an entry.
-ghost use Rattle.std.specs.Prelude.{◌≡◌, ◌<◌, OnOk};
+ghost use Rattle.std.specs.Prelude.{◌≡◌, ◌<◌, ◌≤◌, [], All, length, IfOk, OnOk};
+ghost use Rattle.std.specs.FinMap as map;
 ghost use Rattle.run_model.specs.Legal.{Legal, FitsAct};
 ghost use Rattle.rv_interp.specs.declared.turns.TurnEnd.TheVariants as turn_end;
-ghost use Rattle.launch_run.specs.Run.{IsAt, IsBetween, IsStopped, IsLive, GoesOn, EndsBy, settled, ahead};
+ghost use Rattle.run_model.specs.World.{with_segments, first_registers};
+ghost use Rattle.launch_run.specs.Run.{IsBounded, IsAt, IsBetween, IsStopped, IsLive, GoesOn, EndsBy, settled, ahead};
 
 use crate::args::{args, put_answer};
 use abi_types::{Pid, Regs, Signal, Status, Tid, TidList};
-use kernel_core::{Act, Entry, History, Kernel, Launch};
+use kernel_core::{Act, Entry, History, Kernel, Launch, Record, Segment};
 use rv_interp::{Memory, TurnEnd, turn};
 use std::alloc::{AllocError, Global};
 use std::mem;
@@ -16,6 +18,15 @@ const FIRST: Pid = Pid(0);
 
 /// Its thread.
 const THREAD: Tid = Tid(1);
+
+/// How many bytes a page of guest memory has.
+const PAGE: u64 = 4096;
+
+/// Where the first thread's stack ends.
+const STACK_END: u64 = 0x3e_fff0_0000;
+
+/// Where the start block is.
+const START_BLOCK: u64 = 0x3f_0000_0000;
 
 /// A run of a launch, as far as it has come: the kernel's state, process 0's memory, its thread's registers, the turns
 /// that it has left, the turns that no entry has yet, and the entries.
@@ -30,7 +41,49 @@ pub struct Run {
     pub history: History,
 }
 
+/// The memory of an image: each segment is one page, which begins at its address.
+fn load(alloc: Global, segments: &[Segment]) -> Result<Memory, AllocError>
+    requires { All (λ segment. length segment.bytes ≤ 4096) segments.now }
+    ensures { IfOk result (λ memory. memory ≡ with_segments map.empty segments.now) }
+{
+    let mut memory = Memory::new(alloc);
+    for segment in segments {
+        memory.map_page(alloc, segment.at / PAGE, segment.bytes.as_slice(), segment.prot)?;
+    }
+    Ok(memory)
+}
+
+/// The first thread's registers: it stands at the entry, with sp at the stack's end and a0 at the start block.
+fn first_registers(entry: u64) -> Regs
+    ensures { result ≡ first_registers entry }
+{
+    let mut regs = Regs::new(entry);
+    regs.set(2, STACK_END);
+    regs.set(10, START_BLOCK);
+    regs
+}
+
 impl Run {
+    /// A run that has not begun: process 0 stands at its entry, and there is no entry of the history.
+    pub fn new(alloc: Global, launch: Launch) -> Result<Run, AllocError>
+        requires { IsBounded launch }
+        ensures between { IfOk result IsBetween }
+        ensures launch { IfOk result (λ run. run.launch ≡ launch) }
+        ensures empty { IfOk result (λ run. run.history ≡ []) }
+    {
+        let kernel = Kernel::start(alloc, &launch)?;
+        let memory = load(alloc, launch.elf.segments.as_slice())?;
+        Ok(Run {
+            kernel,
+            memory,
+            regs: first_registers(launch.elf.entry),
+            left: launch.turns,
+            turns: TidList::new(alloc),
+            history: History::new(alloc),
+            launch,
+        })
+    }
+
     /// Ends process 0 from outside, with an entry that says so.
     fn stop(&mut self, alloc: Global, act: Act, status: Status) -> Result<(), AllocError>
         requires at { IsAt self.old }
@@ -97,7 +150,7 @@ impl Run {
     }
 
     /// Rounds until process 0 has ended.
-    fn go_on(&mut self, alloc: Global) -> Result<(), AllocError>
+    pub fn go_on(&mut self, alloc: Global) -> Result<(), AllocError>
         requires { IsBetween self.old }
         ensures ok { OnOk result (IsBetween self.new × ¬ IsLive self.new) }
         ensures launch { self.new.launch ≡ self.old.launch }
@@ -107,5 +160,16 @@ impl Run {
             self.round(alloc)?;
         }
         Ok(())
+    }
+
+    /// The record of the run so far.
+    pub fn into_record(self) -> Record
+        ensures launch { result.launch ≡ self.launch }
+        ensures history { result.history ≡ self.history }
+    {
+        let Run {
+            launch, history, ..
+        } = self;
+        Record { launch, history }
     }
 }

@@ -3,7 +3,7 @@
 --     legal_none, legal_more, legal_front, legal_next      legal histories
 --     apply_is, guest_turned, turned_more, whole_more ..      turns and acts
 --     first_guest_is, first_state, first_registers_are, first_live, first_threads, first_thread      the start
-use Rattle.std.proofs.Common.{◌≡◌, ℕ, ◌<◌, List, [], ◌∷◌, ◌++◌, Option, Some, None, refl, sym, ap, subst, ◌∙◌}
+use Rattle.std.proofs.Common.{◌≡◌, ℕ, List, [], ◌∷◌, ◌++◌, Some, refl, ap}
 use Rattle.std.specs.FinMap.{empty, get, insert}
 use Rattle.abi_types.specs.declared.status.Status.TheVariants.{Live}
 use Rattle.abi_types.specs.declared.thread.Thread.TheVariants.{Runnable}
@@ -12,7 +12,7 @@ use Rattle.kernel_core.specs.declared.history.Entry.{Entry}
 use Rattle.kernel_core.specs.declared.launch.Launch.{Launch}
 use Rattle.kernel_model.specs.Start.{start_state}
 use Rattle.kernel_model.specs.State.{State}
-use Rattle.number_map.specs.Maps.{get-insert-same, get-insert-other}
+use Rattle.number_map.specs.Maps.{get-insert-same}
 use Rattle.rv_interp.specs.declared.turns.TurnEnd.TheVariants.{Quantum}
 use Rattle.run_model.specs.Legal.{IsRunnable, MayTurn, AreWhole, Fits, FollowsFrom, Legal}
 use Rattle.run_model.specs.World.{World, Guest, first_registers, first_guest, start_world, or_no_guest, guest_of, or_no_registers, registers_of, with_registers, with_guest, turned_guest, turn_end, turned_guest_by, turned, acted, apply, apply_all, world}

@@ -1,2 +1,6 @@
 pub mod Calls
+pub mod Confinements
+pub mod Ends
+pub mod Followers
 pub mod Histories
+pub mod Worlds

@@ -1,8 +1,6 @@
 -- Which histories a launch may have.
 use Rattle.std.specs.Prelude.{◌≡◌, ℕ, ◌<◌, ◌==◌, List, [], ◌∷◌, ◌++◌, Some, filter}
 use Rattle.std.specs.FinMap.{get}
-use Rattle.abi_types.specs.declared.call.Answer.{Answer}
-use Rattle.abi_types.specs.declared.call.Call.{Call}
 use Rattle.abi_types.specs.declared.status.Status.TheVariants.{Live}
 use Rattle.abi_types.specs.declared.thread.Thread.TheVariants.{Runnable}
 use Rattle.kernel_core.specs.declared.history.Act.{Act}
@@ -14,7 +12,7 @@ use Rattle.kernel_model.specs.Step.{IsStep}
 use Rattle.rv_interp.specs.declared.turns.TurnEnd.{TurnEnd}
 use Rattle.rv_interp.specs.declared.turns.TurnEnd.TheVariants as turn_end_is
 use Rattle.run_model.specs.Args.{args_of}
-use Rattle.run_model.specs.World.{World, Guest, guest_of, registers_of, turn_end, turned_guest, turned_guest_by, turned, called_state, apply, start_world}
+use Rattle.run_model.specs.World.{World, Guest, guest_of, registers_of, turn_end, turned_guest, turned_guest_by, called_state, apply, start_world}
 
 -- the thread is live and takes its turns
 abbrev pub IsRunnable : State → ℕ → ℕ → Type 0

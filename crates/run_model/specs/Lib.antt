@@ -3,3 +3,5 @@ pub mod Put
 pub mod World
 pub mod Legal
 pub mod Ends
+pub mod Confined
+pub mod Laws

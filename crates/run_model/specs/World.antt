@@ -1,5 +1,5 @@
 -- A kernel's state together with its processes' memories, registers and turns, and how an entry changes them.
-use Rattle.std.specs.Prelude.{◌≡◌, ℕ, ◌+◌, ◌-◌, ◌/◌, ◌==◌, Bool, true, false, List, [], ◌∷◌, ◌++◌, Option, None, Some, if◌then◌else◌}
+use Rattle.std.specs.Prelude.{ℕ, ◌-◌, ◌/◌, List, [], ◌∷◌, Option, None, Some}
 use Rattle.std.specs.Ordering.{nat_cmp}
 use Rattle.std.specs.FinMap.{FinMap, empty, get, insert}
 use Rattle.abi_types.specs.declared.call.Answer.{Answer}
@@ -10,7 +10,6 @@ use Rattle.abi_types.specs.declared.errno.Errno.TheVariants.{Nomem}
 use Rattle.abi_types.specs.declared.signal.Signal.TheVariants.{Xcpu}
 use Rattle.abi_types.specs.declared.status.Status.TheVariants.{Killed}
 use Rattle.abi_types.specs.Registers.{Registers, start_registers, with_x}
-use Rattle.kernel_core.specs.declared.elf.Elf.{Elf}
 use Rattle.kernel_core.specs.declared.elf.Segment.{Segment}
 use Rattle.kernel_core.specs.declared.history.Act.{Act}
 use Rattle.kernel_core.specs.declared.history.Act.TheVariants as act

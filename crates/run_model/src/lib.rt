@@ -1,3 +1,10 @@
 //! What a run is: the world of a history, and which histories are legal, as definitions (`specs/`). The functions here
 //! are laws over these definitions: they do nothing, and their contracts say the law.
 #![tactic(auto)]
+
+pub mod laws;
+
+pub use laws::{
+    clock_counts, ended_is_final, history_is_short, legal_goes_on, legal_is_confined,
+    never_stalled, others_stay, runs_to_its_end, world_is_valid,
+};

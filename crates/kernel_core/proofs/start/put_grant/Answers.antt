@@ -1,8 +1,6 @@
-use Rattle.std.proofs.Common.{ap, sym, subst, is_some, refl, arith, ◌∙◌, ◌≡◌, ℕ, ◌+◌}
+use Rattle.std.proofs.Common.{ap, is_some, arith, ◌∙◌}
 use Rattle.std.specs.FinMap.{insert}
 use Rattle.number_map.specs.Maps.{number}
-use Rattle.kernel_core.specs.Objects.{Held}
-use Rattle.kernel_model.specs.Start.{launch_object, granted_open}
 use Rattle.kernel_core.proofs.Starts.{new_count, held_once}
 use Rattle.kernel_core.proofs.start.put_grant.Goals as goal
 

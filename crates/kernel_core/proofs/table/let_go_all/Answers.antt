@@ -1,4 +1,4 @@
-use Rattle.std.proofs.Common.{◌≡◌, ℕ, ◌+◌, ◌<◌, ap, sym, refl, ◌∙◌, arith}
+use Rattle.std.proofs.Common.{◌≡◌, ℕ, ◌+◌, ◌<◌, ap, refl, ◌∙◌, arith}
 use Rattle.std.specs.FinMap.{get}
 use Rattle.number_map.specs.Maps.{number, total-empty}
 use Rattle.kernel_model.specs.Release.{names_open, count_in}

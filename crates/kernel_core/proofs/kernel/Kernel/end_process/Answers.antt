@@ -6,7 +6,7 @@ use Rattle.number_map.specs.Maps.{number, total}
 use Rattle.kernel_core.specs.Objects.{Held, is_held}
 use Rattle.kernel_model.specs.Cases.{end_updates}
 use Rattle.kernel_model.specs.Release.{count_in, holders, release}
-use Rattle.kernel_model.specs.State.{State, Table, Threads, put_all}
+use Rattle.kernel_model.specs.State.{State, put_all}
 use Rattle.kernel_model.specs.Valid.{IsValid}
 use Rattle.kernel_model.proofs.Valids.{nearly_valid, end_nearly_valid, release_restores}
 use Rattle.kernel_core.specs.contracts.kernel.Kernel.{the_view}

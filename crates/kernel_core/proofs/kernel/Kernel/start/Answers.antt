@@ -1,7 +1,6 @@
-use Rattle.std.proofs.Common.{◌≡◌, ℕ, List, sym, ap, subst, ◌∙◌}
+use Rattle.std.proofs.Common.{◌≡◌, sym, ap, subst, ◌∙◌}
 use Rattle.std.specs.Ordering.{nat_cmp}
-use Rattle.std.specs.FinMap.{FinMap, insert, empty}
-use Rattle.abi_types.specs.declared.grant.Grant.{Grant}
+use Rattle.std.specs.FinMap.{insert, empty}
 use Rattle.kernel_core.specs.Objects.{Held}
 use Rattle.kernel_core.specs.Start.{granted_objects}
 use Rattle.kernel_model.specs.Start.{granted_table, start_state}

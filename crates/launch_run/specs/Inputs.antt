@@ -1,0 +1,33 @@
+-- Why the inputs of a run were not read, or spell no launch.
+use Rattle.std.specs.Prelude.{◌≡◌, ℕ, ⊤, List, Contains}
+use Rattle.abi_types.specs.Outside.Source.{Told, IsLongerThan}
+use Rattle.launch_run.specs.Launch.{Spelled, refuses, input_limit, IsToldAs}
+use Rattle.launch_run.specs.Lines.{too_long_line, program_line, launch_text_line}
+use Rattle.launch_run.specs.declared.lines.Refusal.{Refusal}
+use Rattle.launch_run.specs.declared.lines.Refusal.TheVariants.{Words, Input, TooLong, Program, LaunchText, Memory}
+
+-- why the input of this name was not read: a read failed, so that a fault was counted; it is longer than an input may
+-- be; or memory is wanting
+abbrev pub IsUnread : List ℕ → Told → Type 0 → Refusal → Type 0
+IsUnread name told rose (Input n) = (n.now ≡ name) × rose
+IsUnread name told rose (TooLong n) = (n.now ≡ name) × IsLongerThan input_limit told
+IsUnread name told rose Memory = ⊤
+IsUnread name told rose _ = ⊥
+
+-- why a program and a launch text give no launch
+abbrev pub IsNoLaunch : Spelled → Refusal → Type 0
+IsNoLaunch spelled Program = spelled ≡ refuses 67 program_line
+IsNoLaunch spelled LaunchText = spelled ≡ refuses 65 launch_text_line
+IsNoLaunch spelled Memory = ⊤
+IsNoLaunch spelled _ = ⊥
+
+-- why inputs of these names give no launch, of which this is spelled: one could not be read, so that a fault was
+-- counted; one is too long, or the program or the launch text is refused, where anything is told as it is spelled; or
+-- memory is wanting
+abbrev pub IsNoLaunchOf : List (List ℕ) → Spelled → Type 0 → Refusal → Type 0
+IsNoLaunchOf names spelled rose (Input n) = Contains names n.now × rose
+IsNoLaunchOf names spelled rose (TooLong n) = Contains names n.now × IsToldAs spelled (refuses 66 (too_long_line n.now))
+IsNoLaunchOf names spelled rose Program = IsToldAs spelled (refuses 67 program_line)
+IsNoLaunchOf names spelled rose LaunchText = IsToldAs spelled (refuses 65 launch_text_line)
+IsNoLaunchOf names spelled rose Memory = ⊤
+IsNoLaunchOf names spelled rose Words = ⊥

@@ -1,0 +1,120 @@
+-- What words and inputs spell: a launch, or the first refusal.
+use Rattle.std.specs.Prelude.{◌≡◌, ℕ, ◌⊎◌, ⊤, List, [], ◌∷◌, cond, length, nat_lt, Option, None, Some, Result, Ok, Err}
+use Rattle.abi_types.specs.Outside.Source.{Told, Untold, Lacking, Content}
+use Rattle.kernel_core.specs.declared.launch.Launch.{Launch}
+use Rattle.launch_run.specs.LaunchText.{is_launch_text, launch_grants, launch_argdata}
+use Rattle.launch_run.specs.Lines.{words_line, input_line, too_long_line, program_line, launch_text_line, line_of, status_of}
+use Rattle.launch_run.specs.Program.{program_at, image, IsProgram}
+use Rattle.launch_run.specs.Words.{program_of}
+use Rattle.launch_run.specs.declared.lines.Refusal.{Refusal}
+use Rattle.launch_run.specs.declared.lines.Refusal.TheVariants.{Input, TooLong, Memory}
+
+-- What is spelled: a launch; a refusal with its status and its line; or nothing that could be compared, where the
+-- source does not tell an input.
+pub data Spelled : Type 0 where
+  untold : Spelled
+  refuses : ℕ → List ℕ → Spelled
+  spells : Launch → Spelled
+
+-- the most bytes that an input may have
+abbrev pub input_limit : ℕ
+input_limit = 268_435_456
+
+-- the turns that a launch may take
+abbrev pub launch_turns : ℕ
+launch_turns = 100_000
+
+-- the launch of a program that begins to run at this address, under the one launch text
+abbrev pub launch_with : List ℕ → ℕ → Launch
+launch_with program entry = record {
+  elf = image program entry;
+  argdata = launch_argdata;
+  grants = launch_grants;
+  turns = launch_turns;
+}
+
+-- what a program and a launch text spell, where the program begins to run at an address, or is none
+abbrev pub spelled_at : List ℕ → List ℕ → Option ℕ → Spelled
+spelled_at program text None = refuses 67 program_line
+spelled_at program text (Some entry) = cond (is_launch_text text) (spells (launch_with program entry)) (refuses 65 launch_text_line)
+
+-- what the contents of the two inputs spell: first the program is looked at, then the launch text
+abbrev pub spelled_by : List ℕ → List ℕ → Spelled
+spelled_by program text = spelled_at program text (program_at program)
+
+-- what an input spells of which this is told, where what its bytes spell is given
+abbrev pub spelled_with : List ℕ → Told → (List ℕ → Spelled) → Spelled
+spelled_with name Untold next = untold
+spelled_with name Lacking next = refuses 66 (input_line name)
+spelled_with name (Content bytes) next = cond (nat_lt input_limit (length bytes)) (refuses 66 (too_long_line name)) (next bytes)
+
+-- the name of standard input, which has the launch text
+abbrev pub standard_input : List ℕ
+standard_input = 45 ∷ []
+
+-- what two inputs spell: the program, and then standard input
+abbrev pub inputs_spell : List ℕ → (List ℕ → Told) → Spelled
+inputs_spell name told =
+    spelled_with name (told name) (λ program.
+    spelled_with standard_input (told standard_input) (λ text. spelled_by program text))
+
+-- what the words spell that name this program, or none
+abbrev pub words_spell : Option (List ℕ) → (List ℕ → Told) → Spelled
+words_spell None told = refuses 2 words_line
+words_spell (Some name) told = inputs_spell name told
+
+-- What words spell, where this is told of each input: first the words are looked at, then the inputs in their order,
+-- then the program, then the launch text.
+abbrev pub launch_of : List (List ℕ) → (List ℕ → Told) → Spelled
+launch_of words told = words_spell (program_of words) told
+
+-- the inputs of words that name this program, or none
+abbrev pub inputs_with : Option (List ℕ) → List (List ℕ)
+inputs_with None = []
+inputs_with (Some name) = name ∷ standard_input ∷ []
+
+-- the names of the inputs that the words ask for, in their order
+abbrev pub inputs_of : List (List ℕ) → List (List ℕ)
+inputs_of words = inputs_with (program_of words)
+
+-- this is what is spelled, where anything is told of it
+abbrev pub IsToldAs : Spelled → Spelled → Type 0
+IsToldAs untold answer = ⊤
+IsToldAs (refuses status line) answer = refuses status line ≡ answer
+IsToldAs (spells launch) answer = spells launch ≡ answer
+
+-- a launch as this width has them: the image of a program, and what the one launch text stands for
+pub record IsBuiltLaunch (launch : Launch) : Type 0 where
+  pub program : List ℕ
+  pub is_program : IsProgram program launch.elf.entry
+  pub elf : launch.elf ≡ image program launch.elf.entry
+  pub argdata : launch.argdata ≡ launch_argdata
+  pub grants : launch.grants ≡ launch_grants
+  pub turns : launch.turns ≡ launch_turns
+
+-- the refusal is of an input that could not be read, with such a name
+abbrev pub IfInput : Refusal → (List ℕ → Type 0) → Type 0
+IfInput (Input name) P = P name.now
+IfInput _ P = ⊤
+
+-- the refusal is of an input that is too long, with such a name
+abbrev pub IfTooLong : Refusal → (List ℕ → Type 0) → Type 0
+IfTooLong (TooLong name) P = P name.now
+IfTooLong _ P = ⊤
+
+-- the refusal is of what the words and the inputs spell: it is no fault of reading and no want of memory
+abbrev pub IsOfTexts : Refusal → Type 0
+IsOfTexts (Input name) = ⊥
+IsOfTexts Memory = ⊥
+IsOfTexts _ = ⊤
+
+-- the refusal that is spelled, or want of memory
+abbrev pub IsRefusedAs : ℕ → List ℕ → Result Launch Refusal → Type 0
+IsRefusedAs status line (Ok launch) = ⊥
+IsRefusedAs status line (Err refusal) = (refusal ≡ Memory) ⊎ ((status_of refusal ≡ status) × (line_of refusal ≡ line))
+
+-- What is answered is what is spelled, where anything is told of it, or want of memory.
+abbrev pub AnswersSpelled : Spelled → Result Launch Refusal → Type 0
+AnswersSpelled untold result = ⊤
+AnswersSpelled (refuses status line) result = IsRefusedAs status line result
+AnswersSpelled (spells launch) result = (result ≡ Ok launch) ⊎ (result ≡ Err Memory)

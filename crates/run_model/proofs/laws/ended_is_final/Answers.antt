@@ -1,0 +1,8 @@
+use Rattle.run_model.proofs.Ends as ends
+use Rattle.run_model.proofs.laws.ended_is_final.Goals as goal
+
+pub returns-clause-ended : goal.returns-clause-ended
+returns-clause-ended c = ends.ended_is_final
+
+pub returns-clause-stalled : goal.returns-clause-stalled
+returns-clause-stalled c = ends.stalled_is_final

@@ -1,0 +1,70 @@
+-- What holds of every legal history: the statements that are the contracts of the functions of src/laws.rt.
+use Rattle.std.specs.Prelude.{◌≡◌, ◌≢◌, ◌⊎◌, ℕ, ◌+◌, ◌*◌, ◌≤◌, List, [], ◌∷◌, ◌++◌, length}
+use Rattle.kernel_core.specs.declared.history.Entry.{Entry}
+use Rattle.kernel_core.specs.declared.launch.Launch.{Launch}
+use Rattle.kernel_model.specs.Start.{AreGrants}
+use Rattle.kernel_model.specs.Valid.{IsValid}
+use Rattle.run_model.specs.Confined.{IsConfined}
+use Rattle.run_model.specs.Ends.{Ended, Stalled}
+use Rattle.run_model.specs.Legal.{Fits, Legal}
+use Rattle.run_model.specs.World.{World, guest_of, apply, world}
+
+-- ---- legal histories
+
+-- The empty history is legal.
+abbrev pub LegalBegins : Type 0
+LegalBegins = (launch : Launch) → Legal launch []
+
+-- An entry that fits the world of a legal history may follow it.
+abbrev pub LegalGoesOn : Type 0
+LegalGoesOn = (launch : Launch) (history : List Entry) (e : Entry) → Legal launch history → Fits (world launch history) e → Legal launch (history ++ e ∷ [])
+
+-- What stands before an entry of a legal history is legal, and the entry fits its world.
+abbrev pub EachEntryFits : Type 0
+EachEntryFits =
+    (launch : Launch) (front : List Entry) (e : Entry) (rest : List Entry) → Legal launch (front ++ e ∷ rest)
+    → Legal launch front × Fits (world launch front) e
+
+-- A legal history of a launch with proper grants is confined.
+abbrev pub LegalIsConfined : Type 0
+LegalIsConfined = (launch : Launch) (history : List Entry) → Legal launch history → AreGrants launch.grants → IsConfined launch history
+
+-- ---- worlds
+
+-- The kernel's state of each legal history is valid, if the launch's grants are proper.
+abbrev pub WorldIsValid : Type 0
+WorldIsValid = (launch : Launch) (history : List Entry) → AreGrants launch.grants → Legal launch history → IsValid (world launch history).state
+
+-- The clock of a legal history is at 1000 nanoseconds for each entry.
+abbrev pub ClockCounts : Type 0
+ClockCounts = (launch : Launch) (history : List Entry) → Legal launch history → (world launch history).state.clock ≡ 1000 * length history
+
+-- An entry leaves every other process's memory, registers and turns as they were.
+abbrev pub OthersStay : Type 0
+OthersStay = (w : World) (e : Entry) (q : ℕ) → q ≢ e.pid → guest_of (apply w e) q ≡ guest_of w q
+
+-- ---- ends
+
+-- A legal history has at most one entry more than the launch has turns.
+abbrev pub HistoryIsShort : Type 0
+HistoryIsShort = (launch : Launch) (history : List Entry) → Legal launch history → length history ≤ launch.turns + 1
+
+-- No entry may follow where the run is ended.
+abbrev pub EndedIsFinal : Type 0
+EndedIsFinal = (launch : Launch) (history : List Entry) (e : Entry) → Ended launch history → Fits (world launch history) e → ⊥
+
+-- No entry may follow where the run is stalled.
+abbrev pub StalledIsFinal : Type 0
+StalledIsFinal = (launch : Launch) (history : List Entry) (e : Entry) → Stalled launch history → Fits (world launch history) e → ⊥
+
+-- No run stalls, since no call makes a thread wait.
+abbrev pub NeverStalled : Type 0
+NeverStalled = (launch : Launch) (history : List Entry) → Legal launch history → Stalled launch history → ⊥
+
+-- The run of a legal history is ended, or some entry may follow.
+abbrev pub EndsOrGoesOn : Type 0
+EndsOrGoesOn = (launch : Launch) (history : List Entry) → Legal launch history → Ended launch history ⊎ ((e : Entry) × Fits (world launch history) e)
+
+-- Each launch has a legal history whose run is ended.
+abbrev pub RunsToItsEnd : Type 0
+RunsToItsEnd = (launch : Launch) → (history : List Entry) × Legal launch history × Ended launch history

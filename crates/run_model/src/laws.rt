@@ -1,0 +1,53 @@
+//! Laws of legal histories. The statements are in `specs/Laws.antt`, and each holds of every launch and history.
+ghost use Rattle.run_model.specs.Laws.{LegalBegins, LegalGoesOn, EachEntryFits, LegalIsConfined, WorldIsValid, ClockCounts};
+ghost use Rattle.run_model.specs.Laws.{OthersStay, HistoryIsShort, EndedIsFinal, StalledIsFinal, NeverStalled, EndsOrGoesOn, RunsToItsEnd};
+
+/// The empty history is legal, an entry that fits the world of a legal history may follow it, and no other history is
+/// legal: what stands before each entry of a legal history is legal, and the entry fits its world.
+pub fn legal_goes_on()
+    ensures begins { LegalBegins }
+    ensures more { LegalGoesOn }
+    ensures each { EachEntryFits }
+{}
+
+/// A legal history of a launch with proper grants is confined (`specs/Confined.antt`).
+pub fn legal_is_confined()
+    ensures { LegalIsConfined }
+{}
+
+/// The kernel's state of each legal history is valid, if the launch's grants are proper.
+pub fn world_is_valid()
+    ensures { WorldIsValid }
+{}
+
+/// The clock of a legal history is at 1000 nanoseconds for each entry.
+pub fn clock_counts()
+    ensures { ClockCounts }
+{}
+
+/// An entry leaves every other process's memory, registers and turns as they were.
+pub fn others_stay()
+    ensures { OthersStay }
+{}
+
+/// A legal history has at most one entry more than the launch has turns.
+pub fn history_is_short()
+    ensures { HistoryIsShort }
+{}
+
+/// No entry may follow where the run is ended or stalled.
+pub fn ended_is_final()
+    ensures ended { EndedIsFinal }
+    ensures stalled { StalledIsFinal }
+{}
+
+/// No run stalls, since no call makes a thread wait.
+pub fn never_stalled()
+    ensures { NeverStalled }
+{}
+
+/// A run that is not ended may go on, and each launch has a run that ends.
+pub fn runs_to_its_end()
+    ensures goes_on { EndsOrGoesOn }
+    ensures ends { RunsToItsEnd }
+{}
