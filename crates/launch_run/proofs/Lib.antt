@@ -5,6 +5,6 @@ pub mod Gathering
 pub mod Runs
 pub mod Entries
 pub mod Begins
-pub mod Texts
 pub mod TopCalls
+mod ReportTexts
 mod ReportLines

@@ -34,7 +34,7 @@ fn right_names(alloc: Global, rights: Rights) -> Result<Vec<&'static str>, Alloc
 }
 
 /// The names with commas between them, or `-` where there is none.
-#[tactic(auto, using(crate::proofs::Texts::listing))]
+#[tactic(auto, using(crate::proofs::ReportTexts::listing))]
 fn listed(alloc: Global, names: &[&str]) -> Result<String, AllocError>
     ensures { IfOk result (λ text. string_bytes text ≡ listed (map (λ name. name.now) names.now)) }
 {
@@ -82,7 +82,7 @@ fn denial_text(alloc: Global, denial: Denial) -> Result<String, AllocError>
 }
 
 /// A process and its thread.
-#[tactic(auto, using(crate::proofs::Texts::padded_eight))]
+#[tactic(auto, using(crate::proofs::ReportTexts::padded_eight))]
 fn thread_text(alloc: Global, pid: Pid, tid: Tid) -> Result<String, AllocError>
     ensures { IfOk result (λ text. string_bytes text ≡ thread_text pid tid) }
 {
@@ -138,7 +138,7 @@ fn denial_lines(alloc: Global, history: &[Entry]) -> Result<Vec<String>, AllocEr
 }
 
 /// Puts lines at the end, under a line with their number. `Err` may leave a part of it.
-#[tactic(auto, using(crate::proofs::Texts::counting))]
+#[tactic(auto, using(crate::proofs::ReportTexts::counting))]
 fn append_lines(alloc: Global, text: &mut Bytes, lines: &[String]) -> Result<(), AllocError>
     ensures { OnOk result (text.new ≡ text.old ++ counted (map string_bytes lines.now)) }
 {

@@ -3,7 +3,7 @@ use Rattle.std.proofs.lemmas.Result.{IfOk-weaker}
 use Rattle.std.specs.List.{filter}
 use Rattle.abi_types.specs.Rights.{has_all}
 use Rattle.launch_run.specs.Denials.{right_names}
-use Rattle.launch_run.proofs.Texts.{right_names_of}
+use Rattle.launch_run.proofs.ReportTexts.{right_names_of}
 use Rattle.launch_run.proofs.report.denials.right_names.Goals as goal
 
 pub returns : goal.returns
