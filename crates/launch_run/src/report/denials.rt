@@ -26,7 +26,7 @@ fn names_among(
         .collect(alloc)
 }
 
-/// The names of the rights in the set, in rising bit order.
+/// The names of the rights in the set, in rising bit order. A bit that is no right's has no name here.
 fn right_names(alloc: Global, rights: Rights) -> Result<Vec<&'static str>, AllocError>
     ensures { IfOk result (λ found. map (λ name. name.now) found.items ≡ right_names rights.0) }
 {
