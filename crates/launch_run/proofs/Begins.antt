@@ -1,6 +1,6 @@
 -- A run that has not begun stands at the start of its launch's world.
-use Rattle.std.proofs.Common.{◌≡◌, ℕ, ◌+◌, ◌*◌, ◌≤◌, List, [], refl, sym, ap, subst, ◌∙◌, arith}
-use Rattle.std.specs.FinMap.{empty, get}
+use Rattle.std.proofs.Common.{◌≡◌, ℕ, List, [], sym, ap, subst, ◌∙◌, arith}
+use Rattle.std.specs.FinMap.{empty}
 use Rattle.abi_types.specs.Registers.{Registers}
 use Rattle.kernel_core.specs.declared.history.Entry.{Entry}
 use Rattle.kernel_core.specs.declared.launch.Launch.{Launch}
@@ -11,7 +11,7 @@ use Rattle.run_model.specs.Legal.{Legal, AreWhole, IsRunnable}
 use Rattle.run_model.specs.World.{World, Guest, world, start_world, guest_of, registers_of, first_guest, first_registers, with_segments, turned_guest_by}
 use Rattle.run_model.proofs.Histories.{world_none, legal_none, first_guest_is, first_state, first_registers_are, first_thread}
 use Rattle.launch_run.specs.declared.run.Run.{Run}
-use Rattle.launch_run.specs.Run.{IsBounded, IsAt, IsBetween, GoesOn}
+use Rattle.launch_run.specs.Run.{IsBounded, IsBetween}
 
 -- a run with nothing done
 abbrev begun : Launch → State → Pages → Registers → List ℕ → List Entry → Run
@@ -23,7 +23,7 @@ pub begins : (launch : Launch) (kernel : State) (memory : Pages) (regs : Registe
 begins launch kernel memory regs turns history bounded state pages registers none fresh =
     let there : world launch history ≡ start_world launch = ap (world launch) fresh ∙ world_none launch in
     let now : turned_guest_by turns (guest_of (world launch history) 0) ≡ first_guest launch =
-        ap (λ (ts : List ℕ). turned_guest_by ts (guest_of (world launch history) 0)) none ∙ ap (λ (w : World). guest_of w 0) there ∙ first_guest_is launch in
+    ap (λ (ts : List ℕ). turned_guest_by ts (guest_of (world launch history) 0)) none ∙ ap (λ (w : World). guest_of w 0) there ∙ first_guest_is launch in
     let thread : IsRunnable kernel 0 1 = subst (λ (S : State). IsRunnable S 0 1) (first_state launch ∙ sym state) (first_thread launch) in
     let early : kernel.clock ≡ 0 = ap (λ (S : State). S.clock) state in
     record {

@@ -1,12 +1,12 @@
 -- How a run's parts follow its world as an entry comes.
-use Rattle.std.proofs.Common.{◌≡◌, ◌≢◌, ℕ, ◌+◌, ◌*◌, ◌≤◌, List, [], ◌∷◌, ◌++◌, Option, Some, Result, Ok, Err, OnOk, OnErr, refl, sym, ap, subst, ◌∙◌, arith}
+use Rattle.std.proofs.Common.{◌≡◌, ◌≢◌, ℕ, List, [], ◌∷◌, ◌++◌, Some, Result, Ok, Err, OnOk, OnErr, refl, sym, ap, subst, ◌∙◌, arith}
 use Rattle.std.specs.FinMap.{get}
 use Rattle.abi_types.specs.Registers.{Registers}
 use Rattle.abi_types.specs.declared.call.Answer.{Answer}
 use Rattle.abi_types.specs.declared.call.Answer.TheVariants as answer
 use Rattle.abi_types.specs.declared.call.Call.{Call}
 use Rattle.abi_types.specs.declared.status.Status.{Status}
-use Rattle.abi_types.specs.declared.status.Status.TheVariants.{Live, Killed}
+use Rattle.abi_types.specs.declared.status.Status.TheVariants.{Live}
 use Rattle.kernel_core.specs.declared.history.Act.{Act}
 use Rattle.kernel_core.specs.declared.history.Act.TheVariants as act
 use Rattle.kernel_core.specs.declared.history.Entry.{Entry}
@@ -15,9 +15,9 @@ use Rattle.kernel_model.specs.Step.{end_state, IsStep}
 use Rattle.rv_interp.specs.declared.turns.TurnEnd.TheVariants as turn_end_is
 use Rattle.rv_interp.specs.Page.{Pages}
 use Rattle.run_model.specs.Args.{args_of}
-use Rattle.run_model.specs.Legal.{Legal, Fits, FitsAct, AreWhole, LastEnds}
+use Rattle.run_model.specs.Legal.{Legal, Fits, FitsAct, AreWhole}
 use Rattle.run_model.specs.Put.{answered_of}
-use Rattle.run_model.specs.World.{World, Guest, world, apply, acted, turned, guest_of, registers_of, with_registers, turned_guest_by, called_state, called_guest}
+use Rattle.run_model.specs.World.{World, Guest, world, apply, acted, turned, guest_of, registers_of, turned_guest_by, called_state, called_guest}
 use Rattle.run_model.proofs.Calls.{called_is, ended_by, threads_stay, clock_moves}
 use Rattle.run_model.proofs.Histories.{world_more, legal_more, apply_is, guest_turned, guest_set, registers_set}
 use Rattle.launch_run.specs.declared.run.Run.{Run}
@@ -44,7 +44,7 @@ pub at_entry : (r : Run) (kernel : State) (memory : Pages) (regs : Registers) (l
 at_entry r kernel memory regs left turns history e at fits more none state same_memory same_regs same_left =
     let there : world r.launch history ≡ apply (world_now r) e = ap (world r.launch) more ∙ world_more r.launch r.history e in
     let now : turned_guest_by turns (guest_of (world r.launch history) 0) ≡ guest_of (apply (world_now r) e) 0 =
-        ap (λ (ts : List ℕ). turned_guest_by ts (guest_of (world r.launch history) 0)) none ∙ ap (λ (w : World). guest_of w 0) there in
+    ap (λ (ts : List ℕ). turned_guest_by ts (guest_of (world r.launch history) 0)) none ∙ ap (λ (w : World). guest_of w 0) there in
     record {
       bounded = at.bounded;
       legal = subst (Legal r.launch) (sym more) (legal_more r.launch r.history e at.legal fits);
@@ -106,15 +106,17 @@ module _ (r : Run) (moment : ℕ) (turns : List ℕ) (a : Act) (status : Status)
       → IsBetween (entered r kernel r.memory r.regs r.left none history) × ¬ (get kernel.statuses 0 ≡ Some Live)
   stop_between kernel none history state empty more fits =
       let dead : ¬ (get kernel.statuses 0 ≡ Some Live) =
-            λ live. ended_by r.kernel 0 status (not_live a status by) (ap (λ (S : State). get S.statuses 0) (sym state) ∙ live) in
-      (record {
-        at = at_entry r kernel r.memory r.regs r.left none history (entry_of moment turns a) at fits more empty (state ∙ sym stop_state)
-            (ap (λ (g : Guest). g.memory) stop_guest ∙ at.memory)
-            (ap (λ (g : Guest). registers_of g 1) stop_guest ∙ at.regs)
-            (ap (λ (g : Guest). g.left) stop_guest ∙ at.left);
-        whole = subst (AreWhole kernel 0 (guest_of (world r.launch history) 0)) (sym empty) tt;
-        goes_on = λ live. absurd (dead live);
-      }, dead)
+      λ live. ended_by r.kernel 0 status (not_live a status by) (ap (λ (S : State). get S.statuses 0) (sym state) ∙ live) in (
+        record {
+          at = at_entry r kernel r.memory r.regs r.left none history (entry_of moment turns a) at fits more empty (state ∙ sym stop_state)
+              (ap (λ (g : Guest). g.memory) stop_guest ∙ at.memory)
+              (ap (λ (g : Guest). registers_of g 1) stop_guest ∙ at.regs)
+              (ap (λ (g : Guest). g.left) stop_guest ∙ at.left);
+          whole = subst (AreWhole kernel 0 (guest_of (world r.launch history) 0)) (sym empty) tt;
+          goes_on = λ live. absurd (dead live);
+        },
+        dead,
+      )
 
 -- ---- a call
 

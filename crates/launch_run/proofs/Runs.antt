@@ -1,21 +1,15 @@
 -- How a run's parts follow its world as turns are taken and entries come.
-use Rattle.std.proofs.Common.{◌≡◌, ◌≢◌, ℕ, ◌+◌, ◌-◌, ◌*◌, ◌<◌, ◌≤◌, List, [], ◌∷◌, ◌++◌, Option, Some, refl, sym, ap, subst, ◌∙◌, arith}
-use Rattle.std.specs.Ordering.{nat_cmp}
-use Rattle.std.specs.FinMap.{FinMap, get, insert}
+use Rattle.std.proofs.Common.{◌≡◌, ℕ, ◌-◌, ◌<◌, List, [], ◌∷◌, ◌++◌, sym, ap, subst, ◌∙◌, arith}
 use Rattle.abi_types.specs.Registers.{Registers}
-use Rattle.abi_types.specs.declared.status.Status.TheVariants.{Live}
-use Rattle.abi_types.specs.declared.thread.Thread.TheVariants.{Runnable}
-use Rattle.kernel_model.specs.State.{State, Threads}
 use Rattle.number_map.specs.Maps.{get-insert-same}
 use Rattle.rv_interp.specs.declared.turns.TurnEnd.{TurnEnd}
 use Rattle.rv_interp.specs.declared.turns.TurnEnd.TheVariants as turn_end_is
 use Rattle.rv_interp.specs.Machine.{Turn, turn_of}
-use Rattle.rv_interp.specs.Page.{Pages}
 use Rattle.run_model.specs.Legal.{AreWhole, LastEnds, MayTurn}
 use Rattle.run_model.specs.World.{Guest, registers_of, or_no_registers, turned_guest, turned_guest_by, turn_end}
 use Rattle.run_model.proofs.Histories.{turned_more, whole_more}
 use Rattle.launch_run.specs.declared.run.Run.{Run}
-use Rattle.launch_run.specs.Run.{IsAt, IsBetween, IsStopped, IsLive, GoesOn, settled, turned_now}
+use Rattle.launch_run.specs.Run.{IsAt, GoesOn, settled, turned_now}
 
 -- the thread's registers after a turn
 turned_registers : (guest : Guest) (t : ℕ) → registers_of (turned_guest guest t) t ≡ (turn_of guest.memory (registers_of guest t)).regs

@@ -1,7 +1,6 @@
 -- What the record of an ended run is.
-use Rattle.std.proofs.Common.{◌≡◌, ◌≢◌, ℕ, List, Option, Some, sym, ap, subst, ◌∙◌}
+use Rattle.std.proofs.Common.{◌≡◌, ℕ, List, sym, ap, subst, ◌∙◌}
 use Rattle.std.specs.FinMap.{get}
-use Rattle.abi_types.specs.declared.status.Status.TheVariants.{Live}
 use Rattle.kernel_core.specs.declared.history.Entry.{Entry}
 use Rattle.kernel_core.specs.declared.history.Record.{Record}
 use Rattle.kernel_core.specs.declared.launch.Launch.{Launch}

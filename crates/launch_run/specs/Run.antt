@@ -1,5 +1,5 @@
 -- What a run's parts are at each moment of it: those of the world of its history.
-use Rattle.std.specs.Prelude.{◌≡◌, ◌⊎◌, ℕ, ◌+◌, ◌*◌, ◌<◌, ◌≤◌, List, length, Option, Some, None}
+use Rattle.std.specs.Prelude.{◌≡◌, ℕ, ◌+◌, ◌*◌, ◌≤◌, length, Option, Some, None}
 use Rattle.std.specs.FinMap.{get}
 use Rattle.std.specs.List.{All}
 use Rattle.abi_types.specs.declared.status.Status.{Status}
@@ -11,7 +11,7 @@ use Rattle.kernel_core.specs.declared.launch.Launch.{Launch}
 use Rattle.kernel_model.specs.Start.{AreGrants}
 use Rattle.rv_interp.specs.declared.turns.TurnEnd.{TurnEnd}
 use Rattle.run_model.specs.Legal.{Legal, AreWhole, LastEnds, IsRunnable}
-use Rattle.run_model.specs.World.{Guest, World, world, guest_of, registers_of, turned_guest_by}
+use Rattle.run_model.specs.World.{Guest, world, guest_of, registers_of, turned_guest_by}
 use Rattle.launch_run.specs.declared.run.Run.{Run}
 
 -- What a launch of the launcher keeps besides: its image is one page, its grants are of what is there, and it has at

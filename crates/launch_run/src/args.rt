@@ -93,7 +93,24 @@ fn read_range(memory: &Memory, at: u64) -> Option<Range>
 {
     let mut iovec = [0u8; 16];
     memory.read_bytes(at, &mut iovec).ok()?;
-    let [a0, a1, a2, a3, a4, a5, a6, a7, l0, l1, l2, l3, l4, l5, l6, l7] = iovec;
+    let [
+        a0,
+        a1,
+        a2,
+        a3,
+        a4,
+        a5,
+        a6,
+        a7,
+        l0,
+        l1,
+        l2,
+        l3,
+        l4,
+        l5,
+        l6,
+        l7,
+    ] = iovec;
     Some(Range {
         address: u64::from_le_bytes([a0, a1, a2, a3, a4, a5, a6, a7]),
         length: u64::from_le_bytes([l0, l1, l2, l3, l4, l5, l6, l7]),
@@ -101,7 +118,12 @@ fn read_range(memory: &Memory, at: u64) -> Option<Range>
 }
 
 /// The ranges that an array of iovecs names. `None` exactly where some of the array can't be read.
-fn read_ranges(alloc: Global, memory: &Memory, at: u64, count: u64) -> Result<Option<Vec<Range>>, AllocError>
+fn read_ranges(
+    alloc: Global,
+    memory: &Memory,
+    at: u64,
+    count: u64,
+) -> Result<Option<Vec<Range>>, AllocError>
     requires { count ≤ 1024 }
     ensures { IfOk result (λ found. option_map (λ v. map range_seen v.items) found ≡ result_ok (ranges_at memory.now at count)) }
 {

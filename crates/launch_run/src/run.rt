@@ -48,7 +48,12 @@ fn load(alloc: Global, segments: &[Segment]) -> Result<Memory, AllocError>
 {
     let mut memory = Memory::new(alloc);
     for segment in segments {
-        memory.map_page(alloc, segment.at / PAGE, segment.bytes.as_slice(), segment.prot)?;
+        memory.map_page(
+            alloc,
+            segment.at / PAGE,
+            segment.bytes.as_slice(),
+            segment.prot,
+        )?;
     }
     Ok(memory)
 }
@@ -168,7 +173,9 @@ impl Run {
         ensures history { result.history ≡ self.history }
     {
         let Run {
-            launch, history, ..
+            launch,
+            history,
+            ..
         } = self;
         Record { launch, history }
     }

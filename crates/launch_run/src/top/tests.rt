@@ -6,16 +6,24 @@ use std::alloc::{AllocError, Global};
 use std::test::Fail;
 
 // What the first program's report is.
-const REPORT: &str = "== stdout 6\nhello\n== stderr 0\n== status exit 0\n== run ended\n== denials 0\n== tree 0\n";
+const REPORT: &str =
+    "== stdout 6\nhello\n== stderr 0\n== status exit 0\n== run ended\n== denials 0\n== tree 0\n";
 
 // The report of a program that wrote nothing and exited with the error BADF, which is 8.
-const BADF_REPORT: &str = "== stdout 0\n== stderr 0\n== status exit 8\n== run ended\n== denials 0\n== tree 0\n";
+const BADF_REPORT: &str =
+    "== stdout 0\n== stderr 0\n== status exit 8\n== run ended\n== denials 0\n== tree 0\n";
 
 // The report of a program that wrote nothing and met an illegal instruction.
-const ILL_REPORT: &str = "== stdout 0\n== stderr 0\n== status signal 8 ILL\n== run ended\n== denials 0\n== tree 0\n";
+const ILL_REPORT: &str =
+    "== stdout 0\n== stderr 0\n== status signal 8 ILL\n== run ended\n== denials 0\n== tree 0\n";
 
 // Inputs with this program as `p`, and this launch text, of which the calls with these numbers fail.
-fn source(alloc: Global, program: &[u8], text: &[u8], failing: &[u64]) -> Result<MemSource, AllocError> {
+fn source(
+    alloc: Global,
+    program: &[u8],
+    text: &[u8],
+    failing: &[u64],
+) -> Result<MemSource, AllocError> {
     let mut source = MemSource::new(alloc, failing.to_vec(alloc)?);
     source.add("p", program)?;
     source.add("-", text)?;

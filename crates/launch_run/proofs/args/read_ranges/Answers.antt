@@ -1,7 +1,5 @@
-use Rattle.std.proofs.Common.{◌≡◌, ◌-◌, ◌<◌, ◌++◌, [], ◌∷◌, List, map, Option, Some, None, sym, ap, ◌∙◌, append-nil, arith}
+use Rattle.std.proofs.Common.{◌≡◌, ◌-◌, ◌<◌, ◌++◌, [], ◌∷◌, map, Some, sym, ap, ◌∙◌, append-nil, arith}
 use Rattle.std.proofs.lemmas.List.{map-append}
-use Rattle.std.specs.Result.{result_ok}
-use Rattle.run_model.specs.Args.{Range, ranges_at}
 use Rattle.launch_run.specs.Ranges.{range_seen}
 use Rattle.launch_run.proofs.Gathering.{after_front, ranges_none, ranges_fault, ranges_next}
 use Rattle.launch_run.proofs.args.read_ranges.Goals as goal
@@ -14,7 +12,7 @@ returns-in_default c =
 pub loop-preserved : goal.loop-preserved
 loop-preserved c =
     let ranges : map range_seen c.push.new.self.items ≡ map range_seen c.loop.ranges.items ++ range_seen c.in-Some.range ∷ [] =
-        ap (map range_seen) c.in_ok-push.ensures.items ∙ map-append range_seen c.loop.ranges.items (c.in-Some.range ∷ []) in
+    ap (map range_seen) c.in_ok-push.ensures.items ∙ map-append range_seen c.loop.ranges.items (c.in-Some.range ∷ []) in
     rw ranges (sym (ranges_next (map range_seen c.loop.ranges.items) (range_seen c.in-Some.range) c.args.memory.now c.loop.next c.args.count c.loop.counter c.loop-test.true c.in-Some.ensures) ∙ c.loop.invariant)
 
 pub returns : goal.returns

@@ -1,5 +1,4 @@
-use Rattle.std.proofs.Common.{◌<◌, sym, ◌∙◌, arith}
-use Rattle.launch_run.specs.Run.{IsBetween}
+use Rattle.std.proofs.Common.{◌∙◌, arith}
 use Rattle.launch_run.proofs.Runs.{at_turn, goes_on_turn, last_turn, whole_turn}
 use Rattle.launch_run.proofs.run.Run.round.Goals as goal
 

@@ -17,7 +17,7 @@ returns-clause-ok c =
     let a = (goal.at.returns-clause-ok c).After-push in
     on_ok_weaker _
     (λ more. stop_between c.args.self.now c.moment.result c.replace-turns.result c.args.act c.args.status c.replace-turns.ensures.value c.requires.status c.requires.at
-      c.end.new.self c.replace-turns.new.dest c.push.new.self c.end.ensures.end (c.replace-turns.ensures.after ∙ c.new.ensures) more (fits a))
+    c.end.new.self c.replace-turns.new.dest c.push.new.self c.end.ensures.end (c.replace-turns.ensures.after ∙ c.new.ensures) more (fits a))
     c.push.ensures.ok
 
 pub returns-clause-legal : goal.returns-clause-legal
