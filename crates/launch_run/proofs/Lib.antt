@@ -6,5 +6,6 @@ pub mod Runs
 pub mod Entries
 pub mod Begins
 pub mod TopCalls
+pub mod TopClauses
 mod ReportTexts
 mod ReportLines

@@ -1,20 +1,31 @@
 -- What the top call answers and writes. The words are those of its caller; what a source tells of its inputs and what a
 -- sink tells of its bytes are as the traits say (a source or a sink may tell nothing). A count of faults rose in a call
 -- where it is greater afterwards, or stands at its last value.
-use Rattle.std.specs.Prelude.{◌≡◌, ◌⊎◌, ◌==◌, ℕ, List, Option, None, Some, IfSome, if◌then◌else◌}
+use Rattle.std.specs.Prelude.{◌≡◌, ◌≢◌, ◌⊎◌, ◌↔◌, ◌==◌, ⊤, ℕ, List, length, Option, None, Some, Ok, Err, IfSome, Contains, if◌then◌else◌}
 use Rattle.std.specs.FinMap.{get}
 use Rattle.abi_types.specs.Outside.Sink.{grown, GrewByPrefix}
+use Rattle.abi_types.specs.Outside.Source.{Told}
 use Rattle.abi_types.specs.declared.status.Status.{Status}
 use Rattle.abi_types.specs.declared.status.Status.TheVariants.{Live, Exit, Killed}
 use Rattle.kernel_core.specs.declared.history.Record.{Record}
 use Rattle.kernel_core.specs.declared.launch.Launch.{Launch}
+use Rattle.kernel_model.specs.Start.{AreGrants}
 use Rattle.kernel_model.specs.State.{State}
+use Rattle.run_model.specs.Confined.{IsConfined}
 use Rattle.run_model.specs.Ends.{Ended}
 use Rattle.run_model.specs.Legal.{Legal}
 use Rattle.run_model.specs.World.{world}
+use Rattle.launch_run.specs.Launch.{Spelled, untold, refuses, spells, launch_of, inputs_of, IsToldAs, IsBuiltLaunch, IfInput, IfTooLong, IsOfTexts, AnswersSpelled}
+use Rattle.launch_run.specs.Lines.{line_of, status_of, memory_line, input_line, too_long_line}
 use Rattle.launch_run.specs.Report.{report_of}
+use Rattle.launch_run.specs.Words.{program_of}
+use Rattle.launch_run.specs.declared.lines.Refusal.{Refusal}
+use Rattle.launch_run.specs.declared.lines.Refusal.TheVariants.{Words}
+use Rattle.launch_run.specs.declared.top.Finished.{Finished}
 use Rattle.launch_run.specs.declared.top.RunEnd.{RunEnd}
 use Rattle.launch_run.specs.declared.top.RunEnd.TheVariants.{Reported, Unwritten, NoMemory}
+use Rattle.launch_run.specs.declared.top.TopEnd.{TopEnd}
+use Rattle.launch_run.specs.declared.top.TopEnd.TheVariants.{Refused, Ran}
 
 -- the text was written whole, or a front of it where the sink's count of faults rose
 abbrev pub Wrote : Option (List ℕ) → Option (List ℕ) → Type 0 → List ℕ → Type 0
@@ -47,3 +58,95 @@ IsEndOf launch before after rose (Reported r status) =
     IsRecordOf launch r × Ended r.launch r.history × (status ≡ get (state_of r).statuses 0) × (after ≡ grown before (record_report r))
 IsEndOf launch before after rose (Unwritten r) = IsRecordOf launch r × Ended r.launch r.history × rose × GrewByPrefix before after (record_report r)
 IsEndOf launch before after rose (NoMemory r) = IfSome r (IsRecordOf launch) × (after ≡ before)
+
+-- the same once the line that says so was written for want of memory
+abbrev pub IsToldEnd : Launch → Option (List ℕ) → Option (List ℕ) → Type 0 → RunEnd → Type 0
+IsToldEnd launch before after rose (Reported r status) = IsEndOf launch before after rose (Reported r status)
+IsToldEnd launch before after rose (Unwritten r) = IsEndOf launch before after rose (Unwritten r)
+IsToldEnd launch before after rose (NoMemory r) = IfSome r (IsRecordOf launch) × Wrote before after rose memory_line
+
+-- what is written after a run's end: the line for want of memory, and else nothing
+abbrev pub TellsEnd : Option (List ℕ) → Option (List ℕ) → Type 0 → RunEnd → Type 0
+TellsEnd before after rose (Reported r status) = after ≡ before
+TellsEnd before after rose (Unwritten r) = after ≡ before
+TellsEnd before after rose (NoMemory r) = Wrote before after rose memory_line
+
+-- ---- the whole call, for these words, what the source tells of each input, and whether its count of faults rose
+
+-- a refusal, which is the first that the words and the inputs spell, where anything is told of it
+pub record IsRefusalOf (words : List (List ℕ)) (told : List ℕ → Told) (rose : Type 0) (refusal : Refusal) : Type 0 where
+  pub words_refused : (refusal ≡ Words) ↔ (program_of words ≡ None)
+  pub input : IfInput refusal (λ name. Contains (inputs_of words) name × rose)
+  pub too_long : IfTooLong refusal (Contains (inputs_of words))
+  pub refused : IsOfTexts refusal → IsToldAs (launch_of words told) (refuses (status_of refusal) (line_of refusal))
+  pub complete : ¬ rose → AnswersSpelled (launch_of words told) (Err refusal)
+
+-- a run of the launch that the words and the inputs spell, where anything is told of it
+pub record IsRunOf (words : List (List ℕ)) (told : List ℕ → Told) (rose : Type 0) (before after : Option (List ℕ)) (sink_rose : Type 0) (end : RunEnd) : Type 0 where
+  pub launch : Launch
+  pub words_taken : program_of words ≢ None
+  pub spelled : IsToldAs (launch_of words told) (spells launch)
+  pub built : IsBuiltLaunch launch
+  pub grants : AreGrants launch.grants
+  pub complete : ¬ rose → AnswersSpelled (launch_of words told) (Ok launch)
+  pub end_told : IsToldEnd launch before after sink_rose end
+
+-- how the call ended
+abbrev pub IsTopEnd : List (List ℕ) → (List ℕ → Told) → Type 0 → Option (List ℕ) → Option (List ℕ) → Type 0 → TopEnd → Type 0
+IsTopEnd words told rose before after sink_rose (Refused refusal) = IsRefusalOf words told rose refusal × Wrote before after sink_rose (line_of refusal)
+IsTopEnd words told rose before after sink_rose (Ran end) = IsRunOf words told rose before after sink_rose end
+
+-- the record that is kept for want of memory: that of a run which had an entry
+abbrev pub kept_of : Option Record → Option Record
+kept_of None = None
+kept_of (Some r) = if length r.history == 0 then None else Some r
+
+-- what the call answers for each end
+abbrev pub finished_run : RunEnd → Finished
+finished_run (Reported r status) = record { status = status_number status; kept = Some r }
+finished_run (Unwritten r) = record { status = 69; kept = Some r }
+finished_run (NoMemory r) = record { status = 70; kept = kept_of r }
+
+abbrev pub finished_of : TopEnd → Finished
+finished_of (Refused refusal) = record { status = status_of refusal; kept = None }
+finished_of (Ran end) = finished_run end
+
+-- ---- the clauses of the call, by its answer
+
+-- one of the statuses that the call may answer
+abbrev pub IsTopStatus : ℕ → Type 0
+IsTopStatus status =
+    (status ≡ 0) ⊎ (status ≡ 1) ⊎ (status ≡ 2) ⊎ (status ≡ 65) ⊎ (status ≡ 66) ⊎ (status ≡ 67) ⊎ (status ≡ 69) ⊎ (status ≡ 70)
+
+-- An input could not be read, and the source's count of faults rose; or an input is too long, as it is spelled, where
+-- anything is told of it. The line names the input.
+abbrev pub IsInputRefused : List (List ℕ) → (List ℕ → Told) → Type 0 → (List ℕ → Type 0) → Type 0
+IsInputRefused words told rose wrote =
+    (name : List ℕ) × Contains (inputs_of words) name
+    × ((rose × wrote (input_line name)) ⊎ (IsToldAs (launch_of words told) (refuses 66 (too_long_line name)) × wrote (too_long_line name)))
+
+-- the run of the record has ended, the status is that of its process 0, and exactly its report was written
+pub record HasReported (before after : Option (List ℕ)) (status : ℕ) (r : Record) : Type 0 where
+  pub ended : Ended r.launch r.history
+  pub status_is : status ≡ status_number (get (state_of r).statuses 0)
+  pub written : after ≡ grown before (record_report r)
+
+-- the run of the record has ended, and a front of its report was written
+pub record HasFailed (before after : Option (List ℕ)) (r : Record) : Type 0 where
+  pub ended : Ended r.launch r.history
+  pub front : GrewByPrefix before after (record_report r)
+
+-- What every record that is kept is: its history is legal, each entry is confined to what its process's descriptors
+-- reach with the rights needed, and its launch is the one that is spelled, where anything is told of it.
+pub record IsKept (spelled : Spelled) (r : Record) : Type 0 where
+  pub legal : Legal r.launch r.history
+  pub confined : IsConfined r.launch r.history
+  pub launch_spelled : IsToldAs spelled (spells r.launch)
+  pub built : IsBuiltLaunch r.launch
+
+-- Where the source's count of faults did not rise, a refusal that is spelled is answered, and a launch that is spelled is
+-- run to its report where the sink's count did not rise; or memory was wanting.
+abbrev pub Completes : Spelled → Type 0 → ℕ → Type 0
+Completes untold sink_rose status = ⊤
+Completes (refuses refused line) sink_rose status = (status ≡ refused) ⊎ (status ≡ 70)
+Completes (spells launch) sink_rose status = ¬ sink_rose → (status ≡ 0) ⊎ (status ≡ 1) ⊎ (status ≡ 70)

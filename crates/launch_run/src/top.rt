@@ -1,11 +1,12 @@
 //! The top call: from the words of a command line to a status, a record, and what is written.
-ghost use Rattle.std.specs.Prelude.{◌≡◌, ◌≤◌, None, map, string_bytes, All};
+ghost use Rattle.std.specs.Prelude.{◌≡◌, ◌≢◌, ◌⊎◌, ◌↔◌, ◌≤◌, ℕ, List, [], None, IsSome, IfSome, IsSomeAnd, map, string_bytes, All};
 ghost use Rattle.abi_types.specs.Outside.Source.{Rose};
-ghost use Rattle.launch_run.specs.Launch.{inputs_of};
-ghost use Rattle.launch_run.specs.Lines.{status_of, line_of};
+ghost use Rattle.launch_run.specs.Launch.{launch_of, inputs_of, refuses, IsToldAs};
+ghost use Rattle.launch_run.specs.Lines.{line_of, words_line, program_line, launch_text_line, memory_line};
 ghost use Rattle.launch_run.specs.Report.{report_of};
 ghost use Rattle.launch_run.specs.Run.{IsBounded, IsBetween, IsLive};
-ghost use Rattle.launch_run.specs.TopCall.{Wrote, IsEndOf, status_number};
+ghost use Rattle.launch_run.specs.Words.{program_of};
+ghost use Rattle.launch_run.specs.TopCall.{Wrote, IsEndOf, IsToldEnd, TellsEnd, IsTopEnd, IsTopStatus, IsInputRefused, HasReported, HasFailed, IsKept, Completes, status_number, kept_of, finished_run, finished_of};
 
 use crate::inputs::read_launch;
 use crate::lines::Refusal;
@@ -82,22 +83,87 @@ fn run_launched<K: Sink>(alloc: Global, launch: Launch, sink: &mut K) -> RunEnd
     }
 }
 
-/// Writes a refusal's line. A fault of the sink changes nothing of the status.
-fn refuse<K: Sink>(refusal: &Refusal<'_>, sink: &mut K) -> Finished
+/// Says that memory was wanting, where it was. A fault of the sink changes nothing of the end.
+fn tell_end<K: Sink>(end: &RunEnd, sink: &mut K)
     ensures faults_never_fall { K.faults sink.old ≤ K.faults sink.new }
-    ensures status { result.status ≡ status_of refusal.now }
-    ensures kept { result.kept ≡ None }
-    ensures wrote { Wrote (K.written sink.old) (K.written sink.new) (Rose (K.faults sink.old) (K.faults sink.new)) (line_of refusal.now) }
+    ensures told { TellsEnd (K.written sink.old) (K.written sink.new) (Rose (K.faults sink.old) (K.faults sink.new)) end.now }
 {
-    let _ = refusal.write_line(sink);
-    Finished {
-        status: refusal.status(),
-        kept: None,
+    match end {
+        RunEnd::Reported(..) | RunEnd::Unwritten(_) => {}
+        RunEnd::NoMemory(_) => refuse(&Refusal::Memory, sink),
     }
 }
 
-/// The answer for a run that came to this end; for want of memory the line that says so is written.
-fn finish<K: Sink>(end: RunEnd, sink: &mut K) -> Finished {
+/// Writes a refusal's line. A fault of the sink changes nothing of the status.
+fn refuse<K: Sink>(refusal: &Refusal<'_>, sink: &mut K)
+    ensures faults_never_fall { K.faults sink.old ≤ K.faults sink.new }
+    ensures wrote { Wrote (K.written sink.old) (K.written sink.new) (Rose (K.faults sink.old) (K.faults sink.new)) (line_of refusal.now) }
+{
+    let _ = refusal.write_line(sink);
+}
+
+/// Runs a launch to its end, and writes its report, or the line for want of memory.
+fn run_told<K: Sink>(alloc: Global, launch: Launch, sink: &mut K) -> RunEnd
+    requires { IsBounded launch }
+    ensures faults_never_fall { K.faults sink.old ≤ K.faults sink.new }
+    ensures end { IsToldEnd launch (K.written sink.old) (K.written sink.new) (Rose (K.faults sink.old) (K.faults sink.new)) result }
+{
+    let end = run_launched(alloc, launch, sink);
+    tell_end(&end, sink);
+    end
+}
+
+/// How the call ended.
+#[derive(Drop)]
+pub enum TopEnd<'a> {
+    /// No run began.
+    Refused(Refusal<'a>),
+    /// A run came to this end.
+    Ran(RunEnd),
+}
+
+/// Reads the launch, runs it, and writes its report, or the line of a refusal.
+fn launch_and_run<'a, S: Source, K: Sink>(
+    alloc: Global,
+    words: &'a [String],
+    source: &mut S,
+    sink: &mut K,
+) -> TopEnd<'a>
+    requires { All (S.may_read source.old) (inputs_of (map string_bytes words.now)) }
+    ensures told_stays { (n : List ℕ) → S.told source.new n ≡ S.told source.old n }
+    ensures source_faults { S.faults source.old ≤ S.faults source.new }
+    ensures sink_faults { K.faults sink.old ≤ K.faults sink.new }
+    ensures end { IsTopEnd (map string_bytes words.now) (S.told source.old) (Rose (S.faults source.old) (S.faults source.new)) (K.written sink.old) (K.written sink.new) (Rose (K.faults sink.old) (K.faults sink.new)) result }
+{
+    match read_launch(alloc, words, source) {
+        Ok(launch) => TopEnd::Ran(run_told(alloc, launch, sink)),
+        Err(refusal) => {
+            refuse(&refusal, sink);
+            TopEnd::Refused(refusal)
+        }
+    }
+}
+
+/// The record of a run that had an entry.
+fn kept_of(kept: Option<Record>) -> Option<Record>
+    ensures { result ≡ kept_of kept }
+{
+    match kept {
+        None => None,
+        Some(kept) => {
+            if kept.history.len() == 0 {
+                None
+            } else {
+                Some(kept)
+            }
+        }
+    }
+}
+
+/// What the call answers for the end of a run.
+fn finished_run(end: RunEnd) -> Finished
+    ensures { result ≡ finished_run end }
+{
     match end {
         RunEnd::Reported(record, status) => Finished {
             status: status_number(status),
@@ -107,17 +173,32 @@ fn finish<K: Sink>(end: RunEnd, sink: &mut K) -> Finished {
             status: 69,
             kept: Some(record),
         },
-        RunEnd::NoMemory(record) => {
-            let _ = Refusal::Memory.write_line(sink);
-            Finished {
-                status: 70,
-                kept: record.filter(|record| record.history.len() != 0),
-            }
-        }
+        RunEnd::NoMemory(record) => Finished {
+            status: 70,
+            kept: kept_of(record),
+        },
+    }
+}
+
+/// What the call answers.
+fn finish(end: TopEnd<'_>) -> Finished
+    ensures { result ≡ finished_of end.entry }
+{
+    match end {
+        TopEnd::Refused(refusal) => Finished {
+            status: refusal.status(),
+            kept: None,
+        },
+        TopEnd::Ran(end) => finished_run(end),
     }
 }
 
 /// Runs the program that the words name on the launch text of standard input, and writes its report.
+///
+/// The status is 0 where the run ended and process 0 exited with 0, 1 where it ended otherwise, 2 for faulty words, 65
+/// for a launch text and 67 for a program that is refused, 66 for an input that can't be read or is too long, 69 where
+/// the sink failed while the report was written, and 70 for want of memory. What a refusal writes is its line, or a
+/// front of it where the sink failed.
 pub fn run_launch<S: Source, K: Sink>(
     alloc: Global,
     words: &[String],
@@ -125,14 +206,36 @@ pub fn run_launch<S: Source, K: Sink>(
     sink: &mut K,
 ) -> Finished
     requires { All (S.may_read source.old) (inputs_of (map string_bytes words.now)) }
+
+    // The counts of faults never fall, and what the source tells stays.
+    ensures told_stays { (n : List ℕ) → S.told source.new n ≡ S.told source.old n }
+    ensures source_faults { S.faults source.old ≤ S.faults source.new }
+    ensures sink_faults { K.faults sink.old ≤ K.faults sink.new }
+
+    // When each status comes, and what is written for it.
+    ensures statuses { IsTopStatus result.status }
+    ensures words { (result.status ≡ 2) ↔ (program_of (map string_bytes words.now) ≡ None) }
+    ensures words_line { result.status ≡ 2 → Wrote (K.written sink.old) (K.written sink.new) (Rose (K.faults sink.old) (K.faults sink.new)) words_line }
+    ensures input { result.status ≡ 66 → IsInputRefused (map string_bytes words.now) (S.told source.old) (Rose (S.faults source.old) (S.faults source.new))
+        (Wrote (K.written sink.old) (K.written sink.new) (Rose (K.faults sink.old) (K.faults sink.new))) }
+    ensures program { result.status ≡ 67 → IsToldAs (launch_of (map string_bytes words.now) (S.told source.old)) (refuses 67 program_line)
+        × Wrote (K.written sink.old) (K.written sink.new) (Rose (K.faults sink.old) (K.faults sink.new)) program_line }
+    ensures launch_text { result.status ≡ 65 → IsToldAs (launch_of (map string_bytes words.now) (S.told source.old)) (refuses 65 launch_text_line)
+        × Wrote (K.written sink.old) (K.written sink.new) (Rose (K.faults sink.old) (K.faults sink.new)) launch_text_line }
+    ensures memory { result.status ≡ 70 → Wrote (K.written sink.old) (K.written sink.new) (Rose (K.faults sink.old) (K.faults sink.new)) memory_line
+        × IfSome result.kept (λ r. r.history ≢ []) }
+    ensures ended { (result.status ≡ 0) ⊎ (result.status ≡ 1) → IsSomeAnd result.kept (HasReported (K.written sink.old) (K.written sink.new) result.status) }
+    ensures unwritten { result.status ≡ 69 → Rose (K.faults sink.old) (K.faults sink.new) × IsSomeAnd result.kept (HasFailed (K.written sink.old) (K.written sink.new)) }
+
+    // What is kept.
+    ensures kept { IfSome result.kept (IsKept (launch_of (map string_bytes words.now) (S.told source.old))) }
+    ensures none_kept { IsSome result.kept → (result.status ≡ 0) ⊎ (result.status ≡ 1) ⊎ (result.status ≡ 69) ⊎ (result.status ≡ 70) }
+
+    // What is spelled is answered where no fault came.
+    ensures complete { ¬ Rose (S.faults source.old) (S.faults source.new)
+        → Completes (launch_of (map string_bytes words.now) (S.told source.old)) (Rose (K.faults sink.old) (K.faults sink.new)) result.status }
 {
-    match read_launch(alloc, words, source) {
-        Ok(launch) => {
-            let end = run_launched(alloc, launch, sink);
-            finish(end, sink)
-        }
-        Err(refusal) => refuse(&refusal, sink),
-    }
+    finish(launch_and_run(alloc, words, source, sink))
 }
 
 #[cfg(test)]
