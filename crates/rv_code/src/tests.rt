@@ -384,7 +384,7 @@ const RESULTS: [(Op, [u64; 6]); 41] = [
 /// Words that the GNU assembler gives, with the operation, the registers rd, rs1 and rs2, and the immediate.
 const WORDS: [(u32, Op, [u32; 3], i64); 89] = [
     (0x8000_05b7, Op::Lui, [11, 0, 0], -2147483648), // lui a1, 0x80000
-    (0x1234_5f97, Op::Auipc, [31, 0, 0], 305418240), // auipc t6, 0x12345
+    (0x1234_5f97, Op::Auipc, [31, 0, 0], 305418240), // auipc x31, 0x12345
     (0x8000_00ef, Op::Jal, [1, 0, 0], -1048576), // jal ra, .-0x100000
     (0x7fef_f06f, Op::Jal, [0, 0, 0], 1046526), // jal x0, .+0xff7fe
     (0x8005_8567, Op::Jalr, [10, 11, 0], -2048), // jalr a0, -2048(a1)
@@ -418,34 +418,34 @@ const WORDS: [(u32, Op, [u32; 3], i64); 89] = [
     (0x01f4_941b, Op::Slliw, [8, 9, 0], 31), // slliw s0, s1, 31
     (0x0104_d41b, Op::Srliw, [8, 9, 0], 16), // srliw s0, s1, 16
     (0x4014_d41b, Op::Sraiw, [8, 9, 0], 1), // sraiw s0, s1, 1
-    (0x01bf_8533, Op::Add, [10, 31, 27], 0), // add a0, t6, s11
-    (0x41bf_8533, Op::Sub, [10, 31, 27], 0), // sub a0, t6, s11
-    (0x01bf_9533, Op::Sll, [10, 31, 27], 0), // sll a0, t6, s11
-    (0x01bf_a533, Op::Slt, [10, 31, 27], 0), // slt a0, t6, s11
-    (0x01bf_b533, Op::Sltu, [10, 31, 27], 0), // sltu a0, t6, s11
-    (0x01bf_c533, Op::Xor, [10, 31, 27], 0), // xor a0, t6, s11
-    (0x01bf_d533, Op::Srl, [10, 31, 27], 0), // srl a0, t6, s11
-    (0x41bf_d533, Op::Sra, [10, 31, 27], 0), // sra a0, t6, s11
-    (0x01bf_e533, Op::Or, [10, 31, 27], 0), // or a0, t6, s11
-    (0x01bf_f533, Op::And, [10, 31, 27], 0), // and a0, t6, s11
-    (0x03bf_8533, Op::Mul, [10, 31, 27], 0), // mul a0, t6, s11
-    (0x03bf_9533, Op::Mulh, [10, 31, 27], 0), // mulh a0, t6, s11
-    (0x03bf_a533, Op::Mulhsu, [10, 31, 27], 0), // mulhsu a0, t6, s11
-    (0x03bf_b533, Op::Mulhu, [10, 31, 27], 0), // mulhu a0, t6, s11
-    (0x03bf_c533, Op::Div, [10, 31, 27], 0), // div a0, t6, s11
-    (0x03bf_d533, Op::Divu, [10, 31, 27], 0), // divu a0, t6, s11
-    (0x03bf_e533, Op::Rem, [10, 31, 27], 0), // rem a0, t6, s11
-    (0x03bf_f533, Op::Remu, [10, 31, 27], 0), // remu a0, t6, s11
-    (0x01bf_853b, Op::Addw, [10, 31, 27], 0), // addw a0, t6, s11
-    (0x41bf_853b, Op::Subw, [10, 31, 27], 0), // subw a0, t6, s11
-    (0x01bf_953b, Op::Sllw, [10, 31, 27], 0), // sllw a0, t6, s11
-    (0x01bf_d53b, Op::Srlw, [10, 31, 27], 0), // srlw a0, t6, s11
-    (0x41bf_d53b, Op::Sraw, [10, 31, 27], 0), // sraw a0, t6, s11
-    (0x03bf_853b, Op::Mulw, [10, 31, 27], 0), // mulw a0, t6, s11
-    (0x03bf_c53b, Op::Divw, [10, 31, 27], 0), // divw a0, t6, s11
-    (0x03bf_d53b, Op::Divuw, [10, 31, 27], 0), // divuw a0, t6, s11
-    (0x03bf_e53b, Op::Remw, [10, 31, 27], 0), // remw a0, t6, s11
-    (0x03bf_f53b, Op::Remuw, [10, 31, 27], 0), // remuw a0, t6, s11
+    (0x01bf_8533, Op::Add, [10, 31, 27], 0), // add a0, x31, s11
+    (0x41bf_8533, Op::Sub, [10, 31, 27], 0), // sub a0, x31, s11
+    (0x01bf_9533, Op::Sll, [10, 31, 27], 0), // sll a0, x31, s11
+    (0x01bf_a533, Op::Slt, [10, 31, 27], 0), // slt a0, x31, s11
+    (0x01bf_b533, Op::Sltu, [10, 31, 27], 0), // sltu a0, x31, s11
+    (0x01bf_c533, Op::Xor, [10, 31, 27], 0), // xor a0, x31, s11
+    (0x01bf_d533, Op::Srl, [10, 31, 27], 0), // srl a0, x31, s11
+    (0x41bf_d533, Op::Sra, [10, 31, 27], 0), // sra a0, x31, s11
+    (0x01bf_e533, Op::Or, [10, 31, 27], 0), // or a0, x31, s11
+    (0x01bf_f533, Op::And, [10, 31, 27], 0), // and a0, x31, s11
+    (0x03bf_8533, Op::Mul, [10, 31, 27], 0), // mul a0, x31, s11
+    (0x03bf_9533, Op::Mulh, [10, 31, 27], 0), // mulh a0, x31, s11
+    (0x03bf_a533, Op::Mulhsu, [10, 31, 27], 0), // mulhsu a0, x31, s11
+    (0x03bf_b533, Op::Mulhu, [10, 31, 27], 0), // mulhu a0, x31, s11
+    (0x03bf_c533, Op::Div, [10, 31, 27], 0), // div a0, x31, s11
+    (0x03bf_d533, Op::Divu, [10, 31, 27], 0), // divu a0, x31, s11
+    (0x03bf_e533, Op::Rem, [10, 31, 27], 0), // rem a0, x31, s11
+    (0x03bf_f533, Op::Remu, [10, 31, 27], 0), // remu a0, x31, s11
+    (0x01bf_853b, Op::Addw, [10, 31, 27], 0), // addw a0, x31, s11
+    (0x41bf_853b, Op::Subw, [10, 31, 27], 0), // subw a0, x31, s11
+    (0x01bf_953b, Op::Sllw, [10, 31, 27], 0), // sllw a0, x31, s11
+    (0x01bf_d53b, Op::Srlw, [10, 31, 27], 0), // srlw a0, x31, s11
+    (0x41bf_d53b, Op::Sraw, [10, 31, 27], 0), // sraw a0, x31, s11
+    (0x03bf_853b, Op::Mulw, [10, 31, 27], 0), // mulw a0, x31, s11
+    (0x03bf_c53b, Op::Divw, [10, 31, 27], 0), // divw a0, x31, s11
+    (0x03bf_d53b, Op::Divuw, [10, 31, 27], 0), // divuw a0, x31, s11
+    (0x03bf_e53b, Op::Remw, [10, 31, 27], 0), // remw a0, x31, s11
+    (0x03bf_f53b, Op::Remuw, [10, 31, 27], 0), // remuw a0, x31, s11
     (0x1405_a52f, Op::LrW, [10, 11, 0], 0), // lr.w.aq a0, (a1)
     (0x1ac5_a52f, Op::ScW, [10, 11, 12], 0), // sc.w.rl a0, a2, (a1)
     (0x0e63_a2af, Op::AmoswapW, [5, 7, 6], 0), // amoswap.w.aqrl t0, t1, (t2)
