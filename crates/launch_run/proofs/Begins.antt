@@ -6,7 +6,7 @@ use Rattle.kernel_core.specs.declared.history.Entry.{Entry}
 use Rattle.kernel_core.specs.declared.launch.Launch.{Launch}
 use Rattle.kernel_model.specs.Start.{start_state}
 use Rattle.kernel_model.specs.State.{State}
-use Rattle.rv_interp.specs.Page.{Pages}
+use Rattle.guest_memory.specs.Page.{Pages}
 use Rattle.run_model.specs.Legal.{Legal, AreWhole, IsRunnable}
 use Rattle.run_model.specs.World.{World, Guest, world, start_world, guest_of, registers_of, first_guest, first_registers, with_segments, turned_guest_by}
 use Rattle.run_model.proofs.Histories.{world_none, legal_none, first_guest_is, first_state, first_registers_are, first_thread}

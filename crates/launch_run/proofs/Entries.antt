@@ -13,7 +13,7 @@ use Rattle.kernel_core.specs.declared.history.Entry.{Entry}
 use Rattle.kernel_model.specs.State.{State}
 use Rattle.kernel_model.specs.Step.{end_state, IsStep}
 use Rattle.rv_interp.specs.declared.turns.TurnEnd.TheVariants as turn_end_is
-use Rattle.rv_interp.specs.Page.{Pages}
+use Rattle.guest_memory.specs.Page.{Pages}
 use Rattle.run_model.specs.Args.{args_of}
 use Rattle.run_model.specs.Legal.{Legal, Fits, FitsAct, AreWhole}
 use Rattle.run_model.specs.Put.{answered_of}

@@ -1,9 +1,9 @@
 -- What is read so far, and what is left to read.
 use Rattle.std.proofs.Common.{◌≡◌, ℕ, zero, suc, ◌+◌, ◌-◌, ◌%◌, ◌^◌, ◌<◌, List, [], ◌∷◌, ◌++◌, Option, None, Some, option_map, Result, Ok, Err, refl, sym, ap, ◌∙◌, append_assoc, arith}
 use Rattle.std.specs.Result.{result_ok}
-use Rattle.rv_interp.specs.declared.memory.MemFault.{MemFault}
-use Rattle.rv_interp.specs.Memory.{bytes_at}
-use Rattle.rv_interp.specs.Page.{Pages}
+use Rattle.guest_memory.specs.declared.fault.MemFault.{MemFault}
+use Rattle.guest_memory.specs.Bytes.{bytes_at}
+use Rattle.guest_memory.specs.Page.{Pages}
 use Rattle.run_model.specs.Args.{Range, range_in, ranges_at, in_front}
 
 -- the values that were read, before those that are left, if they can be read

@@ -5,6 +5,7 @@ pub mod Gathering
 pub mod Runs
 pub mod Entries
 pub mod Begins
+pub mod Images
 pub mod TopCalls
 pub mod TopClauses
 mod ReportTexts

@@ -1,7 +1,6 @@
 -- What a run's parts are at each moment of it: those of the world of its history.
-use Rattle.std.specs.Prelude.{◌≡◌, ℕ, ◌+◌, ◌*◌, ◌≤◌, length, Option, Some, None}
+use Rattle.std.specs.Prelude.{◌≡◌, ℕ, ◌+◌, ◌*◌, ◌≤◌, Option, Some, None}
 use Rattle.std.specs.FinMap.{get}
-use Rattle.std.specs.List.{All}
 use Rattle.abi_types.specs.declared.status.Status.{Status}
 use Rattle.abi_types.specs.declared.status.Status.TheVariants.{Live, Exit, Killed}
 use Rattle.abi_types.specs.declared.signal.Signal.TheVariants.{Xcpu}
@@ -13,12 +12,13 @@ use Rattle.rv_interp.specs.declared.turns.TurnEnd.{TurnEnd}
 use Rattle.run_model.specs.Legal.{Legal, AreWhole, LastEnds, IsRunnable}
 use Rattle.run_model.specs.World.{Guest, world, guest_of, registers_of, turned_guest_by}
 use Rattle.launch_run.specs.declared.run.Run.{Run}
+use Rattle.launch_run.specs.Image.{IsOnePage}
 
 -- What a launch of the launcher keeps besides: its image is one page, its grants are of what is there, and it has at
 -- most 1,000,000,000 turns.
 pub record IsBounded (launch : Launch) : Type 0 where
   pub grants : AreGrants launch.grants
-  pub pages : All (λ segment. length segment.bytes ≤ 4096) launch.elf.segments
+  pub pages : IsOnePage launch.elf.segments
   pub turns : launch.turns ≤ 1000000000
 
 -- process 0's guest in the world of the history

@@ -27,7 +27,7 @@ use Rattle.launch_run.specs.declared.top.RunEnd.TheVariants.{Reported, Unwritten
 use Rattle.launch_run.specs.declared.top.TopEnd.{TopEnd}
 use Rattle.launch_run.specs.declared.top.TopEnd.TheVariants.{Refused, Ran}
 
--- the text was written whole, or a front of it where the sink's count of faults rose
+-- the text was written whole, or a prefix of it where the sink's count of faults rose
 abbrev pub Wrote : Option (List ℕ) → Option (List ℕ) → Type 0 → List ℕ → Type 0
 Wrote before after rose text = (after ≡ grown before text) ⊎ (rose × GrewByPrefix before after text)
 
@@ -51,7 +51,7 @@ abbrev pub IsRecordOf : Launch → Record → Type 0
 IsRecordOf launch r = (r.launch ≡ launch) × Legal r.launch r.history
 
 -- How a run of the launch came to its end, where before and after are what the sink tells of its bytes, and rose says
--- that its count of faults rose. The report is of an ended run, and was written whole, or a front of it where the sink
+-- that its count of faults rose. The report is of an ended run, and was written whole, or a prefix of it where the sink
 -- failed; for want of memory nothing was written of it.
 abbrev pub IsEndOf : Launch → Option (List ℕ) → Option (List ℕ) → Type 0 → RunEnd → Type 0
 IsEndOf launch before after rose (Reported r status) =
@@ -131,10 +131,10 @@ pub record HasReported (before after : Option (List ℕ)) (status : ℕ) (r : Re
   pub status_is : status ≡ status_number (get (state_of r).statuses 0)
   pub written : after ≡ grown before (record_report r)
 
--- the run of the record has ended, and a front of its report was written
+-- the run of the record has ended, and a prefix of its report was written
 pub record HasFailed (before after : Option (List ℕ)) (r : Record) : Type 0 where
   pub ended : Ended r.launch r.history
-  pub front : GrewByPrefix before after (record_report r)
+  pub prefix : GrewByPrefix before after (record_report r)
 
 -- What every record that is kept is: its history is legal, each entry is confined to what its process's descriptors
 -- reach with the rights needed, and its launch is the one that is spelled, where anything is told of it.

@@ -3,11 +3,11 @@ ghost use Rattle.std.specs.Prelude.{◌≡◌, ◌≤◌, IfOk, map, option_map}
 ghost use Rattle.std.specs.Result.{result_ok};
 ghost use Rattle.run_model.specs.Args.{args_of, fd_write_of, low, ranges_at, range_in, range_of, gathered, gathered_in};
 ghost use Rattle.run_model.specs.Put.{answered_of, put_of, with_results};
-ghost use Rattle.rv_interp.specs.Memory.{bytes_at};
+ghost use Rattle.guest_memory.specs.Bytes.{bytes_at};
 ghost use Rattle.launch_run.specs.Ranges.{range_seen};
 
 use abi_types::{Answer, Bytes, Call, Errno, Regs, Reply};
-use rv_interp::Memory;
+use guest_memory::GuestMemory;
 use std::alloc::{AllocError, Global};
 
 /// The number of fd_write.
@@ -38,7 +38,7 @@ fn low(value: u64) -> u32
 
 /// The call that the registers and the memory spell as a thread stands at an ECALL.
 #[tactic(auto, unfolding(run_model::specs::Args::args_of))]
-pub fn args(alloc: Global, regs: &Regs, memory: &Memory) -> Result<Call, AllocError>
+pub fn args(alloc: Global, regs: &Regs, memory: &GuestMemory) -> Result<Call, AllocError>
     ensures { IfOk result (λ call. call ≡ args_of memory.now regs.now) }
 {
     match regs.get(17) {
@@ -54,7 +54,7 @@ pub fn args(alloc: Global, regs: &Regs, memory: &Memory) -> Result<Call, AllocEr
 }
 
 /// fd_write, by its descriptor, the address of its iovecs and their count.
-fn fd_write(alloc: Global, regs: &Regs, memory: &Memory) -> Result<Call, AllocError>
+fn fd_write(alloc: Global, regs: &Regs, memory: &GuestMemory) -> Result<Call, AllocError>
     ensures { IfOk result (λ call. call ≡ fd_write_of memory.now regs.now) }
 {
     let count = regs.get(12);
@@ -77,7 +77,7 @@ fn fd_write(alloc: Global, regs: &Regs, memory: &Memory) -> Result<Call, AllocEr
 }
 
 /// The bytes of an iovec array, of which 65,536 count. `None` exactly where some of the memory can't be read.
-fn written(alloc: Global, memory: &Memory, at: u64, count: u64) -> Result<Option<Bytes>, AllocError>
+fn written(alloc: Global, memory: &GuestMemory, at: u64, count: u64) -> Result<Option<Bytes>, AllocError>
     requires { count ≤ 1024 }
     ensures { IfOk result (λ bytes. bytes ≡ result_ok (gathered_in memory.now (ranges_at memory.now at count))) }
 {
@@ -88,7 +88,7 @@ fn written(alloc: Global, memory: &Memory, at: u64, count: u64) -> Result<Option
 }
 
 /// The range that an iovec names. `None` exactly where it can't be read.
-fn read_range(memory: &Memory, at: u64) -> Option<Range>
+fn read_range(memory: &GuestMemory, at: u64) -> Option<Range>
     ensures { option_map range_seen result ≡ result_ok (range_in (bytes_at memory.now at 16)) }
 {
     let mut iovec = [0u8; 16];
@@ -120,7 +120,7 @@ fn read_range(memory: &Memory, at: u64) -> Option<Range>
 /// The ranges that an array of iovecs names. `None` exactly where some of the array can't be read.
 fn read_ranges(
     alloc: Global,
-    memory: &Memory,
+    memory: &GuestMemory,
     at: u64,
     count: u64,
 ) -> Result<Option<Vec<Range>>, AllocError>
@@ -140,7 +140,7 @@ fn read_ranges(
 }
 
 /// The bytes of the ranges, one after another, of which 65,536 count. `None` exactly where some can't be read.
-fn gather(alloc: Global, memory: &Memory, ranges: &[Range]) -> Result<Option<Bytes>, AllocError>
+fn gather(alloc: Global, memory: &GuestMemory, ranges: &[Range]) -> Result<Option<Bytes>, AllocError>
     ensures { IfOk result (λ bytes. bytes ≡ result_ok (gathered memory.now 65536 (map range_seen ranges.now))) }
 {
     let mut bytes = Bytes::new(alloc);

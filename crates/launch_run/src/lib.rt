@@ -9,6 +9,7 @@ pub use top::{Finished, run_launch};
 pub use words::program_word;
 
 mod args;
+mod image;
 mod inputs;
 mod launch_text;
 mod lines;

@@ -1,15 +1,16 @@
 //! The plain run of a launch: process 0's thread takes turns, and each call, trap and expiry is an entry.
-ghost use Rattle.std.specs.Prelude.{◌≡◌, ◌<◌, ◌≤◌, [], All, length, IfOk, OnOk};
-ghost use Rattle.std.specs.FinMap as map;
+ghost use Rattle.std.specs.Prelude.{◌≡◌, ◌<◌, [], IfOk, OnOk};
 ghost use Rattle.run_model.specs.Legal.{Legal, FitsAct};
 ghost use Rattle.rv_interp.specs.declared.turns.TurnEnd.TheVariants as turn_end;
-ghost use Rattle.run_model.specs.World.{with_segments, first_registers};
+ghost use Rattle.run_model.specs.World.{first_registers};
 ghost use Rattle.launch_run.specs.Run.{IsBounded, IsAt, IsBetween, IsStopped, IsLive, GoesOn, EndsBy, settled, ahead};
 
 use crate::args::{args, put_answer};
+use crate::image::load;
 use abi_types::{Pid, Regs, Signal, Status, Tid, TidList};
-use kernel_core::{Act, Entry, History, Kernel, Launch, Record, Segment};
-use rv_interp::{Memory, TurnEnd, turn};
+use guest_memory::GuestMemory;
+use kernel_core::{Act, Entry, History, Kernel, Launch, Record};
+use rv_interp::{TurnEnd, turn};
 use std::alloc::{AllocError, Global};
 use std::mem;
 
@@ -18,9 +19,6 @@ const FIRST: Pid = Pid(0);
 
 /// Its thread.
 const THREAD: Tid = Tid(1);
-
-/// How many bytes a page of guest memory has.
-const PAGE: u64 = 4096;
 
 /// Where the first thread's stack ends.
 const STACK_END: u64 = 0x3e_fff0_0000;
@@ -34,28 +32,11 @@ const START_BLOCK: u64 = 0x3f_0000_0000;
 pub struct Run {
     pub launch: Launch,
     pub kernel: Kernel,
-    pub memory: Memory,
+    pub memory: GuestMemory,
     pub regs: Regs,
     pub left: u64,
     pub turns: TidList,
     pub history: History,
-}
-
-/// The memory of an image: each segment is one page, which begins at its address.
-fn load(alloc: Global, segments: &[Segment]) -> Result<Memory, AllocError>
-    requires { All (λ segment. length segment.bytes ≤ 4096) segments.now }
-    ensures { IfOk result (λ memory. memory ≡ with_segments map.empty segments.now) }
-{
-    let mut memory = Memory::new(alloc);
-    for segment in segments {
-        memory.map_page(
-            alloc,
-            segment.at / PAGE,
-            segment.bytes.as_slice(),
-            segment.prot,
-        )?;
-    }
-    Ok(memory)
 }
 
 /// The first thread's registers: it stands at the entry, with sp at the stack's end and a0 at the start block.
@@ -147,7 +128,7 @@ impl Run {
         }
         self.turns.push(THREAD)?;
         self.left -= 1;
-        match turn(&mut self.regs, &self.memory) {
+        match turn(&mut self.regs, &mut self.memory) {
             TurnEnd::Quantum => Ok(()),
             TurnEnd::Ecall => self.call(alloc),
             TurnEnd::Trap(signal) => self.stop(alloc, Act::Trap(signal), Status::Killed(signal)),

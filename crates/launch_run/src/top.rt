@@ -198,7 +198,7 @@ fn finish(end: TopEnd<'_>) -> Finished
 /// The status is 0 where the run ended and process 0 exited with 0, 1 where it ended otherwise, 2 for faulty words, 65
 /// for a launch text and 67 for a program that is refused, 66 for an input that can't be read or is too long, 69 where
 /// the sink failed while the report was written, and 70 for want of memory. What a refusal writes is its line, or a
-/// front of it where the sink failed.
+/// prefix of it where the sink failed.
 pub fn run_launch<S: Source, K: Sink>(
     alloc: Global,
     words: &[String],

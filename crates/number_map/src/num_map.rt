@@ -1,5 +1,5 @@
 //! A map from numbers to values.
-ghost use Rattle.std.specs.Prelude.{◌≡◌, ◌^◌, ◌<◌, ◌+◌, ◌==◌, OnOk, OnErr, IfOk, IfErr, IfSome, IfNone, IsNone, IsSome, IsTrue, option_copied, ℕ, Bool, ◌≤◌, ◌↔◌};
+ghost use Rattle.std.specs.Prelude.{◌≡◌, ◌^◌, ◌<◌, ◌+◌, ◌==◌, OnOk, OnErr, IfOk, IfErr, IfSome, IfNone, IsNone, IsSome, IsTrue, option_copied, nat_le, ℕ, Bool, ◌≤◌, ◌↔◌};
 ghost use Rattle.std.specs.Ordering.{nat_cmp};
 ghost use Rattle.std.specs.FinMap as map;
 ghost use Rattle.std.specs.Borrow.{sem};
@@ -85,6 +85,14 @@ impl<V> NumMap<V> {
             }
         }
         None
+    }
+
+    /// The least key that is at least `key`, if there is one.
+    pub fn first_from(&self, key: u64) -> Option<u64>
+        ensures { result ≡ least_key (λ q _. nat_le key q) self.now }
+    {
+        let (first, _) = self.entries.range(key..).next()?;
+        Some(*first)
     }
 
     /// Puts `value` at `key`, and returns the value that was there before.
@@ -173,6 +181,16 @@ mod tests {
         assert_eq!(rt; map.get(7).copied(), Some(71));
         assert!(rt; map.contains(9));
         assert_eq!(rt; map.first_zero(), Some(3));
+        for (key, first) in [
+            (0, Some(3)),
+            (3, Some(3)),
+            (4, Some(7)),
+            (9, Some(9)),
+            (10, None),
+            (u64::MAX, None),
+        ] {
+            assert_eq!(rt; map.first_from(key), first, "from {key}");
+        }
         assert_eq!(rt; map.first_where(|value| *value > 70), Some(7));
         assert_eq!(rt; map.replace(9, 90), 0);
         assert!(rt; map.contains(3));

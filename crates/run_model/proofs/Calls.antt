@@ -29,8 +29,8 @@ use Rattle.kernel_model.specs.Step.{tick, unless, act_on, outcome, step_reply, s
 use Rattle.kernel_model.specs.View.{View, whole}
 use Rattle.kernel_model.proofs.Sights.{outcome_reads, outcome_of_table}
 use Rattle.number_map.specs.Maps.{get-insert-same, get-insert-other}
-use Rattle.rv_interp.specs.declared.memory.MemFault.{MemFault}
-use Rattle.rv_interp.specs.Page.{Pages}
+use Rattle.guest_memory.specs.declared.fault.MemFault.{MemFault}
+use Rattle.guest_memory.specs.Page.{Pages}
 use Rattle.run_model.specs.Args.{argument, low, gathered_in, ranges_at, fd_write_with, fd_write_of, args_of}
 use Rattle.run_model.specs.World.{by_errno, called_state}
 

@@ -19,7 +19,7 @@ use Rattle.kernel_model.proofs.Tests.{none_is_no}
 use Rattle.number_map.specs.Maps.{get-insert-same}
 use Rattle.rv_interp.specs.declared.turns.TurnEnd.{TurnEnd}
 use Rattle.rv_interp.specs.declared.turns.TurnEnd.TheVariants as turn_end_is
-use Rattle.rv_interp.specs.Page.{Pages}
+use Rattle.guest_memory.specs.Page.{Pages}
 use Rattle.run_model.specs.Args.{args_of}
 use Rattle.run_model.specs.Ends.{NoneLive, Ended}
 use Rattle.run_model.specs.Legal.{IsRunnable, MayTurn, AreWhole, FitsAct, Fits, FollowsFrom, Legal}

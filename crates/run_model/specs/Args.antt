@@ -6,9 +6,9 @@ use Rattle.abi_types.specs.declared.call.Call.{Call}
 use Rattle.abi_types.specs.declared.call.Call.TheVariants.{FdWrite, ProcExit, Refused}
 use Rattle.abi_types.specs.declared.errno.Errno.TheVariants.{Fault, Inval, Nosys}
 use Rattle.abi_types.specs.Registers.{Registers}
-use Rattle.rv_interp.specs.declared.memory.MemFault.{MemFault}
-use Rattle.rv_interp.specs.Memory.{bytes_at}
-use Rattle.rv_interp.specs.Page.{Pages}
+use Rattle.guest_memory.specs.declared.fault.MemFault.{MemFault}
+use Rattle.guest_memory.specs.Bytes.{bytes_at}
+use Rattle.guest_memory.specs.Page.{Pages}
 
 -- the argument with this number, from 0
 abbrev pub argument : Registers → ℕ → ℕ

@@ -1,5 +1,5 @@
 -- A kernel's state together with its processes' memories, registers and turns, and how an entry changes them.
-use Rattle.std.specs.Prelude.{ℕ, ◌-◌, ◌/◌, List, [], ◌∷◌, Option, None, Some}
+use Rattle.std.specs.Prelude.{ℕ, ◌-◌, ◌/◌, List, [], ◌∷◌, ◌++◌, length, replicate, Option, None, Some}
 use Rattle.std.specs.Ordering.{nat_cmp}
 use Rattle.std.specs.FinMap.{FinMap, empty, get, insert}
 use Rattle.abi_types.specs.declared.call.Answer.{Answer}
@@ -10,6 +10,8 @@ use Rattle.abi_types.specs.declared.errno.Errno.TheVariants.{Nomem}
 use Rattle.abi_types.specs.declared.signal.Signal.TheVariants.{Xcpu}
 use Rattle.abi_types.specs.declared.status.Status.TheVariants.{Killed}
 use Rattle.abi_types.specs.Registers.{Registers, start_registers, with_x}
+use Rattle.abi_types.specs.declared.prot.Prot.{Prot}
+use Rattle.guest_memory.specs.Page.{Page, Pages}
 use Rattle.kernel_core.specs.declared.elf.Segment.{Segment}
 use Rattle.kernel_core.specs.declared.history.Act.{Act}
 use Rattle.kernel_core.specs.declared.history.Act.TheVariants as act
@@ -19,9 +21,7 @@ use Rattle.kernel_model.specs.Start.{start_state}
 use Rattle.kernel_model.specs.State.{State}
 use Rattle.kernel_model.specs.Step.{tick, step_state, end_state}
 use Rattle.rv_interp.specs.declared.turns.TurnEnd.{TurnEnd}
-use Rattle.rv_interp.specs.Machine.{turn_of}
-use Rattle.rv_interp.specs.Memory.{page_of}
-use Rattle.rv_interp.specs.Page.{Pages}
+use Rattle.rv_interp.specs.Turns.{Turn, turn_of}
 use Rattle.run_model.specs.Put.{put_of}
 
 -- a process's memory, the registers of its threads, and the turns that it has left
@@ -36,6 +36,10 @@ pub record World : Type 0 where
   pub guests : FinMap nat_cmp Guest
 
 -- ---- the start
+
+-- the page of these bytes, with zeros after them up to 4096
+abbrev pub page_of : List ℕ → Prot → Page
+page_of bytes prot = record { bytes = bytes ++ replicate (4096 - length bytes) 0; prot = prot }
 
 -- the memory with the segments' pages: each segment is one page, which begins at its address
 abbrev pub with_segments : Pages → List Segment → Pages
@@ -85,16 +89,21 @@ with_guest w p guest = record w { guests = insert w.guests p guest }
 
 -- ---- turns
 
--- a turn takes one of the process's turns and leaves its thread's registers as the machine does
+-- what a turn of the thread does
+abbrev pub thread_turn : Guest → ℕ → Turn
+thread_turn guest t = turn_of guest.memory (registers_of guest t)
+
+-- a turn takes one of the process's turns and leaves its memory and its thread's registers as the machine does
 abbrev pub turned_guest : Guest → ℕ → Guest
-turned_guest guest t = record guest {
-  regs = insert guest.regs t (turn_of guest.memory (registers_of guest t)).regs;
+turned_guest guest t = record {
+  memory = (thread_turn guest t).memory;
+  regs = insert guest.regs t (thread_turn guest t).regs;
   left = guest.left - 1;
 }
 
 -- how a turn of the thread ends
 abbrev pub turn_end : Guest → ℕ → TurnEnd
-turn_end guest t = (turn_of guest.memory (registers_of guest t)).end
+turn_end guest t = (thread_turn guest t).end
 
 -- turns of these threads, one after another
 abbrev pub turned_guest_by : List ℕ → Guest → Guest

@@ -1,3 +1,3 @@
-pub mod Bytes
-pub mod Runs
+pub mod Stops
 pub mod TurnLaws
+pub mod Slots

@@ -1,4 +1,6 @@
-pub mod Page
-pub mod Memory
-pub mod Instruction
 pub mod Machine
+pub mod Kinds
+pub mod Values
+pub mod Instructions
+pub mod Turns
+pub mod Cache

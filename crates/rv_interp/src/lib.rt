@@ -1,16 +1,19 @@
-//! The machine that runs guest programs: a memory of pages with rights, one instruction, and a turn of instructions.
-//!
-//! The instructions are ADDI, LUI and ECALL of RV64I (RISC-V unprivileged manual); every other word is an illegal
-//! instruction.
+//! The machine that runs guest programs: one instruction of RV64IM, A and Zifencei over a guest's memory, and a turn of
+//! instructions (RISC-V unprivileged manual).
 #![tactic(auto)]
 
 pub use execution::{Outcome, step};
-pub use memory::{Access, MemFault, Memory, bytes_are_each};
+pub use reservation::Reservation;
 pub use turns::{QUANTUM, TurnEnd, turn, turn_is_one};
 
+mod atomics;
+mod cache;
 mod execution;
-mod instruction;
-mod memory;
+mod jumps;
+mod kind;
+mod loads;
+mod reservation;
 #[cfg(test)]
 mod tests;
 mod turns;
+mod values;

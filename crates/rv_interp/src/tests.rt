@@ -1,128 +1,576 @@
-use super::*;
+//! Instructions and turns by example. The words are an assembler's, and the numbers follow from the manual's rules.
+//! Where an instruction's registers aren't named, it reads a0 and a1 and writes a2, and its address is in a0.
+use crate::{Outcome, Reservation, TurnEnd, step, turn};
 use abi_types::{Prot, Regs, Signal};
-use std::alloc::{AllocError, Global};
-use std::test::*;
+use guest_memory::{GuestMemory, MemFault};
+use std::alloc::Global;
+use std::test::Fail;
 
-const CODE: Prot = Prot {
+mod atomics;
+
+const READ: Prot = Prot {
+    read: true,
+    write: false,
+    exec: false,
+};
+
+const WRITE: Prot = Prot {
+    read: false,
+    write: true,
+    exec: false,
+};
+
+const EXEC: Prot = Prot {
     read: false,
     write: false,
     exec: true,
 };
 
-const DATA: Prot = Prot {
-    read: true,
+const READ_WRITE: Prot = Prot {
     write: true,
-    exec: false,
+    ..READ
 };
 
-/// A memory that has these words, from 0x10000 on, in one page.
-fn memory_of(alloc: Global, words: &[u32], prot: Prot) -> Result<Memory, AllocError> {
-    let mut bytes = Vec::new(alloc);
+const READ_EXEC: Prot = Prot { exec: true, ..READ };
+
+const ALL: Prot = Prot {
+    exec: true,
+    ..READ_WRITE
+};
+
+/// A page of code. No page comes after it.
+const CODE: u64 = 0x10000;
+
+/// Two pages that may be read and written, then one that may be read, one that may be written and two that may be
+/// executed. No page comes after them.
+const DATA: u64 = 0x20000;
+
+/// A page of the same code that may be read and written too.
+const WRITABLE_CODE: u64 = 0x30000;
+
+const A0: u32 = 10;
+
+const A1: u32 = 11;
+
+const A2: u32 = 12;
+
+const A3: u32 = 13;
+
+const A4: u32 = 14;
+
+const A5: u32 = 15;
+
+/// A memory of those pages, the code of which begins with these words.
+fn memory_of(alloc: Global, words: &[u32]) -> Result<GuestMemory, MemFault> {
+    let mut memory = GuestMemory::new(alloc);
+    memory.map(alloc, CODE, 1, READ_WRITE)?;
+    memory.map(alloc, DATA, 6, READ_WRITE)?;
+    memory.map(alloc, WRITABLE_CODE, 1, ALL)?;
+    let mut offset: u64 = 0;
     for word in words {
-        bytes.extend_from_slice(&word.to_le_bytes())?;
+        memory.write_bytes(CODE.wrapping_add(offset), &word.to_le_bytes())?;
+        memory.write_bytes(WRITABLE_CODE.wrapping_add(offset), &word.to_le_bytes())?;
+        offset = offset.wrapping_add(4);
     }
-    let mut mem = Memory::new(alloc);
-    let len = bytes.len().min(4096);
-    mem.map_page(alloc, 16, &bytes[..len], prot)?;
-    Ok(mem)
+    memory.protect(CODE, 1, READ_EXEC)?;
+    memory.protect(DATA + 0x2000, 1, READ)?;
+    memory.protect(DATA + 0x3000, 1, WRITE)?;
+    memory.protect(DATA + 0x4000, 2, EXEC)?;
+    Ok(memory)
 }
 
-/// Words that an assembler gives, the register that is looked at, what it has afterwards, and how the instruction ends.
-const INSTRUCTIONS: [(u32, u32, u64, Outcome); 10] = [
-    (0x0000_0513, 10, 0, Outcome::Done), // addi a0, zero, 0
-    (0x0001_05b7, 11, 0x1_0000, Outcome::Done), // lui a1, 0x10
-    (0x0a05_8593, 11, 0xa0, Outcome::Done), // addi a1, a1, 0xa0
-    (0x8000_0537, 10, 0xffff_ffff_8000_0000, Outcome::Done), // lui a0, 0x80000
-    (0xfff0_0513, 10, u64::MAX, Outcome::Done), // addi a0, zero, -1
-    (0x0010_0013, 0, 0, Outcome::Done), // addi zero, zero, 1
-    (0x0000_0073, 10, 0, Outcome::Ecall), // ecall
-    (0x0010_0073, 10, 0, Outcome::Trap(Signal::Ill)), // ebreak
-    (0xffff_ffff, 10, 0, Outcome::Trap(Signal::Ill)), // no instruction
-    (0x0000_1513, 10, 0, Outcome::Trap(Signal::Ill)), // slli a0, zero, 0
+/// Registers with this pc and these numbers in a0, a1 and a2.
+fn registers(pc: u64, a0: u64, a1: u64, a2: u64) -> Regs {
+    let mut regs = Regs::new(pc);
+    regs.set(A0, a0);
+    regs.set(A1, a1);
+    regs.set(A2, a2);
+    regs
+}
+
+/// Puts this word at the beginning of the code and does one instruction.
+fn do_word(memory: &mut GuestMemory, word: u32, regs: &mut Regs) -> Result<Outcome, MemFault> {
+    memory.protect(CODE, 1, READ_WRITE)?;
+    memory.write_bytes(CODE, &word.to_le_bytes())?;
+    memory.protect(CODE, 1, READ_EXEC)?;
+    Ok(step(regs, memory, &mut Reservation::none()))
+}
+
+/// Words, a0, a1, and what a2 has afterwards, which had 0.
+const COMPUTATIONS: [(u32, u64, u64, u64); 26] = [
+    (0x02b5_4633, 5, 0, u64::MAX), // div
+    (0x02b5_6633, 5, 0, 5), // rem
+    (0x02b5_5633, 5, 0, u64::MAX), // divu
+    (0x02b5_7633, 5, 0, 5), // remu
+    (
+        0x02b5_4633,
+        0x8000_0000_0000_0000,
+        u64::MAX,
+        0x8000_0000_0000_0000,
+    ), // div
+    (0x02b5_6633, 0x8000_0000_0000_0000, u64::MAX, 0), // rem
+    (0x02b5_5633, 0x8000_0000_0000_0000, u64::MAX, 0), // divu
+    (
+        0x02b5_7633,
+        0x8000_0000_0000_0000,
+        u64::MAX,
+        0x8000_0000_0000_0000,
+    ), // remu
+    (0x02b5_4633, 0xffff_ffff_ffff_fff9, 2, 0xffff_ffff_ffff_fffd), // div
+    (0x02b5_6633, 0xffff_ffff_ffff_fff9, 2, u64::MAX), // rem
+    (0x02b5_4633, 7, 0xffff_ffff_ffff_fffe, 0xffff_ffff_ffff_fffd), // div
+    (0x02b5_6633, 7, 0xffff_ffff_ffff_fffe, 1), // rem
+    (0x02b5_463b, 0x1_8000_0005, 0, u64::MAX), // divw
+    (0x02b5_663b, 0x1_8000_0005, 0, 0xffff_ffff_8000_0005), // remw
+    (0x02b5_563b, 0x8000_0005, 0, u64::MAX), // divuw
+    (0x02b5_763b, 0x8000_0005, 0, 0xffff_ffff_8000_0005), // remuw
+    (0x02b5_463b, 0x8000_0000, 0xffff_ffff, 0xffff_ffff_8000_0000), // divw
+    (0x02b5_663b, 0x8000_0000, 0xffff_ffff, 0), // remw
+    (
+        0x02b5_563b,
+        0x5_8000_0000,
+        0x7_0000_0001,
+        0xffff_ffff_8000_0000,
+    ), // divuw
+    (0x02b5_763b, 0x5_8000_0000, 0x7_0000_0001, 0), // remuw
+    (0x8000_0637, 0, 0, 0xffff_ffff_8000_0000), // lui a2, 0x80000
+    (0xffff_f617, 0, 0, 0xf000), // auipc a2, 0xfffff
+    (0xfff5_0613, 0, 0, u64::MAX), // addi a2, a0, -1
+    (0x0015_0013, 7, 0, 0), // addi zero, a0, 1
+    (0x0ff0_000f, 7, 7, 0), // fence
+    (0x0000_100f, 7, 7, 0), // fence.i
 ];
 
 #[test]
-fn one_instruction(rt: HostRuntime) -> Result<(), Fail> {
-    for (word, register, value, outcome) in INSTRUCTIONS {
-        let mem = memory_of(rt.alloc(), &[word], CODE)?;
-        let mut regs = Regs::new(0x1_0000);
-        assert_eq!(rt; step(&mut regs, &mem), outcome, "at {word}");
-        assert!(rt; register < 32);
-        assert_eq!(rt; regs.get(register), value, "at {word}");
-        let pc = if outcome == Outcome::Done {
-            0x1_0004
+fn numbers_are_computed(rt: HostRuntime) -> Result<(), Fail> {
+    let mut memory = memory_of(rt.alloc(), &[])?;
+    for (word, a0, a1, a2) in COMPUTATIONS {
+        let mut regs = registers(CODE, a0, a1, 0);
+        let outcome = do_word(&mut memory, word, &mut regs)?;
+        assert_eq!(rt; outcome, Outcome::Done, "{word:x} of {a0:x}, {a1:x}");
+        assert_eq!(rt;
+            regs,
+            registers(CODE + 4, a0, a1, a2),
+            "{word:x} of {a0:x}, {a1:x}"
+        );
+    }
+    Ok(())
+}
+
+/// What is loaded from 0x20100 on, and from 0x20ffa on in two pages.
+const BYTES: [u8; 12] = [1, 0xf2, 3, 0xf4, 5, 0xf6, 7, 0xf8, 9, 10, 11, 12];
+
+/// Words, a0, and what a2 has afterwards, which had 0.
+const LOADS: [(u32, u64, u64); 19] = [
+    (0x0005_0603, 0x20100, 1), // lb
+    (0x0005_0603, 0x20101, 0xffff_ffff_ffff_fff2), // lb
+    (0x0005_4603, 0x20101, 0xf2), // lbu
+    (0x0005_1603, 0x20100, 0xffff_ffff_ffff_f201), // lh
+    (0x0005_1603, 0x20101, 0x3f2), // lh, misaligned
+    (0x0005_5603, 0x20100, 0xf201), // lhu
+    (0x0005_5603, 0x20fff, 0x7f6), // lhu over two pages
+    (0x0005_2603, 0x20100, 0xffff_ffff_f403_f201), // lw
+    (0x0005_2603, 0x20101, 0x5f4_03f2), // lw, misaligned
+    (0x0005_2603, 0x20ffe, 0xffff_ffff_f807_f605), // lw over two pages
+    (0x0005_6603, 0x20100, 0xf403_f201), // lwu
+    (0x0005_6603, 0x20ffe, 0xf807_f605), // lwu over two pages
+    (0x0005_6603, 0x22000, 0), // lwu of a page that may only be read
+    (0x0005_3603, 0x20100, 0xf807_f605_f403_f201), // ld
+    (0x0005_3603, 0x20104, 0xc0b_0a09_f807_f605), // ld, misaligned
+    (0x0005_3603, 0x20ffd, 0xb0a_09f8_07f6_05f4), // ld over two pages
+    (0x8005_3603, 0x20900, 0xf807_f605_f403_f201), // ld a2, -2048(a0)
+    (0x7ff5_0603, 0x1f902, 0xffff_ffff_ffff_fff2), // lb a2, 2047(a0)
+    (0x0005_2003, 0x20100, 0), // lw zero, 0(a0)
+];
+
+/// Words, a0, the address before the first byte that is written, and ten bytes from there on, each of which was 0xee.
+const STORES: [(u32, u64, u64, [u8; 10]); 9] = [
+    (
+        0x00b5_0023,
+        0x20101,
+        0x20100,
+        [0xee, 0x11, 0xee, 0xee, 0xee, 0xee, 0xee, 0xee, 0xee, 0xee],
+    ), // sb
+    (
+        0x00b5_1023,
+        0x20100,
+        0x200ff,
+        [0xee, 0x11, 0x22, 0xee, 0xee, 0xee, 0xee, 0xee, 0xee, 0xee],
+    ), // sh
+    (
+        0x00b5_1023,
+        0x20101,
+        0x20100,
+        [0xee, 0x11, 0x22, 0xee, 0xee, 0xee, 0xee, 0xee, 0xee, 0xee],
+    ), // sh, misaligned
+    (
+        0x00b5_1023,
+        0x20fff,
+        0x20ffe,
+        [0xee, 0x11, 0x22, 0xee, 0xee, 0xee, 0xee, 0xee, 0xee, 0xee],
+    ), // sh over two pages
+    (
+        0x00b5_2023,
+        0x20100,
+        0x200ff,
+        [0xee, 0x11, 0x22, 0x33, 0x44, 0xee, 0xee, 0xee, 0xee, 0xee],
+    ), // sw
+    (
+        0x00b5_2023,
+        0x20ffd,
+        0x20ffc,
+        [0xee, 0x11, 0x22, 0x33, 0x44, 0xee, 0xee, 0xee, 0xee, 0xee],
+    ), // sw over two pages
+    (
+        0x00b5_3023,
+        0x20100,
+        0x200ff,
+        [0xee, 0x11, 0x22, 0x33, 0x44, 0x55, 0x66, 0x77, 0x88, 0xee],
+    ), // sd
+    (
+        0x00b5_3023,
+        0x20ffb,
+        0x20ffa,
+        [0xee, 0x11, 0x22, 0x33, 0x44, 0x55, 0x66, 0x77, 0x88, 0xee],
+    ), // sd over two pages
+    (
+        0xfeb5_3c23,
+        0x2010b,
+        0x20102,
+        [0xee, 0x11, 0x22, 0x33, 0x44, 0x55, 0x66, 0x77, 0x88, 0xee],
+    ), // sd a1, -8(a0), misaligned
+];
+
+#[test]
+fn numbers_are_loaded_and_stored(rt: HostRuntime) -> Result<(), Fail> {
+    let mut memory = memory_of(rt.alloc(), &[])?;
+    memory.write_bytes(0x20100, &BYTES)?;
+    memory.write_bytes(0x20ffa, &BYTES)?;
+    for (word, a0, a2) in LOADS {
+        let mut regs = registers(CODE, a0, 7, 0);
+        let outcome = do_word(&mut memory, word, &mut regs)?;
+        assert_eq!(rt; outcome, Outcome::Done, "{word:x} at {a0:x}");
+        assert_eq!(rt; regs, registers(CODE + 4, a0, 7, a2), "{word:x} at {a0:x}");
+    }
+    let a1 = 0x8877_6655_4433_2211;
+    for (word, a0, before, want) in STORES {
+        memory.write_bytes(before, &[0xee; 10])?;
+        let mut regs = registers(CODE, a0, a1, 7);
+        let outcome = do_word(&mut memory, word, &mut regs)?;
+        assert_eq!(rt; outcome, Outcome::Done, "{word:x} at {a0:x}");
+        assert_eq!(rt; regs, registers(CODE + 4, a0, a1, 7), "{word:x} at {a0:x}");
+        let mut bytes = [0; 10];
+        memory.read_bytes(before, &mut bytes)?;
+        assert_eq!(rt; bytes, want, "{word:x} at {a0:x}");
+    }
+    Ok(())
+}
+
+/// Words, a0, a1, and the pc, a0 and a2 afterwards. The pc was 0x10000, and a2 had 7. A target that is no multiple of 4
+/// is a bus error, after which all is as before.
+const JUMPS: [(u32, u64, u64, u64, u64, u64); 24] = [
+    (0x0080_066f, 0, 0, 0x10008, 0, 0x10004), // jal a2, 8
+    (0xffdf_f66f, 0, 0, 0xfffc, 0, 0x10004), // jal a2, -4
+    (0x0080_006f, 0, 0, 0x10008, 0, 7), // jal zero, 8
+    (0x0060_066f, 0, 0, 0x10000, 0, 7), // jal a2, 6
+    (0x0005_0667, 0x20004, 0, 0x20004, 0x20004, 0x10004), // jalr a2, 0(a0)
+    (0x0005_0667, 0x20005, 0, 0x20004, 0x20005, 0x10004), // jalr a2, 0(a0): the lowest bit is cleared
+    (0x0015_0667, 0x20003, 0, 0x20004, 0x20003, 0x10004), // jalr a2, 1(a0)
+    (0x0015_0667, 0x20002, 0, 0x10000, 0x20002, 7), // jalr a2, 1(a0)
+    (0xfff5_0667, 0x20002, 0, 0x20000, 0x20002, 0x10004), // jalr a2, -1(a0)
+    (0xfff5_0667, 0, 0, 0x10000, 0, 7), // jalr a2, -1(a0)
+    (0x0025_0667, u64::MAX, 0, 0, u64::MAX, 0x10004), // jalr a2, 2(a0)
+    (0x0045_0567, 0x20000, 0, 0x20004, 0x10004, 7), // jalr a0, 4(a0)
+    (0x0045_0567, 0x20002, 0, 0x10000, 0x20002, 7), // jalr a0, 4(a0)
+    (0x00b5_0463, 5, 5, 0x10008, 5, 7), // beq a0, a1, 8
+    (0x00b5_0463, 5, 6, 0x10004, 5, 7), // beq a0, a1, 8
+    (0x00b5_0363, 5, 5, 0x10000, 5, 7), // beq a0, a1, 6
+    (0x00b5_0363, 5, 6, 0x10004, 5, 7), // beq a0, a1, 6
+    (0x00b5_1363, 5, 6, 0x10000, 5, 7), // bne a0, a1, 6
+    (0xfeb5_1ce3, 5, 6, 0xfff8, 5, 7), // bne a0, a1, -8
+    (0x00b5_4463, u64::MAX, 0, 0x10008, u64::MAX, 7), // blt a0, a1, 8
+    (0x00b5_5463, u64::MAX, 0, 0x10004, u64::MAX, 7), // bge a0, a1, 8
+    (0x00b5_6463, u64::MAX, 0, 0x10004, u64::MAX, 7), // bltu a0, a1, 8
+    (0x00b5_7463, u64::MAX, 0, 0x10008, u64::MAX, 7), // bgeu a0, a1, 8
+    (0x00b5_5463, 5, 5, 0x10008, 5, 7), // bge a0, a1, 8
+];
+
+#[test]
+fn jumps_go_to_multiples_of_four(rt: HostRuntime) -> Result<(), Fail> {
+    let mut memory = memory_of(rt.alloc(), &[])?;
+    for (word, a0, a1, pc, a0_after, a2) in JUMPS {
+        let mut regs = registers(CODE, a0, a1, 7);
+        let outcome = do_word(&mut memory, word, &mut regs)?;
+        let want = if pc == CODE {
+            Outcome::Trap(Signal::Bus)
         } else {
-            0x1_0000
+            Outcome::Done
         };
-        assert_eq!(rt; regs.pc(), pc, "at {word}");
+        assert_eq!(rt; outcome, want, "{word:x} of {a0:x}, {a1:x}");
+        assert_eq!(rt;
+            regs,
+            registers(pc, a0_after, a1, a2),
+            "{word:x} of {a0:x}, {a1:x}"
+        );
     }
     Ok(())
 }
 
-/// Five pages, from 0x1000 on, of `addi a0, a0, 1`, each of which begins in the middle of a word.
-fn increments(alloc: Global) -> Result<Memory, AllocError> {
-    let mut page = [0; 4096];
-    for (k, byte) in page.iter_mut().enumerate() {
-        *byte = [0x15, 0x00, 0x13, 0x05][k % 4];
-    }
-    let mut mem = Memory::new(alloc);
-    for number in 1..6 {
-        mem.map_page(alloc, number, &page, CODE)?;
-    }
-    Ok(mem)
-}
+/// Words, a0, and why they can't be done. The pages are named by what may be done with them.
+const TRAPS: [(u32, u64, Signal); 31] = [
+    (0x0010_0073, 0, Signal::Trap), // ebreak
+    (0xffff_ffff, 0, Signal::Ill),
+    (0, 0, Signal::Ill),
+    (0x0005_2603, 0, Signal::Segv), // lw, no page
+    (0x0005_0603, u64::MAX, Signal::Segv), // lb, no page
+    (0x0005_3603, 0xffff_ffff_ffff_fffc, Signal::Segv), // ld, no page
+    (0x0005_3603, 0x23000, Signal::Segv), // ld, write
+    (0x0005_3603, 0x22ffc, Signal::Segv), // ld, read and then write
+    (0x0005_0603, 0x24000, Signal::Segv), // lb, execute
+    (0x00b5_3023, 0, Signal::Segv), // sd, no page
+    (0x00b5_3023, 0x22000, Signal::Segv), // sd, read
+    (0x00b5_3023, 0x21ffc, Signal::Segv), // sd, read and write and then read
+    (0x00b5_0023, 0x10008, Signal::Segv), // sb, read and execute
+    (0x00b5_1023, 0x24000, Signal::Segv), // sh, execute
+    (0x1005_262f, 0x20101, Signal::Bus), // lr.w, misaligned
+    (0x1005_362f, 0x20104, Signal::Bus), // lr.d, misaligned
+    (0x1005_262f, 2, Signal::Bus), // lr.w, misaligned and no page
+    (0x1005_262f, 0, Signal::Segv), // lr.w, no page
+    (0x1005_362f, 0x23000, Signal::Segv), // lr.d, write
+    (0x18b5_262f, 0x20102, Signal::Bus), // sc.w, misaligned
+    (0x18b5_362f, 0x20104, Signal::Bus), // sc.d, misaligned
+    (0x18b5_362f, 0x22004, Signal::Bus), // sc.d, misaligned and read
+    (0x18b5_262f, 0x22000, Signal::Segv), // sc.w, read
+    (0x18b5_362f, 0, Signal::Segv), // sc.d, no page
+    (0x08b5_262f, 0x20102, Signal::Bus), // amoswap.w, misaligned
+    (0x08b5_362f, 0x20104, Signal::Bus), // amoswap.d, misaligned
+    (0x00b5_362f, 1, Signal::Bus), // amoadd.d, misaligned and no page
+    (0x08b5_262f, 0x22000, Signal::Segv), // amoswap.w, read
+    (0x08b5_362f, 0x23000, Signal::Segv), // amoswap.d, write
+    (0x00b5_262f, 0, Signal::Segv), // amoadd.w, no page
+    (0x00b5_362f, 0xffff_ffff_ffff_fff8, Signal::Segv), // amoadd.d, no page
+];
 
-#[test]
-fn whole_turns(rt: HostRuntime) -> Result<(), Fail> {
-    let program = [0x0000_0513, 0x0001_05b7, 0x0a05_8593, 0x0000_0073];
-    let code = memory_of(rt.alloc(), &program, CODE)?;
-    let data = memory_of(rt.alloc(), &program, DATA)?;
-    let long = increments(rt.alloc())?;
-    let segv = TurnEnd::Trap(Signal::Segv);
-    // A memory, a pc, how the turn ends, and the pc and a1 after it.
-    let rows = [
-        (&code, 0x1_0000, TurnEnd::Ecall, 0x1_000c, 0x1_00a0),
-        (&code, 0, segv, 0, 0),
-        (&data, 0x1_0000, segv, 0x1_0000, 0),
-        (&long, 0x1002, TurnEnd::Quantum, 0x5002, 0),
-        (&long, 0x5002, segv, 0x5ffe, 0),
-    ];
-    for (mem, pc, end, after, a1) in rows {
-        let mut regs = Regs::new(pc);
-        assert_eq!(rt; turn(&mut regs, mem), end, "at {pc}");
-        assert_eq!(rt; regs.pc(), after, "at {pc}");
-        assert_eq!(rt; regs.get(11), a1, "at {pc}");
-    }
-    Ok(())
-}
-
-/// Pages 0, 16, 20, 21 and the last one, of which page 21 can't be read.
-fn some_pages(alloc: Global) -> Result<Memory, AllocError> {
-    let mut mem = Memory::new(alloc);
-    mem.map_page(alloc, 0, &[7], DATA)?;
-    mem.map_page(alloc, 16, &[1, 2, 3, 4], DATA)?;
-    mem.map_page(alloc, 20, &[], DATA)?;
-    mem.map_page(alloc, 21, &[], CODE)?;
-    mem.map_page(alloc, u64::MAX / 4096, &[], DATA)?;
-    Ok(mem)
-}
-
-/// Addresses, how six bytes are read there, and what is then in a buffer of nines.
-const READS: [(u64, Result<(), MemFault>, [u8; 6]); 5] = [
-    (0x1_0001, Ok(()), [2, 3, 4, 0, 0, 0]),
-    (u64::MAX, Ok(()), [0, 7, 0, 0, 0, 0]),
-    (0x1_0ffd, Err(MemFault::NotMapped(0x1_1000)), [9; 6]),
-    (0xfffd, Err(MemFault::NotMapped(0xfffd)), [9; 6]),
-    (0x1_4ffe, Err(MemFault::NoRight(0x1_5000)), [9; 6]),
+/// Addresses, and how the instruction there ends: `addi a2, a2, 1`, where it can be fetched.
+const FETCHES: [(u64, Outcome); 10] = [
+    (0x10000, Outcome::Done), // read and execute
+    (0x10ffe, Outcome::Trap(Signal::Segv)), // read and execute, and then no page
+    (0x20000, Outcome::Trap(Signal::Segv)), // read and write
+    (0x23ffe, Outcome::Trap(Signal::Segv)), // write, and then execute
+    (0x24000, Outcome::Done), // execute
+    (0x24ffe, Outcome::Done), // execute, over two pages
+    (0x25ffe, Outcome::Trap(Signal::Segv)), // execute, and then no page
+    (0x30000, Outcome::Done), // read, write and execute
+    (0, Outcome::Trap(Signal::Segv)), // no page
+    (0xffff_ffff_ffff_fffc, Outcome::Trap(Signal::Segv)), // no page
 ];
 
 #[test]
-fn bytes_of_memory(rt: HostRuntime) -> Result<(), Fail> {
-    let mem = some_pages(rt.alloc())?;
-    for (at, result, bytes) in READS {
-        let mut out = [9; 6];
-        assert_eq!(rt; mem.read_bytes(at, &mut out), result, "at {at}");
-        assert_eq!(rt; out, bytes, "at {at}");
+fn traps_change_nothing(rt: HostRuntime) -> Result<(), Fail> {
+    let mut memory = memory_of(rt.alloc(), &[])?;
+    let bytes = [0x11; 8];
+    memory.write_bytes(0x20100, &bytes)?;
+    memory.write_bytes(0x21ff8, &bytes)?;
+    for (word, a0, signal) in TRAPS {
+        let before = registers(CODE, a0, 9, 7);
+        let mut regs = before;
+        let outcome = do_word(&mut memory, word, &mut regs)?;
+        assert_eq!(rt; outcome, Outcome::Trap(signal), "{word:x} at {a0:x}");
+        assert_eq!(rt; regs, before, "{word:x} at {a0:x}");
+        let places = [0x20100, 0x21ff8, 0x22000, 0x10008];
+        for (at, want) in places.iter().zip([bytes, bytes, [0; 8], [0; 8]]) {
+            let mut found = [9; 8];
+            memory.read_bytes(*at, &mut found)?;
+            assert_eq!(rt; found, want, "{word:x} at {a0:x}");
+        }
     }
+    Ok(())
+}
+
+#[test]
+fn executable_pages_run(rt: HostRuntime) -> Result<(), Fail> {
+    let word: u32 = 0x0016_0613;
+    let mut memory = memory_of(rt.alloc(), &[word])?;
+    memory.protect(0x24000, 2, WRITE)?;
+    memory.write_bytes(0x24000, &word.to_le_bytes())?;
+    memory.write_bytes(0x24ffe, &word.to_le_bytes())?;
+    memory.protect(0x24000, 2, EXEC)?;
+    for (pc, want) in FETCHES {
+        let before = registers(pc, 0, 0, 7);
+        let mut regs = before;
+        let outcome = step(&mut regs, &mut memory, &mut Reservation::none());
+        let after = if want == Outcome::Done {
+            registers(pc.wrapping_add(4), 0, 0, 8)
+        } else {
+            before
+        };
+        assert_eq!(rt; (outcome, regs), (want, after), "at {pc:x}");
+    }
+    Ok(())
+}
+
+/// A program, the pc and a4 at the beginning of a turn, how it ends, and the pc, a2 and a3 afterwards. At the beginning
+/// there is 0x30000, where the program may be written, in a0, the word of `addi a2, a2, 16` in a1, and 0 in a2 and a3.
+#[derive(Clone, Copy)]
+struct Program {
+    words: [u32; 5],
+    start: u64,
+    a4: u64,
+    end: TurnEnd,
+    pc: u64,
+    a2: u64,
+    a3: u64,
+}
+
+const PROGRAMS: [Program; 11] = [
+    // addi a2, a2, 1; ecall
+    Program {
+        words: [0x0016_0613, 0x73, 0, 0, 0],
+        start: 0x10000,
+        a4: 0,
+        end: TurnEnd::Ecall,
+        pc: 0x10004,
+        a2: 1,
+        a3: 0,
+    },
+    // addi a2, a2, 1; lw a2, 0(zero)
+    Program {
+        words: [0x0016_0613, 0x0000_2603, 0, 0, 0],
+        start: 0x10000,
+        a4: 0,
+        end: TurnEnd::Trap(Signal::Segv),
+        pc: 0x10004,
+        a2: 1,
+        a3: 0,
+    },
+    // addi a2, a2, 1; ebreak
+    Program {
+        words: [0x0016_0613, 0x0010_0073, 0, 0, 0],
+        start: 0x10000,
+        a4: 0,
+        end: TurnEnd::Trap(Signal::Trap),
+        pc: 0x10004,
+        a2: 1,
+        a3: 0,
+    },
+    // jal zero, 0
+    Program {
+        words: [0x6f, 0, 0, 0, 0],
+        start: 0x10000,
+        a4: 0,
+        end: TurnEnd::Quantum,
+        pc: 0x10000,
+        a2: 0,
+        a3: 0,
+    },
+    // 4096 instructions in front of ecall: addi a4, a4, -1; bne a4, zero, -4
+    Program {
+        words: [0xfff7_0713, 0xfe07_1ee3, 0x73, 0, 0],
+        start: 0x10000,
+        a4: 2048,
+        end: TurnEnd::Quantum,
+        pc: 0x10008,
+        a2: 0,
+        a3: 0,
+    },
+    // 4095 in front of it: the same; addi a2, a2, 1
+    Program {
+        words: [0xfff7_0713, 0xfe07_1ee3, 0x0016_0613, 0x73, 0],
+        start: 0x10000,
+        a4: 2047,
+        end: TurnEnd::Ecall,
+        pc: 0x1000c,
+        a2: 1,
+        a3: 0,
+    },
+    // 4096: the same; addi a2, a2, 1; addi a2, a2, 1
+    Program {
+        words: [0xfff7_0713, 0xfe07_1ee3, 0x0016_0613, 0x0016_0613, 0x73],
+        start: 0x10000,
+        a4: 2047,
+        end: TurnEnd::Quantum,
+        pc: 0x10010,
+        a2: 2,
+        a3: 0,
+    },
+    // 4096 and more: the same
+    Program {
+        words: [0xfff7_0713, 0xfe07_1ee3, 0x73, 0, 0],
+        start: 0x10000,
+        a4: 2049,
+        end: TurnEnd::Quantum,
+        pc: 0x10000,
+        a2: 0,
+        a3: 0,
+    },
+    // The next instruction is written: sw a1, 4(a0); addi a2, a2, 1; ecall
+    Program {
+        words: [0x00b5_2223, 0x0016_0613, 0x73, 0, 0],
+        start: 0x30000,
+        a4: 0,
+        end: TurnEnd::Ecall,
+        pc: 0x30008,
+        a2: 16,
+        a3: 0,
+    },
+    // One that was done is written: addi a2, a2, 1; sw a1, 0(a0); addi a3, a3, 1; blt a3, a4, -12; ecall
+    Program {
+        words: [0x0016_0613, 0x00b5_2023, 0x0016_8693, 0xfee6_cae3, 0x73],
+        start: 0x30000,
+        a4: 2,
+        end: TurnEnd::Ecall,
+        pc: 0x30010,
+        a2: 17,
+        a3: 2,
+    },
+    // the same where another page is written
+    Program {
+        words: [0x0016_0613, 0x00b5_2023, 0x0016_8693, 0xfee6_cae3, 0x73],
+        start: 0x10000,
+        a4: 2,
+        end: TurnEnd::Ecall,
+        pc: 0x10010,
+        a2: 2,
+        a3: 2,
+    },
+];
+
+#[test]
+fn turns_end(rt: HostRuntime) -> Result<(), Fail> {
+    for row in PROGRAMS {
+        let words = row.words;
+        let mut memory = memory_of(rt.alloc(), &words)?;
+        let mut regs = registers(row.start, WRITABLE_CODE, 0x0106_0613, 0);
+        regs.set(A4, row.a4);
+        let end = turn(&mut regs, &mut memory);
+        assert_eq!(rt; (end, regs.pc()), (row.end, row.pc), "{words:?}");
+        assert_eq!(rt; (regs.get(A2), regs.get(A3)), (row.a2, row.a3), "{words:?}");
+    }
+    Ok(())
+}
+
+#[test]
+fn instructions_are_those_in_memory(rt: HostRuntime) -> Result<(), Fail> {
+    // Instructions 1024 bytes apart in turn: addi a2, a2, 1; jal zero, 1020
+    let mut words = [0; 260];
+    words[0] = 0x0016_0613;
+    words[1] = 0x3fc0_006f;
+    // addi a2, a2, 16; addi a4, a4, -1; bne a4, zero, -1032; ecall
+    words[256] = 0x0106_0613;
+    words[257] = 0xfff7_0713;
+    words[258] = 0xbe07_1ce3;
+    words[259] = 0x73;
+    let mut memory = memory_of(rt.alloc(), &words)?;
+    let mut regs = registers(CODE, 0, 0, 0);
+    regs.set(A4, 3);
+    assert_eq!(rt; turn(&mut regs, &mut memory), TurnEnd::Ecall);
+    assert_eq!(rt; (regs.pc(), regs.get(A2)), (CODE + 0x40c, 51));
+    // Between two turns the host writes the page: addi a2, a2, 16; ecall
+    memory.protect(CODE, 1, READ_WRITE)?;
+    memory.write_bytes(CODE, &[0x13, 0x06, 0x06, 0x01, 0x73, 0, 0, 0])?;
+    memory.protect(CODE, 1, READ_EXEC)?;
+    regs.set_pc(CODE);
+    assert_eq!(rt; turn(&mut regs, &mut memory), TurnEnd::Ecall);
+    assert_eq!(rt; (regs.pc(), regs.get(A2)), (CODE + 4, 67));
     Ok(())
 }

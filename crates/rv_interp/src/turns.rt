@@ -1,11 +1,12 @@
 //! A turn of instructions.
 ghost use Rattle.std.specs.Prelude.{◌≡◌};
-ghost use Rattle.rv_interp.specs.declared.execution.Outcome.{Outcome};
-ghost use Rattle.rv_interp.specs.Machine.{Does, StopsAt, TurnIsOne, TurnOfIsTurn, stop_of, turn_of};
+ghost use Rattle.rv_interp.specs.Turns.{Turns, TurnIsOne, TurnOfIsTurn, turn_of};
 
-use crate::execution::{Outcome, step};
-use crate::memory::Memory;
+use crate::cache::Cache;
+use crate::execution::Outcome;
+use crate::reservation::Reservation;
 use abi_types::{Regs, Signal};
+use guest_memory::GuestMemory;
 
 /// How many instructions a turn does, if nothing ends it before.
 pub const QUANTUM: u32 = 4096;
@@ -21,14 +22,16 @@ pub enum TurnEnd {
     Trap(Signal),
 }
 
-/// Does instructions until exactly `QUANTUM` of them were done or, before that, one is an ECALL or traps.
-pub fn turn(regs: &mut Regs, mem: &Memory) -> TurnEnd
-    ensures exact { turn_of mem.now regs.old ≡ record { end = result; regs = regs.new } }
-    ensures quantum { result ≡ TurnEnd.Quantum → Does mem.now 4096 regs.old regs.new }
-    ensures stops { (o : Outcome) → stop_of result ≡ Some o → StopsAt mem.now regs.old o regs.new }
+/// Does instructions until exactly `QUANTUM` of them were done or, before that, one is an ECALL or traps. A reservation
+/// of LR lives inside the turn.
+pub fn turn(regs: &mut Regs, mem: &mut GuestMemory) -> TurnEnd
+    ensures exact { turn_of mem.old regs.old ≡ record { end = result; regs = regs.new; memory = mem.new } }
+    ensures turns { Turns mem.old regs.old result mem.new regs.new }
 {
+    let mut held = Reservation::none();
+    let mut cache = Cache::new();
     for _ in 0..QUANTUM {
-        match step(regs, mem) {
+        match cache.step(regs, mem, &mut held) {
             Outcome::Done => {}
             Outcome::Ecall => return TurnEnd::Ecall,
             Outcome::Trap(signal) => return TurnEnd::Trap(signal),
@@ -37,7 +40,7 @@ pub fn turn(regs: &mut Regs, mem: &Memory) -> TurnEnd
     TurnEnd::Quantum
 }
 
-/// What `turn`'s last two clauses say has exactly one answer, `turn_of`. It does nothing.
+/// What `turn`'s second clause says has exactly one answer, `turn_of`. It does nothing.
 pub fn turn_is_one()
     ensures is_turn { TurnOfIsTurn }
     ensures only { TurnIsOne }

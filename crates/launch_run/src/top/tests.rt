@@ -50,6 +50,59 @@ fn changed(place: usize, bytes: [u8; 4]) -> [u8; 182] {
     program
 }
 
+// The first program with these words in place of its instructions, of which it has room for 15.
+fn with_code(words: &[u32]) -> [u8; 182] {
+    let mut program = HELLO;
+    for (k, word) in words.iter().enumerate() {
+        if k < 15 {
+            program[120 + 4 * k..124 + 4 * k].copy_from_slice(&word.to_le_bytes());
+        }
+    }
+    program
+}
+
+// The report of a program that wrote nothing and ended with this status.
+fn quiet_report(alloc: Global, status: &str) -> Result<String, AllocError> {
+    format!(in alloc;
+        "== stdout 0\n== stderr 0\n== status {status}\n== run ended\n== denials 0\n== tree 0\n")
+}
+
+// Code, how it ends, and how many entries its history has.
+const ENDS: [(&[u32], &str, usize); 9] = [
+    // a word that is no instruction
+    (&[0xffff_ffff], "signal 8 ILL", 1),
+    // ebreak
+    (&[0x0010_0073], "signal 17 TRAP", 1),
+    // ld a0, 0(zero)
+    (&[0x0000_3503], "signal 13 SEGV", 1),
+    // lui a0, 0x10; sd a0, 0(a0): the image can't be written
+    (&[0x0001_0537, 0x00a5_3023], "signal 13 SEGV", 1),
+    // lui a0, 0x10; addi a0, a0, 2; lr.w a1, (a0)
+    (&[0x0001_0537, 0x0025_0513, 0x1005_25af], "signal 3 BUS", 1),
+    // jal zero, .+2
+    (&[0x0020_006f], "signal 3 BUS", 1),
+    // exits with 1 where 5 / 0 is -1 and the remainder is 5
+    (
+        &[
+            0x0050_0593, 0x0205_c6b3, 0x0205_e733, 0x0016_8693, 0x00b7_4733, 0x00e6_e533,
+            0x0015_3513, 0x0270_0893, 0x0000_0073,
+        ],
+        "exit 1",
+        1,
+    ),
+    // exits with 1 where -2^63 / -1 is -2^63 and the remainder is 0
+    (
+        &[
+            0x0010_0593, 0x03f5_9593, 0xfff0_0613, 0x02c5_c6b3, 0x02c5_e733, 0x00b6_c6b3,
+            0x00e6_e533, 0x0015_3513, 0x0270_0893, 0x0000_0073,
+        ],
+        "exit 1",
+        1,
+    ),
+    // addi a7, zero, 48; ecall; jal zero, .-4: a turn for each call that isn't built, and then none is left
+    (&[0x0300_0893, 0x0000_0073, 0xffdf_f06f], "signal 25 XCPU", 100_001),
+];
+
 // What the top call answers for a program and a launch text, and what it writes.
 fn ran(alloc: Global, program: &[u8], text: &[u8]) -> Result<(Finished, MemSink), AllocError> {
     let mut source = source(alloc, program, text, &[])?;
@@ -76,6 +129,19 @@ fn runs_programs(rt: HostRuntime) -> Result<(), Fail> {
         assert_eq!(rt; sink.bytes(), written.as_bytes(), "{written}");
         let kept = finished.kept.map(|record| record.history.len());
         assert_eq!(rt; kept, Some(entries), "{written}");
+    }
+    Ok(())
+}
+
+#[test]
+fn ends_programs(rt: HostRuntime) -> Result<(), Fail> {
+    for (code, status, entries) in ENDS {
+        let (finished, sink) = ran(rt.alloc(), &with_code(code), b"!fd stdout\n")?;
+        assert_eq!(rt; finished.status, 1, "{status}");
+        let report = quiet_report(rt.alloc(), status)?;
+        assert_eq!(rt; sink.bytes(), report.as_bytes(), "{status}");
+        let kept = finished.kept.map(|record| record.history.len());
+        assert_eq!(rt; kept, Some(entries), "{status}");
     }
     Ok(())
 }

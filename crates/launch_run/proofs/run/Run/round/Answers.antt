@@ -14,8 +14,8 @@ call-requires c =
     let b = c.requires.between in
     let on = b.goes_on c.requires.live in
     record {
-      at = at_turn r c.turn.new.regs c.push.new.self _ c.in_ok-push.ensures.ok c.in-Ecall.ensures.exact b.at;
-      last = last_turn r c.turn.new.regs c.push.new.self _ c.in_ok-push.ensures.ok c.in-Ecall.ensures.exact b.at on (omega arith) b.whole;
+      at = at_turn r c.turn.new.regs c.turn.new.mem c.push.new.self _ c.in_ok-push.ensures.ok c.in-Ecall.ensures.exact b.at;
+      last = last_turn r c.turn.new.regs c.turn.new.mem c.push.new.self _ c.in_ok-push.ensures.ok c.in-Ecall.ensures.exact b.at on (omega arith) b.whole;
       live = c.requires.live;
       runnable = on.runnable;
       clock = omega (arith, on.clock);
@@ -23,10 +23,10 @@ call-requires c =
 
 pub stop-requires-in-Trap-clause-at : goal.stop-requires-in-Trap-clause-at
 stop-requires-in-Trap-clause-at c =
-    at_turn c.args.self.now c.turn.new.regs c.push.new.self _ c.in_ok-push.ensures.ok c.in-Trap.ensures.exact c.requires.between.at
+    at_turn c.args.self.now c.turn.new.regs c.turn.new.mem c.push.new.self _ c.in_ok-push.ensures.ok c.in-Trap.ensures.exact c.requires.between.at
 
 pub stop-requires-in-Trap-clause-goes_on : goal.stop-requires-in-Trap-clause-goes_on
-stop-requires-in-Trap-clause-goes_on c = goes_on_turn c.args.self.now c.turn.new.regs c.push.new.self (c.requires.between.goes_on c.requires.live)
+stop-requires-in-Trap-clause-goes_on c = goes_on_turn c.args.self.now c.turn.new.regs c.turn.new.mem c.push.new.self (c.requires.between.goes_on c.requires.live)
 
 pub returns-in-Quantum-clause-ok : goal.returns-in-Quantum-clause-ok
 returns-in-Quantum-clause-ok c =
@@ -34,7 +34,7 @@ returns-in-Quantum-clause-ok c =
     let b = c.requires.between in
     let on = b.goes_on c.requires.live in
     record {
-      at = at_turn r c.turn.new.regs c.push.new.self _ c.in_ok-push.ensures.ok c.in-Quantum.ensures.exact b.at;
-      whole = whole_turn r c.turn.new.regs c.push.new.self c.in_ok-push.ensures.ok c.in-Quantum.ensures.exact b.at on (omega arith) b.whole;
-      goes_on = λ live. goes_on_turn r c.turn.new.regs c.push.new.self on;
+      at = at_turn r c.turn.new.regs c.turn.new.mem c.push.new.self _ c.in_ok-push.ensures.ok c.in-Quantum.ensures.exact b.at;
+      whole = whole_turn r c.turn.new.regs c.turn.new.mem c.push.new.self c.in_ok-push.ensures.ok c.in-Quantum.ensures.exact b.at on (omega arith) b.whole;
+      goes_on = λ live. goes_on_turn r c.turn.new.regs c.turn.new.mem c.push.new.self on;
     }

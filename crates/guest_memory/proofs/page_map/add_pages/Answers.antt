@@ -1,0 +1,13 @@
+use Rattle.std.proofs.Common.{◌+◌, sym, ap, subst, ◌∙◌}
+use Rattle.std.specs.FinMap.{insert}
+use Rattle.guest_memory.specs.Mapping.{AreMapped}
+use Rattle.guest_memory.proofs.PageRanges.{mapped_more}
+use Rattle.guest_memory.proofs.page_map.add_pages.Goals as goal
+
+pub loop-index-preserved : goal.loop-index-preserved
+loop-index-preserved c =
+    subst (AreMapped c.args.pages.now c.args.first (c.loop-index.index + 1) c.args.prot)
+    (sym (c.in_ok-insert.ensures.ok ∙ ap
+    (insert c.loop-index.pages (c.args.first + c.loop-index.index)) c.in_ok-new.ensures))
+    (mapped_more c.args.pages.now c.loop-index.pages c.args.first c.loop-index.index c.args.prot
+    c.loop-index.invariant)

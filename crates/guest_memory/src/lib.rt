@@ -1,0 +1,22 @@
+//! The memory of a guest process: pages of 4096 bytes at 64-bit addresses, each with its rights to be read, written and
+//! executed.
+#![tactic(auto)]
+
+pub use access::Access;
+pub use fault::MemFault;
+pub use laws::{bytes_are_each, bytes_are_written};
+pub use memory::GuestMemory;
+
+mod access;
+mod bytes;
+mod fault;
+mod laws;
+mod mapped_page;
+mod mapping;
+#[cfg(test)]
+mod mapping_tests;
+mod memory;
+mod page_map;
+#[cfg(test)]
+mod tests;
+mod words;

@@ -1,0 +1,124 @@
+//! A page of a guest's memory.
+ghost use Rattle.std.specs.Prelude.{◌≡◌, ◌≤◌, ◌+◌, ◌%◌, length, take, drop, ◌++◌, IfOk, MatchResult, Some, Ok, Err};
+ghost use Rattle.guest_memory.specs.Bytes.{run_in};
+ghost use Rattle.guest_memory.specs.Page.{zero_page, with_prot};
+ghost use Rattle.guest_memory.specs.Words.{IsWidth, bytes_of};
+
+use crate::access::Access;
+use crate::fault::MemFault;
+use abi_types::Prot;
+use std::alloc::{AllocError, Global};
+use std::marker::Model;
+
+/// How many bytes a page has.
+pub const PAGE: u64 = 4096;
+
+/// A page's bytes and rights.
+#[derive(Drop)]
+pub struct MappedPage {
+    bytes: Vec<u8>,
+    prot: Prot,
+}
+
+impl Model for MappedPage {
+    ghost use Rattle.std.specs.Prelude.{◌≡◌, length};
+    ghost use Rattle.guest_memory.specs.Page.{Page, page_code};
+
+    ghost Value = { Page };
+
+    ghost coded = { page_code };
+
+    ghost view = { λ p. record { bytes = p.bytes.items; prot = p.prot } };
+
+    ghost invariant = { λ p. length p.bytes.items ≡ 4096 };
+}
+
+impl MappedPage {
+    /// A page of zeros.
+    pub fn new(alloc: Global, prot: Prot) -> Result<Self, AllocError>
+        ensures { IfOk result (λ page. page ≡ zero_page prot) }
+    {
+        let bytes = vec![in alloc; 0; PAGE as usize]?;
+        Ok(MappedPage { bytes, prot })
+    }
+
+    /// An equal page.
+    pub fn copy(&self) -> Result<Self, AllocError>
+        ensures { IfOk result (λ page. page ≡ self.now) }
+    {
+        Ok(MappedPage {
+            bytes: self.bytes.clone()?,
+            prot: self.prot,
+        })
+    }
+
+    /// Gives the page other rights.
+    pub fn set_prot(&mut self, prot: Prot)
+        ensures { self.new ≡ with_prot prot self.old }
+    {
+        self.prot = prot;
+    }
+
+    /// The bytes from an address in this page to the page's end.
+    #[inline]
+    pub fn run(&self, access: Access, at: u64) -> Result<&[u8], MemFault>
+        ensures run { MatchResult result (λ run. run_in access at (Some self.now) ≡ Ok run.now) (λ fault. run_in access at (Some self.now) ≡ Err fault) }
+        ensures len { IfOk result (λ run. length run.now + at % 4096 ≡ 4096) }
+    {
+        if access.is_allowed_by(&self.prot) {
+            Ok(&self.bytes[(at % PAGE) as usize..])
+        } else {
+            Err(MemFault::NoRight(at))
+        }
+    }
+
+    /// Writes bytes from a place in the page on, which end in the page.
+    pub fn write(&mut self, place: usize, bytes: &[u8])
+        requires { place + length bytes.now ≤ 4096 }
+        ensures { self.new ≡ record self.old { bytes = take place self.old.bytes ++ (bytes.now ++ drop (place + length bytes.now) self.old.bytes) } }
+    {
+        self.bytes[place..place + bytes.len()].copy_from_slice(bytes);
+    }
+
+    /// Writes the `n` lowest bytes of a number from a place in the page on, which end in the page; `n` is 1, 2, 4 or 8.
+    #[inline]
+    pub fn store(&mut self, place: usize, n: u32, v: u64)
+        requires width { IsWidth n }
+        requires fits { place + n ≤ 4096 }
+        ensures { self.new ≡ record self.old { bytes = take place self.old.bytes ++ (bytes_of n v ++ drop (place + n) self.old.bytes) } }
+    {
+        put_number(&mut self.bytes[place..place + n as usize], v);
+    }
+}
+
+/// Fills a slice with the lowest bytes of a number, the lowest first. It has 1, 2, 4 or 8 of them.
+#[inline]
+fn put_number(part: &mut [u8], v: u64)
+    requires { IsWidth (length part.old) }
+    ensures { part.new ≡ bytes_of (length part.old) v }
+{
+    let bytes = v.to_le_bytes();
+    match part.len() {
+        1 => part[0] = bytes[0],
+        2 => {
+            part[0] = bytes[0];
+            part[1] = bytes[1];
+        }
+        4 => {
+            part[0] = bytes[0];
+            part[1] = bytes[1];
+            part[2] = bytes[2];
+            part[3] = bytes[3];
+        }
+        _ => {
+            part[0] = bytes[0];
+            part[1] = bytes[1];
+            part[2] = bytes[2];
+            part[3] = bytes[3];
+            part[4] = bytes[4];
+            part[5] = bytes[5];
+            part[6] = bytes[6];
+            part[7] = bytes[7];
+        }
+    }
+}

@@ -1,0 +1,95 @@
+//! Which pages a memory has.
+ghost use Rattle.std.specs.Prelude.{◌≡◌, ◌+◌, ◌*◌, ◌/◌, ◌^◌, ◌≤◌, IfErr, OnOk, OnErr, IfSome, IfNone};
+ghost use Rattle.guest_memory.specs.Ranges.{IsPageAddress};
+ghost use Rattle.guest_memory.specs.Mapping.{AreThere, AreMapped, AreUnmapped, AreProtected, MayMap, MapFails, ProtectFails, IsLowestGap, HasNoGap};
+
+use crate::fault::MemFault;
+use crate::mapped_page::PAGE;
+use crate::memory::GuestMemory;
+use crate::page_map::{add_pages, first_absent, first_page, protect_pages, remove_pages};
+use abi_types::Prot;
+use std::alloc::Global;
+
+/// The most pages of a memory.
+const PAGE_LIMIT: usize = 65_536;
+
+/// The number of the first page of the part where a mapping without a place of its own may lie.
+const GAPS_BEGIN: u64 = 0x20_0000_0000 / PAGE;
+
+/// The number of the first page after that part.
+const GAPS_END: u64 = 0x3e_0000_0000 / PAGE;
+
+impl GuestMemory {
+    /// Maps pages of zeros with these rights from a page's address on, in the guest's part of the address space.
+    /// `Overlaps` names the first page that is there already. Only where there is none, `PageLimit` says that there
+    /// would be more than 65,536 pages, and else `NoMemory` that the host has no memory left. A refused call changes
+    /// nothing.
+    pub fn map(&mut self, alloc: Global, at: u64, pages: u32, prot: Prot) -> Result<(), MemFault>
+        requires page { IsPageAddress at }
+        requires low { 0x10000 ≤ at }
+        requires high { at + 4096 * pages ≤ 0x4000000000 }
+        ensures may { OnOk result (MayMap self.old (at / 4096) pages) }
+        ensures ok { OnOk result (AreMapped self.old (at / 4096) pages prot self.new) }
+        ensures fault { IfErr result (MapFails self.old (at / 4096) pages) }
+        ensures err { OnErr result (self.new ≡ self.old) }
+    {
+        let first = at / PAGE;
+        let count = u64::from(pages);
+        if let Some(taken) = first_page(&self.pages, first, count) {
+            return Err(MemFault::Overlaps(taken * PAGE));
+        }
+        if self.pages.len() + pages as usize > PAGE_LIMIT {
+            return Err(MemFault::PageLimit);
+        }
+        if add_pages(&mut self.pages, alloc, first, count, prot).is_err() {
+            remove_pages(&mut self.pages, first, count);
+            return Err(MemFault::NoMemory);
+        }
+        Ok(())
+    }
+
+    /// Takes away the pages from a page's address on, as far as they are there.
+    pub fn unmap(&mut self, at: u64, pages: u32)
+        requires page { IsPageAddress at }
+        requires high { at + 4096 * pages ≤ 2 ^ 64 }
+        ensures { AreUnmapped self.old (at / 4096) pages self.new }
+    {
+        remove_pages(&mut self.pages, at / PAGE, u64::from(pages));
+    }
+
+    /// Gives the pages from a page's address on these rights. `NotMapped` names the first that isn't there, and then
+    /// nothing is changed.
+    pub fn protect(&mut self, at: u64, pages: u32, prot: Prot) -> Result<(), MemFault>
+        requires page { IsPageAddress at }
+        requires high { at + 4096 * pages ≤ 2 ^ 64 }
+        ensures there { OnOk result (AreThere self.old (at / 4096) pages) }
+        ensures ok { OnOk result (AreProtected self.old (at / 4096) pages prot self.new) }
+        ensures fault { IfErr result (ProtectFails self.old (at / 4096) pages) }
+        ensures err { OnErr result (self.new ≡ self.old) }
+    {
+        let first = at / PAGE;
+        let count = u64::from(pages);
+        if let Some(absent) = first_absent(&self.pages, first, count) {
+            return Err(MemFault::NotMapped(absent * PAGE));
+        }
+        protect_pages(&mut self.pages, first, count, prot);
+        Ok(())
+    }
+
+    /// The lowest address from 0x2000000000 on at which this many pages can be mapped, below 0x3e00000000. `None`
+    /// exactly where there is none.
+    pub fn find_gap(&self, pages: u32) -> Option<u64>
+        ensures some { IfSome result (IsLowestGap self.now pages) }
+        ensures none { IfNone result (HasNoGap self.now pages) }
+    {
+        let count = u64::from(pages);
+        let mut first = GAPS_BEGIN;
+        while first + count <= GAPS_END {
+            match first_page(&self.pages, first, count) {
+                Some(number) => first = number + 1,
+                None => return Some(first * PAGE),
+            }
+        }
+        None
+    }
+}

@@ -1,0 +1,63 @@
+//! The memory of a process.
+ghost use Rattle.std.specs.Prelude.{◌≡◌, IfOk};
+ghost use Rattle.std.specs.FinMap as map;
+ghost use Rattle.guest_memory.specs.Limits.{KeepsLimits};
+
+use crate::mapped_page::MappedPage;
+use number_map::NumMap;
+use std::alloc::{AllocError, Global};
+use std::marker::Model;
+
+/// The memory of a process: pages of 4096 bytes by their numbers, each with its rights. Guest addresses run from
+/// 0x10000 up to 0x4000000000, and there are at most 65,536 pages.
+#[derive(Drop)]
+pub struct GuestMemory {
+    pub(crate) pages: NumMap<MappedPage>,
+}
+
+impl Model for GuestMemory {
+    ghost use Rattle.std.specs.Coded.{coded_ℕ};
+    ghost use Rattle.std.specs.FinMap as map;
+    ghost use Rattle.guest_memory.specs.Page.{Pages, page_code};
+    ghost use Rattle.guest_memory.specs.Limits.{KeepsLimits};
+
+    ghost Value = { Pages };
+
+    ghost coded = { map.code coded_ℕ page_code };
+
+    ghost view = { λ m. m.pages };
+
+    ghost invariant = { λ m. KeepsLimits m.pages };
+}
+
+impl GuestMemory {
+    /// A memory with no page.
+    pub fn new(alloc: Global) -> Self
+        ensures { result ≡ map.empty }
+    {
+        GuestMemory {
+            pages: NumMap::new(alloc),
+        }
+    }
+
+    /// An equal memory. Only want of memory keeps it from that.
+    pub fn copy(&self, alloc: Global) -> Result<Self, AllocError>
+        ensures { IfOk result (λ made. made ≡ self.now) }
+    {
+        let mut pages = NumMap::new(alloc);
+        let mut from = 0;
+        while let Some(number) = self.pages.first_from(from) {
+            let page = self.pages.get(number).unwrap();
+            pages.insert(number, page.copy()?)?;
+            from = number + 1;
+        }
+        Ok(GuestMemory { pages })
+    }
+
+    /// What every memory keeps. It does nothing.
+    pub fn keeps_limits(&self)
+        ensures { KeepsLimits self.now }
+    {
+        let _pages = &self.pages;
+    }
+}

@@ -1,0 +1,75 @@
+//! Ranges of pages in a map of pages by number: the `count` pages from the number `first` on.
+ghost use Rattle.std.specs.Prelude.{◌≡◌, ◌+◌, ◌^◌, ◌<◌, ◌≤◌, None, IsSome, OnOk, OnErr, MatchOption};
+ghost use Rattle.std.specs.FinMap.{get};
+ghost use Rattle.guest_memory.specs.Ranges.{IsFirstNumber};
+ghost use Rattle.guest_memory.specs.Mapping.{AreFree, AreThere, AreMapped, AreUnmapped, AreProtected, AreSameOutside};
+
+use crate::mapped_page::MappedPage;
+use abi_types::Prot;
+use number_map::NumMap;
+use std::alloc::{AllocError, Global};
+
+/// The lowest page of the range that is there.
+pub fn first_page(pages: &NumMap<MappedPage>, first: u64, count: u64) -> Option<u64>
+    requires { first + count < 2 ^ 64 }
+    ensures { MatchOption result (AreFree pages.now first count) (IsFirstNumber (λ q. IsSome (get pages.now q)) first count) }
+{
+    let number = pages.first_from(first)?;
+    if number < first + count {
+        Some(number)
+    } else {
+        None
+    }
+}
+
+/// The lowest page of the range that isn't there.
+pub fn first_absent(pages: &NumMap<MappedPage>, first: u64, count: u64) -> Option<u64>
+    requires { first + count < 2 ^ 64 }
+    ensures { MatchOption result (AreThere pages.now first count) (IsFirstNumber (λ q. get pages.now q ≡ None) first count) }
+{
+    for index in 0..count {
+        if !pages.contains(first + index) {
+            return Some(first + index);
+        }
+    }
+    None
+}
+
+/// Puts a page of zeros at each number of the range. Where memory runs out, some may be there.
+pub fn add_pages(
+    pages: &mut NumMap<MappedPage>,
+    alloc: Global,
+    first: u64,
+    count: u64,
+    prot: Prot,
+) -> Result<(), AllocError>
+    requires { first + count < 2 ^ 64 }
+    ensures ok { OnOk result (AreMapped pages.old first count prot pages.new) }
+    ensures err { OnErr result (AreSameOutside pages.old first count pages.new) }
+{
+    for index in 0..count {
+        pages.insert(first + index, MappedPage::new(alloc, prot)?)?;
+    }
+    Ok(())
+}
+
+/// Takes away the pages of the range, as far as they are there.
+pub fn remove_pages(pages: &mut NumMap<MappedPage>, first: u64, count: u64)
+    requires { first + count < 2 ^ 64 }
+    ensures { AreUnmapped pages.old first count pages.new }
+{
+    while let Some(number) = first_page(pages, first, count) {
+        pages.remove(number);
+    }
+}
+
+/// Gives each page of the range these rights. Each is there.
+pub fn protect_pages(pages: &mut NumMap<MappedPage>, first: u64, count: u64, prot: Prot)
+    requires fits { first + count < 2 ^ 64 }
+    requires there { AreThere pages.old first count }
+    ensures { AreProtected pages.old first count prot pages.new }
+{
+    for index in 0..count {
+        pages.get_mut(first + index).set_prot(prot);
+    }
+}

@@ -1,0 +1,124 @@
+-- Slots of decoded instructions.
+--     empty_true      a slot of an odd address is true of every memory
+--     kept_true, all_kept      what is true stays true where pages that can't be written stay
+--     found      a slot's instruction is the one that is next
+--     filled_true      an instruction of a page that can't be written makes a true slot
+use Rattle.std.proofs.Common.{◌≡◌, ℕ, zero, suc, ◌+◌, ◌/◌, ◌%◌, ◌^◌, ◌<◌, ◌≤◌, Bool, true, false, List, [], Option, Some, None, Result, Ok, Err, IfErr, set, refl, sym, ap, ◌∙◌, arith}
+use Rattle.std.proofs.lemmas.List.Elements.{All-set, All-weaker}
+use Rattle.std.specs.FinMap.{get}
+use Rattle.std.specs.Result.{is_err}
+use Rattle.abi_types.specs.Registers.{Registers}
+use Rattle.abi_types.specs.declared.signal.Signal.{Signal}
+use Rattle.guest_memory.specs.declared.access.Access.{Access}
+use Rattle.guest_memory.specs.declared.access.Access.TheVariants.{Write, Exec}
+use Rattle.guest_memory.specs.declared.fault.MemFault.{MemFault}
+use Rattle.guest_memory.specs.Bytes.{byte_in, in_front, bytes_from}
+use Rattle.guest_memory.specs.Page.{Page, Pages}
+use Rattle.guest_memory.specs.Words.{number_in}
+use Rattle.guest_memory.specs.Written.{KeepsUnwritable}
+use Rattle.rv_code.specs.declared.instr.Instr.{Instr}
+use Rattle.rv_code.specs.Formats.{NamesRegisters}
+use Rattle.rv_interp.specs.declared.cache.Slot.{Slot}
+use Rattle.rv_interp.specs.declared.reservation.Reservation.{Reservation}
+use Rattle.rv_interp.specs.Cache.{IsFixedAt, IsTrue, AreTrue}
+use Rattle.rv_interp.specs.Machine.{Step, machine}
+use Rattle.rv_interp.specs.Instructions.{fetched_in, instruction_at, begun_of, execute_of, step_of, step_trapped}
+
+-- ---- bytes of one page
+
+-- bytes that lie in a page are the same where the page is
+same_bytes : (x : Access) (m n : Pages) (k a : ℕ) → get m (a / 4096) ≡ get n (a / 4096) → a < 2 ^ 64 → a % 4096 + k ≤ 4096 → bytes_from x m a k ≡ bytes_from x n a k
+unfolding bytes_from
+same_bytes x m n zero a e small fits = refl
+same_bytes x m n (suc zero) a e small fits = ap (λ o. in_front (byte_in x a o) (Ok [])) e
+same_bytes x m n (suc (suc k)) a e small fits =
+    let next : (a + 1) % 2 ^ 64 ≡ a + 1 = omega arith in
+    let page : (a + 1) / 4096 ≡ a / 4096 = omega arith in
+    let rest : bytes_from x m (a + 1) (suc k) ≡ bytes_from x n (a + 1) (suc k) =
+    same_bytes x m n (suc k) (a + 1) (ap (get m) page ∙ e ∙ sym (ap (get n) page)) (omega arith) (omega arith) in
+    ap (λ o. in_front (byte_in x a o) (bytes_from x m ((a + 1) % 2 ^ 64) (suc k))) e
+    ∙ ap (λ b. in_front (byte_in x a (get n (a / 4096))) (bytes_from x m b (suc k))) next
+    ∙ ap (in_front (byte_in x a (get n (a / 4096)))) rest
+    ∙ ap (λ b. in_front (byte_in x a (get n (a / 4096))) (bytes_from x n b (suc k))) (sym next)
+
+-- the instruction at a multiple of 4 is the same where its page is
+same_instruction : (m n : Pages) (pc : ℕ) → get m (pc / 4096) ≡ get n (pc / 4096) → pc < 2 ^ 64 → pc % 4 ≡ 0 → instruction_at m pc ≡ instruction_at n pc
+unfolding instruction_at
+same_instruction m n pc e small place = ap (λ bytes. fetched_in (number_in bytes)) (same_bytes Exec m n 4 pc e small (omega arith))
+
+-- ---- slots
+
+pub empty_true : (m : Pages) (slot : Slot) → slot.pc ≡ 1 → NamesRegisters slot.instr → IsTrue m slot
+empty_true m slot odd names = record { registers = names; fixed = λ place. absurd (omega (arith, odd, place)) }
+
+kept_fixed : (m n : Pages) (pc : ℕ) (i : Instr) → KeepsUnwritable m n → pc % 4 ≡ 0 → IsFixedAt m pc i → IsFixedAt n pc i
+kept_fixed m n pc i keeps place h =
+    let there : get n (pc / 4096) ≡ Some h.page = keeps (pc / 4096) h.page h.there h.unwritable in
+    record {
+      small = h.small;
+      page = h.page;
+      there = there;
+      unwritable = h.unwritable;
+      instruction = same_instruction n m pc (there ∙ sym h.there) h.small place ∙ h.instruction;
+    }
+
+pub kept_true : (m n : Pages) → KeepsUnwritable m n → (slot : Slot) → IsTrue m slot → IsTrue n slot
+kept_true m n keeps slot h =
+    record { registers = h.registers; fixed = λ place. kept_fixed m n slot.pc slot.instr keeps place (h.fixed place) }
+
+pub all_kept : (m n : Pages) (slots : List Slot) → KeepsUnwritable m n → AreTrue m slots → AreTrue n slots
+all_kept m n slots keeps h = All-weaker (IsTrue m) (IsTrue n) (λ slot. kept_true m n keeps slot) slots h
+
+-- the instruction of a slot is the one at its address
+pub found : (m : Pages) (r : Registers) (held : Reservation) (slot : Slot) → IsTrue m slot → slot.pc ≡ r.pc → r.pc % 4 ≡ 0 → step_of (machine r m held) ≡ execute_of slot.instr (machine r m held)
+unfolding step_of
+found m r held slot h same place =
+    let fixed : IsFixedAt m slot.pc slot.instr = h.fixed (ap (λ n. n % 4) same ∙ place) in
+    ap (begun_of (machine r m held)) (ap (instruction_at m) (sym same) ∙ fixed.instruction)
+
+-- ---- a page that can't be written
+
+-- a page whose byte can't be written
+refused_write : (p : Page) (a : ℕ) (b : Bool) → p.prot.write ≡ b → (fault : MemFault) → in_front (byte_in Write a (Some p)) (Ok []) ≡ Err fault → p.prot.write ≡ false
+refused_write p a true e fault refused = absurd (cc)
+refused_write p a false e fault refused = e
+
+-- a page that can be executed, as what was read of it tells, and can't be written
+unwritable_page : (m : Pages) (a : ℕ) (o : Option Page) (i : Instr) (rest : Result (List ℕ) MemFault) (fault : MemFault) → get m (a / 4096) ≡ o
+    → fetched_in (number_in (in_front (byte_in Exec a o) rest)) ≡ Ok i
+    → in_front (byte_in Write a o) (Ok []) ≡ Err fault → (p : Page) × (get m (a / 4096) ≡ Some p) × (p.prot.write ≡ false)
+unwritable_page m a None i rest fault e had refused = absurd (cc)
+unwritable_page m a (Some p) i rest fault e had refused = (p, e, refused_write p a p.prot.write refl fault refused)
+
+-- an instruction that was fetched from a page that can't be written
+pub filled_true : (m : Pages) (pc : ℕ) (i : Instr) (fault : MemFault) → instruction_at m pc ≡ Ok i → bytes_from Write m pc 1 ≡ Err fault → pc < 2 ^ 64 → NamesRegisters i → IsTrue m (record { pc = pc; instr = i })
+unfolding instruction_at bytes_from
+filled_true m pc i fault had refused small names =
+    let page = unwritable_page m pc (get m (pc / 4096)) i (bytes_from Exec m ((pc + 1) % 2 ^ 64) 3) fault refl had refused in
+    record {
+      registers = names;
+      fixed = λ place. record { small = small; page = page.0; there = page.1; unwritable = page.2; instruction = had };
+    }
+
+-- ---- the cache
+
+-- the fault of a check that failed
+failure : {A : Type 0} (b : Result (List ℕ) MemFault) (r : Result A MemFault) → IfErr r (λ fault. b ≡ Err fault) → is_err r ≡ true → (fault : MemFault) × (b ≡ Err fault)
+failure b (Ok x) h e = absurd (cc)
+failure b (Err fault) h e = (fault, h)
+
+-- the slots with an instruction put in one of them, of a page that can't be written
+pub filled : {A : Type 0} (m : Pages) (slots : List Slot) (place pc : ℕ) (i : Instr) (r : Result A MemFault) → AreTrue m slots → instruction_at m pc ≡ Ok i → IfErr r (λ fault. bytes_from Write m pc 1 ≡ Err fault) → is_err r ≡ true
+    → pc < 2 ^ 64 → NamesRegisters i → AreTrue m (set slots place (record { pc = pc; instr = i }))
+filled m slots place pc i r h had refused e small names =
+    let fault : (fault : MemFault) × (bytes_from Write m pc 1 ≡ Err fault) = failure (bytes_from Write m pc 1) r refused e in
+    All-set (IsTrue m) slots place (record { pc = pc; instr = i }) (filled_true m pc i fault.0 had fault.1 small names) h
+
+-- the instruction that is next, decoded
+pub decoded : (m : Pages) (r : Registers) (held : Reservation) (pc : ℕ) (i : Instr) (step : Step) → r.pc ≡ pc → instruction_at m pc ≡ Ok i → execute_of i (machine r m held) ≡ step → step_of (machine r m held) ≡ step
+unfolding step_of
+decoded m r held pc i step same had e = ap (begun_of (machine r m held)) (ap (instruction_at m) same ∙ had) ∙ e
+
+pub none : (m : Pages) (r : Registers) (held : Reservation) (pc : ℕ) (why : Signal) → r.pc ≡ pc → instruction_at m pc ≡ Err why → step_of (machine r m held) ≡ step_trapped (machine r m held) why
+unfolding step_of
+none m r held pc why same had = ap (begun_of (machine r m held)) (ap (instruction_at m) same ∙ had)

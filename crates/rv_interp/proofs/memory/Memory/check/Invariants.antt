@@ -1,9 +1,0 @@
-use Rattle.std.proofs.Common.{◌-◌, ◌≤◌, IsOk}
-use Rattle.rv_interp.specs.Memory.{bytes_from}
-use Rattle.rv_interp.proofs.memory.Memory.check.Given as goal
-
-abbrev pub invariant-loop-done : goal.invariant-loop-done
-invariant-loop-done l = record { within : l.done ≤ l.count; had : IsOk (bytes_from l.access l.self l.at l.done) }
-
-abbrev pub decreases-loop-done : goal.decreases-loop-done
-decreases-loop-done l = l.count - l.done

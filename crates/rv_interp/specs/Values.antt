@@ -1,0 +1,86 @@
+-- What instructions decide and compute besides the operations on registers: whether a branch is taken, what a load
+-- gives, and what an atomic instruction writes. A register is a number below 2^64; where an operation is signed, it is
+-- looked at in two's complement.
+use Rattle.std.specs.Prelude.{ℕ, ◌+◌, ◌%◌, ◌^◌, ◌==◌, Bool, false, not, cond, nat_lt, ℤ, int_lt, bit_and, bit_or}
+use Rattle.std.specs.Int.{w8, w16, w32, w64, cast_signed, cast_unsigned}
+use Rattle.std.specs.Int.Bits.{bit_xor}
+use Rattle.rv_code.specs.declared.instr.Op.{Op}
+use Rattle.rv_code.specs.declared.instr.Op.TheVariants as op
+
+abbrev pub signed : ℕ → ℤ
+signed a = cast_signed w64 a
+
+abbrev pub signed_word : ℕ → ℤ
+signed_word a = cast_signed w32 a
+
+-- the 64 bits of a signed number in two's complement
+abbrev pub bits_of : ℤ → ℕ
+bits_of z = cast_unsigned w64 z
+
+-- whether the branch is taken ("Conditional Branches")
+abbrev pub is_taken : Op → ℕ → ℕ → Bool
+is_taken op.Beq a b = a == b
+is_taken op.Bne a b = not (a == b)
+is_taken op.Blt a b = int_lt (signed a) (signed b)
+is_taken op.Bge a b = not (int_lt (signed a) (signed b))
+is_taken op.Bltu a b = nat_lt a b
+is_taken op.Bgeu a b = not (nat_lt a b)
+is_taken _ a b = false
+
+-- a byte, a half word and a word, sign-extended to 64 bits
+abbrev pub extended_byte : ℕ → ℕ
+extended_byte v = bits_of (cast_signed w8 (v % 2 ^ 8))
+
+abbrev pub extended_half : ℕ → ℕ
+extended_half v = bits_of (cast_signed w16 (v % 2 ^ 16))
+
+abbrev pub extended_word : ℕ → ℕ
+extended_word v = bits_of (cast_signed w32 (v % 2 ^ 32))
+
+-- what a load or an atomic instruction writes to its register, where this number was read: LB, LH, LW and atomic
+-- instructions on words sign-extend it ("Load and Store Instructions", "A" Extension)
+abbrev pub loaded_value : Op → ℕ → ℕ
+loaded_value op.Lb v = extended_byte v
+loaded_value op.Lh v = extended_half v
+loaded_value op.Lw v = extended_word v
+loaded_value op.LrW v = extended_word v
+loaded_value op.AmoswapW v = extended_word v
+loaded_value op.AmoaddW v = extended_word v
+loaded_value op.AmoxorW v = extended_word v
+loaded_value op.AmoandW v = extended_word v
+loaded_value op.AmoorW v = extended_word v
+loaded_value op.AmominW v = extended_word v
+loaded_value op.AmomaxW v = extended_word v
+loaded_value op.AmominuW v = extended_word v
+loaded_value op.AmomaxuW v = extended_word v
+loaded_value _ v = v
+
+-- what an atomic instruction writes to memory, where a was read and b is the second register's number, of which those on
+-- words use the low words ("Atomic Memory Operations"); 0 for other operations
+abbrev pub double_value : Op → ℕ → ℕ → ℕ
+double_value op.AmoswapD a b = b
+double_value op.AmoaddD a b = (a + b) % 2 ^ 64
+double_value op.AmoxorD a b = bit_xor a b
+double_value op.AmoandD a b = bit_and a b
+double_value op.AmoorD a b = bit_or a b
+double_value op.AmominD a b = cond (int_lt (signed a) (signed b)) a b
+double_value op.AmomaxD a b = cond (int_lt (signed a) (signed b)) b a
+double_value op.AmominuD a b = cond (nat_lt a b) a b
+double_value op.AmomaxuD a b = cond (nat_lt a b) b a
+double_value _ a b = 0
+
+abbrev pub word_value : Op → ℕ → ℕ → ℕ
+word_value op.AmoswapW a b = b
+word_value op.AmoaddW a b = (a + b) % 2 ^ 32
+word_value op.AmoxorW a b = bit_xor a b
+word_value op.AmoandW a b = bit_and a b
+word_value op.AmoorW a b = bit_or a b
+word_value op.AmominW a b = cond (int_lt (signed_word a) (signed_word b)) a b
+word_value op.AmomaxW a b = cond (int_lt (signed_word a) (signed_word b)) b a
+word_value op.AmominuW a b = cond (nat_lt a b) a b
+word_value op.AmomaxuW a b = cond (nat_lt a b) b a
+word_value _ a b = 0
+
+-- the number that an atomic instruction of this width writes
+abbrev pub atomic_value : ℕ → Op → ℕ → ℕ → ℕ
+atomic_value n op a b = cond (n == 4) (word_value op (a % 2 ^ 32) (b % 2 ^ 32)) (double_value op a b)

@@ -1,0 +1,120 @@
+//! Atomic instructions ("A" Extension for Atomic Instructions). Their address has to be a multiple of their width, which
+//! is looked at first.
+ghost use Rattle.std.specs.Prelude.{◌≡◌, ◌<◌, ◌^◌};
+ghost use Rattle.guest_memory.specs.Words.{IsWidth};
+ghost use Rattle.guest_memory.specs.Written.{KeepsUnwritable};
+ghost use Rattle.rv_code.specs.Formats.{NamesRegisters};
+ghost use Rattle.rv_interp.specs.Kinds.{width_of};
+ghost use Rattle.rv_interp.specs.Machine.{machine, holds};
+ghost use Rattle.rv_interp.specs.Instructions.{atomic_step, exchange_of, reserve_step, conditional_step, conditional_of, register};
+ghost use Rattle.guest_memory.specs.Words.{load_of, store_of};
+
+use crate::execution::Outcome;
+use crate::jumps::done;
+use crate::kind::width;
+use crate::reservation::Reservation;
+use crate::values::{atomic_value, loaded_value};
+use abi_types::{Regs, Signal};
+use guest_memory::{Access, GuestMemory};
+use rv_code::Instr;
+
+/// Reads a number and writes another in its place, at a multiple of the width.
+fn exchange(regs: &mut Regs, mem: &mut GuestMemory, instr: &Instr, at: u64) -> Outcome
+    requires { NamesRegisters instr.now }
+    ensures exact { exchange_of regs.old mem.old instr.now at (load_of mem.old at (width_of instr.now.op)) ≡ record { outcome = result; regs = regs.new; memory = mem.new } }
+    ensures unwritable { KeepsUnwritable mem.old mem.new }
+{
+    let width = width(instr.op);
+    let Ok(v) = mem.load(at, width) else {
+        return Outcome::Trap(Signal::Segv);
+    };
+    let value = atomic_value(width, instr.op, v, regs.get(instr.rs2));
+    match mem.store(at, width, value) {
+        Ok(()) => done(regs, instr.rd, loaded_value(instr.op, v)),
+        Err(_) => Outcome::Trap(Signal::Segv),
+    }
+}
+
+/// AMO.
+pub fn atomic(regs: &mut Regs, mem: &mut GuestMemory, instr: &Instr) -> Outcome
+    requires { NamesRegisters instr.now }
+    ensures exact { atomic_step regs.old mem.old instr.now ≡ record { outcome = result; regs = regs.new; memory = mem.new } }
+    ensures unwritable { KeepsUnwritable mem.old mem.new }
+{
+    let at = regs.get(instr.rs1);
+    if at % u64::from(width(instr.op)) == 0 {
+        exchange(regs, mem, instr, at)
+    } else {
+        Outcome::Trap(Signal::Bus)
+    }
+}
+
+/// LR.
+pub fn load_reserved(
+    regs: &mut Regs,
+    mem: &mut GuestMemory,
+    held: &mut Reservation,
+    instr: &Instr,
+) -> Outcome
+    requires { NamesRegisters instr.now }
+    ensures exact { reserve_step (machine regs.old mem.old held.old) instr.now ≡ record { outcome = result; after = machine regs.new mem.new held.new } }
+    ensures same { mem.new ≡ mem.old }
+{
+    let at = regs.get(instr.rs1);
+    let width = width(instr.op);
+    if at % u64::from(width) != 0 {
+        return Outcome::Trap(Signal::Bus);
+    }
+    let Ok(v) = mem.load(at, width) else {
+        return Outcome::Trap(Signal::Segv);
+    };
+    held.held = Some((at, width));
+    done(regs, instr.rd, loaded_value(instr.op, v))
+}
+
+/// Stores where the address and the width are reserved, and else looks whether it might have, at a multiple of the width.
+fn store_reserved(
+    regs: &mut Regs,
+    mem: &mut GuestMemory,
+    held: &mut Reservation,
+    instr: &Instr,
+    at: u64,
+) -> Outcome
+    requires { NamesRegisters instr.now }
+    ensures exact { conditional_of (machine regs.old mem.old held.old) instr.now at (store_of mem.old at (width_of instr.now.op) (register regs.old instr.now.rs2)) ≡ record { outcome = result; after = machine regs.new mem.new held.new } }
+    ensures unwritable { KeepsUnwritable mem.old mem.new }
+{
+    let width = width(instr.op);
+    let holds = held.holds(at, width);
+    let may_store = if holds {
+        mem.store(at, width, regs.get(instr.rs2))
+    } else {
+        mem.check(Access::Write, at, width as usize)
+    };
+    match may_store {
+        Ok(()) => {
+            *held = Reservation::none();
+            done(regs, instr.rd, u64::from(!holds))
+        }
+        Err(_) => Outcome::Trap(Signal::Segv),
+    }
+}
+
+/// SC.
+pub fn store_conditional(
+    regs: &mut Regs,
+    mem: &mut GuestMemory,
+    held: &mut Reservation,
+    instr: &Instr,
+) -> Outcome
+    requires { NamesRegisters instr.now }
+    ensures exact { conditional_step (machine regs.old mem.old held.old) instr.now ≡ record { outcome = result; after = machine regs.new mem.new held.new } }
+    ensures unwritable { KeepsUnwritable mem.old mem.new }
+{
+    let at = regs.get(instr.rs1);
+    if at % u64::from(width(instr.op)) == 0 {
+        store_reserved(regs, mem, held, instr, at)
+    } else {
+        Outcome::Trap(Signal::Bus)
+    }
+}

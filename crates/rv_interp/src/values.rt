@@ -1,0 +1,113 @@
+//! What instructions decide and compute besides the operations on registers.
+ghost use Rattle.std.specs.Prelude.{◌≡◌, ◌%◌, ◌^◌};
+ghost use Rattle.rv_interp.specs.Values.{is_taken, extended_byte, extended_half, extended_word, loaded_value, word_value, double_value, atomic_value};
+
+use rv_code::Op;
+
+/// Whether a branch on these two numbers is taken.
+#[inline]
+pub fn is_taken(op: Op, a: u64, b: u64) -> bool
+    ensures { result ≡ is_taken op a b }
+{
+    match op {
+        Op::Beq => a == b,
+        Op::Bne => a != b,
+        Op::Blt => a.cast_signed() < b.cast_signed(),
+        Op::Bge => !(a.cast_signed() < b.cast_signed()),
+        Op::Bltu => a < b,
+        Op::Bgeu => !(a < b),
+        _ => false,
+    }
+}
+
+/// The low byte, sign-extended.
+fn extended_byte(v: u64) -> u64
+    ensures { result ≡ extended_byte v }
+{
+    i64::from(((v % 0x100) as u8).cast_signed()).cast_unsigned()
+}
+
+/// The low half word, sign-extended.
+fn extended_half(v: u64) -> u64
+    ensures { result ≡ extended_half v }
+{
+    i64::from(((v % 0x1_0000) as u16).cast_signed()).cast_unsigned()
+}
+
+/// The low word, sign-extended.
+fn extended_word(v: u64) -> u64
+    ensures { result ≡ extended_word v }
+{
+    i64::from(low(v).cast_signed()).cast_unsigned()
+}
+
+/// The low word.
+fn low(v: u64) -> u32
+    ensures { result ≡ v % 2 ^ 32 }
+{
+    (v % 0x1_0000_0000) as u32
+}
+
+/// What a load or an atomic instruction writes to its register, where this number was read.
+#[inline]
+pub fn loaded_value(op: Op, v: u64) -> u64
+    ensures { result ≡ loaded_value op v }
+{
+    match op {
+        Op::Lb => extended_byte(v),
+        Op::Lh => extended_half(v),
+        Op::Lw | Op::LrW => extended_word(v),
+        Op::AmoswapW | Op::AmoaddW | Op::AmoxorW | Op::AmoandW | Op::AmoorW => extended_word(v),
+        Op::AmominW | Op::AmomaxW | Op::AmominuW | Op::AmomaxuW => extended_word(v),
+        _ => v,
+    }
+}
+
+/// What an atomic instruction on words writes, where `a` was read and `b` is the second register's low word.
+fn word_value(op: Op, a: u32, b: u32) -> u32
+    ensures { result ≡ word_value op a b }
+{
+    let is_less = a.cast_signed() < b.cast_signed();
+    match op {
+        Op::AmoswapW => b,
+        Op::AmoaddW => a.wrapping_add(b),
+        Op::AmoxorW => a ^ b,
+        Op::AmoandW => a & b,
+        Op::AmoorW => a | b,
+        Op::AmominW => if is_less { a } else { b },
+        Op::AmomaxW => if is_less { b } else { a },
+        Op::AmominuW => if a < b { a } else { b },
+        Op::AmomaxuW => if a < b { b } else { a },
+        _ => 0,
+    }
+}
+
+/// What an atomic instruction on double words writes, where `a` was read and `b` is the second register's number.
+fn double_value(op: Op, a: u64, b: u64) -> u64
+    ensures { result ≡ double_value op a b }
+{
+    let is_less = a.cast_signed() < b.cast_signed();
+    match op {
+        Op::AmoswapD => b,
+        Op::AmoaddD => a.wrapping_add(b),
+        Op::AmoxorD => a ^ b,
+        Op::AmoandD => a & b,
+        Op::AmoorD => a | b,
+        Op::AmominD => if is_less { a } else { b },
+        Op::AmomaxD => if is_less { b } else { a },
+        Op::AmominuD => if a < b { a } else { b },
+        Op::AmomaxuD => if a < b { b } else { a },
+        _ => 0,
+    }
+}
+
+/// What an atomic instruction of this width writes, where `a` was read and `b` is the second register's number.
+pub fn atomic_value(width: u32, op: Op, a: u64, b: u64) -> u64
+    ensures { result ≡ atomic_value width op a b }
+{
+    if width == 4 {
+        u64::from(word_value(op, low(a), low(b)))
+    } else {
+        double_value(op, a, b)
+    }
+}
