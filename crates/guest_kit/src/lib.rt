@@ -1,0 +1,16 @@
+//! Guests: programs as assembler text, for tests and examples. `rv_asm::assemble` makes their code.
+#![tactic(auto)]
+
+pub use calls::{
+    BAD_POINTER, HELLO, LONG_WRITE, MANY_RANGES, NO_DESCRIPTOR, PAST_THE_STACK, START_BLOCK,
+    TWO_PAGES, UNBUILT_CALLS, exit_with,
+};
+pub use machine::{
+    BREAKPOINT, DIVISION_BY_ZERO, DIVISION_OVERFLOW, ILLEGAL, LOAD_AT_ZERO, MISALIGNED_JUMP,
+    MISALIGNED_RESERVE, SPIN, WRITE_TO_CODE,
+};
+
+mod calls;
+mod machine;
+#[cfg(test)]
+mod tests;

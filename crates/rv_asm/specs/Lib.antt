@@ -1,0 +1,17 @@
+pub mod Chain
+pub mod Directives
+pub mod Encoding
+pub mod Fields
+pub mod Forms
+pub mod Instructions
+pub mod Items
+pub mod Lines
+pub mod Mnemonics
+pub mod Names
+pub mod Numbers
+pub mod Operands
+pub mod Ops
+pub mod Pieces
+pub mod Registers
+pub mod Sizes
+pub mod Text
