@@ -1,4 +1,5 @@
 pub mod Errno
+pub mod Events
 pub mod Outside
 pub mod Registers
 pub mod Rights

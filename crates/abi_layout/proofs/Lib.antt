@@ -1,0 +1,6 @@
+pub mod Bytes
+pub mod Numbers
+pub mod Proper
+pub mod ReadBack
+pub mod Unique
+pub mod Written

@@ -1,0 +1,6 @@
+use Rattle.std.proofs.Common.{◌∙◌}
+use Rattle.abi_layout.proofs.Numbers.{number_of_part}
+use Rattle.abi_layout.proofs.fields.u16_at.Goals as goal
+
+pub returns : goal.returns
+returns c = c.read_u16.ensures ∙ number_of_part c.args.offset 2 c.args.bytes.now

@@ -1,0 +1,5 @@
+use Rattle.abi_layout.proofs.ReadBack as lemmas
+use Rattle.abi_layout.proofs.laws.subscription_is_read_back.Goals as goal
+
+pub returns : goal.returns
+returns c = lemmas.subscription_is_read_back
