@@ -1,0 +1,10 @@
+pub mod Deciding
+pub mod FaultOrder
+pub mod FirstChecks
+pub mod Loadable
+pub mod Numbers
+pub mod Pages
+pub mod Searches
+pub mod Sharing
+pub mod Soundness
+pub mod Placed

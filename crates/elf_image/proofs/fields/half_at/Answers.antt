@@ -1,0 +1,6 @@
+use Rattle.std.proofs.Common.{◌∙◌}
+use Rattle.elf_image.proofs.Numbers.{number_behind}
+use Rattle.elf_image.proofs.fields.half_at.Goals as goal
+
+pub returns : goal.returns
+returns c = c.read_u16.ensures ∙ number_behind 2 c.args.offset c.args.bytes.now
