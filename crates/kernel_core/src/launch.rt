@@ -1,6 +1,6 @@
 //! What a run starts from.
-use crate::elf::Elf;
 use abi_types::{Bytes, GrantList, TryClone};
+use elf_image::Elf;
 use std::alloc::AllocError;
 
 /// A launch: the program, its argument data, the descriptors that it is given, and the turns that it may take.

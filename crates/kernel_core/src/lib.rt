@@ -1,12 +1,10 @@
 //! The sequential kernel: one state, and a step for each call. It knows no machine, no worker and no lock.
 #![tactic(auto)]
 
-pub use elf::{Elf, Segment, SegmentList};
 pub use history::{Act, Entry, History, Record};
 pub use kernel::Kernel;
 pub use launch::Launch;
 
-mod elf;
 mod history;
 mod kernel;
 mod launch;

@@ -1,6 +1,5 @@
 -- A run that has not begun stands at the start of its launch's world.
 use Rattle.std.proofs.Common.{◌≡◌, ℕ, List, [], sym, ap, subst, ◌∙◌, arith}
-use Rattle.std.specs.FinMap.{empty}
 use Rattle.abi_types.specs.Registers.{Registers}
 use Rattle.kernel_core.specs.declared.history.Entry.{Entry}
 use Rattle.kernel_core.specs.declared.launch.Launch.{Launch}
@@ -8,7 +7,8 @@ use Rattle.kernel_model.specs.Start.{start_state}
 use Rattle.kernel_model.specs.State.{State}
 use Rattle.guest_memory.specs.Page.{Pages}
 use Rattle.run_model.specs.Legal.{Legal, AreWhole, IsRunnable}
-use Rattle.run_model.specs.World.{World, Guest, world, start_world, guest_of, registers_of, first_guest, first_registers, with_segments, turned_guest_by}
+use Rattle.run_model.specs.World.{World, Guest, world, start_world, guest_of, registers_of, first_guest, canary, turned_guest_by}
+use Rattle.call_codec.specs.Start.{first_registers, start_pages}
 use Rattle.run_model.proofs.Histories.{world_none, legal_none, first_guest_is, first_state, first_registers_are, first_thread}
 use Rattle.launch_run.specs.declared.run.Run.{Run}
 use Rattle.launch_run.specs.Run.{IsBounded, IsBetween}
@@ -18,7 +18,7 @@ abbrev begun : Launch → State → Pages → Registers → List ℕ → List En
 begun launch kernel memory regs turns history = record { launch = launch; kernel = kernel; memory = memory; regs = regs; left = launch.turns; turns = turns; history = history }
 
 pub begins : (launch : Launch) (kernel : State) (memory : Pages) (regs : Registers) (turns : List ℕ) (history : List Entry) → IsBounded launch
-    → kernel ≡ start_state launch.grants → memory ≡ with_segments empty launch.elf.segments → regs ≡ first_registers launch.elf.entry
+    → kernel ≡ start_state launch.grants → memory ≡ start_pages launch.elf launch.argdata canary 0 1 → regs ≡ first_registers launch.elf.entry
     → turns ≡ [] → history ≡ [] → IsBetween (begun launch kernel memory regs turns history)
 begins launch kernel memory regs turns history bounded state pages registers none fresh =
     let there : world launch history ≡ start_world launch = ap (world launch) fresh ∙ world_none launch in

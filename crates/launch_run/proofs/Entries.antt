@@ -14,9 +14,9 @@ use Rattle.kernel_model.specs.State.{State}
 use Rattle.kernel_model.specs.Step.{end_state, IsStep}
 use Rattle.rv_interp.specs.declared.turns.TurnEnd.TheVariants as turn_end_is
 use Rattle.guest_memory.specs.Page.{Pages}
-use Rattle.run_model.specs.Args.{args_of}
+use Rattle.call_codec.specs.Args.{args_of}
 use Rattle.run_model.specs.Legal.{Legal, Fits, FitsAct, AreWhole}
-use Rattle.run_model.specs.Put.{answered_of}
+use Rattle.call_codec.specs.Put.{answered_of}
 use Rattle.run_model.specs.World.{World, Guest, world, apply, acted, turned, guest_of, registers_of, turned_guest_by, called_state, called_guest}
 use Rattle.run_model.proofs.Calls.{called_is, ended_by, threads_stay, clock_moves}
 use Rattle.run_model.proofs.Histories.{world_more, legal_more, apply_is, guest_turned, guest_set, registers_set}

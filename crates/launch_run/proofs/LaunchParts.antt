@@ -3,15 +3,15 @@ use Rattle.std.proofs.Common.{◌≡◌, ◌≤◌, ℕ, Bool, true, false, cond
 use Rattle.std.specs.Prelude.{nat_lt, Option, None, Some, Result, Ok, Err, IfOk, IfErr}
 use Rattle.std.proofs.lemmas.Bool.{le-ltb, lt-ltb}
 use Rattle.abi_types.specs.Outside.Source.{Told, Untold, Lacking, Content, IsWhole, IsLongerThan}
+use Rattle.elf_image.specs.Checks.{fault_of}
+use Rattle.elf_image.specs.declared.fault.ElfFault.{ElfFault}
 use Rattle.kernel_core.specs.declared.launch.Launch.{Launch}
 use Rattle.launch_run.specs.Inputs.{IsUnread, IsNoLaunch, IsNoLaunchOf}
 use Rattle.launch_run.specs.Launch.{Spelled, untold, refuses, spells, input_limit, standard_input, launch_with, spelled_at, spelled_by, spelled_with, inputs_spell, IsToldAs, IsBuiltLaunch}
 use Rattle.launch_run.specs.LaunchText.{is_launch_text}
 use Rattle.launch_run.specs.Lines.{too_long_line, launch_text_line}
-use Rattle.launch_run.specs.Program.{program_at}
 use Rattle.launch_run.specs.declared.lines.Refusal.{Refusal}
 use Rattle.launch_run.specs.declared.lines.Refusal.TheVariants.{Words, Input, TooLong, Program, LaunchText, Memory}
-use Rattle.launch_run.proofs.Programs.{decided}
 
 -- what is spelled is told so
 told_as : (s answer : Spelled) → s ≡ answer → IsToldAs s answer
@@ -51,7 +51,7 @@ text_unread name told later rose early program since stays whole fits (TooLong n
       subst (λ m. IsToldAs (inputs_spell name told) (refuses 66 (too_long_line m))) (sym h.0)
           (input_read name (told name) (λ p. spelled_with standard_input (told standard_input) (λ text. spelled_by p text)) program _ whole fits long),
     )
-text_unread name told later rose early program since stays whole fits Program h = absurd h
+text_unread name told later rose early program since stays whole fits (Program found) h = absurd h
 text_unread name told later rose early program since stays whole fits LaunchText h = absurd h
 text_unread name told later rose early program since stays whole fits Memory h = tt
 
@@ -82,7 +82,7 @@ refusal_told name told later program text rose stays whole fits whole_text fits_
 refusal_told name told later program text rose stays whole fits whole_text fits_text (Err Words) e = absurd e
 refusal_told name told later program text rose stays whole fits whole_text fits_text (Err (Input n)) e = absurd e
 refusal_told name told later program text rose stays whole fits whole_text fits_text (Err (TooLong n)) e = absurd e
-refusal_told name told later program text rose stays whole fits whole_text fits_text (Err Program) e =
+refusal_told name told later program text rose stays whole fits whole_text fits_text (Err (Program found)) e =
     both_read name told later program text stays whole fits whole_text fits_text _ e
 refusal_told name told later program text rose stays whole fits whole_text fits_text (Err LaunchText) e =
     both_read name told later program text stays whole fits whole_text fits_text _ e
@@ -94,14 +94,14 @@ chosen true made launch e = cc
 chosen false made launch e = cc
 
 -- what spells a launch spells one of this width
-built_at : (program text : List ℕ) (at : Option ℕ) (launch : Launch) → program_at program ≡ at →
-    spelled_at program text at ≡ spells launch → IsBuiltLaunch launch
-built_at program text None launch found e = cc
-built_at program text (Some entry) launch found e =
-    subst IsBuiltLaunch (chosen (is_launch_text text) (launch_with program entry) launch e)
+built_at : (program text : List ℕ) (found : Option ElfFault) (launch : Launch) → fault_of program ≡ found →
+    spelled_at program text found ≡ spells launch → IsBuiltLaunch launch
+built_at program text (Some fault) launch is e = cc
+built_at program text None launch is e =
+    subst IsBuiltLaunch (chosen (is_launch_text text) (launch_with program) launch e)
     (record {
       program = program;
-      is_program = (decided program entry).0 found;
+      sound = is;
       elf = refl;
       argdata = refl;
       grants = refl;
@@ -110,5 +110,6 @@ built_at program text (Some entry) launch found e =
 
 pub built : (program text : List ℕ) (r : Result Launch Refusal) → IfOk r (λ launch. spelled_by program text ≡ spells launch) →
     IfOk r IsBuiltLaunch
-built program text (Ok launch) e = built_at program text (program_at program) launch refl e
+unfolding spelled_by
+built program text (Ok launch) e = built_at program text (fault_of program) launch refl e
 built program text (Err refusal) e = tt

@@ -1,20 +1,23 @@
 -- What the top call's clauses say, by the end of the call.
-use Rattle.std.proofs.Common.{◌≡◌, ◌==◌, ℕ, Bool, true, false, List, length, sym, subst, arith, inl, inr, if◌then◌else◌}
-use Rattle.std.specs.Prelude.{Option, None, Some, IfSome}
+use Rattle.std.proofs.Common.{◌≡◌, ◌≢◌, ◌==◌, ◌<◌, ◌⊎◌, ℕ, Bool, true, false, List, [], length, refl, sym, ap, subst, arith, inl, inr, if◌then◌else◌}
+use Rattle.std.specs.Prelude.{Option, None, Some, IfSome, IsSomeAnd, Result, Ok, Err}
 use Rattle.abi_types.specs.Outside.Source.{Told}
 use Rattle.abi_types.specs.declared.status.Status.{Status}
 use Rattle.abi_types.specs.declared.status.Status.TheVariants.{Live, Exit, Killed}
+use Rattle.kernel_core.specs.declared.history.Entry.{Entry}
 use Rattle.kernel_core.specs.declared.history.Record.{Record}
 use Rattle.kernel_core.specs.declared.launch.Launch.{Launch}
 use Rattle.kernel_model.specs.Start.{AreGrants}
 use Rattle.run_model.proofs.Confinements.{legal_is_confined}
-use Rattle.launch_run.specs.Launch.{Spelled, spells, launch_of, IsToldAs, IsBuiltLaunch}
+use Rattle.launch_run.specs.Launch.{Spelled, untold, refuses, spells, launch_of, AnswersSpelled, IsToldAs, IsBuiltLaunch}
+use Rattle.launch_run.specs.Lines.{memory_line, status_of}
+use Rattle.launch_run.specs.declared.lines.Refusal.{Refusal}
 use Rattle.launch_run.specs.declared.lines.Refusal.TheVariants.{Words, Input, TooLong, Program, LaunchText, Memory}
 use Rattle.launch_run.specs.declared.top.RunEnd.{RunEnd}
 use Rattle.launch_run.specs.declared.top.RunEnd.TheVariants.{Reported, Unwritten, NoMemory}
 use Rattle.launch_run.specs.declared.top.TopEnd.{TopEnd}
 use Rattle.launch_run.specs.declared.top.TopEnd.TheVariants.{Refused, Ran}
-use Rattle.launch_run.specs.TopCall.{Wrote, IsRecordOf, IsRunOf, IsTopEnd, IsInputRefused, IsKept, status_number, finished_run, finished_of}
+use Rattle.launch_run.specs.TopCall.{Wrote, IsRecordOf, IsRunOf, IsTopEnd, IsToldEnd, IsInputRefused, IsKept, Completes, HasFailed, HasReported, status_number, finished_run, finished_of, IsProgramRefused}
 
 -- a record of a run is as every record that is kept
 is_kept : (spelled : Spelled) (launch : Launch) (r : Record) → IsRecordOf launch r → IsToldAs spelled (spells launch) →
@@ -31,6 +34,15 @@ is_kept spelled launch r of told built grants =
 where_kept : (P : Record → Type 0) (r : Record) (none : Bool) → P r → IfSome (if none then None else Some r) P
 where_kept P r true holds = tt
 where_kept P r false holds = holds
+
+-- want of memory has a status of its own
+memory_status : (refusal : Refusal) → ◌≡◌ {A = Result Launch Refusal} (Err refusal) (Err Memory) → status_of refusal ≡ 70
+memory_status Words is = absurd (cc)
+memory_status (Input name) is = absurd (cc)
+memory_status (TooLong name) is = absurd (cc)
+memory_status (Program found) is = absurd (cc)
+memory_status LaunchText is = absurd (cc)
+memory_status Memory is = refl
 
 module _ (words : List (List ℕ)) (told : List ℕ → Told) (rose : Type 0) (before after : Option (List ℕ)) (sink_rose : Type 0) where
   run_kept : (end : RunEnd) → IsRunOf words told rose before after sink_rose end →
@@ -51,6 +63,18 @@ module _ (words : List (List ℕ)) (told : List ℕ → Told) (rose : Type 0) (b
   zero_or_one true is = omega arith
   zero_or_one false is = omega arith
 
+  not_67 : (none : Bool) → ◌≡◌ {A = ℕ} (if none then 0 else 1) 67 → ⊥
+  not_67 true is = omega arith
+  not_67 false is = omega arith
+
+  not_70 : (none : Bool) → ◌≡◌ {A = ℕ} (if none then 0 else 1) 70 → ⊥
+  not_70 true is = omega arith
+  not_70 false is = omega arith
+
+  not_69 : (none : Bool) → ◌≡◌ {A = ℕ} (if none then 0 else 1) 69 → ⊥
+  not_69 true is = omega arith
+  not_69 false is = omega arith
+
   no_input_status : (status : Option Status) → status_number status ≡ 66 → ⊥
   no_input_status None is = omega arith
   no_input_status (Some Live) is = omega arith
@@ -62,9 +86,126 @@ module _ (words : List (List ℕ)) (told : List ℕ → Told) (rose : Type 0) (b
   top_input (Refused Words) o is = absurd (omega arith)
   top_input (Refused (Input name)) o is = (name.now, o.0.input.0, inl (o.0.input.1, o.1))
   top_input (Refused (TooLong name)) o is = (name.now, o.0.too_long, inr (o.0.refused tt, o.1))
-  top_input (Refused Program) o is = absurd (omega arith)
+  top_input (Refused (Program found)) o is = absurd (omega arith)
   top_input (Refused LaunchText) o is = absurd (omega arith)
   top_input (Refused Memory) o is = absurd (omega arith)
   top_input (Ran (Reported r status)) o is = absurd (no_input_status status is)
   top_input (Ran (Unwritten r)) o is = absurd (omega arith)
   top_input (Ran (NoMemory r)) o is = absurd (omega arith)
+
+  no_program_status : (status : Option Status) → status_number status ≡ 67 → ⊥
+  no_program_status None is = omega arith
+  no_program_status (Some Live) is = omega arith
+  no_program_status (Some (Exit code)) is = not_67 (code == 0) is
+  no_program_status (Some (Killed signal)) is = omega arith
+
+  pub top_program : (end : TopEnd) → IsTopEnd words told rose before after sink_rose end → (finished_of end).status ≡ 67 →
+      IsProgramRefused (launch_of words told) (Wrote before after sink_rose)
+  top_program (Refused Words) o is = absurd (omega arith)
+  top_program (Refused (Input name)) o is = absurd (omega arith)
+  top_program (Refused (TooLong name)) o is = absurd (omega arith)
+  top_program (Refused (Program found)) o is = (found, o.0.refused tt, o.1)
+  top_program (Refused LaunchText) o is = absurd (omega arith)
+  top_program (Refused Memory) o is = absurd (omega arith)
+  top_program (Ran (Reported r status)) o is = absurd (no_program_status status is)
+  top_program (Ran (Unwritten r)) o is = absurd (omega arith)
+  top_program (Ran (NoMemory r)) o is = absurd (omega arith)
+
+  -- ---- want of memory
+
+  some_entries : (r : Record) (none : Bool) → (length r.history == 0) ≡ none → IfSome (if none then None else Some r) (λ x. x.history ≢ [])
+  some_entries r true e = tt
+  some_entries r false e = λ empty. absurd (cc (ap (λ (xs : List Entry). length xs == 0) empty, e))
+
+  no_memory_status : (status : Option Status) → status_number status ≡ 70 → ⊥
+  no_memory_status None is = omega arith
+  no_memory_status (Some Live) is = omega arith
+  no_memory_status (Some (Exit code)) is = not_70 (code == 0) is
+  no_memory_status (Some (Killed signal)) is = omega arith
+
+  pub top_memory : (end : TopEnd) → IsTopEnd words told rose before after sink_rose end → (finished_of end).status ≡ 70 →
+      Wrote before after sink_rose memory_line × IfSome (finished_of end).kept (λ r. r.history ≢ [])
+  top_memory (Refused Words) o is = absurd (omega arith)
+  top_memory (Refused (Input name)) o is = absurd (omega arith)
+  top_memory (Refused (TooLong name)) o is = absurd (omega arith)
+  top_memory (Refused (Program found)) o is = absurd (omega arith)
+  top_memory (Refused LaunchText) o is = absurd (omega arith)
+  top_memory (Refused Memory) o is = (o.1, tt)
+  top_memory (Ran (Reported r status)) o is = absurd (no_memory_status status is)
+  top_memory (Ran (Unwritten r)) o is = absurd (omega arith)
+  top_memory (Ran (NoMemory None)) o is = (o.end_told.1, tt)
+  top_memory (Ran (NoMemory (Some r))) o is = (o.end_told.1, some_entries r (length r.history == 0) refl)
+
+  -- ---- a report
+
+  not_01 : (n : ℕ) → 1 < n → (n ≡ 0) ⊎ (n ≡ 1) → ⊥
+  not_01 n more (inl is) = omega arith
+  not_01 n more (inr is) = omega arith
+
+  pub top_ended : (end : TopEnd) → IsTopEnd words told rose before after sink_rose end → ((finished_of end).status ≡ 0) ⊎ ((finished_of end).status ≡ 1) →
+      IsSomeAnd (finished_of end).kept (HasReported before after (finished_of end).status)
+  top_ended (Refused Words) o is = absurd (not_01 2 (omega arith) is)
+  top_ended (Refused (Input name)) o is = absurd (not_01 66 (omega arith) is)
+  top_ended (Refused (TooLong name)) o is = absurd (not_01 66 (omega arith) is)
+  top_ended (Refused (Program found)) o is = absurd (not_01 67 (omega arith) is)
+  top_ended (Refused LaunchText) o is = absurd (not_01 65 (omega arith) is)
+  top_ended (Refused Memory) o is = absurd (not_01 70 (omega arith) is)
+  top_ended (Ran (Reported r status)) o is =
+      record { ended = o.end_told.1; status_is = ap status_number o.end_told.2; written = o.end_told.3 }
+  top_ended (Ran (Unwritten r)) o is = absurd (not_01 69 (omega arith) is)
+  top_ended (Ran (NoMemory r)) o is = absurd (not_01 70 (omega arith) is)
+
+  no_unwritten_status : (status : Option Status) → status_number status ≡ 69 → ⊥
+  no_unwritten_status None is = omega arith
+  no_unwritten_status (Some Live) is = omega arith
+  no_unwritten_status (Some (Exit code)) is = not_69 (code == 0) is
+  no_unwritten_status (Some (Killed signal)) is = omega arith
+
+  pub top_unwritten : (end : TopEnd) → IsTopEnd words told rose before after sink_rose end → (finished_of end).status ≡ 69 →
+      sink_rose × IsSomeAnd (finished_of end).kept (HasFailed before after)
+  top_unwritten (Refused Words) o is = absurd (omega arith)
+  top_unwritten (Refused (Input name)) o is = absurd (omega arith)
+  top_unwritten (Refused (TooLong name)) o is = absurd (omega arith)
+  top_unwritten (Refused (Program found)) o is = absurd (omega arith)
+  top_unwritten (Refused LaunchText) o is = absurd (omega arith)
+  top_unwritten (Refused Memory) o is = absurd (omega arith)
+  top_unwritten (Ran (Reported r status)) o is = absurd (no_unwritten_status status is)
+  top_unwritten (Ran (Unwritten r)) o is = (o.end_told.2, record { ended = o.end_told.1; prefix = o.end_told.3 })
+  top_unwritten (Ran (NoMemory r)) o is = absurd (omega arith)
+
+  -- ---- what is spelled is answered
+
+  -- a refusal that is spelled, or want of memory
+  completes_refused : (spelled : Spelled) (refusal : Refusal) → AnswersSpelled spelled (Err refusal) → Completes spelled sink_rose (status_of refusal)
+  completes_refused untold refusal h = tt
+  completes_refused (refuses status line) refusal (inl memory) = inr (ap status_of memory)
+  completes_refused (refuses status line) refusal (inr is) = inl is.0
+  completes_refused (spells launch) refusal (inl is) = absurd (cc)
+  completes_refused (spells launch) refusal (inr memory) = λ calm. inr (inr (memory_status refusal memory))
+
+  zero_or_one_is : (none : Bool) → ◌≡◌ {A = ℕ} (if none then 0 else 1) 0 ⊎ ◌≡◌ {A = ℕ} (if none then 0 else 1) 1
+  zero_or_one_is true = inl refl
+  zero_or_one_is false = inr refl
+
+  status_is_small : (status : Option Status) → (status_number status ≡ 0) ⊎ (status_number status ≡ 1)
+  status_is_small None = inr refl
+  status_is_small (Some Live) = inr refl
+  status_is_small (Some (Exit code)) = zero_or_one_is (code == 0)
+  status_is_small (Some (Killed signal)) = inr refl
+
+  -- how a run may end where the sink's count did not rise
+  calm_end : (launch : Launch) (end : RunEnd) → IsToldEnd launch before after sink_rose end → ¬ sink_rose
+      → ((finished_run end).status ≡ 0) ⊎ ((finished_run end).status ≡ 1) ⊎ ((finished_run end).status ≡ 70)
+  calm_end launch (Reported r status) o calm = elim (status_is_small status) [ inl h ↦ inl h | inr h ↦ inr (inl h) ]
+  calm_end launch (Unwritten r) o calm = absurd (calm o.2)
+  calm_end launch (NoMemory r) o calm = inr (inr refl)
+
+  completes_run : (spelled : Spelled) (launch : Launch) (end : RunEnd) → AnswersSpelled spelled (Ok launch) → IsToldEnd launch before after sink_rose end
+      → Completes spelled sink_rose (finished_run end).status
+  completes_run untold launch end h o = tt
+  completes_run (refuses status line) launch end h o = absurd h
+  completes_run (spells other) launch end h o = λ calm. calm_end launch end o calm
+
+  pub top_complete : (end : TopEnd) → IsTopEnd words told rose before after sink_rose end → ¬ rose → Completes (launch_of words told) sink_rose (finished_of end).status
+  top_complete (Refused refusal) o calm = completes_refused (launch_of words told) refusal (o.0.complete calm)
+  top_complete (Ran end) o calm = completes_run (launch_of words told) o.launch end (o.complete calm) o.end_told

@@ -16,7 +16,7 @@ IsUnread name told rose _ = ⊥
 
 -- why a program and a launch text give no launch
 abbrev pub IsNoLaunch : Spelled → Refusal → Type 0
-IsNoLaunch spelled Program = spelled ≡ refuses 67 program_line
+IsNoLaunch spelled (Program found) = spelled ≡ refuses 67 (program_line found)
 IsNoLaunch spelled LaunchText = spelled ≡ refuses 65 launch_text_line
 IsNoLaunch spelled Memory = ⊤
 IsNoLaunch spelled _ = ⊥
@@ -27,7 +27,7 @@ IsNoLaunch spelled _ = ⊥
 abbrev pub IsNoLaunchOf : List (List ℕ) → Spelled → Type 0 → Refusal → Type 0
 IsNoLaunchOf names spelled rose (Input n) = Contains names n.now × rose
 IsNoLaunchOf names spelled rose (TooLong n) = Contains names n.now × IsToldAs spelled (refuses 66 (too_long_line n.now))
-IsNoLaunchOf names spelled rose Program = IsToldAs spelled (refuses 67 program_line)
+IsNoLaunchOf names spelled rose (Program found) = IsToldAs spelled (refuses 67 (program_line found))
 IsNoLaunchOf names spelled rose LaunchText = IsToldAs spelled (refuses 65 launch_text_line)
 IsNoLaunchOf names spelled rose Memory = ⊤
 IsNoLaunchOf names spelled rose Words = ⊥

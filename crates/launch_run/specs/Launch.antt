@@ -1,10 +1,12 @@
 -- What words and inputs spell: a launch, or the first refusal.
 use Rattle.std.specs.Prelude.{◌≡◌, ℕ, ◌⊎◌, ⊤, List, [], ◌∷◌, cond, length, nat_lt, Option, None, Some, Result, Ok, Err}
 use Rattle.abi_types.specs.Outside.Source.{Told, Untold, Lacking, Content}
+use Rattle.elf_image.specs.Checks.{fault_of}
+use Rattle.elf_image.specs.Image.{image}
+use Rattle.elf_image.specs.declared.fault.ElfFault.{ElfFault}
 use Rattle.kernel_core.specs.declared.launch.Launch.{Launch}
 use Rattle.launch_run.specs.LaunchText.{is_launch_text, launch_grants, launch_argdata}
 use Rattle.launch_run.specs.Lines.{words_line, input_line, too_long_line, program_line, launch_text_line, line_of, status_of}
-use Rattle.launch_run.specs.Program.{program_at, image, IsProgram}
 use Rattle.launch_run.specs.Words.{program_of}
 use Rattle.launch_run.specs.declared.lines.Refusal.{Refusal}
 use Rattle.launch_run.specs.declared.lines.Refusal.TheVariants.{Input, TooLong, Memory}
@@ -24,23 +26,23 @@ input_limit = 268_435_456
 abbrev pub launch_turns : ℕ
 launch_turns = 100_000
 
--- the launch of a program that begins to run at this address, under the one launch text
-abbrev pub launch_with : List ℕ → ℕ → Launch
-launch_with program entry = record {
-  elf = image program entry;
+-- the launch of a program, under the one launch text
+abbrev pub launch_with : List ℕ → Launch
+launch_with program = record {
+  elf = image program;
   argdata = launch_argdata;
   grants = launch_grants;
   turns = launch_turns;
 }
 
--- what a program and a launch text spell, where the program begins to run at an address, or is none
-abbrev pub spelled_at : List ℕ → List ℕ → Option ℕ → Spelled
-spelled_at program text None = refuses 67 program_line
-spelled_at program text (Some entry) = cond (is_launch_text text) (spells (launch_with program entry)) (refuses 65 launch_text_line)
+-- what a program and a launch text spell, where this is the program's first fault, if it has one
+abbrev pub spelled_at : List ℕ → List ℕ → Option ElfFault → Spelled
+spelled_at program text (Some fault) = refuses 67 (program_line fault)
+spelled_at program text None = cond (is_launch_text text) (spells (launch_with program)) (refuses 65 launch_text_line)
 
 -- what the contents of the two inputs spell: first the program is looked at, then the launch text
-abbrev pub spelled_by : List ℕ → List ℕ → Spelled
-spelled_by program text = spelled_at program text (program_at program)
+unfoldable pub spelled_by : List ℕ → List ℕ → Spelled
+spelled_by program text = spelled_at program text (fault_of program)
 
 -- what an input spells of which this is told, where what its bytes spell is given
 abbrev pub spelled_with : List ℕ → Told → (List ℕ → Spelled) → Spelled
@@ -83,11 +85,11 @@ IsToldAs untold answer = ⊤
 IsToldAs (refuses status line) answer = refuses status line ≡ answer
 IsToldAs (spells launch) answer = spells launch ≡ answer
 
--- a launch as this width has them: the image of a program, and what the one launch text stands for
+-- a launch as this width has them: the image of a program without fault, and what the one launch text stands for
 pub record IsBuiltLaunch (launch : Launch) : Type 0 where
   pub program : List ℕ
-  pub is_program : IsProgram program launch.elf.entry
-  pub elf : launch.elf ≡ image program launch.elf.entry
+  pub sound : fault_of program ≡ None
+  pub elf : launch.elf ≡ image program
   pub argdata : launch.argdata ≡ launch_argdata
   pub grants : launch.grants ≡ launch_grants
   pub turns : launch.turns ≡ launch_turns

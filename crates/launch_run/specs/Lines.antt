@@ -1,5 +1,7 @@
 -- The line and the status of each refusal.
-use Rattle.std.specs.Prelude.{ℕ, List, [], ◌∷◌, ◌++◌, codes}
+use Rattle.std.specs.Prelude.{ℕ, ◌+◌, ◌/◌, ◌%◌, cond, nat_lt, List, [], ◌∷◌, ◌++◌, codes}
+use Rattle.elf_image.specs.declared.fault.ElfFault.{ElfFault}
+use Rattle.elf_image.specs.declared.fault.ElfFault.TheVariants as fault
 use Rattle.launch_run.specs.declared.lines.Refusal.{Refusal}
 use Rattle.launch_run.specs.declared.lines.Refusal.TheVariants.{Words, Input, TooLong, Program, LaunchText, Memory}
 
@@ -19,9 +21,35 @@ input_line name = ended (codes "input: " ++ name)
 abbrev pub too_long_line : List ℕ → List ℕ
 too_long_line name = ended (codes "input: " ++ name ++ codes " too long")
 
--- the input is no program
-abbrev pub program_line : List ℕ
-program_line = ended (codes "program: not built")
+-- the name of a fault of a program's file
+abbrev pub fault_name : ElfFault → List ℕ
+fault_name fault.TooShort = codes "TooShort"
+fault_name fault.Magic = codes "Magic"
+fault_name fault.Class = codes "Class"
+fault_name fault.Machine = codes "Machine"
+fault_name fault.Kind = codes "Kind"
+fault_name fault.Header = codes "Header"
+fault_name fault.Interp = codes "Interp"
+fault_name fault.Compressed = codes "Compressed"
+fault_name fault.FloatAbi = codes "FloatAbi"
+fault_name (fault.Segment header) = codes "Segment "
+fault_name (fault.Overlap header) = codes "Overlap "
+fault_name fault.Entry = codes "Entry"
+fault_name fault.NoMemory = codes "NoMemory"
+
+-- a number below 100 in decimal
+abbrev pub decimal : ℕ → List ℕ
+decimal n = cond (nat_lt n 10) ((48 + n) ∷ []) ((48 + n / 10 % 10) ∷ (48 + n % 10) ∷ [])
+
+-- the number of the program header that is at fault, for a fault that is of one
+abbrev pub fault_number : ElfFault → List ℕ
+fault_number (fault.Segment header) = decimal header
+fault_number (fault.Overlap header) = decimal header
+fault_number _ = []
+
+-- the program's file has this fault
+abbrev pub program_line : ElfFault → List ℕ
+program_line found = ended (codes "program: " ++ fault_name found ++ fault_number found)
 
 -- the input is no launch text
 abbrev pub launch_text_line : List ℕ
@@ -36,7 +64,7 @@ abbrev pub line_of : Refusal → List ℕ
 line_of Words = words_line
 line_of (Input name) = input_line name.now
 line_of (TooLong name) = too_long_line name.now
-line_of Program = program_line
+line_of (Program found) = program_line found
 line_of LaunchText = launch_text_line
 line_of Memory = memory_line
 
@@ -45,23 +73,28 @@ abbrev pub status_of : Refusal → ℕ
 status_of Words = 2
 status_of (Input name) = 66
 status_of (TooLong name) = 66
-status_of Program = 67
+status_of (Program found) = 67
 status_of LaunchText = 65
 status_of Memory = 70
 
--- a line in three parts: the text before the name, the name, and the text after it
+-- a line in four parts: the text before the name, the name, the number, and the text after it
 abbrev pub front_of : Refusal → List ℕ
 front_of Words = codes "words: refused"
 front_of (Input name) = codes "input: "
 front_of (TooLong name) = codes "input: "
-front_of Program = codes "program: not built"
+front_of (Program found) = codes "program: "
 front_of LaunchText = codes "launch: not built"
 front_of Memory = codes "memory"
 
 abbrev pub name_of : Refusal → List ℕ
 name_of (Input name) = name.now
 name_of (TooLong name) = name.now
+name_of (Program found) = fault_name found
 name_of _ = []
+
+abbrev pub number_of : Refusal → List ℕ
+number_of (Program found) = fault_number found
+number_of _ = []
 
 abbrev pub back_of : Refusal → List ℕ
 back_of (TooLong name) = ended (codes " too long")

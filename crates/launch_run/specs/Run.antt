@@ -10,15 +10,15 @@ use Rattle.kernel_core.specs.declared.launch.Launch.{Launch}
 use Rattle.kernel_model.specs.Start.{AreGrants}
 use Rattle.rv_interp.specs.declared.turns.TurnEnd.{TurnEnd}
 use Rattle.run_model.specs.Legal.{Legal, AreWhole, LastEnds, IsRunnable}
-use Rattle.run_model.specs.World.{Guest, world, guest_of, registers_of, turned_guest_by}
+use Rattle.run_model.specs.World.{Guest, canary, world, guest_of, registers_of, turned_guest_by}
 use Rattle.launch_run.specs.declared.run.Run.{Run}
-use Rattle.launch_run.specs.Image.{IsOnePage}
+use Rattle.call_codec.specs.Start.{MayStart}
 
--- What a launch of the launcher keeps besides: its image is one page, its grants are of what is there, and it has at
+-- What a launch of the launcher keeps besides: a program can start with its image and argument data, its grants are of what is there, and it has at
 -- most 1,000,000,000 turns.
 pub record IsBounded (launch : Launch) : Type 0 where
   pub grants : AreGrants launch.grants
-  pub pages : IsOnePage launch.elf.segments
+  pub start : MayStart launch.elf launch.argdata canary
   pub turns : launch.turns ≤ 1000000000
 
 -- process 0's guest in the world of the history

@@ -16,7 +16,8 @@ use Rattle.run_model.specs.Ends.{Ended}
 use Rattle.run_model.specs.Legal.{Legal}
 use Rattle.run_model.specs.World.{world}
 use Rattle.launch_run.specs.Launch.{Spelled, untold, refuses, spells, launch_of, inputs_of, IsToldAs, IsBuiltLaunch, IfInput, IfTooLong, IsOfTexts, AnswersSpelled}
-use Rattle.launch_run.specs.Lines.{line_of, status_of, memory_line, input_line, too_long_line}
+use Rattle.elf_image.specs.declared.fault.ElfFault.{ElfFault}
+use Rattle.launch_run.specs.Lines.{line_of, status_of, memory_line, input_line, program_line, too_long_line}
 use Rattle.launch_run.specs.Report.{report_of}
 use Rattle.launch_run.specs.Words.{program_of}
 use Rattle.launch_run.specs.declared.lines.Refusal.{Refusal}
@@ -130,6 +131,12 @@ pub record HasReported (before after : Option (List ℕ)) (status : ℕ) (r : Re
   pub ended : Ended r.launch r.history
   pub status_is : status ≡ status_number (get (state_of r).statuses 0)
   pub written : after ≡ grown before (record_report r)
+
+-- the program is refused for a fault of its file, which is the first refusal that is spelled, where anything is told of it,
+-- and its line was written
+abbrev pub IsProgramRefused : Spelled → (List ℕ → Type 0) → Type 0
+IsProgramRefused spelled wrote =
+    (found : ElfFault) × IsToldAs spelled (refuses 67 (program_line found)) × wrote (program_line found)
 
 -- the run of the record has ended, and a prefix of its report was written
 pub record HasFailed (before after : Option (List ℕ)) (r : Record) : Type 0 where

@@ -9,10 +9,10 @@ ghost use Rattle.launch_run.specs.Words.{program_of};
 
 use crate::launch_text::{is_stdout_launch, stdout_argdata, stdout_grants};
 use crate::lines::Refusal;
-use crate::program::{ProgramFault, read_program};
 use crate::words::program_word;
 use abi_types::Bytes;
 use abi_types::outside::{ReadFault, Source, read_whole};
+use elf_image::{ElfFault, read_elf};
 use kernel_core::Launch;
 use std::alloc::{AllocError, Global};
 
@@ -56,14 +56,15 @@ fn read_input<'a, S: Source>(
 }
 
 // The launch that a program and a launch text spell.
+#[tactic(auto, unfolding(crate::specs::Launch::spelled_by))]
 fn launch_from<'a>(alloc: Global, program: &[u8], text: &[u8]) -> Result<Launch, Refusal<'a>>
     ensures ok { IfOk result (λ launch. spelled_by program.now text.now ≡ spells launch) }
     ensures err { IfErr result (IsNoLaunch (spelled_by program.now text.now)) }
 {
-    let elf = match read_program(alloc, program) {
+    let elf = match read_elf(alloc, program) {
         Ok(elf) => elf,
-        Err(ProgramFault::NotBuilt) => return Err(Refusal::Program),
-        Err(ProgramFault::NoMemory) => return Err(Refusal::Memory),
+        Err(ElfFault::NoMemory) => return Err(Refusal::Memory),
+        Err(fault) => return Err(Refusal::Program(fault)),
     };
     if !is_stdout_launch(text) {
         return Err(Refusal::LaunchText);

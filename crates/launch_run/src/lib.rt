@@ -4,16 +4,13 @@
 pub use inputs::read_launch;
 pub use launch_text::{is_stdout_launch, stdout_argdata, stdout_grants};
 pub use lines::Refusal;
-pub use program::{ProgramFault, program_is_decided, read_program};
 pub use top::{Finished, run_launch};
 pub use words::program_word;
 
-mod args;
-mod image;
+mod decimal;
 mod inputs;
 mod launch_text;
 mod lines;
-mod program;
 pub mod report;
 mod run;
 #[cfg(test)]

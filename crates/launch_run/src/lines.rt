@@ -2,9 +2,32 @@
 ghost use Rattle.std.specs.Prelude.{◌≡◌, ◌≤◌, ◌++◌, OnOk, OnErr};
 ghost use Rattle.abi_types.specs.Outside.Source.{Rose};
 ghost use Rattle.abi_types.specs.Outside.Sink.{grown, GrewByPrefix};
-ghost use Rattle.launch_run.specs.Lines.{line_of, status_of, front_of, name_of, back_of};
+ghost use Rattle.launch_run.specs.Lines.{line_of, status_of, fault_name, front_of, name_of, number_of, back_of};
 
+use crate::decimal::Decimal;
 use abi_types::outside::{Failed, Sink, write_whole};
+use elf_image::ElfFault;
+
+// The name of a fault of a program's file, with a space behind it where a number follows.
+fn fault_name(fault: ElfFault) -> &'static str
+    ensures { result.now ≡ fault_name fault }
+{
+    match fault {
+        ElfFault::TooShort => "TooShort",
+        ElfFault::Magic => "Magic",
+        ElfFault::Class => "Class",
+        ElfFault::Machine => "Machine",
+        ElfFault::Kind => "Kind",
+        ElfFault::Header => "Header",
+        ElfFault::Interp => "Interp",
+        ElfFault::Compressed => "Compressed",
+        ElfFault::FloatAbi => "FloatAbi",
+        ElfFault::Segment(_) => "Segment ",
+        ElfFault::Overlap(_) => "Overlap ",
+        ElfFault::Entry => "Entry",
+        ElfFault::NoMemory => "NoMemory",
+    }
+}
 
 /// Why a run did not begin.
 #[derive(Clone, Copy, Debug, PartialEq, Eq)]
@@ -15,8 +38,8 @@ pub enum Refusal<'a> {
     Input(&'a str),
     /// The input of this name has more bytes than an input may have.
     TooLong(&'a str),
-    /// The program's input is no program.
-    Program,
+    /// The program's file has this fault. It isn't `NoMemory`.
+    Program(ElfFault),
     /// Standard input is no launch text.
     LaunchText,
     /// Memory is wanting.
@@ -31,7 +54,7 @@ impl<'a> Refusal<'a> {
         match self {
             Refusal::Words => 2,
             Refusal::Input(_) | Refusal::TooLong(_) => 66,
-            Refusal::Program => 67,
+            Refusal::Program(_) => 67,
             Refusal::LaunchText => 65,
             Refusal::Memory => 70,
         }
@@ -44,7 +67,7 @@ impl<'a> Refusal<'a> {
         match self {
             Refusal::Words => "words: refused",
             Refusal::Input(_) | Refusal::TooLong(_) => "input: ",
-            Refusal::Program => "program: not built",
+            Refusal::Program(_) => "program: ",
             Refusal::LaunchText => "launch: not built",
             Refusal::Memory => "memory",
         }
@@ -56,7 +79,20 @@ impl<'a> Refusal<'a> {
     {
         match self {
             Refusal::Input(name) | Refusal::TooLong(name) => name,
+            Refusal::Program(fault) => fault_name(*fault),
             _ => "",
+        }
+    }
+
+    // The number in the line.
+    fn number(&self) -> Decimal
+        ensures { result ≡ number_of self.now }
+    {
+        match self {
+            Refusal::Program(ElfFault::Segment(header) | ElfFault::Overlap(header)) => {
+                Decimal::of(*header)
+            }
+            _ => Decimal::none(),
         }
     }
 
@@ -79,6 +115,7 @@ impl<'a> Refusal<'a> {
     {
         write_whole(sink, self.front().as_bytes())?;
         write_whole(sink, self.name().as_bytes())?;
+        write_whole(sink, self.number().as_slice())?;
         write_whole(sink, self.back().as_bytes())
     }
 }

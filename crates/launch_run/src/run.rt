@@ -2,12 +2,10 @@
 ghost use Rattle.std.specs.Prelude.{◌≡◌, ◌<◌, [], IfOk, OnOk};
 ghost use Rattle.run_model.specs.Legal.{Legal, FitsAct};
 ghost use Rattle.rv_interp.specs.declared.turns.TurnEnd.TheVariants as turn_end;
-ghost use Rattle.run_model.specs.World.{first_registers};
 ghost use Rattle.launch_run.specs.Run.{IsBounded, IsAt, IsBetween, IsStopped, IsLive, GoesOn, EndsBy, settled, ahead};
 
-use crate::args::{args, put_answer};
-use crate::image::load;
 use abi_types::{Pid, Regs, Signal, Status, Tid, TidList};
+use call_codec::{args, put_answer, start_memory};
 use guest_memory::GuestMemory;
 use kernel_core::{Act, Entry, History, Kernel, Launch, Record};
 use rv_interp::{TurnEnd, turn};
@@ -20,11 +18,8 @@ const FIRST: Pid = Pid(0);
 /// Its thread.
 const THREAD: Tid = Tid(1);
 
-/// Where the first thread's stack ends.
-const STACK_END: u64 = 0x3e_fff0_0000;
-
-/// Where the start block is.
-const START_BLOCK: u64 = 0x3f_0000_0000;
+/// The canary of a start, which has no random bytes yet.
+const CANARY: [u8; 64] = [0; 64];
 
 /// A run of a launch, as far as it has come: the kernel's state, process 0's memory, its thread's registers, the turns
 /// that it has left, the turns that no entry has yet, and the entries.
@@ -39,16 +34,6 @@ pub struct Run {
     pub history: History,
 }
 
-/// The first thread's registers: it stands at the entry, with sp at the stack's end and a0 at the start block.
-fn first_registers(entry: u64) -> Regs
-    ensures { result ≡ first_registers entry }
-{
-    let mut regs = Regs::new(entry);
-    regs.set(2, STACK_END);
-    regs.set(10, START_BLOCK);
-    regs
-}
-
 impl Run {
     /// A run that has not begun: process 0 stands at its entry, and there is no entry of the history.
     pub fn new(alloc: Global, launch: Launch) -> Result<Run, AllocError>
@@ -58,11 +43,12 @@ impl Run {
         ensures empty { IfOk result (λ run. run.history ≡ []) }
     {
         let kernel = Kernel::start(alloc, &launch)?;
-        let memory = load(alloc, launch.elf.segments.as_slice())?;
+        let argdata = launch.argdata.as_slice();
+        let (memory, regs) = start_memory(alloc, &launch.elf, argdata, &CANARY, FIRST, THREAD)?;
         Ok(Run {
             kernel,
             memory,
-            regs: first_registers(launch.elf.entry),
+            regs,
             left: launch.turns,
             turns: TidList::new(alloc),
             history: History::new(alloc),

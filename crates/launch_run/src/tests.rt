@@ -1,6 +1,4 @@
 //! Words, programs and launch texts, and the launches that they spell.
-ghost use Rattle.std.specs.Prelude.{◌<◌};
-
 use crate::*;
 use abi_types::outside::{MemSink, MemSource};
 use std::alloc::{AllocError, Global};
@@ -21,44 +19,6 @@ pub(crate) const HELLO: [u8; 182] = [
     0xb0, 0x00, 0x01, 0x00, 0x00, 0x00, 0x00, 0x00, 0x06, 0x00, 0x00, 0x00, 0x00, 0x00, 0x00, 0x00,
     0x68, 0x65, 0x6c, 0x6c, 0x6f, 0x0a,
 ];
-
-// Where the program begins to run after one of its bytes was changed.
-fn entry_with(alloc: Global, place: usize, byte: u8) -> Result<u64, ProgramFault>
-    requires { place < 182 }
-{
-    let mut bytes = HELLO;
-    bytes[place] = byte;
-    Ok(read_program(alloc, &bytes)?.entry)
-}
-
-#[test]
-fn reads_the_first_program(rt: HostRuntime) {
-    for (place, byte, want) in [
-        (0, 0x7f, Ok(0x10078)),
-        // e_machine
-        (18, 0xf4, Err(ProgramFault::NotBuilt)),
-        // e_entry: odd, the last instruction, behind the end, and inside the header
-        (24, 0x79, Err(ProgramFault::NotBuilt)),
-        (24, 0xb4, Ok(0x100b4)),
-        (24, 0xb8, Err(ProgramFault::NotBuilt)),
-        (24, 0x74, Err(ProgramFault::NotBuilt)),
-        // p_filesz and p_memsz
-        (96, 0xb5, Err(ProgramFault::NotBuilt)),
-        (104, 0xb7, Err(ProgramFault::NotBuilt)),
-        // code, which may be anything
-        (181, 0, Ok(0x10078)),
-    ] {
-        assert_eq!(rt; entry_with(rt.alloc(), place, byte), want, "{place} {byte}");
-    }
-}
-
-#[test]
-fn refuses_a_program_that_is_cut(rt: HostRuntime) {
-    for length in [0, 119, 120, 181] {
-        let read = read_program(rt.alloc(), &HELLO[..length]);
-        assert!(rt; matches!(read, Err(ProgramFault::NotBuilt)), "{length}");
-    }
-}
 
 // Words of these texts.
 fn words_of(alloc: Global, texts: &[&str]) -> Result<Vec<String>, AllocError> {
@@ -124,48 +84,24 @@ fn refusal_of(
     Ok((status, sink.bytes().to_vec(alloc)?))
 }
 
+// Words, how many bytes of the first program there are, a launch text, and the status and the line of the refusal.
+const REFUSALS: [(&[&str], usize, &str, u8, &str); 7] = [
+    (&["", "p"], 182, "!fd stdout\n", 0, ""),
+    (&["", "p", "q"], 182, "!fd stdout\n", 2, "words: refused\n"),
+    (&["", "q"], 182, "!fd stdout\n", 66, "input: q\n"),
+    (&["", "p"], 63, "!fd stdout", 67, "program: TooShort\n"),
+    (&["", "p"], 119, "!fd stderr", 67, "program: Header\n"),
+    (&["", "p"], 181, "!fd stdout", 67, "program: Segment 0\n"),
+    (&["", "p"], 182, "!fd stderr", 65, "launch: not built\n"),
+];
+
 #[test]
 fn refuses_with_a_line(rt: HostRuntime) -> Result<(), Fail> {
-    for (words, program, text, status, line) in [
-        (
-            &["", "p"][..],
-            &HELLO[..],
-            &b"!fd stdout\n"[..],
-            0,
-            &b""[..],
-        ),
-        (
-            &["", "p", "q"][..],
-            &HELLO[..],
-            &b"!fd stdout\n"[..],
-            2,
-            &b"words: refused\n"[..],
-        ),
-        (
-            &["", "q"][..],
-            &HELLO[..],
-            &b"!fd stdout\n"[..],
-            66,
-            &b"input: q\n"[..],
-        ),
-        (
-            &["", "p"][..],
-            &HELLO[..119],
-            &b"!fd stderr"[..],
-            67,
-            &b"program: not built\n"[..],
-        ),
-        (
-            &["", "p"][..],
-            &HELLO[..],
-            &b"!fd stderr"[..],
-            65,
-            &b"launch: not built\n"[..],
-        ),
-    ] {
-        let got = refusal_of(rt.alloc(), words, program, text)?;
+    for (words, length, text, status, line) in REFUSALS {
+        let program = &HELLO[..length.min(182)];
+        let got = refusal_of(rt.alloc(), words, program, text.as_bytes())?;
         assert_eq!(rt; got.0, status);
-        assert_eq!(rt; got.1.as_slice(), line);
+        assert_eq!(rt; got.1.as_slice(), line.as_bytes());
     }
     Ok(())
 }

@@ -2,11 +2,11 @@
 ghost use Rattle.std.specs.Prelude.{◌≡◌, ◌≢◌, ◌⊎◌, ◌↔◌, ◌≤◌, ℕ, List, [], None, IsSome, IfSome, IsSomeAnd, map, string_bytes, All};
 ghost use Rattle.abi_types.specs.Outside.Source.{Rose};
 ghost use Rattle.launch_run.specs.Launch.{launch_of, inputs_of, refuses, IsToldAs};
-ghost use Rattle.launch_run.specs.Lines.{line_of, words_line, program_line, launch_text_line, memory_line};
+ghost use Rattle.launch_run.specs.Lines.{line_of, words_line, launch_text_line, memory_line};
 ghost use Rattle.launch_run.specs.Report.{report_of};
 ghost use Rattle.launch_run.specs.Run.{IsBounded, IsBetween, IsLive};
 ghost use Rattle.launch_run.specs.Words.{program_of};
-ghost use Rattle.launch_run.specs.TopCall.{Wrote, IsEndOf, IsToldEnd, TellsEnd, IsTopEnd, IsTopStatus, IsInputRefused, HasReported, HasFailed, IsKept, Completes, status_number, kept_of, finished_run, finished_of};
+ghost use Rattle.launch_run.specs.TopCall.{Wrote, IsEndOf, IsToldEnd, TellsEnd, IsTopEnd, IsTopStatus, IsInputRefused, IsProgramRefused, HasReported, HasFailed, IsKept, Completes, status_number, kept_of, finished_run, finished_of};
 
 use crate::inputs::read_launch;
 use crate::lines::Refusal;
@@ -123,6 +123,7 @@ pub enum TopEnd<'a> {
 }
 
 /// Reads the launch, runs it, and writes its report, or the line of a refusal.
+#[tactic(auto, using(crate::proofs::Bounds::bounded))]
 fn launch_and_run<'a, S: Source, K: Sink>(
     alloc: Global,
     words: &'a [String],
@@ -218,8 +219,8 @@ pub fn run_launch<S: Source, K: Sink>(
     ensures words_line { result.status ≡ 2 → Wrote (K.written sink.old) (K.written sink.new) (Rose (K.faults sink.old) (K.faults sink.new)) words_line }
     ensures input { result.status ≡ 66 → IsInputRefused (map string_bytes words.now) (S.told source.old) (Rose (S.faults source.old) (S.faults source.new))
         (Wrote (K.written sink.old) (K.written sink.new) (Rose (K.faults sink.old) (K.faults sink.new))) }
-    ensures program { result.status ≡ 67 → IsToldAs (launch_of (map string_bytes words.now) (S.told source.old)) (refuses 67 program_line)
-        × Wrote (K.written sink.old) (K.written sink.new) (Rose (K.faults sink.old) (K.faults sink.new)) program_line }
+    ensures program { result.status ≡ 67 → IsProgramRefused (launch_of (map string_bytes words.now) (S.told source.old))
+        (Wrote (K.written sink.old) (K.written sink.new) (Rose (K.faults sink.old) (K.faults sink.new))) }
     ensures launch_text { result.status ≡ 65 → IsToldAs (launch_of (map string_bytes words.now) (S.told source.old)) (refuses 65 launch_text_line)
         × Wrote (K.written sink.old) (K.written sink.new) (Rose (K.faults sink.old) (K.faults sink.new)) launch_text_line }
     ensures memory { result.status ≡ 70 → Wrote (K.written sink.old) (K.written sink.new) (Rose (K.faults sink.old) (K.faults sink.new)) memory_line

@@ -31,7 +31,7 @@ use Rattle.kernel_model.proofs.Sights.{outcome_reads, outcome_of_table}
 use Rattle.number_map.specs.Maps.{get-insert-same, get-insert-other}
 use Rattle.guest_memory.specs.declared.fault.MemFault.{MemFault}
 use Rattle.guest_memory.specs.Page.{Pages}
-use Rattle.run_model.specs.Args.{argument, low, gathered_in, ranges_at, fd_write_with, fd_write_of, args_of}
+use Rattle.call_codec.specs.Args.{argument, low, gathered_in, ranges_at, fd_write_with, fd_write_of, args_of}
 use Rattle.run_model.specs.World.{by_errno, called_state}
 
 -- ---- no reply but the allowed one is want of memory

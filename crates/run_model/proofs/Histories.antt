@@ -15,7 +15,8 @@ use Rattle.kernel_model.specs.State.{State}
 use Rattle.number_map.specs.Maps.{get-insert-same}
 use Rattle.rv_interp.specs.declared.turns.TurnEnd.TheVariants.{Quantum}
 use Rattle.run_model.specs.Legal.{IsRunnable, MayTurn, AreWhole, Fits, FollowsFrom, Legal}
-use Rattle.run_model.specs.World.{World, Guest, first_registers, first_guest, start_world, or_no_guest, guest_of, or_no_registers, registers_of, with_registers, with_guest, turned_guest, turn_end, turned_guest_by, turned, acted, apply, apply_all, world}
+use Rattle.call_codec.specs.Start.{first_registers}
+use Rattle.run_model.specs.World.{World, Guest, first_guest, start_world, or_no_guest, guest_of, or_no_registers, registers_of, with_registers, with_guest, turned_guest, turn_end, turned_guest_by, turned, acted, apply, apply_all, world}
 
 -- ---- the world of a history
 

@@ -11,7 +11,7 @@ use Rattle.kernel_model.specs.State.{State, Threads}
 use Rattle.kernel_model.specs.Step.{IsStep}
 use Rattle.rv_interp.specs.declared.turns.TurnEnd.{TurnEnd}
 use Rattle.rv_interp.specs.declared.turns.TurnEnd.TheVariants as turn_end_is
-use Rattle.run_model.specs.Args.{args_of}
+use Rattle.call_codec.specs.Args.{args_of}
 use Rattle.run_model.specs.World.{World, Guest, guest_of, registers_of, turn_end, turned_guest, turned_guest_by, called_state, apply, start_world}
 
 -- the thread is live and takes its turns

@@ -1,5 +1,3 @@
-pub mod Args
-pub mod Put
 pub mod World
 pub mod Legal
 pub mod Ends

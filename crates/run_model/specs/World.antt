@@ -1,5 +1,5 @@
 -- A kernel's state together with its processes' memories, registers and turns, and how an entry changes them.
-use Rattle.std.specs.Prelude.{ℕ, ◌-◌, ◌/◌, List, [], ◌∷◌, ◌++◌, length, replicate, Option, None, Some}
+use Rattle.std.specs.Prelude.{ℕ, ◌-◌, List, [], ◌∷◌, replicate, Option, None, Some}
 use Rattle.std.specs.Ordering.{nat_cmp}
 use Rattle.std.specs.FinMap.{FinMap, empty, get, insert}
 use Rattle.abi_types.specs.declared.call.Answer.{Answer}
@@ -9,10 +9,8 @@ use Rattle.abi_types.specs.declared.errno.Errno.{Errno}
 use Rattle.abi_types.specs.declared.errno.Errno.TheVariants.{Nomem}
 use Rattle.abi_types.specs.declared.signal.Signal.TheVariants.{Xcpu}
 use Rattle.abi_types.specs.declared.status.Status.TheVariants.{Killed}
-use Rattle.abi_types.specs.Registers.{Registers, start_registers, with_x}
-use Rattle.abi_types.specs.declared.prot.Prot.{Prot}
-use Rattle.guest_memory.specs.Page.{Page, Pages}
-use Rattle.kernel_core.specs.declared.elf.Segment.{Segment}
+use Rattle.abi_types.specs.Registers.{Registers, start_registers}
+use Rattle.guest_memory.specs.Page.{Pages}
 use Rattle.kernel_core.specs.declared.history.Act.{Act}
 use Rattle.kernel_core.specs.declared.history.Act.TheVariants as act
 use Rattle.kernel_core.specs.declared.history.Entry.{Entry}
@@ -22,7 +20,8 @@ use Rattle.kernel_model.specs.State.{State}
 use Rattle.kernel_model.specs.Step.{tick, step_state, end_state}
 use Rattle.rv_interp.specs.declared.turns.TurnEnd.{TurnEnd}
 use Rattle.rv_interp.specs.Turns.{Turn, turn_of}
-use Rattle.run_model.specs.Put.{put_of}
+use Rattle.call_codec.specs.Start.{first_registers, start_pages}
+use Rattle.call_codec.specs.Put.{put_of}
 
 -- a process's memory, the registers of its threads, and the turns that it has left
 pub record Guest : Type 0 where
@@ -37,22 +36,13 @@ pub record World : Type 0 where
 
 -- ---- the start
 
--- the page of these bytes, with zeros after them up to 4096
-abbrev pub page_of : List ℕ → Prot → Page
-page_of bytes prot = record { bytes = bytes ++ replicate (4096 - length bytes) 0; prot = prot }
-
--- the memory with the segments' pages: each segment is one page, which begins at its address
-abbrev pub with_segments : Pages → List Segment → Pages
-with_segments memory [] = memory
-with_segments memory (segment ∷ segments) = with_segments (insert memory (segment.at / 4096) (page_of segment.bytes segment.prot)) segments
-
--- the first thread stands at the entry, with sp at the stack's end, and a0 at the start block
-abbrev pub first_registers : ℕ → Registers
-first_registers entry = with_x (with_x (start_registers entry) 2 0x3efff00000) 10 0x3f00000000
+-- the canary of a start, 64 bytes, which are zero
+abbrev pub canary : List ℕ
+canary = replicate 64 0
 
 abbrev pub first_guest : Launch → Guest
 first_guest launch = record {
-  memory = with_segments empty launch.elf.segments;
+  memory = start_pages launch.elf launch.argdata canary 0 1;
   regs = insert empty 1 (first_registers launch.elf.entry);
   left = launch.turns;
 }

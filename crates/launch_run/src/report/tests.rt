@@ -7,7 +7,8 @@ use abi_types::{
     Answer, Bytes, Call, Denial, Errno, Grant, GrantList, GrantTarget, Pid, Reply, Rights, Signal,
     Status, Thread, Tid, TidList,
 };
-use kernel_core::{Act, Elf, Entry, History, Kernel, Launch, SegmentList};
+use elf_image::{Elf, SegmentList};
+use kernel_core::{Act, Entry, History, Kernel, Launch};
 use std::alloc::{AllocError, Global};
 use std::test::Fail;
 

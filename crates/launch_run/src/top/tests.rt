@@ -2,6 +2,7 @@
 use crate::tests::HELLO;
 use crate::top::{Finished, run_launch};
 use abi_types::outside::{MemSink, MemSource};
+use rv_asm::assemble;
 use std::alloc::{AllocError, Global};
 use std::test::Fail;
 
@@ -50,58 +51,83 @@ fn changed(place: usize, bytes: [u8; 4]) -> [u8; 182] {
     program
 }
 
-// The first program with these words in place of its instructions, of which it has room for 15.
-fn with_code(words: &[u32]) -> [u8; 182] {
-    let mut program = HELLO;
-    for (k, word) in words.iter().enumerate() {
-        if k < 15 {
-            program[120 + 4 * k..124 + 4 * k].copy_from_slice(&word.to_le_bytes());
-        }
+// A program with the first program's header, and this code behind it.
+fn program_of(alloc: Global, text: &str) -> Result<Vec<u8>, AllocError> {
+    let code = assemble(alloc, text).map_err(|_| AllocError)?;
+    let mut program = HELLO[..120].to_vec(alloc)?;
+    program.extend_from_slice(code.as_slice())?;
+    let length = (program.len() as u64).to_le_bytes();
+    if program.len() >= 120 {
+        program[96..104].copy_from_slice(&length);
+        program[104..112].copy_from_slice(&length);
     }
-    program
+    Ok(program)
 }
 
 // The report of a program that wrote nothing and ended with this status.
 fn quiet_report(alloc: Global, status: &str) -> Result<String, AllocError> {
     format!(in alloc;
-        "== stdout 0\n== stderr 0\n== status {status}\n== run ended\n== denials 0\n== tree 0\n")
+        "== stdout 0\n== stderr 0\n== status {status}\n== run ended\n== denials 0\n== tree 0\n"
+    )
 }
 
-// Code, how it ends, and how many entries its history has.
-const ENDS: [(&[u32], &str, usize); 9] = [
-    // a word that is no instruction
-    (&[0xffff_ffff], "signal 8 ILL", 1),
-    // ebreak
-    (&[0x0010_0073], "signal 17 TRAP", 1),
-    // ld a0, 0(zero)
-    (&[0x0000_3503], "signal 13 SEGV", 1),
-    // lui a0, 0x10; sd a0, 0(a0): the image can't be written
-    (&[0x0001_0537, 0x00a5_3023], "signal 13 SEGV", 1),
-    // lui a0, 0x10; addi a0, a0, 2; lr.w a1, (a0)
-    (&[0x0001_0537, 0x0025_0513, 0x1005_25af], "signal 3 BUS", 1),
-    // jal zero, .+2
-    (&[0x0020_006f], "signal 3 BUS", 1),
-    // exits with 1 where 5 / 0 is -1 and the remainder is 5
-    (
-        &[
-            0x0050_0593, 0x0205_c6b3, 0x0205_e733, 0x0016_8693, 0x00b7_4733, 0x00e6_e533,
-            0x0015_3513, 0x0270_0893, 0x0000_0073,
-        ],
-        "exit 1",
-        1,
-    ),
-    // exits with 1 where -2^63 / -1 is -2^63 and the remainder is 0
-    (
-        &[
-            0x0010_0593, 0x03f5_9593, 0xfff0_0613, 0x02c5_c6b3, 0x02c5_e733, 0x00b6_c6b3,
-            0x00e6_e533, 0x0015_3513, 0x0270_0893, 0x0000_0073,
-        ],
-        "exit 1",
-        1,
-    ),
-    // addi a7, zero, 48; ecall; jal zero, .-4: a turn for each call that isn't built, and then none is left
-    (&[0x0300_0893, 0x0000_0073, 0xffdf_f06f], "signal 25 XCPU", 100_001),
+// A guest that writes nothing, the exit status, how its program ends, and how many entries its history has.
+const QUIET: [(&str, u8, &str, usize); 14] = [
+    (guest_kit::ILLEGAL, 1, "signal 8 ILL", 1),
+    (guest_kit::BREAKPOINT, 1, "signal 17 TRAP", 1),
+    (guest_kit::LOAD_AT_ZERO, 1, "signal 13 SEGV", 1),
+    (guest_kit::WRITE_TO_CODE, 1, "signal 13 SEGV", 1),
+    (guest_kit::MISALIGNED_RESERVE, 1, "signal 3 BUS", 1),
+    (guest_kit::MISALIGNED_JUMP, 1, "signal 3 BUS", 1),
+    (guest_kit::DIVISION_BY_ZERO, 1, "exit 1", 1),
+    (guest_kit::DIVISION_OVERFLOW, 1, "exit 1", 1),
+    (guest_kit::TWO_PAGES, 0, "exit 0", 1),
+    (guest_kit::NO_DESCRIPTOR, 1, "exit 8", 2),
+    (guest_kit::PAST_THE_STACK, 1, "exit 21", 2),
+    (guest_kit::BAD_POINTER, 1, "exit 21", 2),
+    (guest_kit::MANY_RANGES, 1, "exit 28", 2),
+    // a turn for each call, and then none is left
+    (guest_kit::UNBUILT_CALLS, 1, "signal 25 XCPU", 100_001),
 ];
+
+// The entries of the vector that the first thread finds, as numbers and values.
+const VECTOR: [(u64, u64); 12] = [
+    (256, 0x3f_0000_0100),
+    (257, 5),
+    (7, 0),
+    (258, 0x3f_0000_00c0),
+    (259, 64),
+    (260, 1),
+    (6, 4096),
+    (3, 0x1_0040),
+    (4, 1),
+    (263, 0),
+    (261, 1),
+    (0, 0),
+];
+
+// The start block: the vector, the canary and the argument data.
+fn start_block(alloc: Global) -> Result<Vec<u8>, AllocError> {
+    let mut block = Vec::new(alloc);
+    for (number, value) in VECTOR {
+        block.extend_from_slice(&u64::to_le_bytes(number))?;
+        block.extend_from_slice(&u64::to_le_bytes(value))?;
+    }
+    block.extend_from_slice(&[0; 64])?;
+    block.extend_from_slice(&[3, 0, 0, 0, 0])?;
+    Ok(block)
+}
+
+// The report of a program that wrote these bytes, which don't end with a line feed, and exited with 0.
+fn loud_report(alloc: Global, bytes: &[u8]) -> Result<Vec<u8>, AllocError> {
+    let head = format!(in alloc; "== stdout {}\n", bytes.len())?;
+    let mut report = head.as_bytes().to_vec(alloc)?;
+    report.extend_from_slice(bytes)?;
+    report.extend_from_slice(
+        b"\n== stderr 0\n== status exit 0\n== run ended\n== denials 0\n== tree 0\n",
+    )?;
+    Ok(report)
+}
 
 // What the top call answers for a program and a launch text, and what it writes.
 fn ran(alloc: Global, program: &[u8], text: &[u8]) -> Result<(Finished, MemSink), AllocError> {
@@ -135,13 +161,31 @@ fn runs_programs(rt: HostRuntime) -> Result<(), Fail> {
 
 #[test]
 fn ends_programs(rt: HostRuntime) -> Result<(), Fail> {
-    for (code, status, entries) in ENDS {
-        let (finished, sink) = ran(rt.alloc(), &with_code(code), b"!fd stdout\n")?;
-        assert_eq!(rt; finished.status, 1, "{status}");
+    for (text, number, status, entries) in QUIET {
+        let program = program_of(rt.alloc(), text)?;
+        let (finished, sink) = ran(rt.alloc(), &program, b"!fd stdout\n")?;
         let report = quiet_report(rt.alloc(), status)?;
-        assert_eq!(rt; sink.bytes(), report.as_bytes(), "{status}");
+        assert_eq!(rt; sink.bytes(), report.as_bytes(), "{text}");
+        assert_eq!(rt; finished.status, number, "{text}");
         let kept = finished.kept.map(|record| record.history.len());
-        assert_eq!(rt; kept, Some(entries), "{status}");
+        assert_eq!(rt; kept, Some(entries), "{text}");
+    }
+    Ok(())
+}
+
+#[test]
+fn shows_what_programs_write(rt: HostRuntime) -> Result<(), Fail> {
+    let block = start_block(rt.alloc())?;
+    let zeros = vec![in rt.alloc(); 0; 65536]?;
+    for (text, written) in [
+        (guest_kit::START_BLOCK, block.as_slice()),
+        (guest_kit::LONG_WRITE, zeros.as_slice()),
+    ] {
+        let program = program_of(rt.alloc(), text)?;
+        let (finished, sink) = ran(rt.alloc(), &program, b"!fd stdout\n")?;
+        assert_eq!(rt; finished.status, 0, "{text}");
+        let report = loud_report(rt.alloc(), written)?;
+        assert!(rt; sink.bytes() == report.as_slice(), "{text}");
     }
     Ok(())
 }
@@ -149,9 +193,10 @@ fn ends_programs(rt: HostRuntime) -> Result<(), Fail> {
 #[test]
 fn refuses_what_it_cannot_run(rt: HostRuntime) -> Result<(), Fail> {
     for (program, text, status, line) in [
-        (&HELLO[..119], "!fd stdout\n", 67, "program: not built\n"),
+        (&HELLO[..63], "!fd stdout\n", 67, "program: TooShort\n"),
+        (&HELLO[..119], "!fd stdout\n", 67, "program: Header\n"),
         (&HELLO[..], "!fd stderr\n", 65, "launch: not built\n"),
-        (&HELLO[..119], "!fd stderr\n", 67, "program: not built\n"),
+        (&HELLO[..181], "!fd stderr\n", 67, "program: Segment 0\n"),
     ] {
         let (finished, sink) = ran(rt.alloc(), program, text.as_bytes())?;
         assert_eq!(rt; finished.status, status, "{line}");

@@ -1,0 +1,4 @@
+pub mod Args
+pub mod Put
+pub mod Image
+pub mod Start

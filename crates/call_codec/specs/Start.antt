@@ -1,0 +1,70 @@
+-- What a program starts with: its segments, a stack, a start block, and its first registers.
+use Rattle.std.specs.Prelude.{◌≡◌, ◌≤◌, ℕ, ◌+◌, ◌-◌, true, false, List, [], ◌∷◌, ◌++◌, length}
+use Rattle.std.specs.Int.{w64, to_le_bytes}
+use Rattle.std.specs.FinMap.{empty}
+use Rattle.std.specs.List.{All}
+use Rattle.abi_types.specs.declared.prot.Prot.{Prot}
+use Rattle.abi_types.specs.Registers.{Registers, start_registers, with_x}
+use Rattle.elf_image.specs.declared.elf.Elf.{Elf}
+use Rattle.elf_image.specs.declared.elf.Segment.{Segment}
+use Rattle.guest_memory.specs.Page.{Pages}
+use Rattle.call_codec.specs.Image.{IsPlaced, with_segments}
+
+abbrev pub read_write : Prot
+read_write = record { read = true; write = true; exec = false }
+
+-- where the first thread's stack ends
+abbrev pub stack_end : ℕ
+stack_end = 0x3efff00000
+
+-- how many bytes the stack has: 256 pages
+abbrev pub stack_length : ℕ
+stack_length = 1048576
+
+-- the stack, which is zeros
+abbrev pub stack : Segment
+stack = record { at = stack_end - stack_length; bytes = []; length = stack_length; prot = read_write }
+
+-- where the start block is
+abbrev pub start_block_at : ℕ
+start_block_at = 0x3f00000000
+
+-- an entry of the vector of the start block: a number, and a value
+abbrev pub entry_bytes : ℕ × ℕ → List ℕ
+entry_bytes entry = to_le_bytes w64 entry.0 ++ to_le_bytes w64 entry.1
+
+-- the entries, in their order: ARGDATA, ARGDATALEN, BASE, CANARY, CANARYLEN, NCPUS, PAGESZ, PHDR, PHNUM, PID, TID, NULL
+abbrev pub vector_entries : Elf → ℕ → ℕ → ℕ → List (ℕ × ℕ)
+vector_entries elf argdata_length pid tid =
+    (256, start_block_at + 0x100) ∷ (257, argdata_length) ∷ (7, elf.base) ∷ (258, start_block_at + 0xc0) ∷ (259, 64) ∷ (260, 1)
+    ∷ (6, 4096) ∷ (3, elf.phdr) ∷ (4, elf.phnum) ∷ (263, pid) ∷ (261, tid) ∷ (0, 0) ∷ []
+
+-- the bytes of a vector
+abbrev pub vector_of : List (ℕ × ℕ) → List ℕ
+vector_of [] = []
+vector_of (entry ∷ entries) = entry_bytes entry ++ vector_of entries
+
+-- the start block: the vector, the canary, and the argument data
+abbrev pub block_bytes : Elf → List ℕ → List ℕ → ℕ → ℕ → List ℕ
+block_bytes elf argdata canary pid tid = vector_of (vector_entries elf (length argdata) pid tid) ++ (canary ++ argdata)
+
+abbrev pub block_of : List ℕ → Segment
+block_of bytes = record { at = start_block_at; bytes = bytes; length = length bytes; prot = read_write }
+
+-- the segments of a start: those of the image, the stack and the start block
+abbrev pub start_segments : Elf → List ℕ → List ℕ → ℕ → ℕ → List Segment
+start_segments elf argdata canary pid tid = elf.segments ++ stack ∷ block_of (block_bytes elf argdata canary pid tid) ∷ []
+
+-- the memory of a start
+unfoldable pub start_pages : Elf → List ℕ → List ℕ → ℕ → ℕ → Pages
+start_pages elf argdata canary pid tid = with_segments empty (start_segments elf argdata canary pid tid)
+
+-- the first thread stands at the entry, with sp at the stack's end, and a0 at the start block
+abbrev pub first_registers : ℕ → Registers
+first_registers entry = with_x (with_x (start_registers entry) 2 stack_end) 10 start_block_at
+
+-- an image, argument data and a canary that a program can start with
+pub record MayStart (elf : Elf) (argdata canary : List ℕ) : Type 0 where
+  pub placed : All IsPlaced elf.segments
+  pub short : length argdata ≤ 65536
+  pub whole : length canary ≡ 64

@@ -1,0 +1,101 @@
+//! The memory of a program's image.
+ghost use Rattle.std.specs.Prelude.{◌≡◌, ◌≤◌, ◌<◌, ◌+◌, ◌/◌, length, All, IfOk, OnOk};
+ghost use Rattle.std.specs.FinMap as map;
+ghost use Rattle.guest_memory.specs.Ranges.{IsPageAddress};
+ghost use Rattle.call_codec.specs.Image.{IsPlaced, page_with, page_of, page_count, with_segment, with_segments};
+
+use abi_types::Prot;
+use elf_image::Segment;
+use guest_memory::{GuestMemory, MemFault};
+use std::alloc::{AllocError, Global};
+
+/// How many bytes a page has.
+const PAGE: u64 = 4096;
+
+/// The rights of a page while its bytes are put in.
+const FILLING: Prot = Prot {
+    read: true,
+    write: true,
+    exec: false,
+};
+
+/// Maps one page with bytes from a place in it on, and zeros around them.
+fn map_page(
+    alloc: Global,
+    memory: &mut GuestMemory,
+    at: u64,
+    place: usize,
+    bytes: &[u8],
+    prot: Prot,
+) -> Result<(), MemFault>
+    requires page { IsPageAddress at }
+    requires low { 0x10000 ≤ at }
+    requires high { at + 4096 ≤ 0x4000000000 }
+    requires place { place < 4096 }
+    requires fits { place + length bytes.now ≤ 4096 }
+    ensures { OnOk result (memory.new ≡ map.insert memory.old (at / 4096) (page_with place bytes.now prot)) }
+{
+    memory.map(alloc, at, 1, FILLING)?;
+    memory.write_bytes(at + place as u64, bytes)?;
+    memory.protect(at, 1, prot)
+}
+
+/// How many pages a segment's memory touches.
+fn page_count(segment: &Segment) -> u64
+    requires { IsPlaced segment.now }
+    ensures { result ≡ page_count segment.now }
+{
+    (segment.at % PAGE + segment.length).div_ceil(PAGE)
+}
+
+/// Maps the page of a segment with this place among its pages.
+fn map_segment_page(
+    alloc: Global,
+    memory: &mut GuestMemory,
+    segment: &Segment,
+    index: u64,
+) -> Result<(), MemFault>
+    requires placed { IsPlaced segment.now }
+    requires within { index < page_count segment.now }
+    ensures { OnOk result (memory.new ≡ map.insert memory.old (segment.now.at / 4096 + index) (page_of segment.now index)) }
+{
+    let before = (segment.at % PAGE) as usize;
+    let bytes = segment.bytes.as_slice();
+    let page = (index * PAGE) as usize;
+    let at = segment.at - segment.at % PAGE + index * PAGE;
+    if index == 0 {
+        let end = bytes.len().min(PAGE as usize - before);
+        map_page(alloc, memory, at, before, &bytes[..end], segment.prot)
+    } else {
+        let start = bytes.len().min(page - before);
+        let end = bytes.len().min(start + PAGE as usize);
+        map_page(alloc, memory, at, 0, &bytes[start..end], segment.prot)
+    }
+}
+
+/// Maps a segment's pages. Only want of memory, or a page that is there already, keeps it from that.
+pub fn map_segment(
+    alloc: Global,
+    memory: &mut GuestMemory,
+    segment: &Segment,
+) -> Result<(), AllocError>
+    requires { IsPlaced segment.now }
+    ensures { OnOk result (memory.new ≡ with_segment memory.old segment.now) }
+{
+    for index in 0..page_count(segment) {
+        map_segment_page(alloc, memory, segment, index).map_err(|_| AllocError)?;
+    }
+    Ok(())
+}
+
+/// The memory of an image's segments. Only want of memory, or two segments in one page, keep it from that.
+pub fn load(alloc: Global, segments: &[Segment]) -> Result<GuestMemory, AllocError>
+    requires { All IsPlaced segments.now }
+    ensures { IfOk result (λ memory. memory ≡ with_segments map.empty segments.now) }
+{
+    let mut memory = GuestMemory::new(alloc);
+    for segment in segments {
+        map_segment(alloc, &mut memory, segment)?;
+    }
+    Ok(memory)
+}

@@ -1,0 +1,13 @@
+//! Calls between registers, memory and the kernel: the memory that a program starts with, the call that registers and
+//! memory spell, and the registers after an answer.
+#![tactic(auto)]
+
+pub use arguments::args;
+pub use image::load;
+pub use replies::put_answer;
+pub use start::start_memory;
+
+mod arguments;
+mod image;
+mod replies;
+mod start;
