@@ -2,11 +2,12 @@
 ghost use Rattle.std.specs.Prelude.{IsTrue};
 ghost use Rattle.abi_types.specs.Rights.{has_all};
 
-use crate::{Elf, Kernel, Launch, SegmentList};
+use crate::{Kernel, Launch};
 use abi_types::{
     Answer, Bytes, Call, Denial, Errno, Grant, GrantList, GrantTarget, Pid, Reply, Rights, Signal,
     Status, Thread, Tid,
 };
+use elf_image::{Elf, SegmentList};
 use std::alloc::{AllocError, Global};
 use std::test::Fail;
 
