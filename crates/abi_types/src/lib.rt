@@ -14,6 +14,7 @@ pub use ids::{ObjId, Pid, Tid, TidList};
 pub use items::{Items, TryClone};
 pub use needed::Needed;
 pub use open_kind::OpenKind;
+pub use place::Place;
 pub use prot::Prot;
 pub use regs::Regs;
 pub use rights::Rights;
@@ -22,6 +23,7 @@ pub use status::Status;
 pub use structures::{
     Dirent, FdStat, FileStat, Iovec, RecvIn, RecvOut, SendIn, SendOut, ThreadAttr,
 };
+pub use text::Text;
 pub use thread::Thread;
 
 mod bytes;
@@ -35,10 +37,12 @@ mod items;
 mod needed;
 mod open_kind;
 pub mod outside;
+mod place;
 mod prot;
 mod regs;
 mod rights;
 mod signal;
 mod status;
 mod structures;
+mod text;
 mod thread;

@@ -1,3 +1,6 @@
+pub mod Calls
 pub mod Gathering
 pub mod Images
+pub mod MemoryCalls
+pub mod Puts
 pub mod Starts

@@ -10,14 +10,8 @@ use Rattle.abi_types.specs.Registers.{Registers}
 use Rattle.guest_memory.specs.declared.fault.MemFault.{MemFault}
 use Rattle.guest_memory.specs.Bytes.{bytes_at}
 use Rattle.guest_memory.specs.Page.{Pages}
-
--- the argument with this number, from 0
-abbrev pub argument : Registers → ℕ → ℕ
-argument r n = slice_index r.x (10 + n)
-
--- the low half of a register, which an argument of 32 bits is
-abbrev pub low : ℕ → ℕ
-low n = n % 2 ^ 32
+use Rattle.call_codec.specs.Arguments.{argument, low}
+use Rattle.call_codec.specs.MemoryCalls.{mem_advise_of, mem_map_of, mem_protect_of, mem_sync_of, mem_unmap_of}
 
 -- an iovec: the address and the length of a range of bytes
 abbrev pub range_of : List ℕ → Iovec
@@ -68,6 +62,11 @@ fd_write_of m r =
 abbrev pub call_of : Pages → Registers → ℕ → Call
 call_of m r number =
     if number == 16 then fd_write_of m r
+    else if number == 32 then mem_advise_of m r
+    else if number == 33 then mem_map_of m r
+    else if number == 34 then mem_protect_of m r
+    else if number == 35 then mem_sync_of m r
+    else if number == 36 then mem_unmap_of r
     else if number == 39 then ProcExit (low (argument r 0))
     else Refused number Nosys
 

@@ -1,9 +1,14 @@
 //! From registers and memory to a call.
 ghost use Rattle.std.specs.Prelude.{◌≡◌, ◌≤◌, IfOk, map, option_map};
 ghost use Rattle.std.specs.Result.{result_ok};
-ghost use Rattle.call_codec.specs.Args.{args_of, fd_write_of, low, ranges_at, range_in, range_of, gathered, gathered_in};
+ghost use Rattle.call_codec.specs.Arguments.{low};
+ghost use Rattle.call_codec.specs.Args.{args_of, fd_write_of, ranges_at, range_in, range_of, gathered, gathered_in};
 ghost use Rattle.guest_memory.specs.Bytes.{bytes_at};
 
+use crate::memory_calls::{
+    MEM_ADVISE, MEM_MAP, MEM_PROTECT, MEM_SYNC, MEM_UNMAP, mem_advise, mem_map, mem_protect,
+    mem_sync, mem_unmap,
+};
 use abi_layout::read_iovec;
 use abi_types::{Bytes, Call, Errno, Iovec, Regs};
 use guest_memory::GuestMemory;
@@ -22,7 +27,7 @@ const MOST_IOVECS: u64 = 1024;
 const TRANSFER: u64 = 65536;
 
 /// The low half of a register.
-fn low(value: u64) -> u32
+pub fn low(value: u64) -> u32
     ensures { result ≡ low value }
 {
     (value & 0xffff_ffff) as u32
@@ -35,6 +40,11 @@ pub fn args(alloc: Global, regs: &Regs, memory: &GuestMemory) -> Result<Call, Al
 {
     match regs.get(17) {
         FD_WRITE => fd_write(alloc, regs, memory),
+        MEM_ADVISE => Ok(mem_advise(regs, memory)),
+        MEM_MAP => Ok(mem_map(regs, memory)),
+        MEM_PROTECT => Ok(mem_protect(regs, memory)),
+        MEM_SYNC => Ok(mem_sync(regs, memory)),
+        MEM_UNMAP => Ok(mem_unmap(regs)),
         PROC_EXIT => Ok(Call::ProcExit {
             code: low(regs.get(10)),
         }),

@@ -1,5 +1,5 @@
 //! Calls between registers, memory and the kernel: the memory that a program starts with, the call that registers and
-//! memory spell, and the registers after an answer.
+//! memory spell, and the registers and memory after an answer.
 #![tactic(auto)]
 
 pub use arguments::args;
@@ -9,5 +9,6 @@ pub use start::start_memory;
 
 mod arguments;
 mod image;
+mod memory_calls;
 mod replies;
 mod start;

@@ -1,21 +1,49 @@
-//! From a reply back to the registers.
-ghost use Rattle.std.specs.Prelude.{◌≡◌};
-ghost use Rattle.call_codec.specs.Put.{answered_of, put_of, with_results};
+//! From an answer back to the registers and the memory.
+ghost use Rattle.std.specs.Prelude.{◌≡◌, ◌≤◌, ◌/◌, ◌^◌, OnOk, OnErr};
+ghost use Rattle.call_codec.specs.Arguments.{argument};
+ghost use Rattle.call_codec.specs.Args.{args_of};
+ghost use Rattle.call_codec.specs.MemoryCalls.{IsMapping, MayMapThere, memory_with, with_change, with_mapping, pages_in, prot_of};
+ghost use Rattle.call_codec.specs.Put.{answered_memory, answered_of, put_of, with_results};
+ghost use Rattle.guest_memory.specs.Changes.{protected, without_pages};
+ghost use Rattle.guest_memory.specs.Mapping.{AreThere};
+ghost use Rattle.guest_memory.specs.Ranges.{IsPageAddress};
 
-use abi_types::{Answer, Call, Errno, Regs, Reply};
+use crate::arguments::low;
+use crate::memory_calls::{GUESTS_END, PAGE, has_bits, pages_in};
+use abi_types::{Answer, Call, Errno, Place, Prot, Regs, Reply};
+use guest_memory::GuestMemory;
+use std::alloc::{AllocError, Global};
 
-/// The registers after a call that was answered so.
-pub fn put_answer(regs: &mut Regs, call: &Call, answer: &Answer)
-    ensures { regs.new ≡ answered_of regs.old call.now answer.now }
+/// What an answer leaves of the registers and the memory that spelled the call. Want of memory, which only mem_map meets,
+/// changes nothing.
+pub fn put_answer(
+    alloc: Global,
+    regs: &mut Regs,
+    memory: &mut GuestMemory,
+    call: &Call,
+    answer: &Answer,
+) -> Result<(), AllocError>
+    requires { call.now ≡ args_of memory.old regs.old }
+    ensures regs { OnOk result (regs.new ≡ answered_of regs.old call.now answer.now) }
+    ensures memory { OnOk result (memory.new ≡ answered_memory memory.old regs.old call.now answer.now) }
+    ensures only { OnErr result (IsMapping call.now) }
+    ensures same_regs { OnErr result (regs.new ≡ regs.old) }
+    ensures same_memory { OnErr result (memory.new ≡ memory.old) }
 {
     match answer {
-        Answer::Reply(reply) => put(regs, call, reply),
+        Answer::Reply(reply) => {
+            if let Errno::Success = reply.errno {
+                put_memory(alloc, regs, memory, call)?;
+            }
+            put_registers(regs, call, reply);
+            Ok(())
+        }
     }
 }
 
 /// The registers after a call's reply: the error in a0, and on success the results in a1 and a2. The pc goes on after
 /// the ECALL.
-fn put(regs: &mut Regs, call: &Call, reply: &Reply)
+fn put_registers(regs: &mut Regs, call: &Call, reply: &Reply)
     ensures { regs.new ≡ put_of regs.old call.now reply.now }
 {
     regs.set(10, u64::from(reply.errno.number()));
@@ -30,7 +58,104 @@ fn put_results(regs: &mut Regs, call: &Call, reply: &Reply)
     ensures { regs.new ≡ with_results regs.old call.now reply.now }
 {
     match call {
-        Call::FdWrite { .. } => regs.set(11, reply.r1),
-        Call::ProcExit { .. } | Call::Refused { .. } => {}
+        Call::FdWrite { .. } | Call::MemMap { .. } => regs.set(11, reply.r1),
+        Call::Memory { .. } | Call::ProcExit { .. } | Call::Refused { .. } => {}
+    }
+}
+
+/// The rights that a prot asks for.
+fn prot_of(bits: u32) -> Prot
+    ensures { result ≡ prot_of bits }
+{
+    Prot {
+        read: has_bits(bits, 4),
+        write: has_bits(bits, 2),
+        exec: has_bits(bits, 1),
+    }
+}
+
+/// The memory after a call that succeeded.
+fn put_memory(
+    alloc: Global,
+    regs: &Regs,
+    memory: &mut GuestMemory,
+    call: &Call,
+) -> Result<(), AllocError>
+    requires { call.now ≡ args_of memory.old regs.now }
+    ensures ok { OnOk result (memory.new ≡ memory_with memory.old regs.now call.now) }
+    ensures only { OnErr result (IsMapping call.now) }
+    ensures err { OnErr result (memory.new ≡ memory.old) }
+{
+    match call {
+        Call::MemMap {
+            place,
+            length,
+            prot,
+            ..
+        } => map(alloc, memory, *place, pages_in(*length), prot_of(*prot)),
+        Call::Memory { number, errno } => {
+            if let Errno::Success = *errno {
+                change(regs, memory, *number);
+            }
+            Ok(())
+        }
+        Call::FdWrite { .. } | Call::ProcExit { .. } | Call::Refused { .. } => Ok(()),
+    }
+}
+
+/// Maps pages of zeros at their place, in place of those that are there.
+fn map(
+    alloc: Global,
+    memory: &mut GuestMemory,
+    place: Place,
+    pages: u64,
+    prot: Prot,
+) -> Result<(), AllocError>
+    requires { MayMapThere memory.old place pages }
+    ensures ok { OnOk result (memory.new ≡ with_mapping memory.old place pages prot) }
+    ensures err { OnErr result (memory.new ≡ memory.old) }
+{
+    match place {
+        Place::At(at) => memory.map_fixed(alloc, at, pages as u32, prot),
+        Place::Refused(_) => Ok(()),
+    }
+}
+
+/// The memory after mem_protect, mem_unmap or a call that changes nothing, by its number.
+fn change(regs: &Regs, memory: &mut GuestMemory, number: u32)
+    requires aligned { IsPageAddress (argument regs.now 0) }
+    requires there { number ≡ 34 → AreThere memory.old (argument regs.now 0 / 4096) (pages_in (argument regs.now 1)) }
+    ensures { memory.new ≡ with_change memory.old regs.now number }
+{
+    let at = regs.get(10);
+    let pages = pages_in(regs.get(11));
+    match number {
+        34 => protect(memory, at, pages, prot_of(low(regs.get(12)))),
+        36 => unmap(memory, at, pages),
+        _ => {}
+    }
+}
+
+/// Gives pages that are there other rights.
+fn protect(memory: &mut GuestMemory, at: u64, pages: u64, prot: Prot)
+    requires aligned { IsPageAddress at }
+    requires there { AreThere memory.old (at / 4096) pages }
+    ensures { memory.new ≡ protected memory.old (at / 4096) pages prot }
+{
+    memory.keeps_limits();
+    // The pages are there, so that it can't be refused.
+    let _ = memory.protect(at, pages as u32, prot);
+}
+
+/// Takes away the pages of the range, as far as they are there. None is past the guest's part of the address space.
+fn unmap(memory: &mut GuestMemory, at: u64, pages: u64)
+    requires aligned { IsPageAddress at }
+    requires few { pages ≤ 2 ^ 52 }
+    ensures { memory.new ≡ without_pages memory.old (at / 4096) pages }
+{
+    memory.keeps_limits();
+    if at < GUESTS_END {
+        let count = pages.min((GUESTS_END - at) / PAGE);
+        memory.unmap(at, count as u32);
     }
 }

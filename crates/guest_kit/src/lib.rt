@@ -9,8 +9,13 @@ pub use machine::{
     BREAKPOINT, DIVISION_BY_ZERO, DIVISION_OVERFLOW, ILLEGAL, LOAD_AT_ZERO, MISALIGNED_JUMP,
     MISALIGNED_RESERVE, SPIN, WRITE_TO_CODE,
 };
+pub use memory::{
+    MAP_OVER, PROTECT_A_HOLE, READ_UNMAPPED, TWO_MAPPINGS, WRITE_THEN_EXECUTE, WRITE_TO_PROTECTED,
+    call_with,
+};
 
 mod calls;
 mod machine;
+mod memory;
 #[cfg(test)]
 mod tests;

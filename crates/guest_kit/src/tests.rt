@@ -6,7 +6,7 @@ use std::alloc::{AllocError, Global};
 use std::test::Fail;
 
 // A guest, and the hexadecimal digits of its code.
-const GUESTS: [(&str, &str); 18] = [
+const GUESTS: [(&str, &str); 24] = [
     (ILLEGAL, "ffffffff"),
     (BREAKPOINT, "73001000"),
     (LOAD_AT_ZERO, "03350000"),
@@ -58,6 +58,38 @@ const GUESTS: [(&str, &str); 18] = [
         TWO_PAGES,
         "37190000330921419309d0ff233e39ff033ac9ff33053a419308700273000000",
     ),
+    (
+        TWO_MAPPINGS,
+        "93051000130660009306500093081002730000001389050023301901930510007300000023b01501\
+         b3852541b7190000b3853541130a1000131a5a02330949413365b500336525019308700273000000",
+    ),
+    (
+        MAP_OVER,
+        "b72500001306600093065000930810027300000013890500b7190000b38929012330190123b01901\
+         13050900930510009306700073000000338a2541833a090003bb0900330b1b413365450133655501\
+         336565019308700273000000",
+    ),
+    (
+        PROTECT_A_HOLE,
+        "93051000130660009306500093081002730000001389050013050900b72500001306400093082002\
+         73000000233019019308700273000000",
+    ),
+    (
+        WRITE_TO_PROTECTED,
+        "93051000130660009306500093081002730000001389050013050900930510001306400093082002\
+         730000008339090023301901",
+    ),
+    (
+        READ_UNMAPPED,
+        "b72500001306600093065000930810027300000013890500b7190000b38929011305090093051000\
+         930840027300000003ba0900033a0900",
+    ),
+    (
+        WRITE_THEN_EXECUTE,
+        "930510001306600093065000930810027300000013890500b709010003aa490c2320490103aa890c\
+         2322490103aac90c23244901130509009305c0001306500093082002730000006700090013057000\
+         9308700273000000",
+    ),
 ];
 
 // The digits of bytes.
@@ -70,22 +102,39 @@ fn hexadecimal(alloc: Global, bytes: &[u8]) -> Result<String, AllocError> {
     Ok(digits)
 }
 
+// A guest's code, as digits. `None` where its text is faulty.
+fn code_of(alloc: Global, text: &str) -> Result<Option<String>, AllocError> {
+    match assemble(alloc, text) {
+        Ok(bytes) => Ok(Some(hexadecimal(alloc, bytes.as_slice())?)),
+        Err(_) => Ok(None),
+    }
+}
+
 #[test]
 fn guests_assemble(rt: HostRuntime) -> Result<(), Fail> {
     for (text, code) in GUESTS {
-        let bytes = assemble(rt.alloc(), text).ok();
-        assert!(rt; bytes.is_some(), "{text}");
-        if let Some(bytes) = bytes {
-            let digits = hexadecimal(rt.alloc(), bytes.as_slice())?;
-            assert_eq!(rt; digits.as_str(), code, "{text}");
-        }
+        let digits = code_of(rt.alloc(), text)?;
+        assert_eq!(rt; digits.as_deref(), Some(code), "{text}");
     }
-    let text = exit_with(rt.alloc(), 7)?;
-    let bytes = assemble(rt.alloc(), &text).ok();
-    assert!(rt; bytes.is_some());
-    if let Some(bytes) = bytes {
-        let digits = hexadecimal(rt.alloc(), bytes.as_slice())?;
-        assert_eq!(rt; digits.as_str(), "130570009308700273000000");
+    Ok(())
+}
+
+#[test]
+fn written_guests_assemble(rt: HostRuntime) -> Result<(), Fail> {
+    let exits = exit_with(rt.alloc(), 7)?;
+    let arguments = [0x1234_5678_9abc_def0, 1, 6, 5, u64::MAX, 0];
+    let calls = call_with(rt.alloc(), 33, arguments)?;
+    for (text, code) in [
+        (&exits, "130570009308700273000000"),
+        (
+            &calls,
+            "370901001309890a033509008335890003360901833689010337090283378902930810027300000093087002\
+             73000000f0debc9a78563412010000000000000006000000000000000500000000000000ffffffffffffffff\
+             0000000000000000",
+        ),
+    ] {
+        let digits = code_of(rt.alloc(), text)?;
+        assert_eq!(rt; digits.as_deref(), Some(code), "{text}");
     }
     Ok(())
 }

@@ -6,3 +6,5 @@ pub mod Runs
 pub mod Writes
 pub mod Numbers
 pub mod EachWritten
+pub mod Changes
+pub mod ListedPages

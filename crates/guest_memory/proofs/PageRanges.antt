@@ -15,15 +15,15 @@ use Rattle.guest_memory.specs.Mapping.{AreFree, AreThere, AreMapped, AreUnmapped
 
 -- ---- which numbers lie in a range
 
-both_true : (a b : Bool) → a ≡ true → b ≡ true → (a && b) ≡ true
+pub both_true : (a b : Bool) → a ≡ true → b ≡ true → (a && b) ≡ true
 both_true true b e f = f
 both_true false b e f = e
 
-first_true : (a b : Bool) → (a && b) ≡ true → a ≡ true
+pub first_true : (a b : Bool) → (a && b) ≡ true → a ≡ true
 first_true true b h = refl
 first_true false b h = h
 
-second_true : (a b : Bool) → (a && b) ≡ true → b ≡ true
+pub second_true : (a b : Bool) → (a && b) ≡ true → b ≡ true
 second_true true b h = h
 second_true false b h = absurd (cc)
 
@@ -58,7 +58,7 @@ one_more n j q other =
 last_inside : (n j : ℕ) → in_range n (suc j) (n + j) ≡ true
 last_inside n j = is_inside n (suc j) (n + j) (omega arith) (omega arith)
 
-end_outside : (n j : ℕ) → in_range n j (n + j) ≡ false
+pub end_outside : (n j : ℕ) → in_range n j (n + j) ≡ false
 end_outside n j = is_outside n j (n + j) (λ low high. omega arith)
 
 -- ---- a change of each page of a range
@@ -70,7 +70,7 @@ AreChanged f m n k after = (q : ℕ) → get after q ≡ cond (in_range n k q) (
 pub none_changed : (f : Option Page → Option Page) (m : Pages) (n : ℕ) → AreChanged f m n 0 m
 none_changed f m n q = sym (ap (λ b. cond b (f (get m q)) (get m q)) (is_outside n 0 q (λ low high. omega arith)))
 
-changed_outside : (f : Option Page → Option Page) (m : Pages) (n k : ℕ) (after : Pages) → AreChanged f m n k after
+pub changed_outside : (f : Option Page → Option Page) (m : Pages) (n k : ℕ) (after : Pages) → AreChanged f m n k after
     → (q : ℕ) → in_range n k q ≡ false → get after q ≡ get m q
 changed_outside f m n k after h q out = h q ∙ ap (λ b. cond b (f (get m q)) (get m q)) out
 
@@ -79,7 +79,7 @@ changed_inside : (f : Option Page → Option Page) (m : Pages) (n k : ℕ) (afte
 changed_inside f m n k after h q within = h q ∙ ap (λ b. cond b (f (get m q)) (get m q)) within
 
 -- one page more
-one_more_changed : (f : Option Page → Option Page) (m now next : Pages) (n j : ℕ) → AreChanged f m n j now
+pub one_more_changed : (f : Option Page → Option Page) (m now next : Pages) (n j : ℕ) → AreChanged f m n j now
     → get next (n + j) ≡ f (get m (n + j)) → ((q : ℕ) → q ≢ n + j → get next q ≡ get now q)
     → AreChanged f m n (suc j) next
 one_more_changed f m now next n j h here others q =
@@ -161,7 +161,7 @@ pub same_outside_removed : (m now : Pages) (n k number : ℕ) → AreSameOutside
 same_outside_removed m now n k number same within q out =
     get-remove-other now number q (λ is. not_both (in_range n k q) (ap (in_range n k) is ∙ within) out) ∙ same q out
 
-some_of : (o : Option Page) → IsSome o → (p : Page) × (o ≡ Some p)
+pub some_of : (o : Option Page) → IsSome o → (p : Page) × (o ≡ Some p)
 some_of None h = absurd (cc)
 some_of (Some p) h = (p, refl)
 

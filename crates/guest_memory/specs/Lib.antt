@@ -6,3 +6,5 @@ pub mod Words
 pub mod Ranges
 pub mod Mapping
 pub mod Limits
+pub mod Changes
+pub mod Fixed

@@ -4,12 +4,13 @@
 
 pub use access::Access;
 pub use fault::MemFault;
-pub use laws::{bytes_are_each, bytes_are_written};
+pub use laws::{bytes_are_each, bytes_are_written, changes_are_functions};
 pub use memory::GuestMemory;
 
 mod access;
 mod bytes;
 mod fault;
+mod fixed;
 mod laws;
 mod mapped_page;
 mod mapping;

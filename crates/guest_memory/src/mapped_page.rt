@@ -59,6 +59,14 @@ impl MappedPage {
         self.prot = prot;
     }
 
+    /// Makes the page one of zeros with these rights.
+    pub fn reset(&mut self, prot: Prot)
+        ensures { self.new ≡ zero_page prot }
+    {
+        self.bytes.fill(0);
+        self.prot = prot;
+    }
+
     /// The bytes from an address in this page to the page's end.
     #[inline]
     pub fn run(&self, access: Access, at: u64) -> Result<&[u8], MemFault>

@@ -1,12 +1,16 @@
 //! Which pages a memory has.
 ghost use Rattle.std.specs.Prelude.{◌≡◌, ◌+◌, ◌*◌, ◌/◌, ◌^◌, ◌≤◌, IfErr, OnOk, OnErr, IfSome, IfNone};
+ghost use Rattle.std.specs.FinMap as map;
 ghost use Rattle.guest_memory.specs.Ranges.{IsPageAddress};
 ghost use Rattle.guest_memory.specs.Mapping.{AreThere, AreMapped, AreUnmapped, AreProtected, MayMap, MapFails, ProtectFails, IsLowestGap, HasNoGap};
+ghost use Rattle.guest_memory.specs.Changes.{without_pages};
 
 use crate::fault::MemFault;
 use crate::mapped_page::PAGE;
 use crate::memory::GuestMemory;
-use crate::page_map::{add_pages, first_absent, first_page, protect_pages, remove_pages};
+use crate::page_map::{
+    add_pages, count_pages, first_absent, first_page, protect_pages, remove_pages,
+};
 use abi_types::Prot;
 use std::alloc::Global;
 
@@ -91,5 +95,35 @@ impl GuestMemory {
             }
         }
         None
+    }
+
+    /// Whether all the pages from a page's address on are there. `NotMapped` names the first that isn't.
+    pub fn check_mapped(&self, at: u64, pages: u64) -> Result<(), MemFault>
+        requires page { IsPageAddress at }
+        requires few { pages ≤ 2 ^ 52 }
+        ensures ok { OnOk result (AreThere self.now (at / 4096) pages) }
+        ensures fault { IfErr result (ProtectFails self.now (at / 4096) pages) }
+    {
+        match first_absent(&self.pages, at / PAGE, pages) {
+            Some(absent) => Err(MemFault::NotMapped(absent * PAGE)),
+            None => Ok(()),
+        }
+    }
+
+    /// How many pages the memory has: at most 65,536.
+    pub fn len(&self) -> usize
+        ensures is { result ≡ map.len self.now }
+        ensures few { result ≤ 65536 }
+    {
+        self.pages.len()
+    }
+
+    /// How many of the pages from a page's address on are there.
+    pub fn mapped_within(&self, at: u64, pages: u32) -> u64
+        requires page { IsPageAddress at }
+        requires high { at + 4096 * pages ≤ 2 ^ 64 }
+        ensures { result + map.len (without_pages self.now (at / 4096) pages) ≡ map.len self.now }
+    {
+        count_pages(&self.pages, at / PAGE, u64::from(pages))
     }
 }

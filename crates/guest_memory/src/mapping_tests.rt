@@ -15,6 +15,11 @@ const READ: Prot = Prot {
     exec: false,
 };
 
+const READ_WRITE: Prot = Prot {
+    write: true,
+    ..READ
+};
+
 const EXEC: Prot = Prot {
     read: false,
     write: false,
@@ -158,5 +163,72 @@ fn copy_is_apart(rt: HostRuntime) -> Result<(), Fail> {
         assert_eq!(rt; rights(&copy, at), Some(want), "at {at:x}");
     }
     assert_eq!(rt; copy.pages.len(), 3);
+    Ok(())
+}
+
+#[test]
+fn pages_are_counted_and_checked(rt: HostRuntime) -> Result<(), Fail> {
+    let alloc = rt.alloc();
+    let mut memory = memory_of_two(alloc)?;
+    memory.map(alloc, 0x24000, 1, EXEC)?;
+    assert_eq!(rt; memory.len(), 3);
+    let cases = [
+        (0x20000, 2, 2, Ok(())),
+        (0x20000, 5, 3, Err(MemFault::NotMapped(0x22000))),
+        (0x1f000, 2, 1, Err(MemFault::NotMapped(0x1f000))),
+        (0x22000, 2, 0, Err(MemFault::NotMapped(0x22000))),
+        (0x24000, 1, 1, Ok(())),
+        (0x30000, 0, 0, Ok(())),
+        (0, u32::MAX, 3, Err(MemFault::NotMapped(0))),
+    ];
+    for (at, pages, within, want) in cases {
+        assert!(rt; at % PAGE == 0 && at < END);
+        assert_eq!(rt;
+            memory.mapped_within(at, pages),
+            within,
+            "{pages} at {at:x}"
+        );
+        assert_eq!(rt;
+            memory.check_mapped(at, u64::from(pages)),
+            want,
+            "{pages} at {at:x}"
+        );
+    }
+    let last = u64::MAX - PAGE + 1;
+    let fault = MemFault::NotMapped(last);
+    assert_eq!(rt; memory.check_mapped(last, 0x10_0000_0000_0000), Err(fault));
+    Ok(())
+}
+
+#[test]
+fn fixed_mappings_replace_pages(rt: HostRuntime) -> Result<(), Fail> {
+    let alloc = rt.alloc();
+    let mut memory = memory_of_two(alloc)?;
+    memory.map(alloc, 0x24000, 1, READ_WRITE)?;
+    memory.write_bytes(0x24ff8, &[7; 8])?;
+    // over the second of the first two pages and the free one behind it, over nothing, and over the page with bytes
+    for (at, pages, prot) in [(0x21000, 2, EXEC), (0x30000, 0, EXEC), (0x24000, 2, READ)] {
+        assert!(rt; at % PAGE == 0 && at >= 0x10000 && at < END);
+        assert!(rt; at + PAGE * u64::from(pages) <= END);
+        let staying = memory.len() as u64 - memory.mapped_within(at, pages);
+        assert!(rt; staying + u64::from(pages) <= 65_536);
+        memory.map_fixed(alloc, at, pages, prot)?;
+    }
+    for (at, want) in [
+        (0x20000, Some(READ)),
+        (0x21000, Some(EXEC)),
+        (0x22000, Some(EXEC)),
+        (0x23000, None),
+        (0x24000, Some(READ)),
+        (0x25000, Some(READ)),
+        (0x26000, None),
+        (0x30000, None),
+    ] {
+        assert_eq!(rt; rights(&memory, at), want, "at {at:x}");
+    }
+    let mut bytes = [9; 16];
+    memory.read_bytes(0x24ff8, &mut bytes)?;
+    assert_eq!(rt; bytes, [0; 16]);
+    assert_eq!(rt; memory.len(), 5);
     Ok(())
 }

@@ -1,8 +1,9 @@
 //! Ranges of pages in a map of pages by number: the `count` pages from the number `first` on.
 ghost use Rattle.std.specs.Prelude.{◌≡◌, ◌+◌, ◌^◌, ◌<◌, ◌≤◌, None, IsSome, OnOk, OnErr, MatchOption};
-ghost use Rattle.std.specs.FinMap.{get};
+ghost use Rattle.std.specs.FinMap.{get, len};
 ghost use Rattle.guest_memory.specs.Ranges.{IsFirstNumber};
 ghost use Rattle.guest_memory.specs.Mapping.{AreFree, AreThere, AreMapped, AreUnmapped, AreProtected, AreSameOutside};
+ghost use Rattle.guest_memory.specs.Changes.{without_pages};
 
 use crate::mapped_page::MappedPage;
 use abi_types::Prot;
@@ -33,6 +34,21 @@ pub fn first_absent(pages: &NumMap<MappedPage>, first: u64, count: u64) -> Optio
         }
     }
     None
+}
+
+/// How many pages of the range are there.
+pub fn count_pages(pages: &NumMap<MappedPage>, first: u64, count: u64) -> u64
+    requires { first + count < 2 ^ 64 }
+    ensures { result + len (without_pages pages.now first count) ≡ len pages.now }
+{
+    let end = first + count;
+    let mut found = 0;
+    let mut from = first;
+    while let Some(number) = first_page(pages, from, end - from) {
+        found += 1;
+        from = number + 1;
+    }
+    found
 }
 
 /// Puts a page of zeros at each number of the range. Where memory runs out, some may be there.

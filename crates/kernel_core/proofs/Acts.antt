@@ -1,6 +1,7 @@
 -- What a call does, by the table of its process.
-use Rattle.std.proofs.Common.{◌≡◌, ℕ, List, Option, None, Some, sym, ap, ◌∙◌}
+use Rattle.std.proofs.Common.{◌≡◌, ℕ, List, Option, None, Some, inl, sym, ap, ◌∙◌}
 use Rattle.std.specs.FinMap.{get, insert}
+use Rattle.abi_types.specs.declared.call.Answer.TheVariants as answer
 use Rattle.abi_types.specs.declared.call.Call.{Call}
 use Rattle.abi_types.specs.declared.call.Reply.{Reply}
 use Rattle.abi_types.specs.declared.descriptor.Descriptor.{Descriptor}
@@ -10,9 +11,10 @@ use Rattle.kernel_model.specs.Cases.{Outcome, answers, case_of, write_term, writ
 use Rattle.kernel_model.specs.Need.{need, refusal}
 use Rattle.kernel_model.specs.Release.{release}
 use Rattle.kernel_model.specs.State.{State, Table, put_all}
-use Rattle.kernel_model.specs.Step.{act, act_on, unless}
+use Rattle.kernel_model.specs.Step.{IsStep, act, act_on, outcome, tick, unless}
 use Rattle.kernel_model.specs.Valid.{IsValid}
 use Rattle.kernel_model.specs.View.{whole}
+use Rattle.kernel_model.proofs.Sights.{outcome_reads}
 use Rattle.kernel_model.proofs.Valids.{release_valid}
 use Rattle.kernel_core.proofs.Streams.{some_stays, written_valid}
 
@@ -48,3 +50,13 @@ pub by_outcome : (S T : State) (p : ℕ) (call : Call) (reply : Reply) (o : Outc
     → (reply ≡ (act (whole S) p call).reply) × (T ≡ release (put_all (act (whole S) p call).updates S))
 by_outcome S T p call reply o e done =
     (done.0 ∙ sym (ap (λ (x : Outcome). x.reply) e), done.1 ∙ sym (ap (λ (x : Outcome). release (put_all x.updates S)) e))
+
+-- a call that was done is a step of the definition
+pub done_is_step : (S U : State) (p : ℕ) (call : Call) (reply : Reply) → reply ≡ (act (whole (tick S)) p call).reply
+    → U ≡ release (put_all (act (whole (tick S)) p call).updates (tick S)) → IsStep S p call (answer.Reply reply) U
+done_is_step S U p call reply replied left =
+    let same : outcome S p call ≡ act (whole (tick S)) p call = outcome_reads S p call in
+    inl (
+      ap (λ (r : Reply). answer.Reply r) (replied ∙ ap (λ (o : Outcome). o.reply) (sym same)),
+      left ∙ ap (λ (o : Outcome). release (put_all o.updates (tick S))) (sym same),
+    )

@@ -14,7 +14,7 @@ ghost use Rattle.kernel_model.specs.Valid.{IsValid};
 ghost use Rattle.kernel_model.specs.View.{whole};
 
 use crate::launch::Launch;
-use crate::needs::{need, refusal, refused, success};
+use crate::needs::{need, placed, refusal, refused, success};
 use crate::objects::Objects;
 use crate::start::{granted, single, unwritten};
 use crate::table::{Table as Descriptors, let_go_all};
@@ -148,6 +148,8 @@ impl Kernel {
                 self.end_process(pid, Status::Exit(*code));
                 Ok(success(0, 0))
             }
+            Call::MemMap { place, .. } => Ok(placed(*place)),
+            Call::Memory { errno, .. } => Ok(refused(*errno)),
             Call::Refused { errno, .. } => Ok(refused(*errno)),
         }
     }

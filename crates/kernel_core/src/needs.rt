@@ -1,11 +1,12 @@
 //! What a call needs of its descriptors, and the refusals for want of it.
 ghost use Rattle.std.specs.Prelude.{◌≡◌, Some};
+ghost use Rattle.kernel_model.specs.Cases.{placed};
 ghost use Rattle.kernel_model.specs.Need.{need, refusal, some_absent, first_lack, lack_at};
 ghost use Rattle.kernel_model.specs.Reply.{success, refused, denied};
 ghost use Rattle.std.specs.FinMap as map;
 
 use crate::table::Table;
-use abi_types::{Call, Denial, Descriptor, Errno, Needed, Reply, Rights};
+use abi_types::{Call, Denial, Descriptor, Errno, Needed, Place, Reply, Rights};
 use arrayvec::ArrayVec;
 
 /// A call that is done, with its results.
@@ -29,6 +30,16 @@ pub fn refused(errno: Errno) -> Reply
         r1: 0,
         r2: 0,
         denial: None,
+    }
+}
+
+/// A mapping that goes to this place: its address.
+pub fn placed(place: Place) -> Reply
+    ensures { result ≡ placed place }
+{
+    match place {
+        Place::At(address) => success(address, 0),
+        Place::Refused(errno) => refused(errno),
     }
 }
 

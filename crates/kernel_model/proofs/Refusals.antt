@@ -4,7 +4,10 @@ use Rattle.std.specs.List.{AllByRecursion}
 use Rattle.std.specs.FinMap.{get, contains_key}
 use Rattle.abi_types.specs.declared.call.Answer.TheVariants as answer
 use Rattle.abi_types.specs.declared.call.Call.{Call}
-use Rattle.abi_types.specs.declared.call.Call.TheVariants.{FdWrite, ProcExit, Refused}
+use Rattle.abi_types.specs.declared.call.Call.TheVariants.{FdWrite, MemMap, Memory, ProcExit, Refused}
+use Rattle.abi_types.specs.declared.place.Place.{Place}
+use Rattle.abi_types.specs.declared.place.Place.TheVariants as place
+use Rattle.abi_types.specs.declared.place.Place.TheVariants.{At}
 use Rattle.abi_types.specs.declared.call.Reply.{Reply}
 use Rattle.abi_types.specs.declared.descriptor.Denial.{Denial}
 use Rattle.abi_types.specs.declared.descriptor.Descriptor.{Descriptor}
@@ -12,8 +15,8 @@ use Rattle.abi_types.specs.declared.errno.Errno.TheVariants.{Success, Badf, Notc
 use Rattle.abi_types.specs.declared.needed.Needed.{Needed}
 use Rattle.abi_types.specs.declared.open_kind.OpenKind.{OpenKind}
 use Rattle.abi_types.specs.declared.open_kind.OpenKind.TheVariants.{Terminal}
-use Rattle.kernel_model.specs.Cases.{Outcome, write_term, write_open, fd_write, case_of}
-use Rattle.kernel_model.specs.Laws.{HasAll, IsMet, IsFirstLack, IsOfFirstLack, IsNotDeniedEarly}
+use Rattle.kernel_model.specs.Cases.{Outcome, write_term, write_open, fd_write, case_of, answers, placed}
+use Rattle.kernel_model.specs.Laws.{HasAll, IsMet, IsFirstLack, IsOfFirstLack, IsNotDeniedEarly, IsNotDeniedPlace}
 use Rattle.kernel_model.specs.Need.{need, has_needed, missing, some_absent, lack_at, either_lack, first_lack, denied_by, refusal}
 use Rattle.kernel_model.specs.Release.{release}
 use Rattle.kernel_model.specs.Reply.{refused, denied}
@@ -123,9 +126,15 @@ write_no_denial : (v : View) (bytes : List ℕ) (d : Option Descriptor) → HasN
 write_no_denial v bytes None = refl
 write_no_denial v bytes (Some d) = open_no_denial v bytes (v.opened d.id)
 
+placed_no_denial : (place : Place) → HasNoDenial (answers (placed place))
+placed_no_denial (At address) = refl
+placed_no_denial (place.Refused errno) = refl
+
 case_no_denial : (v : View) (p : ℕ) (table : Table) (call : Call) → HasNoDenial (case_of v p table call)
 case_no_denial v p table (FdWrite fd bytes) = write_no_denial v bytes (get table fd)
 case_no_denial v p table (ProcExit code) = refl
+case_no_denial v p table (MemMap place length prot flags fd offset) = placed_no_denial place
+case_no_denial v p table (Memory number errno) = refl
 case_no_denial v p table (Refused number errno) = refl
 
 -- a denial comes of a first lack, where no needed descriptor is absent
@@ -174,9 +183,15 @@ write_otherwise : (v : View) (bytes : List ℕ) (d : Option Descriptor) → IsOt
 write_otherwise v bytes None = badf_is_other
 write_otherwise v bytes (Some d) = open_otherwise v bytes (v.opened d.id)
 
+placed_otherwise : (place : Place) → IsNotDeniedPlace place → IsOtherwise (answers (placed place))
+placed_otherwise (At address) h = success_is_other
+placed_otherwise (place.Refused errno) h = h
+
 case_otherwise : (v : View) (p : ℕ) (table : Table) (call : Call) → IsNotDeniedEarly call → IsOtherwise (case_of v p table call)
 case_otherwise v p table (FdWrite fd bytes) h = write_otherwise v bytes (get table fd)
 case_otherwise v p table (ProcExit code) h = success_is_other
+case_otherwise v p table (MemMap place length prot flags fd offset) h = placed_otherwise place h
+case_otherwise v p table (Memory number errno) h = h
 case_otherwise v p table (Refused number errno) h = h
 
 notcapable_of : (absent : Bool) (lack : Option Denial) (o : Outcome) → IsOtherwise o
@@ -219,6 +234,8 @@ write_at_error v bytes (Some d) h = open_at_error v bytes (v.opened d.id) h
 case_at_error : (v : View) (p : ℕ) (table : Table) (call : Call) → KeepsAtError (case_of v p table call)
 case_at_error v p table (FdWrite fd bytes) h = write_at_error v bytes (get table fd) h
 case_at_error v p table (ProcExit code) h = absurd (h refl)
+case_at_error v p table (MemMap place length prot flags fd offset) h = refl
+case_at_error v p table (Memory number errno) h = refl
 case_at_error v p table (Refused number errno) h = refl
 
 unless_at_error : (r : Option Reply) (o : Outcome) → KeepsAtError o → KeepsAtError (unless r o)

@@ -3,7 +3,7 @@ use Rattle.std.proofs.Common.{◌≡◌, ℕ, ◌==◌, ◌||◌, Bool, false, L
 use Rattle.std.proofs.lemmas.Bool.{eq-eqb}
 use Rattle.std.specs.FinMap.{get}
 use Rattle.abi_types.specs.declared.call.Call.{Call}
-use Rattle.abi_types.specs.declared.call.Call.TheVariants.{FdWrite, ProcExit, Refused}
+use Rattle.abi_types.specs.declared.call.Call.TheVariants.{FdWrite, MemMap, Memory, ProcExit, Refused}
 use Rattle.abi_types.specs.declared.call.Reply.{Reply}
 use Rattle.abi_types.specs.declared.descriptor.Descriptor.{Descriptor}
 use Rattle.abi_types.specs.declared.needed.Needed.{Needed}
@@ -40,6 +40,8 @@ case_reads : (S : State) (p : ℕ) (table : Table) (call : Call)
     → case_of (restrict S (at_clock ∷ at_proc p ∷ at_status p ∷ reached S table (need call))) p table call ≡ case_of (whole S) p table call
 case_reads S p table (FdWrite fd bytes) = write_reads S p bytes (get table fd)
 case_reads S p table (ProcExit code) = refl
+case_reads S p table (MemMap place length prot flags fd offset) = refl
+case_reads S p table (Memory number errno) = refl
 case_reads S p table (Refused number errno) = refl
 
 unless_reads : (S : State) (p : ℕ) (table : Table) (call : Call) (r : Option Reply)

@@ -3,7 +3,7 @@ use Rattle.std.proofs.Common.{◌≡◌, inl, inr, ℕ, ◌==◌, ◌||◌, ◌&
 use Rattle.std.specs.FinMap.{get}
 use Rattle.abi_types.specs.declared.call.Answer.{Answer}
 use Rattle.abi_types.specs.declared.call.Call.{Call}
-use Rattle.abi_types.specs.declared.call.Call.TheVariants.{FdWrite, ProcExit, Refused}
+use Rattle.abi_types.specs.declared.call.Call.TheVariants.{FdWrite, MemMap, Memory, ProcExit, Refused}
 use Rattle.abi_types.specs.declared.call.Reply.{Reply}
 use Rattle.abi_types.specs.declared.descriptor.Descriptor.{Descriptor}
 use Rattle.abi_types.specs.declared.open_kind.OpenKind.{OpenKind}
@@ -69,6 +69,8 @@ case_unset S p table (FdWrite fd bytes) None q e h =
     (subst (λ r. has_part (unless_refused r (reached S table (need (FdWrite fd bytes)))) q ≡ false) e
     (beyond_own p (changed S (FdWrite fd bytes) (Some table)) q h))
 case_unset S p table (ProcExit code) None q e h = end_unset p (Exit code) q h
+case_unset S p table (MemMap place length prot flags fd offset) None q e h = refl
+case_unset S p table (Memory number errno) None q e h = refl
 case_unset S p table (Refused number errno) None q e h = refl
 
 act_unset : (S : State) (p : ℕ) (call : Call) (t : Option Table) (q : Part)

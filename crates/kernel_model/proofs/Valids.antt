@@ -6,7 +6,7 @@ use Rattle.std.specs.Ordering.{nat_cmp}
 use Rattle.std.specs.FinMap.{FinMap, get, get-empty, insert, empty}
 use Rattle.abi_types.specs.declared.call.Answer.{Answer}
 use Rattle.abi_types.specs.declared.call.Call.{Call}
-use Rattle.abi_types.specs.declared.call.Call.TheVariants.{FdWrite, ProcExit, Refused}
+use Rattle.abi_types.specs.declared.call.Call.TheVariants.{FdWrite, MemMap, Memory, ProcExit, Refused}
 use Rattle.abi_types.specs.declared.call.Reply.{Reply}
 use Rattle.abi_types.specs.declared.descriptor.Descriptor.{Descriptor}
 use Rattle.abi_types.specs.declared.open_kind.OpenKind.{OpenKind}
@@ -236,6 +236,8 @@ case_keeps : (S : State) (view : View) (p : ℕ) (table : Table) (call : Call) �
     → IsNearlyValid (put_all (case_of view p table call).updates S)
 case_keeps S view p table (FdWrite fd bytes) v = fd_write_keeps S view bytes (get table fd) v
 case_keeps S view p table (ProcExit code) v = end_nearly_valid S p (Exit code) v
+case_keeps S view p table (MemMap place length prot flags fd offset) v = v
+case_keeps S view p table (Memory number errno) v = v
 case_keeps S view p table (Refused number errno) v = v
 
 unless_keeps : (S : State) (o : Outcome) (r : Option Reply) → IsNearlyValid S → IsNearlyValid (put_all o.updates S)

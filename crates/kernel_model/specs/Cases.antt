@@ -3,12 +3,15 @@
 use Rattle.std.specs.Prelude.{ℕ, List, [], ◌∷◌, ◌++◌, length, Option, None, Some}
 use Rattle.std.specs.FinMap.{get, empty}
 use Rattle.abi_types.specs.declared.call.Call.{Call}
-use Rattle.abi_types.specs.declared.call.Call.TheVariants.{FdWrite, ProcExit, Refused}
+use Rattle.abi_types.specs.declared.call.Call.TheVariants.{FdWrite, MemMap, Memory, ProcExit, Refused}
 use Rattle.abi_types.specs.declared.call.Reply.{Reply}
 use Rattle.abi_types.specs.declared.descriptor.Descriptor.{Descriptor}
 use Rattle.abi_types.specs.declared.errno.Errno.TheVariants.{Badf}
 use Rattle.abi_types.specs.declared.open_kind.OpenKind.{OpenKind}
 use Rattle.abi_types.specs.declared.open_kind.OpenKind.TheVariants.{Terminal}
+use Rattle.abi_types.specs.declared.place.Place.{Place}
+use Rattle.abi_types.specs.declared.place.Place.TheVariants as place
+use Rattle.abi_types.specs.declared.place.Place.TheVariants.{At}
 use Rattle.abi_types.specs.declared.status.Status.{Status}
 use Rattle.abi_types.specs.declared.status.Status.TheVariants.{Exit}
 use Rattle.kernel_model.specs.Reply.{success, refused}
@@ -39,6 +42,11 @@ abbrev pub fd_write : View → List ℕ → Option Descriptor → Outcome
 fd_write v bytes None = answers (refused Badf)
 fd_write v bytes (Some d) = write_open v bytes (v.opened d.id)
 
+-- what a mapping answers that goes to this place: its address
+abbrev pub placed : Place → Reply
+placed (At address) = success address 0
+placed (place.Refused errno) = refused errno
+
 -- the end of a process: its status, and no descriptor and no thread left
 abbrev pub end_updates : ℕ → Status → List Update
 end_updates p status = set_status p status ∷ set_table p empty ∷ set_threads p empty ∷ []
@@ -46,5 +54,7 @@ end_updates p status = set_status p status ∷ set_table p empty ∷ set_threads
 -- the case of each call, made by process p with this table
 abbrev pub case_of : View → ℕ → Table → Call → Outcome
 case_of v p table (FdWrite fd bytes) = fd_write v bytes (get table fd)
+case_of v p table (MemMap place length prot flags fd offset) = answers (placed place)
+case_of v p table (Memory number errno) = answers (refused errno)
 case_of v p table (ProcExit code) = record { reply = success 0 0; updates = end_updates p (Exit code) }
 case_of v p table (Refused number errno) = answers (refused errno)

@@ -5,13 +5,16 @@ use Rattle.std.specs.FinMap.{get}
 use Rattle.abi_types.specs.declared.call.Answer.{Answer}
 use Rattle.abi_types.specs.declared.call.Answer.TheVariants as answer
 use Rattle.abi_types.specs.declared.call.Call.{Call}
-use Rattle.abi_types.specs.declared.call.Call.TheVariants.{FdWrite, ProcExit, Refused}
+use Rattle.abi_types.specs.declared.call.Call.TheVariants.{FdWrite, MemMap, Memory, ProcExit, Refused}
 use Rattle.abi_types.specs.declared.call.Reply.{Reply}
 use Rattle.abi_types.specs.declared.descriptor.Denial.{Denial}
 use Rattle.abi_types.specs.declared.descriptor.Descriptor.{Descriptor}
 use Rattle.abi_types.specs.declared.errno.Errno.TheVariants.{Success, Notcapable}
 use Rattle.abi_types.specs.declared.grant.Grant.{Grant}
 use Rattle.abi_types.specs.declared.needed.Needed.{Needed}
+use Rattle.abi_types.specs.declared.place.Place.{Place}
+use Rattle.abi_types.specs.declared.place.Place.TheVariants as place
+use Rattle.abi_types.specs.declared.place.Place.TheVariants.{At}
 use Rattle.abi_types.specs.declared.status.Status.{Status}
 use Rattle.kernel_model.specs.Need.{need, has_needed, missing}
 use Rattle.kernel_model.specs.Release.{is_ending, is_released}
@@ -107,10 +110,17 @@ pub record IsOfFirstLack (S : State) (p : ℕ) (call : Call) (denial : Denial) :
 abbrev pub DenialIsOfFirstLack : Type 0
 DenialIsOfFirstLack = (S : State) (p : ℕ) (call : Call) (denial : Denial) → (step_reply S p call).denial ≡ Some denial → IsOfFirstLack S p call denial
 
+-- the place is not one that is refused with NOTCAPABLE
+abbrev pub IsNotDeniedPlace : Place → Type 0
+IsNotDeniedPlace (At address) = Unit {0}
+IsNotDeniedPlace (place.Refused errno) = errno ≢ Notcapable
+
 -- the call is not one that is refused beforehand with NOTCAPABLE, an error that only missing rights have
 abbrev pub IsNotDeniedEarly : Call → Type 0
 IsNotDeniedEarly (FdWrite fd bytes) = Unit {0}
 IsNotDeniedEarly (ProcExit code) = Unit {0}
+IsNotDeniedEarly (MemMap place length prot flags fd offset) = IsNotDeniedPlace place
+IsNotDeniedEarly (Memory number errno) = errno ≢ Notcapable
 IsNotDeniedEarly (Refused number errno) = errno ≢ Notcapable
 
 -- A call that answers NOTCAPABLE says what is missing.

@@ -3,7 +3,7 @@
 use Rattle.std.specs.Prelude.{◌==◌, ◌&&◌, ◌||◌, not, Bool, false, List, [], ◌∷◌, Option, None, Some, if◌then◌else◌}
 use Rattle.std.specs.FinMap.{get, contains_key}
 use Rattle.abi_types.specs.declared.call.Call.{Call}
-use Rattle.abi_types.specs.declared.call.Call.TheVariants.{FdWrite, ProcExit, Refused}
+use Rattle.abi_types.specs.declared.call.Call.TheVariants.{FdWrite, MemMap, Memory, ProcExit, Refused}
 use Rattle.abi_types.specs.declared.call.Reply.{Reply}
 use Rattle.abi_types.specs.declared.descriptor.Denial.{Denial}
 use Rattle.abi_types.specs.declared.descriptor.Denial.TheVariants.{Missing}
@@ -19,6 +19,8 @@ use Rattle.kernel_model.specs.State.{Table}
 -- what a call needs, in the order of its arguments: a descriptor, base rights, and rights asked of the inheriting ones
 abbrev pub need : Call → List Needed
 need (FdWrite fd bytes) = record { fd = fd; base = FD_WRITE; inheriting = NONE } ∷ []
+need (MemMap place length prot flags fd offset) = []
+need (Memory number errno) = []
 need (ProcExit code) = []
 need (Refused number errno) = []
 

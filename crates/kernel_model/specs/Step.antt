@@ -4,7 +4,7 @@ use Rattle.std.specs.FinMap.{get}
 use Rattle.abi_types.specs.declared.call.Answer.{Answer}
 use Rattle.abi_types.specs.declared.call.Answer.TheVariants as answer
 use Rattle.abi_types.specs.declared.call.Call.{Call}
-use Rattle.abi_types.specs.declared.call.Call.TheVariants.{FdWrite, ProcExit, Refused}
+use Rattle.abi_types.specs.declared.call.Call.TheVariants.{FdWrite, MemMap, Memory, ProcExit, Refused}
 use Rattle.abi_types.specs.declared.call.Reply.{Reply}
 use Rattle.abi_types.specs.declared.descriptor.Descriptor.{Descriptor}
 use Rattle.abi_types.specs.declared.errno.Errno.TheVariants.{Badf, Nomem}
@@ -58,6 +58,8 @@ sight S p call = at_clock ∷ at_proc p ∷ at_status p ∷ reach S call (get S.
 abbrev pub changed : State → Call → Option Table → List Part
 changed S (FdWrite fd bytes) table = reach S (FdWrite fd bytes) table
 changed S (ProcExit code) table = []
+changed S (MemMap place length prot flags fd offset) table = []
+changed S (Memory number errno) table = []
 changed S (Refused number errno) table = []
 
 -- all that a call of process p may change, but for what the release ends
@@ -98,6 +100,8 @@ step_state S p call = release (unreleased S p call)
 abbrev pub MayLackMemory : Call → Type 0
 MayLackMemory (FdWrite fd bytes) = Unit {0}
 MayLackMemory (ProcExit code) = ⊥
+MayLackMemory (MemMap place length prot flags fd offset) = ⊥
+MayLackMemory (Memory number errno) = ⊥
 MayLackMemory (Refused number errno) = ⊥
 
 -- the call answers its reply and leaves its state, or it answers want of memory and only the clock has moved

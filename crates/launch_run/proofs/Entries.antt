@@ -1,9 +1,8 @@
 -- How a run's parts follow its world as an entry comes.
-use Rattle.std.proofs.Common.{◌≡◌, ◌≢◌, ℕ, List, [], ◌∷◌, ◌++◌, Some, Result, Ok, Err, OnOk, OnErr, refl, sym, ap, subst, ◌∙◌, arith}
+use Rattle.std.proofs.Common.{◌≡◌, ◌≢◌, ℕ, List, [], ◌∷◌, ◌++◌, Some, Result, Ok, Err, OnOk, OnErr, sym, ap, subst, ◌∙◌, arith}
 use Rattle.std.specs.FinMap.{get}
 use Rattle.abi_types.specs.Registers.{Registers}
 use Rattle.abi_types.specs.declared.call.Answer.{Answer}
-use Rattle.abi_types.specs.declared.call.Answer.TheVariants as answer
 use Rattle.abi_types.specs.declared.call.Call.{Call}
 use Rattle.abi_types.specs.declared.status.Status.{Status}
 use Rattle.abi_types.specs.declared.status.Status.TheVariants.{Live}
@@ -16,7 +15,7 @@ use Rattle.rv_interp.specs.declared.turns.TurnEnd.TheVariants as turn_end_is
 use Rattle.guest_memory.specs.Page.{Pages}
 use Rattle.call_codec.specs.Args.{args_of}
 use Rattle.run_model.specs.Legal.{Legal, Fits, FitsAct, AreWhole}
-use Rattle.call_codec.specs.Put.{answered_of}
+use Rattle.call_codec.specs.Put.{answered_memory, answered_of}
 use Rattle.run_model.specs.World.{World, Guest, world, apply, acted, turned, guest_of, registers_of, turned_guest_by, called_state, called_guest}
 use Rattle.run_model.proofs.Calls.{called_is, ended_by, threads_stay, clock_moves}
 use Rattle.run_model.proofs.Histories.{world_more, legal_more, apply_is, guest_turned, guest_set, registers_set}
@@ -121,13 +120,7 @@ module _ (r : Run) (moment : ℕ) (turns : List ℕ) (a : Act) (status : Status)
 -- ---- a call
 
 called_registers : (guest : Guest) (t : ℕ) (call : Call) (given : Answer) → registers_of (called_guest guest t call given) t ≡ answered_of (registers_of guest t) call given
-called_registers guest t call (answer.Reply reply) = registers_set guest t _
-
-called_memory : (guest : Guest) (t : ℕ) (call : Call) (given : Answer) → (called_guest guest t call given).memory ≡ guest.memory
-called_memory guest t call (answer.Reply reply) = refl
-
-called_left : (guest : Guest) (t : ℕ) (call : Call) (given : Answer) → (called_guest guest t call given).left ≡ guest.left
-called_left guest t call (answer.Reply reply) = refl
+called_registers guest t call given = registers_set guest t (answered_of (registers_of guest t) call given)
 
 module _ (r : Run) (moment : ℕ) (turns : List ℕ) (call : Call) (given : Answer) (kernel : State) (same : turns ≡ r.turns) (stopped : IsStopped r turn_end_is.Ecall)
     (spelled : call ≡ args_of r.memory r.regs) (step : IsStep r.kernel 0 call given kernel) where
@@ -162,23 +155,28 @@ module _ (r : Run) (moment : ℕ) (turns : List ℕ) (call : Call) (given : Answ
   }
 
   -- while the process is live after the call, its thread is runnable
-  still_on : (regs : Registers) (none : List ℕ) (history : List Entry) → IsLive (entered r kernel r.memory regs r.left none history)
-      → GoesOn (entered r kernel r.memory regs r.left none history)
-  still_on regs none history live =
+  still_on : (memory : Pages) (regs : Registers) (none : List ℕ) (history : List Entry) → IsLive (entered r kernel memory regs r.left none history)
+      → GoesOn (entered r kernel memory regs r.left none history)
+  still_on memory regs none history live =
       let thread = stopped.runnable in
       record {
         runnable = (thread.0, threads_stay r.kernel 0 call given kernel step live stopped.live ∙ thread.1, thread.2);
         clock = omega (arith, clock_moves r.kernel 0 call given kernel step, stopped.clock);
       }
 
-  pub call_between : (regs : Registers) (none : List ℕ) (history : List Entry) → regs ≡ answered_of r.regs call given → none ≡ []
+  -- the memory that the answer leaves
+  called_memory : (called_guest (turned_now r) 1 call given).memory ≡ answered_memory r.memory r.regs call given
+  called_memory = λ i. answered_memory (stopped.at.memory i) (stopped.at.regs i) call given
+
+  pub call_between : (memory : Pages) (regs : Registers) (none : List ℕ) (history : List Entry) → memory ≡ answered_memory r.memory r.regs call given
+      → regs ≡ answered_of r.regs call given → none ≡ []
       → history ≡ r.history ++ entry_of moment turns (act.Call call given) ∷ [] → Fits (world_now r) (entry_of moment turns (act.Call call given))
-      → IsBetween (entered r kernel r.memory regs r.left none history)
-  call_between regs none history put empty more fits = record {
-    at = at_entry r kernel r.memory regs r.left none history _ stopped.at fits more empty (sym call_state)
-        (ap (λ (g : Guest). g.memory) call_guest ∙ called_memory (turned_now r) 1 call given ∙ stopped.at.memory)
+      → IsBetween (entered r kernel memory regs r.left none history)
+  call_between memory regs none history put_memory put empty more fits = record {
+    at = at_entry r kernel memory regs r.left none history _ stopped.at fits more empty (sym call_state)
+        (ap (λ (g : Guest). g.memory) call_guest ∙ called_memory ∙ sym put_memory)
         (ap (λ (g : Guest). registers_of g 1) call_guest ∙ called_registers (turned_now r) 1 call given ∙ ap (λ (x : Registers). answered_of x call given) stopped.at.regs ∙ sym put)
-        (ap (λ (g : Guest). g.left) call_guest ∙ called_left (turned_now r) 1 call given ∙ stopped.at.left);
+        (ap (λ (g : Guest). g.left) call_guest ∙ stopped.at.left);
     whole = subst (AreWhole kernel 0 (guest_of (world r.launch history) 0)) (sym empty) tt;
-    goes_on = still_on regs none history;
+    goes_on = still_on memory regs none history;
   }

@@ -89,7 +89,7 @@ impl Run {
     {
         let call = args(alloc, &self.regs, &self.memory)?;
         let answer = self.kernel.step(FIRST, THREAD, &call);
-        put_answer(&mut self.regs, &call, &answer);
+        put_answer(alloc, &mut self.regs, &mut self.memory, &call, &answer)?;
         let turns = mem::replace(&mut self.turns, TidList::new(alloc));
         self.history.push(Entry {
             moment: self.kernel.moment(),

@@ -1,27 +1,27 @@
 -- What a call leaves of the kernel's state, and the end of a process from outside.
 --     called_is      a step of a call that registers spell leaves what its answer says
---     args_not_denied      no call that registers spell is refused beforehand with NOTCAPABLE
 --     threads_stay, only_own_status, clock_moves      what a step leaves of threads, statuses and the clock
 --     exit_ends, exit_not_live, ended_by      a process that exits or is ended is not live
 --     end_only_own_status, end_clock_moves      what the end of a process leaves of statuses and the clock
-use Rattle.std.proofs.Common.{◌≡◌, ◌≢◌, ◌⊎◌, inl, inr, ℕ, ◌+◌, ◌==◌, nat_lt, Bool, true, false, cond, List, [], ◌∷◌, ◌++◌, Option, Some, None, IsSome, Result, Ok, Err, refl, sym, ap, subst, ◌∙◌}
-use Rattle.std.specs.Prelude.{slice_index}
+use Rattle.std.proofs.Common.{◌≡◌, ◌≢◌, ◌⊎◌, inl, inr, ℕ, ◌+◌, Bool, true, false, cond, List, [], ◌∷◌, ◌++◌, Option, Some, None, IsSome, refl, sym, ap, subst, ◌∙◌}
 use Rattle.std.specs.FinMap.{get}
 use Rattle.abi_types.specs.declared.call.Answer.{Answer}
 use Rattle.abi_types.specs.declared.call.Call.{Call}
-use Rattle.abi_types.specs.declared.call.Call.TheVariants.{FdWrite, ProcExit, Refused}
+use Rattle.abi_types.specs.declared.call.Call.TheVariants.{FdWrite, MemMap, Memory, ProcExit, Refused}
 use Rattle.abi_types.specs.declared.call.Reply.{Reply}
 use Rattle.abi_types.specs.declared.descriptor.Denial.{Denial}
 use Rattle.abi_types.specs.declared.descriptor.Descriptor.{Descriptor}
 use Rattle.abi_types.specs.declared.errno.Errno.{Errno}
-use Rattle.abi_types.specs.declared.errno.Errno.TheVariants.{Success, Badf, Fault, Inval, Nomem, Nosys, Notcapable}
+use Rattle.abi_types.specs.declared.errno.Errno.TheVariants.{Success, Badf, Nomem, Notcapable}
 use Rattle.abi_types.specs.declared.open_kind.OpenKind.{OpenKind}
+use Rattle.abi_types.specs.declared.place.Place.{Place}
+use Rattle.abi_types.specs.declared.place.Place.TheVariants as place
+use Rattle.abi_types.specs.declared.place.Place.TheVariants.{At}
 use Rattle.abi_types.specs.declared.open_kind.OpenKind.TheVariants.{Terminal}
 use Rattle.abi_types.specs.declared.status.Status.{Status}
 use Rattle.abi_types.specs.declared.status.Status.TheVariants.{Live, Exit}
 use Rattle.abi_types.specs.Registers.{Registers}
-use Rattle.kernel_model.specs.Cases.{Outcome, write_term, write_open, fd_write, end_updates, case_of}
-use Rattle.kernel_model.specs.Laws.{IsNotDeniedEarly}
+use Rattle.kernel_model.specs.Cases.{Outcome, answers, placed, write_term, write_open, fd_write, end_updates, case_of}
 use Rattle.kernel_model.specs.Need.{need, some_absent, first_lack, denied_by, refusal}
 use Rattle.kernel_model.specs.Reply.{refused}
 use Rattle.kernel_model.specs.State.{State, Table, Update, set_table, set_threads, set_status, set_term, put_one, put_all}
@@ -29,18 +29,12 @@ use Rattle.kernel_model.specs.Step.{tick, unless, act_on, outcome, step_reply, s
 use Rattle.kernel_model.specs.View.{View, whole}
 use Rattle.kernel_model.proofs.Sights.{outcome_reads, outcome_of_table}
 use Rattle.number_map.specs.Maps.{get-insert-same, get-insert-other}
-use Rattle.guest_memory.specs.declared.fault.MemFault.{MemFault}
 use Rattle.guest_memory.specs.Page.{Pages}
-use Rattle.call_codec.specs.Args.{argument, low, gathered_in, ranges_at, fd_write_with, fd_write_of, args_of}
+use Rattle.call_codec.specs.Args.{args_of}
 use Rattle.run_model.specs.World.{by_errno, called_state}
+use Rattle.run_model.proofs.Spelled.{CarriesNoLack, PlaceCarriesNoLack, args_carry}
 
 -- ---- no reply but the allowed one is want of memory
-
--- the call carries no refusal for want of memory
-abbrev CarriesNoLack : Call → Type 0
-CarriesNoLack (FdWrite fd bytes) = Unit {0}
-CarriesNoLack (ProcExit code) = Unit {0}
-CarriesNoLack (Refused number errno) = errno ≢ Nomem
 
 badf_is_no_lack : Badf ≢ Nomem
 badf_is_no_lack e = cc
@@ -50,61 +44,6 @@ success_is_no_lack e = cc
 
 notcapable_is_no_lack : Notcapable ≢ Nomem
 notcapable_is_no_lack e = cc
-
--- the errors of calls that registers spell so that the kernel does not look at them
-abbrev IsSpelled : Errno → Type 0
-IsSpelled errno = (errno ≡ Fault) ⊎ ((errno ≡ Inval) ⊎ (errno ≡ Nosys))
-
--- the call is not refused, or with one of those
-abbrev IsSpelledCall : Call → Type 0
-IsSpelledCall (FdWrite fd bytes) = Unit {0}
-IsSpelledCall (ProcExit code) = Unit {0}
-IsSpelledCall (Refused number errno) = IsSpelled errno
-
-either_spelled : (b : Bool) (x y : Call) → IsSpelledCall x → IsSpelledCall y → IsSpelledCall (cond b x y)
-either_spelled true x y h k = h
-either_spelled false x y h k = k
-
-write_spelled : (fd : ℕ) (bytes : Result (List ℕ) MemFault) → IsSpelledCall (fd_write_with fd bytes)
-write_spelled fd (Ok bytes) = tt
-write_spelled fd (Err fault) = inl refl
-
-args_spelled : (m : Pages) (r : Registers) → IsSpelledCall (args_of m r)
-unfolding args_of
-args_spelled m r =
-    either_spelled (slice_index r.x 17 == 16) (fd_write_of m r) (cond (slice_index r.x 17 == 39) (ProcExit (low (argument r 0))) (Refused (slice_index r.x 17) Nosys))
-    (either_spelled (nat_lt 1024 (argument r 2)) (Refused 16 Inval) (fd_write_with (low (argument r 0)) (gathered_in m (ranges_at m (argument r 1) (argument r 2))))
-    (inr (inl refl))
-    (write_spelled (low (argument r 0)) (gathered_in m (ranges_at m (argument r 1) (argument r 2)))))
-    (either_spelled (slice_index r.x 17 == 39) (ProcExit (low (argument r 0))) (Refused (slice_index r.x 17) Nosys) tt (inr (inr refl)))
-
-spelled_is_no_lack : (errno : Errno) → IsSpelled errno → errno ≢ Nomem
-spelled_is_no_lack errno (inl fault) e = cc
-spelled_is_no_lack errno (inr (inl inval)) e = cc
-spelled_is_no_lack errno (inr (inr nosys)) e = cc
-
-spelled_is_no_denial : (errno : Errno) → IsSpelled errno → errno ≢ Notcapable
-spelled_is_no_denial errno (inl fault) e = cc
-spelled_is_no_denial errno (inr (inl inval)) e = cc
-spelled_is_no_denial errno (inr (inr nosys)) e = cc
-
-spelled_carries : (call : Call) → IsSpelledCall call → CarriesNoLack call
-spelled_carries (FdWrite fd bytes) h = tt
-spelled_carries (ProcExit code) h = tt
-spelled_carries (Refused number errno) h = spelled_is_no_lack errno h
-
-spelled_not_denied : (call : Call) → IsSpelledCall call → IsNotDeniedEarly call
-spelled_not_denied (FdWrite fd bytes) h = tt
-spelled_not_denied (ProcExit code) h = tt
-spelled_not_denied (Refused number errno) h = spelled_is_no_denial errno h
-
--- no call that registers spell carries a refusal for want of memory
-args_carry : (m : Pages) (r : Registers) → CarriesNoLack (args_of m r)
-args_carry m r = spelled_carries (args_of m r) (args_spelled m r)
-
--- no call that registers spell is refused beforehand with NOTCAPABLE
-pub args_not_denied : (m : Pages) (r : Registers) → IsNotDeniedEarly (args_of m r)
-args_not_denied m r = spelled_not_denied (args_of m r) (args_spelled m r)
 
 -- the reply is not want of memory
 abbrev IsNoLack : Outcome → Type 0
@@ -122,8 +61,14 @@ write_no_lack : (v : View) (bytes : List ℕ) (d : Option Descriptor) → IsNoLa
 write_no_lack v bytes None = badf_is_no_lack
 write_no_lack v bytes (Some d) = open_no_lack v bytes (v.opened d.id)
 
+placed_no_lack : (place : Place) → PlaceCarriesNoLack place → IsNoLack (answers (placed place))
+placed_no_lack (At address) h = success_is_no_lack
+placed_no_lack (place.Refused errno) h = h
+
 case_no_lack : (v : View) (p : ℕ) (table : Table) (call : Call) → CarriesNoLack call → IsNoLack (case_of v p table call)
 case_no_lack v p table (FdWrite fd bytes) h = write_no_lack v bytes (get table fd)
+case_no_lack v p table (MemMap place length prot flags fd offset) h = placed_no_lack place h
+case_no_lack v p table (Memory number errno) h = h
 case_no_lack v p table (ProcExit code) h = success_is_no_lack
 case_no_lack v p table (Refused number errno) h = h
 
@@ -178,6 +123,8 @@ write_sets p v bytes (Some d) = open_sets p v bytes (v.opened d.id)
 
 case_sets : (v : View) (p : ℕ) (table : Table) (call : Call) → Sets p (case_of v p table call).updates
 case_sets v p table (FdWrite fd bytes) = write_sets p v bytes (get table fd)
+case_sets v p table (MemMap place length prot flags fd offset) = inl refl
+case_sets v p table (Memory number errno) = inl refl
 case_sets v p table (ProcExit code) = inr (inr (code, refl))
 case_sets v p table (Refused number errno) = inl refl
 

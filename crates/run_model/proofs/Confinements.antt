@@ -30,7 +30,7 @@ use Rattle.kernel_model.proofs.Touches as touches
 use Rattle.run_model.specs.Confined.{MayAnswer, IsDenied, CallIsConfined, ActIsConfined, EntryIsConfined, IsConfined}
 use Rattle.run_model.specs.Legal.{FitsAct, Fits, Legal}
 use Rattle.run_model.specs.World.{World, Guest, guest_of, registers_of, called_state, turned_guest_by, turned, acted, world}
-use Rattle.run_model.proofs.Calls.{args_not_denied}
+use Rattle.run_model.proofs.Spelled.{args_not_denied}
 use Rattle.run_model.proofs.Histories.{apply_is, legal_front, legal_next}
 use Rattle.run_model.proofs.Worlds.{world_is_valid}
 

@@ -3,4 +3,5 @@ pub mod Confinements
 pub mod Ends
 pub mod Followers
 pub mod Histories
+pub mod Spelled
 pub mod Worlds

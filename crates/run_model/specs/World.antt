@@ -21,7 +21,7 @@ use Rattle.kernel_model.specs.Step.{tick, step_state, end_state}
 use Rattle.rv_interp.specs.declared.turns.TurnEnd.{TurnEnd}
 use Rattle.rv_interp.specs.Turns.{Turn, turn_of}
 use Rattle.call_codec.specs.Start.{first_registers, start_pages}
-use Rattle.call_codec.specs.Put.{put_of}
+use Rattle.call_codec.specs.Put.{answered_memory, answered_of}
 
 -- a process's memory, the registers of its threads, and the turns that it has left
 pub record Guest : Type 0 where
@@ -117,7 +117,11 @@ called_state S p call (answer.Reply reply) = by_errno reply.errno (tick S) (step
 
 -- the guest after a call of its thread that was answered so
 abbrev pub called_guest : Guest → ℕ → Call → Answer → Guest
-called_guest guest t call (answer.Reply reply) = with_registers guest t (put_of (registers_of guest t) call reply)
+called_guest guest t call given = record {
+  memory = answered_memory guest.memory (registers_of guest t) call given;
+  regs = insert guest.regs t (answered_of (registers_of guest t) call given);
+  left = guest.left;
+}
 
 -- the world after an act of a thread
 abbrev pub acted : World → ℕ → ℕ → Act → World

@@ -1,5 +1,6 @@
 pub mod Chain
 pub mod Directives
+pub mod ElfFile
 pub mod Encoding
 pub mod Fields
 pub mod Forms

@@ -1,4 +1,5 @@
-//! An assembler for programs of the RISC-V machine: RV64IM with A and Zifencei, and directives for data.
+//! An assembler for programs of the RISC-V machine: RV64IM with A and Zifencei, and directives for data. It also writes ELF
+//! files of code.
 //!
 //! A text is split into lines at its line feeds. `#` begins a comment outside quotation marks. Spaces at a line's ends are
 //! dropped, and an empty line stands for nothing. A line with a control character is outside the grammar. A line is an
@@ -31,9 +32,11 @@
 #![tactic(auto)]
 
 pub use assembly::{AsmFault, assemble};
+pub use elf_file::write_elf;
 
 mod assembly;
 mod directives;
+mod elf_file;
 mod fields;
 mod form;
 mod instructions;

@@ -1,7 +1,7 @@
 //! The names of calls.
 ghost use Rattle.std.specs.Prelude.{◌≡◌, IfOk, map, slice_get, option_map};
 ghost use Rattle.std.specs.String.{string_bytes};
-ghost use Rattle.launch_run.specs.CallNames.{call_name, call_names};
+ghost use Rattle.launch_run.specs.CallNames.{name_of_number, call_name, call_names};
 
 use abi_types::Call;
 use std::alloc::{AllocError, Global};
@@ -81,16 +81,25 @@ fn numbered_name(number: u64) -> Option<&'static str>
     name_at(call_names(), number)
 }
 
+/// The name of the call with this number, and of a number that no call has the number in decimal.
+fn name_of_number(alloc: Global, number: u64) -> Result<String, AllocError>
+    ensures { IfOk result (λ name. string_bytes name ≡ name_of_number number) }
+{
+    match numbered_name(number) {
+        Some(name) => String::from_str(alloc, name),
+        None => format!(in alloc; "{number}"),
+    }
+}
+
 /// The name of a call, and of a number that no call has the number in decimal.
 pub fn call_name(alloc: Global, call: &Call) -> Result<String, AllocError>
     ensures { IfOk result (λ name. string_bytes name ≡ call_name call.now) }
 {
     match call {
         Call::FdWrite { .. } => String::from_str(alloc, "fd_write"),
+        Call::MemMap { .. } => String::from_str(alloc, "mem_map"),
+        Call::Memory { number, .. } => name_of_number(alloc, u64::from(*number)),
         Call::ProcExit { .. } => String::from_str(alloc, "proc_exit"),
-        Call::Refused { number, .. } => match numbered_name(*number) {
-            Some(name) => String::from_str(alloc, name),
-            None => format!(in alloc; "{number}"),
-        },
+        Call::Refused { number, .. } => name_of_number(alloc, *number),
     }
 }

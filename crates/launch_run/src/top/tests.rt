@@ -72,7 +72,13 @@ fn quiet_report(alloc: Global, status: &str) -> Result<String, AllocError> {
 }
 
 // A guest that writes nothing, the exit status, how its program ends, and how many entries its history has.
-const QUIET: [(&str, u8, &str, usize); 14] = [
+const QUIET: [(&str, u8, &str, usize); 20] = [
+    (guest_kit::TWO_MAPPINGS, 0, "exit 0", 3),
+    (guest_kit::MAP_OVER, 0, "exit 0", 3),
+    (guest_kit::PROTECT_A_HOLE, 1, "exit 21", 3),
+    (guest_kit::WRITE_TO_PROTECTED, 1, "signal 13 SEGV", 3),
+    (guest_kit::READ_UNMAPPED, 1, "signal 13 SEGV", 3),
+    (guest_kit::WRITE_THEN_EXECUTE, 1, "exit 7", 3),
     (guest_kit::ILLEGAL, 1, "signal 8 ILL", 1),
     (guest_kit::BREAKPOINT, 1, "signal 17 TRAP", 1),
     (guest_kit::LOAD_AT_ZERO, 1, "signal 13 SEGV", 1),
@@ -88,6 +94,82 @@ const QUIET: [(&str, u8, &str, usize); 14] = [
     (guest_kit::MANY_RANGES, 1, "exit 28", 2),
     // a turn for each call, and then none is left
     (guest_kit::UNBUILT_CALLS, 1, "signal 25 XCPU", 100_001),
+];
+
+// A call's number, its arguments, and its error. A page is at 0x10000, none is at 0x20000.
+const MEMORY_CALLS: [(u32, [u64; 6], u32); 67] = [
+    // mem_advise
+    (32, [0x1_0000, 4096, 1, 0, 0, 0], 0),
+    (32, [0x1_0000, 4096, 6, 0, 0, 0], 0),
+    (32, [0x1_0000, 4096, 0x1_0000_0001, 0, 0, 0], 0),
+    (32, [0x2_0000, 0, 1, 0, 0, 0], 0),
+    (32, [0x1_0000, 4096, 0, 0, 0, 0], 28),
+    (32, [0x1_0000, 4096, 7, 0, 0, 0], 28),
+    (32, [0x1_0008, 4096, 1, 0, 0, 0], 28),
+    (32, [0x2_0008, 4096, 1, 0, 0, 0], 28),
+    (32, [0x1_0000, 4097, 1, 0, 0, 0], 21),
+    (32, [0x1_0000, u64::MAX, 1, 0, 0, 0], 21),
+    (32, [0x2_0000, 1, 1, 0, 0, 0], 21),
+    // mem_map
+    (33, [0, 1, 6, 5, 0, 0], 0),
+    (33, [0, 4096, 0, 5, 0, 0], 0),
+    (33, [0, 4097, 5, 5, u64::MAX, 4096], 0),
+    (33, [3, 1, 0x1_0000_0006, 0x1_0000_0005, 0, 0], 0),
+    (33, [0, 1, 6, 4, 0, 0], 52),
+    (33, [0, 0, 8, 16, 0, 1], 52),
+    (33, [0, 1, 8, 5, 0, 0], 28),
+    (33, [0, 1, 6, 21, 0, 0], 28),
+    (33, [0, 0, 6, 5, 0, 0], 28),
+    (33, [0, 1, 6, 1, 0, 0], 28),
+    (33, [0, 1, 6, 13, 0, 0], 28),
+    (33, [0, 1, 6, 5, 0, 1], 28),
+    (33, [0, 1, 3, 5, 0, 1], 28),
+    (33, [0, 1, 6, 9, 0, 0], 58),
+    (33, [0, 1, 3, 5, 0, 0], 58),
+    (33, [0, 1, 7, 5, 0, 0], 58),
+    (33, [1, 1, 3, 7, 0, 0], 58),
+    (33, [0x2_0000, 1, 6, 7, 0, 0], 0),
+    (33, [0x3f_ffff_f000, 4096, 6, 7, 0, 0], 0),
+    (33, [0x3f_ffff_f000, 4097, 6, 7, 0, 0], 28),
+    (33, [0x40_0000_0000, 1, 6, 7, 0, 0], 28),
+    (33, [0x2_0008, 1, 6, 7, 0, 0], 28),
+    (33, [0xf000, 1, 6, 7, 0, 0], 28),
+    (33, [0xffff_ffff_ffff_f000, 4096, 6, 7, 0, 0], 28),
+    (33, [0x2_0000, u64::MAX, 6, 7, 0, 0], 28),
+    (33, [0, u64::MAX, 6, 5, 0, 0], 42),
+    (33, [0, 0x1000_0000, 6, 5, 0, 0], 42),
+    (33, [0x2_0000, 0x1000_0000, 6, 7, 0, 0], 42),
+    // mem_protect
+    (34, [0x1_0000, 1, 5, 0, 0, 0], 0),
+    (34, [0x1_0000, 4096, 0x1_0000_0005, 0, 0, 0], 0),
+    (34, [0x2_0000, 0, 4, 0, 0, 0], 0),
+    (34, [0x1_0000, 1, 8, 0, 0, 0], 28),
+    (34, [0x1_0008, 1, 5, 0, 0, 0], 28),
+    (34, [0x1_0008, 1, 3, 0, 0, 0], 28),
+    (34, [0x1_0000, 1, 3, 0, 0, 0], 58),
+    (34, [0x2_0000, 1, 7, 0, 0, 0], 58),
+    (34, [0x2_0000, 1, 4, 0, 0, 0], 21),
+    (34, [0x1_0000, u64::MAX, 4, 0, 0, 0], 21),
+    // mem_sync
+    (35, [0x1_0000, 1, 1, 0, 0, 0], 0),
+    (35, [0x1_0000, 1, 4, 0, 0, 0], 0),
+    (35, [0x1_0000, 1, 3, 0, 0, 0], 0),
+    (35, [0x1_0000, 1, 6, 0, 0, 0], 0),
+    (35, [0x1_0000, 1, 0, 0, 0, 0], 28),
+    (35, [0x1_0000, 1, 2, 0, 0, 0], 28),
+    (35, [0x1_0000, 1, 5, 0, 0, 0], 28),
+    (35, [0x1_0000, 1, 9, 0, 0, 0], 28),
+    (35, [0x1_0008, 1, 1, 0, 0, 0], 28),
+    (35, [0x2_0000, 1, 1, 0, 0, 0], 21),
+    // mem_unmap
+    (36, [0x2_0000, 1, 0, 0, 0, 0], 0),
+    (36, [0x2_0000, u64::MAX, 0, 0, 0, 0], 0),
+    (36, [0xffff_ffff_ffff_f000, u64::MAX, 0, 0, 0, 0], 0),
+    (36, [0, 0x1_0000, 0, 0, 0, 0], 0),
+    (36, [0x2_0000, 0, 0, 0, 0, 0], 28),
+    (36, [0x2_0008, 1, 0, 0, 0, 0], 28),
+    (36, [0x2_0001, 0, 0, 0, 0, 0], 28),
+    (37, [0x1_0000, 1, 1, 0, 0, 0], 52),
 ];
 
 // The entries of the vector that the first thread finds, as numbers and values.
@@ -169,6 +251,19 @@ fn ends_programs(rt: HostRuntime) -> Result<(), Fail> {
         assert_eq!(rt; finished.status, number, "{text}");
         let kept = finished.kept.map(|record| record.history.len());
         assert_eq!(rt; kept, Some(entries), "{text}");
+    }
+    Ok(())
+}
+
+#[test]
+fn answers_memory_calls(rt: HostRuntime) -> Result<(), Fail> {
+    for (number, arguments, errno) in MEMORY_CALLS {
+        let text = guest_kit::call_with(rt.alloc(), number, arguments)?;
+        let program = program_of(rt.alloc(), &text)?;
+        let (finished, sink) = ran(rt.alloc(), &program, b"!fd stdout\n")?;
+        let report = quiet_report(rt.alloc(), &format!(in rt.alloc(); "exit {errno}")?)?;
+        assert_eq!(rt; sink.bytes(), report.as_bytes(), "{text}");
+        assert_eq!(rt; finished.status, if errno == 0 { 0 } else { 1 }, "{text}");
     }
     Ok(())
 }

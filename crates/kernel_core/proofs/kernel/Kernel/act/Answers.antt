@@ -1,7 +1,7 @@
 use Rattle.std.proofs.Common.{◌≡◌, Some, refl, sym, ap, subst, ◌∙◌}
 use Rattle.std.proofs.lemmas.Result.{IfOk-weaker}
 use Rattle.std.specs.FinMap.{get}
-use Rattle.kernel_model.specs.Cases.{answers, case_of, fd_write}
+use Rattle.kernel_model.specs.Cases.{answers, case_of, fd_write, placed}
 use Rattle.kernel_model.specs.Need.{need, refusal}
 use Rattle.kernel_model.specs.Reply.{refused}
 use Rattle.kernel_model.specs.State.{State}
@@ -55,3 +55,19 @@ returns-in-Refused-clause-ok c =
     by_outcome S S c.args.pid c.args.call.now c.refused-in-Refused.result (answers (refused c.in-Refused.errno))
     (act_allowed S c.args.pid c.args.call.now c.in-Some.table.now (there a) (rows a ∙ c.in_default-refusal.is) ∙ ap (case_of (whole S) c.args.pid c.in-Some.table.now) c.in-Refused.is)
     (c.refused-in-Refused.ensures, sym (release_valid S (valid a)))
+
+pub returns-in-MemMap-clause-ok : goal.returns-in-MemMap-clause-ok
+returns-in-MemMap-clause-ok c =
+    let a = (goal.at.returns-in-MemMap-clause-ok c).After-refusal in
+    let S = c.args.self.now in
+    by_outcome S S c.args.pid c.args.call.now c.placed.result (answers (placed c.in-MemMap.place))
+    (act_allowed S c.args.pid c.args.call.now c.in-Some.table.now (there a) (rows a ∙ c.in_default-refusal.is) ∙ ap (case_of (whole S) c.args.pid c.in-Some.table.now) c.in-MemMap.is)
+    (c.placed.ensures, sym (release_valid S (valid a)))
+
+pub returns-in-Memory-clause-ok : goal.returns-in-Memory-clause-ok
+returns-in-Memory-clause-ok c =
+    let a = (goal.at.returns-in-Memory-clause-ok c).After-refusal in
+    let S = c.args.self.now in
+    by_outcome S S c.args.pid c.args.call.now c.refused-in-Memory.result (answers (refused c.in-Memory.errno))
+    (act_allowed S c.args.pid c.args.call.now c.in-Some.table.now (there a) (rows a ∙ c.in_default-refusal.is) ∙ ap (case_of (whole S) c.args.pid c.in-Some.table.now) c.in-Memory.is)
+    (c.refused-in-Memory.ensures, sym (release_valid S (valid a)))

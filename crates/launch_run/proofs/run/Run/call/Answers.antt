@@ -17,7 +17,7 @@ returns-clause-ok c =
     let a = (goal.at.returns-clause-ok c).After-push in
     on_ok_weaker _
     (λ more. call_between c.args.self.now c.moment.result c.replace-turns.result c.in_ok-call.call c.step-answer.result c.step-answer.new.self c.replace-turns.ensures.value
-    c.requires c.in_ok-call.ensures c.step-answer.ensures.step c.put_answer.new.regs c.replace-turns.new.dest c.push.new.self c.put_answer.ensures (c.replace-turns.ensures.after ∙ c.new.ensures) more (fits a))
+    c.requires c.in_ok-call.ensures c.step-answer.ensures.step c.put_answer.new.memory c.put_answer.new.regs c.replace-turns.new.dest c.push.new.self (c.in_ok-put_answer.ensures.memory) (c.in_ok-put_answer.ensures.regs) (c.replace-turns.ensures.after ∙ c.new.ensures) more (fits a))
     c.push.ensures.ok
 
 pub returns-clause-legal : goal.returns-clause-legal

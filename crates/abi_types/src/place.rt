@@ -1,0 +1,11 @@
+//! Where a mapping goes.
+use crate::errno::Errno;
+
+/// Where a mapping goes, as the caller's memory gives it.
+#[derive(Clone, Copy, Debug, PartialEq, Eq)]
+pub enum Place {
+    /// At this page's address.
+    At(u64),
+    /// Nowhere, for this reason.
+    Refused(Errno),
+}

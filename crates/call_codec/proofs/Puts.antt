@@ -1,0 +1,275 @@
+-- What the memory of a caller is like whose registers spell a call about it.
+--     fits_of_args      a mapping goes where it may
+--     aligned_of_args, there_of_args      mem_protect and mem_unmap are of a page's address, and mem_protect's pages are there
+--     guests_pages      pages that are there lie in the guest's part of the address space
+--     unmapped_within      pages past that part need not be taken away
+use Rattle.std.proofs.Common.{◌≡◌, ℕ, zero, suc, ◌+◌, ◌-◌, ◌*◌, ◌/◌, ◌%◌, ◌<◌, ◌≤◌, ◌==◌, ◌&&◌, ◌||◌, not, inl, inr, ◌⊎◌, Bool, true, false, cond, min, nat_le, nat_lt, Option, Some, None, IsSome, List, Result, Ok, Err, OnOk, IfErr, refl, sym, ap, subst, ◌∙◌, arith}
+use Rattle.std.proofs.lemmas.Bool.{leb-true}
+use Rattle.std.proofs.lemmas.Bool.Decides.{eqb_tells}
+use Rattle.std.specs.FinMap.{get, len}
+use Rattle.guest_memory.specs.declared.fault.MemFault.{MemFault}
+use Rattle.guest_memory.specs.declared.fault.MemFault.TheVariants.{NotMapped, NoRight, PageLimit, Overlaps, NoMemory}
+use Rattle.abi_types.specs.declared.call.Call.{Call}
+use Rattle.abi_types.specs.declared.call.Call.TheVariants.{FdWrite, MemMap, Memory, ProcExit, Refused}
+use Rattle.abi_types.specs.declared.errno.Errno.{Errno}
+use Rattle.abi_types.specs.declared.errno.Errno.TheVariants.{Success, Fault, Inval, Nobufs, Nosys, Notsup}
+use Rattle.abi_types.specs.declared.place.Place.{Place}
+use Rattle.abi_types.specs.declared.place.Place.TheVariants as place
+use Rattle.abi_types.specs.declared.place.Place.TheVariants.{At}
+use Rattle.abi_types.specs.declared.prot.Prot.{Prot}
+use Rattle.abi_types.specs.Registers.{Registers}
+use Rattle.guest_memory.specs.Changes.{all_there, lowest_gap, protected, without_pages}
+use Rattle.guest_memory.specs.Limits.{KeepsLimits}
+use Rattle.guest_memory.specs.Mapping.{AreFree, AreProtected, AreThere, AreUnmapped, ProtectFails, IsGap, page_limit}
+use Rattle.guest_memory.specs.Page.{Page, Pages}
+use Rattle.guest_memory.specs.Ranges.{IsPageAddress, in_range}
+use Rattle.guest_memory.proofs.Changes.{are_there, gap_of_lowest, protected_is, unmapped_is, without_free, without_none}
+use Rattle.guest_memory.proofs.PageRanges.{first_true, second_true, inside, is_inside, not_both, no_page_unless, none_changed}
+use Rattle.call_codec.proofs.Calls.{args_hold}
+use Rattle.call_codec.specs.Arguments.{argument, low}
+use Rattle.call_codec.specs.Args.{fd_write_of, fd_write_with, gathered_in, ranges_at, args_of}
+use Rattle.call_codec.specs.MemoryCalls.{has_bits, is_aligned, is_guests, is_sync, pages_in, if_mapped, mem_advise_of, mem_map_of, mem_protect_of, mem_sync_of, mem_unmap_of, map_refusal, protect_refusal, unless_refused, place_at, place_in, place_in_gap, place_of, writes_and_executes, has_one, MayMapAt, MayMapThere}
+
+-- what these registers and this memory are like where they spell the call
+abbrev pub Suits : Pages → Registers → Call → Type 0
+Suits m r (FdWrite fd bytes) = Unit {0}
+Suits m r (MemMap place length prot flags fd offset) = MayMapThere m place (pages_in length)
+Suits m r (Memory number errno) =
+    IsPageAddress (argument r 0) × (number ≡ 34 → errno ≡ Success → AreThere m (argument r 0 / 4096) (pages_in (argument r 1)))
+Suits m r (ProcExit code) = Unit {0}
+Suits m r (Refused number errno) = Unit {0}
+
+either_suits : (m : Pages) (r : Registers) (b : Bool) (x y : Call) → (b ≡ true → Suits m r x) → Suits m r y → Suits m r (cond b x y)
+either_suits m r true x y h k = h refl
+either_suits m r false x y h k = k
+
+unless_suits : (m : Pages) (r : Registers) (number : ℕ) (refusal : Option Errno) (call : Call) → (refusal ≡ None → Suits m r call)
+    → Suits m r (unless_refused number refusal call)
+unless_suits m r number None call h = h refl
+unless_suits m r number (Some errno) call h = tt
+
+aligned_is : (a : ℕ) → is_aligned a ≡ true → IsPageAddress a
+aligned_is a h = elim (eqb_tells (a % 4096) 0) [
+  | inl same ↦ same.1
+  | inr other ↦ absurd (not_both (is_aligned a) h other.0)
+]
+
+success_is_there : (m : Pages) (n k : ℕ) → cond (all_there m n k) Success Fault ≡ Success → all_there m n k ≡ true
+success_is_there m n k = elim (all_there m n k) as (λ b. cond b Success Fault ≡ Success → b ≡ true) [ true ↦ λ h. refl | false ↦ λ h. cc ]
+
+mapped_there : (m : Pages) (a bytes : ℕ) → if_mapped m a bytes ≡ Success → AreThere m (a / 4096) (pages_in bytes)
+mapped_there m a bytes h = are_there (pages_in bytes) m (a / 4096) (success_is_there m (a / 4096) (pages_in bytes) h)
+
+written_suits : (m : Pages) (r : Registers) (fd : ℕ) (bytes : Result (List ℕ) MemFault) → Suits m r (fd_write_with fd bytes)
+written_suits m r fd (Ok bytes) = tt
+written_suits m r fd (Err fault) = tt
+
+write_suits : (m : Pages) (r : Registers) → Suits m r (fd_write_of m r)
+write_suits m r =
+    either_suits m r (nat_lt 1024 (argument r 2)) (Refused 16 Inval) (fd_write_with (low (argument r 0)) (gathered_in m (ranges_at m (argument r 1) (argument r 2))))
+    (λ e. tt) (written_suits m r (low (argument r 0)) (gathered_in m (ranges_at m (argument r 1) (argument r 2))))
+
+advise_suits : (m : Pages) (r : Registers) → Suits m r (mem_advise_of m r)
+advise_suits m r =
+    let known = nat_lt 0 (low (argument r 2)) && nat_le (low (argument r 2)) 6 in
+    either_suits m r (known && is_aligned (argument r 0)) (Memory 32 (if_mapped m (argument r 0) (argument r 1))) (Refused 32 Inval)
+    (λ e. (aligned_is (argument r 0) (second_true known (is_aligned (argument r 0)) e), λ n. cc)) tt
+
+sync_suits : (m : Pages) (r : Registers) → Suits m r (mem_sync_of m r)
+sync_suits m r =
+    let known = is_sync (low (argument r 2)) in
+    either_suits m r (known && is_aligned (argument r 0)) (Memory 35 (if_mapped m (argument r 0) (argument r 1))) (Refused 35 Inval)
+    (λ e. (aligned_is (argument r 0) (second_true known (is_aligned (argument r 0)) e), λ n. cc)) tt
+
+unmap_suits : (m : Pages) (r : Registers) → Suits m r (mem_unmap_of r)
+unmap_suits m r =
+    let some = nat_lt 0 (argument r 1) in
+    either_suits m r (is_aligned (argument r 0) && some) (Memory 36 Success) (Refused 36 Inval)
+    (λ e. (aligned_is (argument r 0) (first_true (is_aligned (argument r 0)) some e), λ n. cc)) tt
+
+-- ---- refusals that don't come
+
+not_refused : (b : Bool) (errno : Errno) (rest : Option Errno) → cond b (Some errno) rest ≡ None → b ≡ false
+not_refused true errno rest h = cc
+not_refused false errno rest h = refl
+
+rest_refuses : (b : Bool) (errno : Errno) (rest : Option Errno) → cond b (Some errno) rest ≡ None → rest ≡ None
+rest_refuses true errno rest h = cc
+rest_refuses false errno rest h = h
+
+or_not : (a b : Bool) → (a || not b) ≡ false → b ≡ true
+or_not true b h = cc
+or_not false true h = refl
+or_not false false h = cc
+
+and_not : (a b : Bool) → (a && not b) ≡ false → a ≡ true → b ≡ true
+and_not true true h e = refl
+and_not true false h e = cc
+and_not false b h e = cc
+
+protect_suits : (m : Pages) (r : Registers) → Suits m r (mem_protect_of m r)
+protect_suits m r =
+    let a = argument r 0 in
+    let prot = low (argument r 2) in
+    let last = cond (writes_and_executes prot) (Some Notsup) None in
+    unless_suits m r 34 (protect_refusal a prot) (Memory 34 (if_mapped m a (argument r 1)))
+    (λ e. (aligned_is a (or_not (nat_lt 7 prot) (is_aligned a) (not_refused (nat_lt 7 prot || not (is_aligned a)) Inval last e)), λ n. mapped_there m a (argument r 1)))
+
+-- ---- where a mapping goes
+
+fixed_may : (m : Pages) (a k : ℕ) → is_aligned a ≡ true → is_guests a k ≡ true → nat_le (len (without_pages m (a / 4096) k) + k) page_limit ≡ true → MayMapAt m a k
+fixed_may m a k page guests room = record {
+  page = aligned_is a page;
+  low = leb-true 0x10000 a (first_true (nat_le 0x10000 a) (nat_le (a + 4096 * k) 0x4000000000) guests);
+  high = leb-true (a + 4096 * k) 0x4000000000 (second_true (nat_le 0x10000 a) (nat_le (a + 4096 * k) 0x4000000000) guests);
+  room = leb-true (len (without_pages m (a / 4096) k) + k) page_limit room;
+}
+
+either_good : (m : Pages) (k : ℕ) (b : Bool) (x y : Place) → (b ≡ true → MayMapThere m x k) → (b ≡ false → MayMapThere m y k) → MayMapThere m (cond b x y) k
+either_good m k true x y h i = h refl
+either_good m k false x y h i = i refl
+
+fixed_good : (m : Pages) (a k : ℕ) → (is_aligned a && is_guests a k) ≡ true → MayMapThere m (place_at m a k) k
+fixed_good m a k h =
+    either_good m k (nat_le (len (without_pages m (a / 4096) k) + k) page_limit) (At a) (place.Refused Nobufs)
+    (fixed_may m a k (first_true (is_aligned a) (is_guests a k) h) (second_true (is_aligned a) (is_guests a k) h)) (λ e. tt)
+
+no_more : (n : ℕ) → n ≡ n + 0
+no_more n = omega arith
+
+none_less : (n : ℕ) → n ≡ 0 + n
+none_less n = omega arith
+
+free_room : (m : Pages) (a k : ℕ) → IsGap m k a → len (without_pages m (a / 4096) k) ≡ len m
+free_room m a k gap =
+    let free = subst (λ n. AreFree m n k) (no_more (a / 4096)) gap.free in
+    ap len (ap (without_pages m (a / 4096)) (none_less k) ∙ without_free m (a / 4096) 0 k free ∙ without_none m (a / 4096))
+
+gap_good : (m : Pages) (k : ℕ) (gap : Option ℕ) → lowest_gap m k ≡ gap → len m + k ≤ page_limit → MayMapThere m (place_in gap) k
+gap_good m k None is fits = tt
+gap_good m k (Some a) is fits =
+    let gap = gap_of_lowest m k a is in
+    let bottom = gap.low in
+    let top = gap.high in
+    record { page = gap.place; low = omega arith; high = omega arith; room = omega (arith, free_room m a k gap) }
+
+in_gap_good : (m : Pages) (k : ℕ) → MayMapThere m (place_in_gap m k) k
+in_gap_good m k =
+    either_good m k (nat_le (len m + k) page_limit) (place_in (lowest_gap m k)) (place.Refused Nobufs)
+    (λ e. gap_good m k (lowest_gap m k) refl (leb-true (len m + k) page_limit e)) (λ e. tt)
+
+place_good : (m : Pages) (a bytes prot flags offset : ℕ) → map_refusal a bytes prot flags offset ≡ None → MayMapThere m (place_of m a flags (pages_in bytes)) (pages_in bytes)
+place_good m a bytes prot flags offset h =
+    let k = pages_in bytes in
+    let wild = not (has_bits flags 1) in
+    let wrong = nat_lt 7 prot || nat_lt 15 flags || bytes == 0 || not (has_one flags 4 8) || not (is_aligned offset) in
+    let shared = has_bits flags 8 || writes_and_executes prot in
+    let outside = has_bits flags 2 && not (is_aligned a && is_guests a k) in
+    let fourth : Option Errno = cond outside (Some Inval) None in
+    let third : Option Errno = cond shared (Some Notsup) fourth in
+    let second : Option Errno = cond wrong (Some Inval) third in
+    let within = not_refused outside Inval None (rest_refuses shared Notsup fourth (rest_refuses wrong Inval third (rest_refuses wild Nosys second h))) in
+    either_good m k (has_bits flags 2) (place_at m a k) (place_in_gap m k)
+    (λ e. fixed_good m a k (and_not (has_bits flags 2) (is_aligned a && is_guests a k) within e)) (λ e. in_gap_good m k)
+
+map_suits : (m : Pages) (r : Registers) → Suits m r (mem_map_of m r)
+map_suits m r =
+    unless_suits m r 33 (map_refusal (argument r 0) (argument r 1) (low (argument r 2)) (low (argument r 3)) (argument r 5)) _
+    (place_good m (argument r 0) (argument r 1) (low (argument r 2)) (low (argument r 3)) (argument r 5))
+
+-- the registers and the memory suit the call that they spell
+args_suit : (m : Pages) (r : Registers) → Suits m r (args_of m r)
+args_suit m r = args_hold (Suits m r) m r (record {
+  fd_write = write_suits m r;
+  mem_advise = advise_suits m r;
+  mem_map = map_suits m r;
+  mem_protect = protect_suits m r;
+  mem_sync = sync_suits m r;
+  mem_unmap = unmap_suits m r;
+  proc_exit = tt;
+  unknown = λ number. tt;
+})
+
+pub call_suits : (m : Pages) (r : Registers) (call : Call) → call ≡ args_of m r → Suits m r call
+call_suits m r call spelled = subst (Suits m r) (sym spelled) (args_suit m r)
+
+-- ---- the guest's part of the address space
+
+not_none : (page : Option Page) → page ≡ None → IsSome page → ⊥
+not_none None h there = cc
+not_none (Some page) h there = cc
+
+page_low : (m : Pages) → KeepsLimits m → (q : ℕ) (page : Option Page) → get m q ≡ page → IsSome page → q < 0x4000000
+page_low m limits q None is there = cc
+page_low m limits q (Some page) is there = let high = limits.high q page is in omega arith
+
+-- pages that are there lie in the guest's part of the address space
+pub guests_pages : (m : Pages) → KeepsLimits m → (n k : ℕ) → AreThere m n k → (k ≡ 0) ⊎ (n + k ≤ 0x4000000)
+guests_pages m limits n zero there = inl refl
+guests_pages m limits n (suc k) there =
+    let last = page_low m limits (n + k) (get m (n + k)) refl (there (n + k) (is_inside n (suc k) (n + k) (omega arith) (omega arith))) in
+    inr (omega (arith, last))
+
+pub past_guests : (m : Pages) → KeepsLimits m → (q : ℕ) → 0x4000000 ≤ q → get m q ≡ None
+past_guests m limits q past = no_page_unless (get m q) (λ there. let low = page_low m limits q (get m q) refl there in absurd (omega (arith, low, past)))
+
+-- what is not in the smaller range is not there, or not in the greater
+beyond : (m : Pages) (n j k q : ℕ) → KeepsLimits m → (k ≡ j) ⊎ (0x4000000 ≤ n + j) → in_range n j q ≡ false → cond (in_range n k q) None (get m q) ≡ get m q
+beyond m n j k q limits (inl same) e = ap (λ b. cond b None (get m q)) (ap (λ i. in_range n i q) same ∙ e)
+beyond m n j k q limits (inr far) e =
+    elim (in_range n k q) as (λ b. in_range n k q ≡ b → cond b None (get m q) ≡ get m q) [
+      | true ↦ λ f.
+          let place = inside n k q f in
+          let not_low : q < n + j → ⊥ = λ low. not_both (in_range n j q) (is_inside n j q place.0 low) e in
+          sym (past_guests m limits q (omega (arith, not_low, far)))
+      | false ↦ λ f. refl
+    ] refl
+
+-- taking away the pages that can be there takes away all
+pub unmapped_within : (m after : Pages) (n j k : ℕ) → KeepsLimits m → j ≤ k → (k ≡ j) ⊎ (0x4000000 ≤ n + j) → AreUnmapped m n j after → after ≡ without_pages m n k
+unmapped_within m after n j k limits less reach h = unmapped_is m after n k (λ q.
+    elim (in_range n j q) as (λ b. in_range n j q ≡ b → get after q ≡ cond (in_range n k q) None (get m q)) [
+      | true ↦ λ e.
+          let place = inside n j q e in
+          h q ∙ ap (λ b. cond b None (get m q)) (e ∙ sym (is_inside n k q place.0 (omega (arith, place.1))))
+      | false ↦ λ e. h q ∙ ap (λ b. cond b None (get m q)) e ∙ sym (beyond m n j k q limits reach e)
+    ] refl)
+
+-- ---- what the calls of guest_memory come to
+
+pub few_pages : (n k : ℕ) → (k ≡ 0) ⊎ (n + k ≤ 0x4000000) → k < 4294967296
+few_pages n k (inl none) = omega (arith, none)
+few_pages n k (inr some) = omega (arith, some)
+
+pub ends_below : (a k : ℕ) → a % 4096 ≡ 0 → a < 18446744073709551616 → (k ≡ 0) ⊎ (a / 4096 + k ≤ 0x4000000) → a + 4096 * k ≤ 18446744073709551616
+ends_below a k page fits (inl none) = omega (arith, none, fits)
+ends_below a k page fits (inr some) = omega (arith, some, page)
+
+not_there_and_missing : (m : Pages) (n k : ℕ) (fault : MemFault) → AreThere m n k → ProtectFails m n k fault → ⊥
+not_there_and_missing m n k (NotMapped a) there h = not_none (get m (a / 4096)) h.holds (there (a / 4096) h.within)
+not_there_and_missing m n k (NoRight a) there h = h
+not_there_and_missing m n k PageLimit there h = h
+not_there_and_missing m n k (Overlaps a) there h = h
+not_there_and_missing m n k NoMemory there h = h
+
+-- pages that are there can be given other rights
+pub is_protected : (result : Result Unit MemFault) (m after : Pages) (n k : ℕ) (prot : Prot) → AreThere m n k → OnOk result (AreProtected m n k prot after)
+    → IfErr result (ProtectFails m n k) → after ≡ protected m n k prot
+is_protected (Ok done) m after n k prot there ok err = protected_is m after n k prot ok
+is_protected (Err fault) m after n k prot there ok err = absurd (not_there_and_missing m n k fault there err)
+
+-- as many of k pages as there can be
+pub clipped : (a k j : ℕ) → a % 4096 ≡ 0 → a < 0x4000000000 → j ≡ min k ((0x4000000000 - a) / 4096) → (j ≤ k) × ((k ≡ j) ⊎ (0x4000000 ≤ a / 4096 + j))
+clipped a k j page low is = (
+  omega (arith, is),
+  elim (eqb_tells k j) [
+    | inl same ↦ inl same.1
+    | inr other ↦ let clip = other.1 in inr (omega (arith, is, clip, page, low))
+  ],
+)
+
+pub past_end : (a : ℕ) → 0x4000000000 ≤ a → 0x4000000 ≤ a / 4096 + 0
+past_end a far = omega (arith, far)
+
+pub none_unmapped : (m : Pages) (n : ℕ) → AreUnmapped m n 0 m
+none_unmapped m n = none_changed (λ _. None) m n

@@ -1,0 +1,19 @@
+use Rattle.std.proofs.Common.{ℕ, sym, subst, ◌∙◌}
+use Rattle.abi_types.specs.declared.call.Call.TheVariants.{MemMap, Memory}
+use Rattle.call_codec.specs.MemoryCalls.{MayMapThere}
+use Rattle.call_codec.proofs.Puts.{call_suits}
+use Rattle.call_codec.proofs.replies.put_memory.Goals as goal
+
+pub map-requires : goal.map-requires
+map-requires c =
+    let call = MemMap c.in-MemMap.place c.in-MemMap.length c.in-MemMap.prot c.in-MemMap.flags c.in-MemMap.fd c.in-MemMap.offset in
+    subst (λ (k : ℕ). MayMapThere c.args.memory.now c.in-MemMap.place k) (sym c.pages_in.ensures)
+    (call_suits c.args.memory.now c.args.regs.now call (sym c.in-MemMap.is ∙ c.requires))
+
+pub change-requires-clause-aligned : goal.change-requires-clause-aligned
+change-requires-clause-aligned c =
+    (call_suits c.args.memory.now c.args.regs.now (Memory c.in-Memory.number c.in-Memory.errno) (sym c.in-Memory.is ∙ c.requires)).0
+
+pub change-requires-clause-there : goal.change-requires-clause-there
+change-requires-clause-there c =
+    λ protects. (call_suits c.args.memory.now c.args.regs.now (Memory c.in-Memory.number c.in-Memory.errno) (sym c.in-Memory.is ∙ c.requires)).1 protects c.in-Success.is

@@ -1,0 +1,175 @@
+-- The calls that a process makes about its own memory: mem_advise, mem_map, mem_protect, mem_sync and mem_unmap. What
+-- they answer is in the caller's registers and memory alone, and so is what they leave of the memory.
+use Rattle.std.specs.Prelude.{ℕ, ◌≤◌, ◌+◌, ◌*◌, ◌/◌, ◌%◌, ◌==◌, ◌&&◌, ◌||◌, not, nat_le, nat_lt, Bool, Option, Some, None, if◌then◌else◌}
+use Rattle.std.specs.Int.RustNames.{bit_and}
+use Rattle.std.specs.FinMap.{len}
+use Rattle.abi_types.specs.declared.call.Call.{Call}
+use Rattle.abi_types.specs.declared.call.Call.TheVariants.{FdWrite, MemMap, Memory, ProcExit, Refused}
+use Rattle.abi_types.specs.declared.errno.Errno.{Errno}
+use Rattle.abi_types.specs.declared.errno.Errno.TheVariants.{Success, Fault, Inval, Nobufs, Nosys, Notsup}
+use Rattle.abi_types.specs.declared.place.Place.{Place}
+use Rattle.abi_types.specs.declared.place.Place.TheVariants as place
+use Rattle.abi_types.specs.declared.place.Place.TheVariants.{At}
+use Rattle.abi_types.specs.declared.prot.Prot.{Prot}
+use Rattle.abi_types.specs.Registers.{Registers}
+use Rattle.guest_memory.specs.Changes.{all_there, lowest_gap, mapped, protected, without_pages}
+use Rattle.guest_memory.specs.Mapping.{page_limit}
+use Rattle.guest_memory.specs.Page.{Pages}
+use Rattle.guest_memory.specs.Ranges.{IsPageAddress}
+use Rattle.call_codec.specs.Arguments.{argument, low}
+
+-- ---- arguments
+
+-- the flags hold each of these bits
+abbrev pub has_bits : ℕ → ℕ → Bool
+has_bits flags bits = bit_and flags bits == bits
+
+-- the flags hold the one bit or the other, and not both
+abbrev pub has_one : ℕ → ℕ → ℕ → Bool
+has_one flags this that = if has_bits flags this then not (has_bits flags that) else has_bits flags that
+
+-- the rights that a prot asks for: EXEC is 1, WRITE is 2, READ is 4
+abbrev pub prot_of : ℕ → Prot
+prot_of bits = record { read = has_bits bits 4; write = has_bits bits 2; exec = has_bits bits 1 }
+
+-- no page is both written and executed
+abbrev pub writes_and_executes : ℕ → Bool
+writes_and_executes bits = has_bits bits 3
+
+-- how many pages so many bytes are, rounded up
+abbrev pub pages_in : ℕ → ℕ
+pages_in bytes = (bytes + 4095) / 4096
+
+-- the address, or the offset, is a page's
+abbrev pub is_aligned : ℕ → Bool
+is_aligned a = a % 4096 == 0
+
+-- k pages from the address on lie in the guest's part of the address space
+abbrev pub is_guests : ℕ → ℕ → Bool
+is_guests a k = nat_le 0x10000 a && nat_le (a + 4096 * k) 0x4000000000
+
+-- ---- calls about pages that are there
+
+-- SUCCESS where each page of the range is mapped, else FAULT
+abbrev pub if_mapped : Pages → ℕ → ℕ → Errno
+if_mapped m a bytes = if all_there m (a / 4096) (pages_in bytes) then Success else Fault
+
+-- mem_advise: an address, a length and an advice from 1 to 6
+abbrev pub mem_advise_of : Pages → Registers → Call
+mem_advise_of m r =
+    if nat_lt 0 (low (argument r 2)) && nat_le (low (argument r 2)) 6 && is_aligned (argument r 0)
+    then Memory 32 (if_mapped m (argument r 0) (argument r 1))
+    else Refused 32 Inval
+
+-- why mem_protect is refused by its address and its prot
+abbrev pub protect_refusal : ℕ → ℕ → Option Errno
+protect_refusal a prot =
+    if nat_lt 7 prot || not (is_aligned a) then Some Inval
+    else if writes_and_executes prot then Some Notsup
+    else None
+
+-- the call with this number, if it is not refused beforehand
+abbrev pub unless_refused : ℕ → Option Errno → Call → Call
+unless_refused number None call = call
+unless_refused number (Some errno) call = Refused number errno
+
+-- mem_protect: an address, a length and a prot
+abbrev pub mem_protect_of : Pages → Registers → Call
+mem_protect_of m r =
+    unless_refused 34 (protect_refusal (argument r 0) (low (argument r 2))) (Memory 34 (if_mapped m (argument r 0) (argument r 1)))
+
+-- the flags of mem_sync: exactly one of ASYNC, which is 1, and SYNC, which is 4; INVALIDATE, which is 2, may be there too
+abbrev pub is_sync : ℕ → Bool
+is_sync flags = nat_le flags 7 && has_one flags 1 4
+
+-- mem_sync: an address, a length and flags
+abbrev pub mem_sync_of : Pages → Registers → Call
+mem_sync_of m r =
+    if is_sync (low (argument r 2)) && is_aligned (argument r 0)
+    then Memory 35 (if_mapped m (argument r 0) (argument r 1))
+    else Refused 35 Inval
+
+-- mem_unmap: an address and a length, which isn't 0. It passes over pages that aren't there.
+abbrev pub mem_unmap_of : Registers → Call
+mem_unmap_of r = if is_aligned (argument r 0) && nat_lt 0 (argument r 1) then Memory 36 Success else Refused 36 Inval
+
+-- ---- mem_map
+
+-- Why mem_map is refused by its address, length, prot, flags and offset. ANON is 1, FIXED is 2, PRIVATE is 4 and SHARED
+-- is 8. There are no files yet, so without ANON it is no call.
+abbrev pub map_refusal : ℕ → ℕ → ℕ → ℕ → ℕ → Option Errno
+map_refusal a bytes prot flags offset =
+    if not (has_bits flags 1) then Some Nosys
+    else if nat_lt 7 prot || nat_lt 15 flags || bytes == 0 || not (has_one flags 4 8) || not (is_aligned offset) then Some Inval
+    else if has_bits flags 8 || writes_and_executes prot then Some Notsup
+    else if has_bits flags 2 && not (is_aligned a && is_guests a (pages_in bytes)) then Some Inval
+    else None
+
+-- FIXED: k pages at the address, in place of those that are there; NOBUFS where that would be too many
+abbrev pub place_at : Pages → ℕ → ℕ → Place
+place_at m a k = if nat_le (len (without_pages m (a / 4096) k) + k) page_limit then At a else place.Refused Nobufs
+
+abbrev pub place_in : Option ℕ → Place
+place_in (Some a) = At a
+place_in None = place.Refused Nobufs
+
+-- k pages in the lowest gap; NOBUFS where there is none or where that would be too many pages
+abbrev pub place_in_gap : Pages → ℕ → Place
+place_in_gap m k = if nat_le (len m + k) page_limit then place_in (lowest_gap m k) else place.Refused Nobufs
+
+-- where k pages go, with these flags
+abbrev pub place_of : Pages → ℕ → ℕ → ℕ → Place
+place_of m a flags k = if has_bits flags 2 then place_at m a k else place_in_gap m k
+
+-- mem_map: an address, a length, a prot, flags, a descriptor and an offset
+abbrev pub mem_map_of : Pages → Registers → Call
+mem_map_of m r =
+    unless_refused 33 (map_refusal (argument r 0) (argument r 1) (low (argument r 2)) (low (argument r 3)) (argument r 5))
+    (MemMap (place_of m (argument r 0) (low (argument r 3)) (pages_in (argument r 1))) (argument r 1) (low (argument r 2)) (low (argument r 3)) (low (argument r 4)) (argument r 5))
+
+-- ---- what they leave of the memory
+
+-- k pages may be mapped at the address, in place of those that are there
+pub record MayMapAt (m : Pages) (a k : ℕ) : Type 0 where
+  pub page : IsPageAddress a
+  pub low : 0x10000 ≤ a
+  pub high : a + 4096 * k ≤ 0x4000000000
+  pub room : len (without_pages m (a / 4096) k) + k ≤ page_limit
+
+-- the place, if it is one, is where k pages may be mapped
+abbrev pub MayMapThere : Pages → Place → ℕ → Type 0
+MayMapThere m (At a) k = MayMapAt m a k
+MayMapThere m (place.Refused errno) k = Unit {0}
+
+-- a mapping of k pages that went to this place: pages of zeros, in place of what was there
+abbrev pub with_mapping : Pages → Place → ℕ → Prot → Pages
+with_mapping m (At a) k prot = mapped m (a / 4096) k prot
+with_mapping m (place.Refused errno) k prot = m
+
+-- the memory after the call with this number, which succeeded; the others change nothing
+abbrev pub with_change : Pages → Registers → ℕ → Pages
+with_change m r number =
+    if number == 34 then protected m (argument r 0 / 4096) (pages_in (argument r 1)) (prot_of (low (argument r 2)))
+    else if number == 36 then without_pages m (argument r 0 / 4096) (pages_in (argument r 1))
+    else m
+
+-- the first on SUCCESS, and else the second
+abbrev pub on_success : {X : Type 0} → Errno → X → X → X
+on_success Success done undone = done
+on_success _ done undone = undone
+
+-- the call maps pages: mem_map alone takes memory for its answer
+abbrev pub IsMapping : Call → Type 0
+IsMapping (FdWrite fd bytes) = ⊥
+IsMapping (MemMap place length prot flags fd offset) = Unit {0}
+IsMapping (Memory number errno) = ⊥
+IsMapping (ProcExit code) = ⊥
+IsMapping (Refused number errno) = ⊥
+
+-- the memory after the call of these registers, which was answered with SUCCESS
+abbrev pub memory_with : Pages → Registers → Call → Pages
+memory_with m r (FdWrite fd bytes) = m
+memory_with m r (MemMap place length prot flags fd offset) = with_mapping m place (pages_in length) (prot_of prot)
+memory_with m r (Memory number errno) = on_success errno (with_change m r number) m
+memory_with m r (ProcExit code) = m
+memory_with m r (Refused number errno) = m

@@ -1,0 +1,193 @@
+-- The refusals of calls that registers spell.
+--     args_carry      none is want of memory
+--     args_not_denied      none is NOTCAPABLE
+use Rattle.std.proofs.Common.{◌≢◌, ℕ, nat_le, nat_lt, ◌==◌, ◌&&◌, ◌||◌, not, Bool, true, false, cond, List, Option, Some, None, Result, Ok, Err}
+use Rattle.abi_types.specs.declared.call.Call.{Call}
+use Rattle.abi_types.specs.declared.call.Call.TheVariants.{FdWrite, MemMap, Memory, ProcExit, Refused}
+use Rattle.abi_types.specs.declared.errno.Errno.{Errno}
+use Rattle.abi_types.specs.declared.errno.Errno.TheVariants.{Success, Fault, Inval, Nobufs, Nomem, Nosys, Notcapable, Notsup}
+use Rattle.abi_types.specs.declared.place.Place.{Place}
+use Rattle.abi_types.specs.declared.place.Place.TheVariants as place
+use Rattle.abi_types.specs.declared.place.Place.TheVariants.{At}
+use Rattle.abi_types.specs.Registers.{Registers}
+use Rattle.kernel_model.specs.Laws.{IsNotDeniedEarly}
+use Rattle.guest_memory.specs.declared.fault.MemFault.{MemFault}
+use Rattle.guest_memory.specs.Changes.{all_there, lowest_gap}
+use Rattle.guest_memory.specs.Mapping.{page_limit}
+use Rattle.guest_memory.specs.Page.{Pages}
+use Rattle.call_codec.specs.Arguments.{argument, low}
+use Rattle.call_codec.specs.Args.{gathered_in, ranges_at, fd_write_with, fd_write_of, args_of}
+use Rattle.call_codec.specs.MemoryCalls.{is_aligned, is_guests, is_sync, has_bits, has_one, writes_and_executes, pages_in, if_mapped, map_refusal, protect_refusal, unless_refused, place_at, place_in, place_in_gap, place_of, mem_advise_of, mem_map_of, mem_protect_of, mem_sync_of, mem_unmap_of}
+use Rattle.call_codec.proofs.Calls.{either_call, args_hold}
+
+-- the place is not refused for want of memory
+abbrev pub PlaceCarriesNoLack : Place → Type 0
+PlaceCarriesNoLack (At address) = Unit {0}
+PlaceCarriesNoLack (place.Refused errno) = errno ≢ Nomem
+
+-- the call carries no refusal for want of memory
+abbrev pub CarriesNoLack : Call → Type 0
+CarriesNoLack (FdWrite fd bytes) = Unit {0}
+CarriesNoLack (MemMap place length prot flags fd offset) = PlaceCarriesNoLack place
+CarriesNoLack (Memory number errno) = errno ≢ Nomem
+CarriesNoLack (ProcExit code) = Unit {0}
+CarriesNoLack (Refused number errno) = errno ≢ Nomem
+
+-- an error of calls that registers spell so that the kernel does not look at them
+abbrev IsSpelled : Errno → Type 0
+IsSpelled errno = (errno ≢ Nomem) × (errno ≢ Notcapable)
+
+abbrev IsSpelledIf : Option Errno → Type 0
+IsSpelledIf None = Unit {0}
+IsSpelledIf (Some errno) = IsSpelled errno
+
+abbrev IsSpelledPlace : Place → Type 0
+IsSpelledPlace (At address) = Unit {0}
+IsSpelledPlace (place.Refused errno) = IsSpelled errno
+
+-- the call is not refused, or with one of those
+abbrev IsSpelledCall : Call → Type 0
+IsSpelledCall (FdWrite fd bytes) = Unit {0}
+IsSpelledCall (MemMap place length prot flags fd offset) = IsSpelledPlace place
+IsSpelledCall (Memory number errno) = IsSpelled errno
+IsSpelledCall (ProcExit code) = Unit {0}
+IsSpelledCall (Refused number errno) = IsSpelled errno
+
+success_spelled : IsSpelled Success
+success_spelled = (λ e. cc, λ e. cc)
+
+fault_spelled : IsSpelled Fault
+fault_spelled = (λ e. cc, λ e. cc)
+
+inval_spelled : IsSpelled Inval
+inval_spelled = (λ e. cc, λ e. cc)
+
+nobufs_spelled : IsSpelled Nobufs
+nobufs_spelled = (λ e. cc, λ e. cc)
+
+nosys_spelled : IsSpelled Nosys
+nosys_spelled = (λ e. cc, λ e. cc)
+
+notsup_spelled : IsSpelled Notsup
+notsup_spelled = (λ e. cc, λ e. cc)
+
+-- ---- fd_write
+
+write_spelled : (fd : ℕ) (bytes : Result (List ℕ) MemFault) → IsSpelledCall (fd_write_with fd bytes)
+write_spelled fd (Ok bytes) = tt
+write_spelled fd (Err fault) = fault_spelled
+
+fd_write_spelled : (m : Pages) (r : Registers) → IsSpelledCall (fd_write_of m r)
+fd_write_spelled m r =
+    either_call IsSpelledCall (nat_lt 1024 (argument r 2)) (Refused 16 Inval) (fd_write_with (low (argument r 0)) (gathered_in m (ranges_at m (argument r 1) (argument r 2))))
+    inval_spelled (write_spelled (low (argument r 0)) (gathered_in m (ranges_at m (argument r 1) (argument r 2))))
+
+-- ---- calls about pages that are there
+
+if_spelled : (b : Bool) → IsSpelled (cond b Success Fault)
+if_spelled true = success_spelled
+if_spelled false = fault_spelled
+
+mapped_spelled : (m : Pages) (a bytes : ℕ) → IsSpelled (if_mapped m a bytes)
+mapped_spelled m a bytes = if_spelled (all_there m _ (pages_in bytes))
+
+unless_spelled : (number : ℕ) (refusal : Option Errno) (call : Call) → IsSpelledIf refusal → IsSpelledCall call → IsSpelledCall (unless_refused number refusal call)
+unless_spelled number None call h k = k
+unless_spelled number (Some errno) call h k = h
+
+or_else_spelled : (b : Bool) (errno : Errno) (rest : Option Errno) → IsSpelled errno → IsSpelledIf rest → IsSpelledIf (cond b (Some errno) rest)
+or_else_spelled true errno rest h k = h
+or_else_spelled false errno rest h k = k
+
+advise_spelled : (m : Pages) (r : Registers) → IsSpelledCall (mem_advise_of m r)
+advise_spelled m r =
+    either_call IsSpelledCall (nat_lt 0 (low (argument r 2)) && nat_le (low (argument r 2)) 6 && is_aligned (argument r 0))
+    (Memory 32 (if_mapped m (argument r 0) (argument r 1))) (Refused 32 Inval) (mapped_spelled m (argument r 0) (argument r 1)) inval_spelled
+
+sync_spelled : (m : Pages) (r : Registers) → IsSpelledCall (mem_sync_of m r)
+sync_spelled m r =
+    either_call IsSpelledCall (is_sync (low (argument r 2)) && is_aligned (argument r 0))
+    (Memory 35 (if_mapped m (argument r 0) (argument r 1))) (Refused 35 Inval) (mapped_spelled m (argument r 0) (argument r 1)) inval_spelled
+
+unmap_spelled : (r : Registers) → IsSpelledCall (mem_unmap_of r)
+unmap_spelled r =
+    either_call IsSpelledCall (is_aligned (argument r 0) && nat_lt 0 (argument r 1)) (Memory 36 Success) (Refused 36 Inval) success_spelled inval_spelled
+
+protect_spelled : (m : Pages) (r : Registers) → IsSpelledCall (mem_protect_of m r)
+protect_spelled m r =
+    let a = argument r 0 in
+    let prot = low (argument r 2) in
+    let last : Option Errno = cond (writes_and_executes prot) (Some Notsup) None in
+    unless_spelled 34 (protect_refusal a prot) (Memory 34 (if_mapped m a (argument r 1)))
+    (or_else_spelled (nat_lt 7 prot || not (is_aligned a)) Inval last inval_spelled (or_else_spelled (writes_and_executes prot) Notsup None notsup_spelled tt))
+    (mapped_spelled m a (argument r 1))
+
+-- ---- mem_map
+
+map_refusal_spelled : (a bytes prot flags offset : ℕ) → IsSpelledIf (map_refusal a bytes prot flags offset)
+map_refusal_spelled a bytes prot flags offset =
+    or_else_spelled (not (has_bits flags 1)) Nosys _ nosys_spelled
+    (or_else_spelled (nat_lt 7 prot || nat_lt 15 flags || bytes == 0 || not (has_one flags 4 8) || not (is_aligned offset)) Inval _ inval_spelled
+    (or_else_spelled (has_bits flags 8 || writes_and_executes prot) Notsup _ notsup_spelled
+    (or_else_spelled (has_bits flags 2 && not (is_aligned a && is_guests a (pages_in bytes))) Inval None inval_spelled tt)))
+
+either_place : (b : Bool) (x y : Place) → IsSpelledPlace x → IsSpelledPlace y → IsSpelledPlace (cond b x y)
+either_place true x y h k = h
+either_place false x y h k = k
+
+gap_spelled : (gap : Option ℕ) → IsSpelledPlace (place_in gap)
+gap_spelled (Some a) = tt
+gap_spelled None = nobufs_spelled
+
+place_spelled : (m : Pages) (a flags k : ℕ) → IsSpelledPlace (place_of m a flags k)
+place_spelled m a flags k =
+    either_place (has_bits flags 2) (place_at m a k) (place_in_gap m k)
+    (either_place (nat_le (_) page_limit) (At a) (place.Refused Nobufs) tt nobufs_spelled)
+    (either_place (nat_le (_) page_limit) (place_in (lowest_gap m k)) (place.Refused Nobufs) (gap_spelled (lowest_gap m k)) nobufs_spelled)
+
+map_spelled : (m : Pages) (r : Registers) → IsSpelledCall (mem_map_of m r)
+map_spelled m r =
+    unless_spelled 33 (map_refusal (argument r 0) (argument r 1) (low (argument r 2)) (low (argument r 3)) (argument r 5)) _
+    (map_refusal_spelled (argument r 0) (argument r 1) (low (argument r 2)) (low (argument r 3)) (argument r 5))
+    (place_spelled m (argument r 0) (low (argument r 3)) (pages_in (argument r 1)))
+
+-- ---- all of them
+
+args_spelled : (m : Pages) (r : Registers) → IsSpelledCall (args_of m r)
+args_spelled m r = args_hold IsSpelledCall m r (record {
+  fd_write = fd_write_spelled m r;
+  mem_advise = advise_spelled m r;
+  mem_map = map_spelled m r;
+  mem_protect = protect_spelled m r;
+  mem_sync = sync_spelled m r;
+  mem_unmap = unmap_spelled r;
+  proc_exit = tt;
+  unknown = λ number. nosys_spelled;
+})
+
+place_carries : (place : Place) → IsSpelledPlace place → PlaceCarriesNoLack place
+place_carries (At address) h = tt
+place_carries (place.Refused errno) h = h.0
+
+spelled_carries : (call : Call) → IsSpelledCall call → CarriesNoLack call
+spelled_carries (FdWrite fd bytes) h = tt
+spelled_carries (MemMap place length prot flags fd offset) h = place_carries place h
+spelled_carries (Memory number errno) h = h.0
+spelled_carries (ProcExit code) h = tt
+spelled_carries (Refused number errno) h = h.0
+
+spelled_not_denied : (call : Call) → IsSpelledCall call → IsNotDeniedEarly call
+spelled_not_denied (FdWrite fd bytes) h = tt
+spelled_not_denied (MemMap (At address) length prot flags fd offset) h = tt
+spelled_not_denied (MemMap (place.Refused errno) length prot flags fd offset) h = h.1
+spelled_not_denied (Memory number errno) h = h.1
+spelled_not_denied (ProcExit code) h = tt
+spelled_not_denied (Refused number errno) h = h.1
+
+-- no call that registers spell carries a refusal for want of memory
+pub args_carry : (m : Pages) (r : Registers) → CarriesNoLack (args_of m r)
+args_carry m r = spelled_carries (args_of m r) (args_spelled m r)
+
+-- no call that registers spell is refused beforehand with NOTCAPABLE
+pub args_not_denied : (m : Pages) (r : Registers) → IsNotDeniedEarly (args_of m r)
+args_not_denied m r = spelled_not_denied (args_of m r) (args_spelled m r)
