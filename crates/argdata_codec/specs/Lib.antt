@@ -1,0 +1,9 @@
+pub mod Shape
+pub mod Code
+pub mod Views
+pub mod Spelling
+pub mod Sizes
+pub mod Writing
+pub mod Reading
+pub mod Places
+pub mod Faults

@@ -1,0 +1,52 @@
+//! Bytes as values.
+ghost use Rattle.std.specs.Prelude.{◌≡◌, IfOk, IfErr};
+ghost use Rattle.argdata_codec.specs.Shape.{Shape};
+ghost use Rattle.argdata_codec.specs.Views.{shape_of};
+ghost use Rattle.argdata_codec.specs.Spelling.{IsArgdata, IsLongest};
+ghost use Rattle.argdata_codec.specs.Faults.{Decodes, Names};
+
+use crate::refusal::Refusal;
+use crate::value::Value;
+use crate::{place, reading};
+use std::alloc::{AllocError, Global};
+
+/// Why bytes gave no value.
+#[derive(Clone, Copy, Debug, PartialEq, Eq)]
+pub enum ArgFault {
+    /// The bytes spell no value.
+    BadArgdata {
+        /// How long the longest beginning of the bytes is that begins some spelling.
+        at: usize,
+    },
+    /// There is no memory, or the bytes have a length of 2^112 or more, which no memory holds.
+    NoMemory,
+}
+
+// The greatest number of maps and sequences that stand inside each other.
+const DEPTH: usize = 64;
+
+/// The value that the bytes spell, all of the bytes.
+pub fn decode(alloc: Global, bytes: &[u8]) -> Result<Value, ArgFault>
+    // What is decoded is spelled so.
+    ensures found { IfOk result (λ value. IsArgdata (shape_of value) bytes.now) }
+    // What is spelled so is decoded, unless memory runs out.
+    ensures only { (x : Shape) → IsArgdata x bytes.now → Decodes x result }
+    // Where the fault is, of all beginnings of the bytes.
+    ensures fault { IfErr result (λ fault. Names fault bytes.now) }
+{
+    match reading::value(alloc, DEPTH, bytes) {
+        Ok(value) => Ok(value),
+        Err(Refusal::Memory) => Err(ArgFault::NoMemory),
+        Err(Refusal::Malformed) => Err(fault(alloc, bytes)),
+    }
+}
+
+// The place of the fault, if there is memory to find it.
+fn fault(alloc: Global, bytes: &[u8]) -> ArgFault
+    ensures { Names result bytes.now }
+{
+    match place::value(alloc, DEPTH, None, bytes) {
+        Ok(at) => ArgFault::BadArgdata { at },
+        Err(AllocError) => ArgFault::NoMemory,
+    }
+}

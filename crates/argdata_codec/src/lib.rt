@@ -1,0 +1,23 @@
+//! CloudABI's argument data: values, and the bytes that spell them.
+#![tactic(auto)]
+
+pub use decoding::{ArgFault, decode};
+pub use encoding::encode;
+pub use laws::{bytes_spell_one_value, each_value_has_one_spelling};
+pub use pair_list::PairList;
+pub use value::Value;
+pub use value_list::ValueList;
+
+mod decoding;
+mod encoding;
+mod laws;
+mod pair_list;
+mod place;
+mod reading;
+mod refusal;
+mod tag;
+#[cfg(test)]
+mod tests;
+mod turn;
+mod value;
+mod value_list;

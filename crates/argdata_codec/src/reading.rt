@@ -1,0 +1,212 @@
+//! The value that bytes spell, without the place of a fault.
+ghost use Rattle.std.specs.Prelude.{◌≡◌, ◌<◌, ◌≤◌, ◌^◌, map, length, IfOk};
+ghost use Rattle.argdata_codec.specs.Views.{shape_of, pair_of};
+ghost use Rattle.argdata_codec.specs.Reading.{Reads, field_at, boolean_at, descriptor_at, integer_at, before_zero, text_at, entry_at, items_of, pairs_of, items_at, pairs_at, value_at, number_after, signed, is_in_range};
+
+use crate::encoding::width;
+use crate::pair_list::PairList;
+use crate::refusal::Refusal;
+use crate::tag;
+use crate::value::Value;
+use crate::value_list::ValueList;
+use abi_types::{Bytes, Text};
+use std::alloc::Global;
+
+#[cycle(read)]
+pub fn value(alloc: Global, depth: usize, bytes: &[u8]) -> Result<Value, Refusal>
+    ensures { Reads shape_of result (value_at depth bytes.now) }
+{
+    match bytes {
+        [] => Ok(Value::Null),
+        [tag::BINARY, body @ ..] => Ok(Value::Binary(Bytes::of(alloc, body)?)),
+        [tag::BOOL, body @ ..] => Ok(Value::Bool(boolean(body)?)),
+        [tag::FD, body @ ..] => Ok(Value::Fd(descriptor(body)?)),
+        [tag::INT, body @ ..] => Ok(Value::Int(integer(body)?)),
+        [tag::MAP, body @ ..] => Ok(Value::Map(pair_list(alloc, depth, body)?)),
+        [tag::SEQ, body @ ..] => Ok(Value::Seq(value_list(alloc, depth, body)?)),
+        [tag::STR, body @ ..] => Ok(Value::Str(text(alloc, body)?)),
+        _ => Err(Refusal::Malformed),
+    }
+}
+
+// The pairs of a map that may be of some depth.
+#[cycle(read)]
+#[tactic(auto, unfolding(crate::specs::Reading::pairs_at))]
+fn pair_list(alloc: Global, depth: usize, body: &[u8]) -> Result<PairList, Refusal>
+    ensures { Reads (λ ps. ps) result (pairs_at depth body.now) }
+{
+    let inside = depth.checked_sub(1).ok_or(Refusal::Malformed)?;
+    Ok(PairList::from_vec(pairs(alloc, inside, body)?))
+}
+
+// The values of a sequence that may be of some depth.
+#[cycle(read)]
+#[tactic(auto, unfolding(crate::specs::Reading::items_at))]
+fn value_list(alloc: Global, depth: usize, body: &[u8]) -> Result<ValueList, Refusal>
+    ensures { Reads (λ xs. xs) result (items_at depth body.now) }
+{
+    let inside = depth.checked_sub(1).ok_or(Refusal::Malformed)?;
+    Ok(ValueList::from_vec(items(alloc, inside, body)?))
+}
+
+#[cycle(read)]
+fn pairs(alloc: Global, depth: usize, body: &[u8]) -> Result<Vec<(Value, Value)>, Refusal>
+    ensures { Reads (λ v. map pair_of v.items) result (pairs_of (value_at depth) body.now) }
+{
+    let mut pairs = Vec::new(alloc);
+    let mut rest = body;
+    while !rest.is_empty() {
+        let (key, after_key) = entry(alloc, depth, rest)?;
+        let (value, after) = entry(alloc, depth, after_key)?;
+        pairs.push((key, value))?;
+        rest = after;
+    }
+    Ok(pairs)
+}
+
+#[cycle(read)]
+fn items(alloc: Global, depth: usize, body: &[u8]) -> Result<Vec<Value>, Refusal>
+    ensures { Reads (λ v. map shape_of v.items) result (items_of (value_at depth) body.now) }
+{
+    let mut items = Vec::new(alloc);
+    let mut rest = body;
+    while !rest.is_empty() {
+        let (item, after) = entry(alloc, depth, rest)?;
+        items.push(item)?;
+        rest = after;
+    }
+    Ok(items)
+}
+
+// The value of the field at the front, and the bytes after it.
+#[cycle(read)]
+fn entry(alloc: Global, depth: usize, bytes: &[u8]) -> Result<(Value, &[u8]), Refusal>
+    ensures reads { Reads (λ x. (shape_of x.0, x.1.now)) result (entry_at (value_at depth) bytes.now) }
+    ensures shorter { IfOk result (λ x. length x.1.now < length bytes.now) }
+{
+    let (body, rest) = field(bytes)?;
+    Ok((value(alloc, depth, body)?, rest))
+}
+
+// The bytes of the field at the front, and the bytes after it.
+fn field(bytes: &[u8]) -> Result<(&[u8], &[u8]), Refusal>
+    ensures reads { Reads (λ x. (x.0.now, x.1.now)) result (field_at 0 bytes.now) }
+    ensures shorter { IfOk result (λ x. length x.1.now < length bytes.now) }
+{
+    let mut groups = 0;
+    let mut rest = bytes;
+    while let [byte, after @ ..] = rest {
+        let sum = 128 * groups + u128::from(*byte);
+        let left = after.len() as u128;
+        if *byte >= 128 {
+            let length = sum - 128;
+            if length > left {
+                return Err(Refusal::Malformed);
+            }
+            return Ok(after.split_at(length as usize));
+        }
+        if sum == 0 || sum > left {
+            return Err(Refusal::Malformed);
+        }
+        groups = sum;
+        rest = after;
+    }
+    Err(Refusal::Malformed)
+}
+
+fn boolean(body: &[u8]) -> Result<bool, Refusal>
+    ensures { Reads (λ b. b) result (boolean_at body.now) }
+{
+    match body {
+        [] => Ok(false),
+        [1] => Ok(true),
+        _ => Err(Refusal::Malformed),
+    }
+}
+
+fn descriptor(body: &[u8]) -> Result<u32, Refusal>
+    ensures { Reads (λ n. n) result (descriptor_at body.now) }
+{
+    match body {
+        [a, b, c, d] => Ok(u32::from_be_bytes([*a, *b, *c, *d])),
+        _ => Err(Refusal::Malformed),
+    }
+}
+
+#[tactic(auto, unfolding(crate::specs::Reading::integer_at))]
+fn integer(body: &[u8]) -> Result<i128, Refusal>
+    ensures { Reads (λ i. i) result (integer_at body.now) }
+{
+    if body.len() > 9 {
+        return Err(Refusal::Malformed);
+    }
+    let (number, top) = number(body);
+    let integer = signed_number(top, number);
+    if is_argument(integer) && width(integer) == body.len() {
+        Ok(integer)
+    } else {
+        Err(Refusal::Malformed)
+    }
+}
+
+// The number that at most 9 bytes spell, and how many numbers as many bytes spell.
+fn number(body: &[u8]) -> (u128, u128)
+    requires { length body.now ≤ 9 }
+    ensures number { result.0 ≡ number_after 0 body.now }
+    ensures top { result.1 ≡ 256 ^ length body.now }
+    ensures below { result.0 < result.1 }
+    ensures small { result.1 ≤ 256 ^ 9 }
+{
+    let mut number = 0;
+    let mut top = 1;
+    for byte in body {
+        number = 256 * number + u128::from(*byte);
+        top *= 256;
+    }
+    (number, top)
+}
+
+fn signed_number(top: u128, number: u128) -> i128
+    requires below { number < top }
+    requires small { top ≤ 256 ^ 9 }
+    ensures { result ≡ signed top number }
+{
+    if 2 * number < top {
+        number as i128
+    } else {
+        number as i128 - top as i128
+    }
+}
+
+// Argument data has integers from -2^63 to 2^64 - 1.
+fn is_argument(integer: i128) -> bool
+    ensures { result ≡ is_in_range integer }
+{
+    -(1 << 63) <= integer && integer < 1 << 64
+}
+
+#[tactic(auto, unfolding(crate::specs::Reading::text_at))]
+fn text(alloc: Global, body: &[u8]) -> Result<Text, Refusal>
+    ensures { Reads (λ t. t) result (text_at body.now) }
+{
+    let content = content(body)?;
+    match str::from_utf8(content) {
+        Ok(text) => Ok(Text::from_string(String::from_str(alloc, text)?)),
+        Err(_) => Err(Refusal::Malformed),
+    }
+}
+
+// What stands before the first zero byte, which is to be the last byte.
+fn content(body: &[u8]) -> Result<&[u8], Refusal>
+    ensures { Reads (λ x. x.now) result (before_zero body.now) }
+{
+    for (i, byte) in body.iter().enumerate() {
+        if *byte == 0 {
+            if i + 1 < body.len() {
+                return Err(Refusal::Malformed);
+            }
+            return Ok(&body[..i]);
+        }
+    }
+    Err(Refusal::Malformed)
+}
