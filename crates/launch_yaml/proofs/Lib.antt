@@ -1,0 +1,10 @@
+pub mod SoundRows
+pub mod FirstFaults
+pub mod KeptRows
+pub mod Pieces
+pub mod Within
+pub mod Ends
+pub mod Refusals
+pub mod Splits
+pub mod Loops
+pub mod Depths

@@ -1,0 +1,13 @@
+use Rattle.std.proofs.Common.{◌≡◌, length, ◌+◌}
+use Rattle.std.specs.List.{prefix_len}
+use Rattle.launch_yaml.specs.Document.{no_marker}
+use Rattle.launch_yaml.specs.Views.{rows, AllWithin}
+use Rattle.launch_yaml.proofs.document.count_before_marker.Given as goal
+
+abbrev pub invariant-loop-rest : goal.invariant-loop-rest
+invariant-loop-rest l =
+    (l.count + prefix_len no_marker (rows l.text l.rest) ≡ prefix_len no_marker (rows l.fn.text l.fn.lines))
+    × (l.count + length l.rest ≡ length l.fn.lines) × AllWithin l.text l.rest
+
+abbrev pub decreases-loop-rest : goal.decreases-loop-rest
+decreases-loop-rest l = length l.rest

@@ -1,0 +1,266 @@
+//! Documents.
+ghost use Rattle.std.specs.Prelude.{◌≡◌, ◌≤◌, ◌==◌, ◌&&◌, ℕ, nat_eq, nat_le, length, drop, List, Ok, None, Result, IfOk};
+ghost use Rattle.std.specs.List.{starts_with, take_while, prefix_len};
+ghost use Rattle.yaml_values.specs.Documents.{IsDocument};
+ghost use Rattle.yaml_values.specs.Shape.{Shape, node, null};
+ghost use Rattle.yaml_values.specs.Spaces.{after_gap};
+ghost use Rattle.yaml_values.specs.Views.{shape_of};
+ghost use Rattle.launch_yaml.specs.declared.fault.Fault.{Fault};
+ghost use Rattle.launch_yaml.specs.Faults.{unless, beside};
+ghost use Rattle.launch_yaml.specs.Rows.{is_alone, is_start, is_stop, is_directive};
+ghost use Rattle.launch_yaml.specs.Entries.{after_while};
+ghost use Rattle.launch_yaml.specs.Views.{row, rows, IsWithin, AllWithin, Gives};
+ghost use Rattle.launch_yaml.specs.Document.{is_marker, no_marker, is_right_of, end_at, after_document, root_of, body_of, after_directive, document_of, parse_at};
+ghost use Rattle.launch_yaml.specs.Parsing.{Parses};
+
+use crate::fault::{Fault, Refusal};
+use crate::faults::first_of;
+use crate::line::{Line, content};
+use crate::{blocks, lines};
+use std::alloc::Global;
+use thiserror::Error;
+use yaml_values::spaces::after_gap;
+use yaml_values::{Node, NodeValue, YamlKind};
+
+/// A launch file as a document.
+#[derive(Drop)]
+pub struct Doc {
+    /// Its value. An empty document is a null on line 1.
+    pub root: Node,
+}
+
+/// Why a text is no launch file.
+#[derive(Clone, Copy, Debug, Drop, PartialEq, Eq, Error)]
+pub enum YamlFault {
+    /// The first fault of the text.
+    #[error("line {line}: {kind:?}")]
+    At {
+        /// The number of its line, from 1.
+        line: u32,
+        /// What is wrong.
+        kind: YamlKind,
+    },
+    /// There is no memory, or the text has 2^32 lines or more.
+    #[error("no memory")]
+    NoMemory,
+}
+
+/// So many maps and sequences may stand inside each other.
+const GREATEST_DEPTH: usize = 64;
+
+// The line begins with this text, and nothing else is in it but perhaps a comment.
+fn is_only(expected: &[u8], line: &[u8]) -> bool
+    ensures { result ≡ (starts_with nat_eq line.now expected.now && (length (after_gap (drop (length expected.now) line.now)) == 0)) }
+{
+    line.starts_with(expected) && after_gap(line.split_at(expected.len()).1).is_empty()
+}
+
+fn is_alone(text: &[u8], expected: &[u8], line: Line) -> bool
+    requires { IsWithin text.now line }
+    ensures { result ≡ is_alone expected.now (row text.now line) }
+{
+    line.column == 0 && is_only(expected, content(text, line))
+}
+
+fn is_start(text: &[u8], line: Line) -> bool
+    requires { IsWithin text.now line }
+    ensures { result ≡ is_start (row text.now line) }
+{
+    is_alone(text, b"---", line)
+}
+
+fn is_stop(text: &[u8], line: Line) -> bool
+    requires { IsWithin text.now line }
+    ensures { result ≡ is_stop (row text.now line) }
+{
+    is_alone(text, b"...", line)
+}
+
+// The directive that says what `!` stands for.
+fn is_directive(text: &[u8], line: Line) -> bool
+    requires { IsWithin text.now line }
+    ensures { result ≡ is_directive (row text.now line) }
+{
+    is_alone(text, b"%TAG ! tag:nuxi.nl,2015:cloudabi/", line)
+}
+
+// How many lines stand before the first marker.
+fn count_before_marker(text: &[u8], lines: &[Line]) -> usize
+    requires { AllWithin text.now lines.now }
+    ensures value { result ≡ prefix_len no_marker (rows text.now lines.now) }
+    ensures inside { result ≤ length lines.now }
+{
+    let mut count = 0;
+    let mut rest = lines;
+    while let [line, after @ ..] = rest {
+        if is_start(text, *line) || is_stop(text, *line) {
+            return count;
+        }
+        count += 1;
+        rest = after;
+    }
+    count
+}
+
+// How many lines at the front are as far to the right as the column or further.
+fn count_right_of(text: &[u8], first: Line, lines: &[Line]) -> usize
+    ensures value { result ≡ prefix_len (is_right_of (row text.now first)) (rows text.now lines.now) }
+    ensures inside { result ≤ length lines.now }
+{
+    let mut count = 0;
+    let mut rest = lines;
+    while let [line, after @ ..] = rest {
+        if line.column < first.column {
+            return count;
+        }
+        count += 1;
+        rest = after;
+    }
+    count
+}
+
+// The first of these lines stands behind the document.
+fn end_at(lines: &[Line]) -> Option<Fault>
+    ensures { (text : List ℕ) → result ≡ end_at (rows text lines.now) }
+{
+    let line = lines.first()?;
+    Some(Fault {
+        line: line.number,
+        column: line.column,
+        kind: YamlKind::End,
+    })
+}
+
+// Behind a `...` nothing stands. A `---` doesn't stand behind a document.
+fn after_document(text: &[u8], lines: &[Line]) -> Option<Fault>
+    requires { AllWithin text.now lines.now }
+    ensures { result ≡ after_document (rows text.now lines.now) }
+{
+    match lines {
+        [line, after @ ..] if is_stop(text, *line) => end_at(after),
+        _ => end_at(lines),
+    }
+}
+
+// A node, unless there is a fault.
+fn unless(fault: Option<Fault>, node: Node) -> Result<Node, Refusal>
+    ensures { Gives shape_of result (unless fault (Ok (shape_of node))) }
+{
+    match fault {
+        None => Ok(node),
+        Some(fault) => Err(Refusal::At(fault)),
+    }
+}
+
+// An empty document.
+fn nothing() -> Node
+    ensures { shape_of result ≡ node 1 None null }
+{
+    Node {
+        line: 1,
+        tag: None,
+        value: NodeValue::Null,
+    }
+}
+
+// The value of a document. A line left of its first one stands behind it.
+fn root(alloc: Global, text: &[u8], lines: &[Line]) -> Result<Node, Refusal>
+    requires { AllWithin text.now lines.now }
+    ensures { Gives shape_of result (root_of (rows text.now lines.now)) }
+{
+    let [first, others @ ..] = lines else {
+        return Ok(nothing());
+    };
+    let (inside, behind) = others.split_at(count_right_of(text, *first, others));
+    let value = blocks::node(alloc, text, GREATEST_DEPTH, true, *first, inside)?;
+    unless(end_at(behind), value)
+}
+
+// The document whose directive and `---` were read.
+fn body(alloc: Global, text: &[u8], lines: &[Line]) -> Result<Node, Refusal>
+    requires { AllWithin text.now lines.now }
+    ensures { Gives shape_of result (body_of (rows text.now lines.now)) }
+{
+    let (inside, behind) = lines.split_at(count_before_marker(text, lines));
+    let value = root(alloc, text, inside)?;
+    unless(after_document(text, behind), value)
+}
+
+// The document behind its directive: `---` stands there first.
+fn after_directive(
+    alloc: Global,
+    text: &[u8],
+    directive: Line,
+    lines: &[Line],
+) -> Result<Node, Refusal>
+    requires { AllWithin text.now lines.now }
+    ensures { Gives shape_of result (after_directive (row text.now directive) (rows text.now lines.now)) }
+{
+    match lines {
+        [line, others @ ..] if is_start(text, *line) => body(alloc, text, others),
+        _ => Err(Refusal::At(Fault {
+            line: directive.number,
+            column: directive.column,
+            kind: YamlKind::Character,
+        })),
+    }
+}
+
+// The document that these lines are, its directive and its `---` among them.
+fn document(alloc: Global, text: &[u8], lines: &[Line]) -> Result<Node, Refusal>
+    requires { AllWithin text.now lines.now }
+    ensures { Gives shape_of result (document_of (rows text.now lines.now)) }
+{
+    let [first, others @ ..] = lines else {
+        return Ok(nothing());
+    };
+    if is_directive(text, *first) {
+        after_directive(alloc, text, *first, others)
+    } else if is_start(text, *first) {
+        body(alloc, text, others)
+    } else {
+        body(alloc, text, lines)
+    }
+}
+
+// What was read, unless there is a fault beside it: then the first one.
+fn beside(fault: Option<Fault>, read: Result<Node, Refusal>) -> Result<Doc, YamlFault>
+    ensures { (y : Result Shape Fault) → Gives shape_of read y → Parses result (beside fault y) }
+{
+    let first = match read {
+        Ok(root) => match fault {
+            None => return Ok(Doc { root }),
+            Some(fault) => fault,
+        },
+        Err(Refusal::Memory) => return Err(YamlFault::NoMemory),
+        Err(Refusal::At(other)) => match fault {
+            None => other,
+            Some(fault) => first_of(fault, other),
+        },
+    };
+    Err(YamlFault::At {
+        line: first.line,
+        kind: first.kind,
+    })
+}
+
+#[tactic(auto, unfolding(crate::specs::Document::parse_at, crate::specs::Lines::lines))]
+fn read(alloc: Global, text: &[u8]) -> Result<Doc, YamlFault>
+    ensures { Parses result (parse_at text.now) }
+{
+    let text = lines::without_mark(text);
+    let Ok(rows) = lines::rows(alloc, text) else {
+        return Err(YamlFault::NoMemory);
+    };
+    let fault = lines::plain_fault(text);
+    beside(fault, document(alloc, text, rows.as_slice()))
+}
+
+/// The document that a text is, or its first fault.
+pub fn parse(alloc: Global, text: &[u8]) -> Result<Doc, YamlFault>
+    ensures exact { Parses result (parse_at text.now) }
+    // At most 64 maps and sequences stand inside each other, integers are in range, and no text has a zero byte.
+    ensures document { IfOk result (λ doc. IsDocument (shape_of doc.root)) }
+{
+    read(alloc, text)
+}

@@ -1,0 +1,107 @@
+//! Keys of a map that stands on lines.
+ghost use Rattle.std.specs.Prelude.{◌≡◌, ◌||◌, IfOk};
+ghost use Rattle.std.specs.List.{list_any};
+ghost use Rattle.yaml_values.specs.Shape.{Content};
+ghost use Rattle.yaml_values.specs.Views.{content_of_value};
+ghost use Rattle.yaml_values.specs.Keys.{same_key};
+ghost use Rattle.yaml_values.specs.KeySets.{IsScalarKey};
+ghost use Rattle.launch_yaml.specs.Blocks.{kind_of_no_entry, wrong_key, key_of, new_key_of, key_at, deepest};
+ghost use Rattle.launch_yaml.specs.Views.{row, IsWithin, Gives, Refuses};
+
+use crate::fault::Refusal;
+use crate::faults::first_of;
+use crate::line::{Line, at_line, content};
+use crate::rows;
+use crate::single::refusal_in;
+use std::alloc::Global;
+use yaml_values::keys::KeySet;
+use yaml_values::{Mode, NodeValue, YamlKind, plain, resolution};
+
+/// What is wrong with a line in a block's place that is no entry of it: the root's block has ended.
+pub fn kind_of_no_entry(is_root: bool) -> YamlKind
+    ensures { result ≡ kind_of_no_entry is_root }
+{
+    if is_root {
+        YamlKind::End
+    } else {
+        YamlKind::Indent
+    }
+}
+
+// What is wrong where a key should begin.
+fn wrong_key(bytes: &[u8]) -> YamlKind
+    ensures { result ≡ wrong_key bytes.now }
+{
+    match bytes {
+        [] => YamlKind::Character,
+        [first, ..] => plain::wrong_beginning(*first),
+    }
+}
+
+// The key that a line begins with.
+fn key_of(alloc: Global, text: &[u8], line: Line) -> Result<NodeValue, Refusal>
+    requires { IsWithin text.now line }
+    ensures reads { Gives content_of_value result (key_of (row text.now line)) }
+    ensures scalar { IfOk result (λ key. IsScalarKey (content_of_value key)) }
+{
+    match resolution::scalar_value(alloc, Mode::Resolved, false, content(text, line)) {
+        Ok((key, _)) => Ok(key),
+        Err(refusal) => Err(refusal_in(text, line, refusal)),
+    }
+}
+
+// The key that a line begins with, which is put to those that the map has already.
+fn new_key(alloc: Global, text: &[u8], keys: &mut KeySet, line: Line) -> Result<NodeValue, Refusal>
+    requires { IsWithin text.now line }
+    ensures reads { Gives content_of_value result (new_key_of keys.old (row text.now line)) }
+    ensures keys { IfOk result (λ key. (k : Content) → list_any (same_key k) keys.new ≡ (same_key k (content_of_value key) || list_any (same_key k) keys.old)) }
+{
+    let key = key_of(alloc, text, line)?;
+    match keys.insert(alloc, &key) {
+        Ok(true) => Ok(key),
+        Ok(false) => Err(Refusal::At(at_line(line, YamlKind::DuplicateKey))),
+        Err(_) => Err(Refusal::Memory),
+    }
+}
+
+/// The key of an entry of a map at a column, which is put to those that the map has already.
+pub fn key_at(
+    alloc: Global,
+    text: &[u8],
+    column: usize,
+    is_root: bool,
+    keys: &mut KeySet,
+    line: Line,
+) -> Result<NodeValue, Refusal>
+    requires { IsWithin text.now line }
+    ensures reads { Gives content_of_value result (key_at column is_root keys.old (row text.now line)) }
+    ensures keys { IfOk result (λ key. (k : Content) → list_any (same_key k) keys.new ≡ (same_key k (content_of_value key) || list_any (same_key k) keys.old)) }
+{
+    let bytes = content(text, line);
+    if line.column != column {
+        return Err(Refusal::At(at_line(line, YamlKind::Indent)));
+    }
+    if !rows::begins_key(bytes) {
+        return Err(Refusal::At(at_line(line, wrong_key(bytes))));
+    }
+    if rows::behind_key(bytes).is_none() {
+        return Err(Refusal::At(at_line(line, kind_of_no_entry(is_root))));
+    }
+    new_key(alloc, text, keys, line)
+}
+
+/// Why a map or a sequence too many that begins with a line isn't read.
+pub fn deepest(alloc: Global, text: &[u8], line: Line) -> Refusal
+    requires { IsWithin text.now line }
+    ensures { Refuses result (deepest (row text.now line)) }
+{
+    let fault = at_line(line, YamlKind::Depth);
+    if rows::is_dash(content(text, line)) {
+        return Refusal::At(fault);
+    }
+    match key_of(alloc, text, line) {
+        Ok(_) => Refusal::At(fault),
+        Err(Refusal::At(earlier)) => Refusal::At(first_of(earlier, fault)),
+        Err(Refusal::Memory) => Refusal::Memory,
+    }
+}

@@ -1,0 +1,93 @@
+//! What stands before a value: nothing, or a tag.
+ghost use Rattle.std.specs.Prelude.{◌≡◌, Err};
+ghost use Rattle.yaml_values.specs.Shape.{Shape};
+ghost use Rattle.yaml_values.specs.Views.{shape_of, content_of_value};
+ghost use Rattle.launch_yaml.specs.Blocks.{mode_of, node_of, absent, binary_place, second_tag};
+ghost use Rattle.launch_yaml.specs.Views.{Gives};
+ghost use Rattle.launch_yaml.specs.TaggingViews.{tagging_view};
+
+use crate::fault::{Fault, Refusal};
+use abi_types::Text;
+use yaml_values::{Mode, Node, NodeValue};
+
+/// What stands before a value.
+#[derive(Drop)]
+pub enum Tagging {
+    /// Nothing.
+    Untagged,
+    /// A tag with a name.
+    Tagged {
+        /// The number of its line.
+        line: u32,
+        /// Its name.
+        name: Text,
+    },
+    /// `!!binary`, with its place.
+    Base64(Fault),
+}
+
+impl Tagging {
+    /// How a scalar behind it is read.
+    pub fn mode(&self) -> Mode
+        ensures { result ≡ mode_of (tagging_view self.now) }
+    {
+        match self {
+            Tagging::Untagged => Mode::Resolved,
+            Tagging::Tagged { .. } => Mode::Verbatim,
+            Tagging::Base64(_) => Mode::Base64,
+        }
+    }
+
+    /// The place of a `!!binary`.
+    pub fn binary_place(&self) -> Option<Fault>
+        ensures { result ≡ binary_place (tagging_view self.now) }
+    {
+        match self {
+            Tagging::Base64(place) => Some(*place),
+            _ => None,
+        }
+    }
+
+    /// The fault where a second tag stands at a place.
+    pub fn second_tag(&self, place: Fault) -> Fault
+        ensures { second_tag {A = Shape} (tagging_view self.now) place ≡ Err result }
+    {
+        match self {
+            Tagging::Base64(first) => *first,
+            _ => place,
+        }
+    }
+
+    /// The value on a line as a node.
+    pub fn into_node(self, line: u32, value: NodeValue) -> Node
+        ensures { shape_of result ≡ node_of (tagging_view self) line (content_of_value value) }
+    {
+        match self {
+            Tagging::Untagged => Node {
+                line,
+                tag: None,
+                value,
+            },
+            Tagging::Tagged { line, name } => Node {
+                line,
+                tag: Some(name),
+                value,
+            },
+            Tagging::Base64(place) => Node {
+                line: place.line,
+                tag: None,
+                value,
+            },
+        }
+    }
+
+    /// A node where no value stands.
+    pub fn absent(self, line: u32) -> Result<Node, Refusal>
+        ensures { Gives shape_of result (absent (tagging_view self) line) }
+    {
+        match self {
+            Tagging::Base64(place) => Err(Refusal::At(place)),
+            other => Ok(other.into_node(line, NodeValue::Null)),
+        }
+    }
+}

@@ -1,0 +1,43 @@
+-- Tags.
+use Rattle.std.specs.Prelude.{ℕ, suc, ◌==◌, ◌&&◌, ◌||◌, not, if◌then◌else◌, nat_eq, Bool, List, [], ◌∷◌, length, take, drop, codes, Result, Ok}
+use lib.Pointwise.{pointwise}
+use Rattle.yaml_values.specs.declared.kind.YamlKind.TheVariants as kinds
+use Rattle.yaml_values.specs.declared.fault.LineFault.{LineFault}
+use Rattle.yaml_values.specs.Results.{◌>>=◌, fault}
+use Rattle.yaml_values.specs.Characters.{bad_at}
+use Rattle.yaml_values.specs.Spaces.{is_one_of}
+use Rattle.yaml_values.specs.Scalars.{unless_bad, front_before}
+
+-- a tag: with a name, or `!!binary`
+pub data Tag : Type 0 where
+  named : List ℕ → Tag
+  bytes_in_base64 : Tag
+
+-- the name of a tag ends before this byte
+abbrev pub ends_name : Bool → ℕ → Bool
+ends_name in_flow b = (b == 32) || (in_flow && is_one_of (codes ",[]{}") b)
+
+-- how many bytes the name of a tag has
+abbrev pub name_length : Bool → List ℕ → ℕ
+name_length in_flow [] = 0
+name_length in_flow (b ∷ bs) = if ends_name in_flow b then 0 else suc (name_length in_flow bs)
+
+-- a name isn't empty and has no `!`
+abbrev pub is_name : List ℕ → Bool
+is_name name = not (length name == 0) && not (is_one_of name 33)
+
+abbrev pub is_binary : List ℕ → Bool
+is_binary name = pointwise nat_eq name (codes "!binary")
+
+-- the tag whose `!` stands at the place, and what stands behind it
+abbrev pub tag_of : ℕ → List ℕ → List ℕ → Result (Tag × List ℕ) LineFault
+tag_of place name rest =
+    if is_binary name then Ok (bytes_in_base64, rest)
+    else if is_name name then Ok (named name, rest)
+    else fault place kinds.Tag
+
+-- the tag behind a `!`, and what stands behind it
+unfoldable pub tag_at : Bool → List ℕ → Result (Tag × List ℕ) LineFault
+tag_at in_flow bytes =
+    tag_of (suc (length bytes)) (take (name_length in_flow bytes) bytes) (drop (name_length in_flow bytes) bytes)
+    >>= λ t. unless_bad bytes t.1 t (bad_at (front_before bytes t.1))
