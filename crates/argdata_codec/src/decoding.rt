@@ -9,16 +9,19 @@ use crate::refusal::Refusal;
 use crate::value::Value;
 use crate::{place, reading};
 use std::alloc::{AllocError, Global};
+use thiserror::Error;
 
 /// Why bytes gave no value.
-#[derive(Clone, Copy, Debug, PartialEq, Eq)]
+#[derive(Clone, Copy, Debug, Drop, PartialEq, Eq, Error)]
 pub enum ArgFault {
     /// The bytes spell no value.
+    #[error("byte {at} can't go on")]
     BadArgdata {
         /// How long the longest beginning of the bytes is that begins some spelling.
         at: usize,
     },
     /// There is no memory, or the bytes have a length of 2^112 or more, which no memory holds.
+    #[error("no memory")]
     NoMemory,
 }
 

@@ -1,6 +1,7 @@
 //! Guests: programs as assembler text, for tests and examples. `rv_asm::assemble` makes their code.
 #![tactic(auto)]
 
+pub use arguments::{ARGUMENT_LENGTH, FIRST_DESCRIPTOR, WRITE_TO_EACH};
 pub use calls::{
     BAD_POINTER, HELLO, LONG_WRITE, MANY_RANGES, NO_DESCRIPTOR, PAST_THE_STACK, START_BLOCK,
     TWO_PAGES, UNBUILT_CALLS, exit_with,
@@ -14,6 +15,7 @@ pub use memory::{
     call_with,
 };
 
+mod arguments;
 mod calls;
 mod machine;
 mod memory;

@@ -1,5 +1,5 @@
 -- What was read and refused, and what is spelled.
-use Rattle.std.proofs.Common.{◌≡◌, ◌≤◌, ℕ, Bool, true, false, cond, List, [], ◌∷◌, length, sym, refl, subst, lit<}
+use Rattle.std.proofs.Common.{◌≡◌, ◌≤◌, ℕ, false, cond, List, [], ◌∷◌, length, sym, refl, subst, lit<}
 use Rattle.std.specs.Prelude.{nat_lt, Option, None, Some, Result, Ok, Err, IfOk, IfErr}
 use Rattle.std.proofs.lemmas.Bool.{le-ltb, lt-ltb}
 use Rattle.abi_types.specs.Outside.Source.{Told, Untold, Lacking, Content, IsWhole, IsLongerThan}
@@ -7,9 +7,9 @@ use Rattle.elf_image.specs.Checks.{fault_of}
 use Rattle.elf_image.specs.declared.fault.ElfFault.{ElfFault}
 use Rattle.kernel_core.specs.declared.launch.Launch.{Launch}
 use Rattle.launch_run.specs.Inputs.{IsUnread, IsNoLaunch, IsNoLaunchOf}
-use Rattle.launch_run.specs.Launch.{Spelled, untold, refuses, spells, input_limit, standard_input, launch_with, spelled_at, spelled_by, spelled_with, inputs_spell, IsToldAs, IsBuiltLaunch}
-use Rattle.launch_run.specs.LaunchText.{is_launch_text}
-use Rattle.launch_run.specs.Lines.{too_long_line, launch_text_line}
+use Rattle.launch_run.specs.Launch.{Spelled, untold, refuses, spells, input_limit, standard_input, launch_with, spelled_text, spelled_at, spelled_by, spelled_with, inputs_spell, IsToldAs, IsBuiltLaunch}
+use Rattle.launch_run.specs.LaunchText.{TextPlan, planned_text}
+use Rattle.launch_run.specs.Lines.{too_long_line}
 use Rattle.launch_run.specs.declared.lines.Refusal.{Refusal}
 use Rattle.launch_run.specs.declared.lines.Refusal.TheVariants.{Words, Input, TooLong, Program, LaunchText, Memory}
 
@@ -52,7 +52,7 @@ text_unread name told later rose early program since stays whole fits (TooLong n
           (input_read name (told name) (λ p. spelled_with standard_input (told standard_input) (λ text. spelled_by p text)) program _ whole fits long),
     )
 text_unread name told later rose early program since stays whole fits (Program found) h = absurd h
-text_unread name told later rose early program since stays whole fits LaunchText h = absurd h
+text_unread name told later rose early program since stays whole fits (LaunchText fault) h = absurd h
 text_unread name told later rose early program since stays whole fits Memory h = tt
 
 -- both inputs were read
@@ -84,29 +84,29 @@ refusal_told name told later program text rose stays whole fits whole_text fits_
 refusal_told name told later program text rose stays whole fits whole_text fits_text (Err (TooLong n)) e = absurd e
 refusal_told name told later program text rose stays whole fits whole_text fits_text (Err (Program found)) e =
     both_read name told later program text stays whole fits whole_text fits_text _ e
-refusal_told name told later program text rose stays whole fits whole_text fits_text (Err LaunchText) e =
+refusal_told name told later program text rose stays whole fits whole_text fits_text (Err (LaunchText fault)) e =
     both_read name told later program text stays whole fits whole_text fits_text _ e
 refusal_told name told later program text rose stays whole fits whole_text fits_text (Err Memory) e = tt
 
--- a choice that gave a launch gave this one
-chosen : (b : Bool) (made launch : Launch) → cond b (spells made) (refuses 65 launch_text_line) ≡ spells launch → made ≡ launch
-chosen true made launch e = cc
-chosen false made launch e = cc
+-- what spells a launch spells one of a launch text without fault
+built_with : (program text : List ℕ) (planned : TextPlan) (launch : Launch) → fault_of program ≡ None → planned_text text ≡ planned →
+    spelled_text program planned ≡ spells launch → IsBuiltLaunch launch
+built_with program text (Err fault) launch sound is e = cc
+built_with program text (Ok planned) launch sound is e =
+    let same : launch_with program planned ≡ launch = cc in
+    subst IsBuiltLaunch same (record {
+      program = program;
+      text = text;
+      sound = sound;
+      elf = refl;
+      planned = is;
+      turns = refl;
+    })
 
--- what spells a launch spells one of this width
 built_at : (program text : List ℕ) (found : Option ElfFault) (launch : Launch) → fault_of program ≡ found →
     spelled_at program text found ≡ spells launch → IsBuiltLaunch launch
 built_at program text (Some fault) launch is e = cc
-built_at program text None launch is e =
-    subst IsBuiltLaunch (chosen (is_launch_text text) (launch_with program) launch e)
-    (record {
-      program = program;
-      sound = is;
-      elf = refl;
-      argdata = refl;
-      grants = refl;
-      turns = refl;
-    })
+built_at program text None launch is e = built_with program text (planned_text text) launch is refl e
 
 pub built : (program text : List ℕ) (r : Result Launch Refusal) → IfOk r (λ launch. spelled_by program text ≡ spells launch) →
     IfOk r IsBuiltLaunch

@@ -8,3 +8,4 @@ pub mod TopClauses
 mod ReportTexts
 mod ReportLines
 pub mod Bounds
+pub mod TextPlans

@@ -16,7 +16,7 @@ line_parts (TooLong name) =
     sym (ap (λ (xs : List ℕ). xs ++ 10 ∷ []) (refl {a = codes "input: " ++ (name.now ++ codes " too long")}) ∙ append_assoc (codes "input: ") (name.now ++ codes " too long") (10 ∷ []) ∙ ap (λ (xs : List ℕ). codes "input: " ++ xs) (append_assoc name.now (codes " too long") (10 ∷ [])))
 line_parts (Program found) =
     sym (append_assoc (codes "program: ") (fault_name found ++ fault_number found) (10 ∷ []) ∙ ap (λ (xs : List ℕ). codes "program: " ++ xs) (append_assoc (fault_name found) (fault_number found) (10 ∷ [])))
-line_parts LaunchText = refl
+line_parts (LaunchText fault) = refl
 line_parts Memory = refl
 
 -- what grew by the first bytes of a piece grew by the first bytes of a longer one

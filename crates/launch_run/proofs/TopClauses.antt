@@ -17,7 +17,7 @@ use Rattle.launch_run.specs.declared.top.RunEnd.{RunEnd}
 use Rattle.launch_run.specs.declared.top.RunEnd.TheVariants.{Reported, Unwritten, NoMemory}
 use Rattle.launch_run.specs.declared.top.TopEnd.{TopEnd}
 use Rattle.launch_run.specs.declared.top.TopEnd.TheVariants.{Refused, Ran}
-use Rattle.launch_run.specs.TopCall.{Wrote, IsRecordOf, IsRunOf, IsTopEnd, IsToldEnd, IsInputRefused, IsKept, Completes, HasFailed, HasReported, status_number, finished_run, finished_of, IsProgramRefused}
+use Rattle.launch_run.specs.TopCall.{Wrote, IsRecordOf, IsRunOf, IsTopEnd, IsToldEnd, IsInputRefused, IsKept, Completes, HasFailed, HasReported, status_number, finished_run, finished_of, IsProgramRefused, IsTextRefused}
 
 -- a record of a run is as every record that is kept
 is_kept : (spelled : Spelled) (launch : Launch) (r : Record) → IsRecordOf launch r → IsToldAs spelled (spells launch) →
@@ -41,7 +41,7 @@ memory_status Words is = absurd (cc)
 memory_status (Input name) is = absurd (cc)
 memory_status (TooLong name) is = absurd (cc)
 memory_status (Program found) is = absurd (cc)
-memory_status LaunchText is = absurd (cc)
+memory_status (LaunchText fault) is = absurd (cc)
 memory_status Memory is = refl
 
 module _ (words : List (List ℕ)) (told : List ℕ → Told) (rose : Type 0) (before after : Option (List ℕ)) (sink_rose : Type 0) where
@@ -87,7 +87,7 @@ module _ (words : List (List ℕ)) (told : List ℕ → Told) (rose : Type 0) (b
   top_input (Refused (Input name)) o is = (name.now, o.0.input.0, inl (o.0.input.1, o.1))
   top_input (Refused (TooLong name)) o is = (name.now, o.0.too_long, inr (o.0.refused tt, o.1))
   top_input (Refused (Program found)) o is = absurd (omega arith)
-  top_input (Refused LaunchText) o is = absurd (omega arith)
+  top_input (Refused (LaunchText fault)) o is = absurd (omega arith)
   top_input (Refused Memory) o is = absurd (omega arith)
   top_input (Ran (Reported r status)) o is = absurd (no_input_status status is)
   top_input (Ran (Unwritten r)) o is = absurd (omega arith)
@@ -105,11 +105,33 @@ module _ (words : List (List ℕ)) (told : List ℕ → Told) (rose : Type 0) (b
   top_program (Refused (Input name)) o is = absurd (omega arith)
   top_program (Refused (TooLong name)) o is = absurd (omega arith)
   top_program (Refused (Program found)) o is = (found, o.0.refused tt, o.1)
-  top_program (Refused LaunchText) o is = absurd (omega arith)
+  top_program (Refused (LaunchText fault)) o is = absurd (omega arith)
   top_program (Refused Memory) o is = absurd (omega arith)
   top_program (Ran (Reported r status)) o is = absurd (no_program_status status is)
   top_program (Ran (Unwritten r)) o is = absurd (omega arith)
   top_program (Ran (NoMemory r)) o is = absurd (omega arith)
+
+  not_65 : (none : Bool) → ◌≡◌ {A = ℕ} (if none then 0 else 1) 65 → ⊥
+  not_65 true is = omega arith
+  not_65 false is = omega arith
+
+  no_text_status : (status : Option Status) → status_number status ≡ 65 → ⊥
+  no_text_status None is = omega arith
+  no_text_status (Some Live) is = omega arith
+  no_text_status (Some (Exit code)) is = not_65 (code == 0) is
+  no_text_status (Some (Killed signal)) is = omega arith
+
+  pub top_text : (end : TopEnd) → IsTopEnd words told rose before after sink_rose end → (finished_of end).status ≡ 65 →
+      IsTextRefused (launch_of words told) (Wrote before after sink_rose)
+  top_text (Refused Words) o is = absurd (omega arith)
+  top_text (Refused (Input name)) o is = absurd (omega arith)
+  top_text (Refused (TooLong name)) o is = absurd (omega arith)
+  top_text (Refused (Program found)) o is = absurd (omega arith)
+  top_text (Refused (LaunchText fault)) o is = (fault, o.0.refused tt, o.1)
+  top_text (Refused Memory) o is = absurd (omega arith)
+  top_text (Ran (Reported r status)) o is = absurd (no_text_status status is)
+  top_text (Ran (Unwritten r)) o is = absurd (omega arith)
+  top_text (Ran (NoMemory r)) o is = absurd (omega arith)
 
   -- ---- want of memory
 
@@ -129,7 +151,7 @@ module _ (words : List (List ℕ)) (told : List ℕ → Told) (rose : Type 0) (b
   top_memory (Refused (Input name)) o is = absurd (omega arith)
   top_memory (Refused (TooLong name)) o is = absurd (omega arith)
   top_memory (Refused (Program found)) o is = absurd (omega arith)
-  top_memory (Refused LaunchText) o is = absurd (omega arith)
+  top_memory (Refused (LaunchText fault)) o is = absurd (omega arith)
   top_memory (Refused Memory) o is = (o.1, tt)
   top_memory (Ran (Reported r status)) o is = absurd (no_memory_status status is)
   top_memory (Ran (Unwritten r)) o is = absurd (omega arith)
@@ -148,7 +170,7 @@ module _ (words : List (List ℕ)) (told : List ℕ → Told) (rose : Type 0) (b
   top_ended (Refused (Input name)) o is = absurd (not_01 66 (omega arith) is)
   top_ended (Refused (TooLong name)) o is = absurd (not_01 66 (omega arith) is)
   top_ended (Refused (Program found)) o is = absurd (not_01 67 (omega arith) is)
-  top_ended (Refused LaunchText) o is = absurd (not_01 65 (omega arith) is)
+  top_ended (Refused (LaunchText fault)) o is = absurd (not_01 65 (omega arith) is)
   top_ended (Refused Memory) o is = absurd (not_01 70 (omega arith) is)
   top_ended (Ran (Reported r status)) o is =
       record { ended = o.end_told.1; status_is = ap status_number o.end_told.2; written = o.end_told.3 }
@@ -167,7 +189,7 @@ module _ (words : List (List ℕ)) (told : List ℕ → Told) (rose : Type 0) (b
   top_unwritten (Refused (Input name)) o is = absurd (omega arith)
   top_unwritten (Refused (TooLong name)) o is = absurd (omega arith)
   top_unwritten (Refused (Program found)) o is = absurd (omega arith)
-  top_unwritten (Refused LaunchText) o is = absurd (omega arith)
+  top_unwritten (Refused (LaunchText fault)) o is = absurd (omega arith)
   top_unwritten (Refused Memory) o is = absurd (omega arith)
   top_unwritten (Ran (Reported r status)) o is = absurd (no_unwritten_status status is)
   top_unwritten (Ran (Unwritten r)) o is = (o.end_told.2, record { ended = o.end_told.1; prefix = o.end_told.3 })

@@ -2,7 +2,7 @@
 use Rattle.std.specs.Prelude.{◌≡◌, ℕ, ⊤, List, Contains}
 use Rattle.abi_types.specs.Outside.Source.{Told, IsLongerThan}
 use Rattle.launch_run.specs.Launch.{Spelled, refuses, input_limit, IsToldAs}
-use Rattle.launch_run.specs.Lines.{too_long_line, program_line, launch_text_line}
+use Rattle.launch_run.specs.Lines.{too_long_line, program_line, launch_line}
 use Rattle.launch_run.specs.declared.lines.Refusal.{Refusal}
 use Rattle.launch_run.specs.declared.lines.Refusal.TheVariants.{Words, Input, TooLong, Program, LaunchText, Memory}
 
@@ -17,7 +17,7 @@ IsUnread name told rose _ = ⊥
 -- why a program and a launch text give no launch
 abbrev pub IsNoLaunch : Spelled → Refusal → Type 0
 IsNoLaunch spelled (Program found) = spelled ≡ refuses 67 (program_line found)
-IsNoLaunch spelled LaunchText = spelled ≡ refuses 65 launch_text_line
+IsNoLaunch spelled (LaunchText fault) = spelled ≡ refuses 65 (launch_line fault)
 IsNoLaunch spelled Memory = ⊤
 IsNoLaunch spelled _ = ⊥
 
@@ -28,6 +28,6 @@ abbrev pub IsNoLaunchOf : List (List ℕ) → Spelled → Type 0 → Refusal →
 IsNoLaunchOf names spelled rose (Input n) = Contains names n.now × rose
 IsNoLaunchOf names spelled rose (TooLong n) = Contains names n.now × IsToldAs spelled (refuses 66 (too_long_line n.now))
 IsNoLaunchOf names spelled rose (Program found) = IsToldAs spelled (refuses 67 (program_line found))
-IsNoLaunchOf names spelled rose LaunchText = IsToldAs spelled (refuses 65 launch_text_line)
+IsNoLaunchOf names spelled rose (LaunchText fault) = IsToldAs spelled (refuses 65 (launch_line fault))
 IsNoLaunchOf names spelled rose Memory = ⊤
 IsNoLaunchOf names spelled rose Words = ⊥

@@ -5,8 +5,9 @@ use Rattle.elf_image.specs.Checks.{fault_of}
 use Rattle.elf_image.specs.Image.{image}
 use Rattle.elf_image.specs.declared.fault.ElfFault.{ElfFault}
 use Rattle.kernel_core.specs.declared.launch.Launch.{Launch}
-use Rattle.launch_run.specs.LaunchText.{is_launch_text, launch_grants, launch_argdata}
-use Rattle.launch_run.specs.Lines.{words_line, input_line, too_long_line, program_line, launch_text_line, line_of, status_of}
+use Rattle.abi_types.specs.declared.grant.Grant.{Grant}
+use Rattle.launch_run.specs.LaunchText.{TextPlan, planned_text}
+use Rattle.launch_run.specs.Lines.{words_line, input_line, too_long_line, program_line, launch_line, line_of, status_of}
 use Rattle.launch_run.specs.Words.{program_of}
 use Rattle.launch_run.specs.declared.lines.Refusal.{Refusal}
 use Rattle.launch_run.specs.declared.lines.Refusal.TheVariants.{Input, TooLong, Memory}
@@ -26,19 +27,23 @@ input_limit = 268_435_456
 abbrev pub launch_turns : ℕ
 launch_turns = 100_000
 
--- the launch of a program, under the one launch text
-abbrev pub launch_with : List ℕ → Launch
-launch_with program = record {
+-- the launch of a program, under what a launch text gives
+abbrev pub launch_with : List ℕ → List ℕ × List Grant → Launch
+launch_with program planned = record {
   elf = image program;
-  argdata = launch_argdata;
-  grants = launch_grants;
+  argdata = planned.0;
+  grants = planned.1;
   turns = launch_turns;
 }
+
+abbrev pub spelled_text : List ℕ → TextPlan → Spelled
+spelled_text program (Ok planned) = spells (launch_with program planned)
+spelled_text program (Err fault) = refuses 65 (launch_line fault)
 
 -- what a program and a launch text spell, where this is the program's first fault, if it has one
 abbrev pub spelled_at : List ℕ → List ℕ → Option ElfFault → Spelled
 spelled_at program text (Some fault) = refuses 67 (program_line fault)
-spelled_at program text None = cond (is_launch_text text) (spells (launch_with program)) (refuses 65 launch_text_line)
+spelled_at program text None = spelled_text program (planned_text text)
 
 -- what the contents of the two inputs spell: first the program is looked at, then the launch text
 unfoldable pub spelled_by : List ℕ → List ℕ → Spelled
@@ -85,13 +90,13 @@ IsToldAs untold answer = ⊤
 IsToldAs (refuses status line) answer = refuses status line ≡ answer
 IsToldAs (spells launch) answer = spells launch ≡ answer
 
--- a launch as this width has them: the image of a program without fault, and what the one launch text stands for
+-- a launch as they are: the image of a program without fault, and what a launch text without fault gives
 pub record IsBuiltLaunch (launch : Launch) : Type 0 where
   pub program : List ℕ
+  pub text : List ℕ
   pub sound : fault_of program ≡ None
   pub elf : launch.elf ≡ image program
-  pub argdata : launch.argdata ≡ launch_argdata
-  pub grants : launch.grants ≡ launch_grants
+  pub planned : planned_text text ≡ Ok (launch.argdata, launch.grants)
   pub turns : launch.turns ≡ launch_turns
 
 -- the refusal is of an input that could not be read, with such a name

@@ -1,22 +1,58 @@
--- The launch text that a launch may have at this width, and what it stands for.
-use Rattle.std.specs.Prelude.{ℕ, ◌||◌, Bool, List, [], ◌∷◌, ◌++◌, codes}
-use Rattle.std.specs.Str.{bytes_eq}
+-- What a launch text gives a program, or its first fault.
+use Rattle.std.specs.Prelude.{◌≡◌, ℕ, List, Option, None, Some, Result, Ok, Err}
 use Rattle.abi_types.specs.declared.grant.Grant.{Grant}
-use Rattle.abi_types.specs.declared.grant.GrantTarget.TheVariants.{Terminal}
+use Rattle.yaml_values.specs.Shape.{Shape}
+use Rattle.launch_yaml.specs.declared.fault.Fault.{Fault}
+use Rattle.launch_yaml.specs.Document.{parse_at}
+use Rattle.launch_yaml.specs.declared.document.YamlFault.{YamlFault}
+use Rattle.launch_yaml.specs.declared.document.YamlFault.TheVariants.{At, NoMemory}
+use Rattle.launch_plan.specs.declared.fault.PlanFault.{PlanFault}
+use Rattle.launch_plan.specs.declared.fault.PlanFault.TheVariants as plans
+use Rattle.launch_plan.specs.Plan.{plan_of}
+use Rattle.launch_run.specs.declared.launch_text.LaunchFault.{LaunchFault}
+use Rattle.launch_run.specs.declared.launch_text.LaunchFault.TheVariants.{Yaml, Plan}
 
--- the one launch text: one descriptor, of standard output
-abbrev pub stdout_launch : List ℕ
-stdout_launch = codes "!fd stdout"
+-- argument data and descriptors, or the first fault
+abbrev pub TextPlan : Type 0
+TextPlan = Result (List ℕ × List Grant) LaunchFault
 
--- whether a text is the one launch text, with or without a line feed at its end
-abbrev pub is_launch_text : List ℕ → Bool
-is_launch_text text = bytes_eq text stdout_launch || bytes_eq text (stdout_launch ++ 10 ∷ [])
+-- the fault of a document's plan is that of its text
+abbrev pub with_plan : Result (List ℕ × List Grant) PlanFault → TextPlan
+with_plan (Ok planned) = Ok planned
+with_plan (Err fault) = Err (Plan fault)
 
--- the one descriptor: standard output, with all rights of its type (FD_STAT_PUT_FLAGS, FD_WRITE, FILE_STAT_FGET and
--- POLL_FD_READWRITE), and none for what is opened through it
-abbrev pub launch_grants : List Grant
-launch_grants = record { target = Terminal 1; base = record { 0 = 0x10080048 }; inheriting = record { 0 = 0 } } ∷ []
+-- a text that is no launch file has its first fault; one that is gives what its document gives
+abbrev pub with_document : Result Shape Fault → TextPlan
+with_document (Ok document) = with_plan (plan_of document)
+with_document (Err fault) = Err (Yaml fault.line fault.kind)
 
--- the argument data that the text gives the program: the descriptor 0 (3, and the number in four bytes)
-abbrev pub launch_argdata : List ℕ
-launch_argdata = 3 ∷ 0 ∷ 0 ∷ 0 ∷ 0 ∷ []
+unfoldable pub planned_text : List ℕ → TextPlan
+planned_text text = with_document (parse_at text)
+
+-- the fault is the one that the text has; none was found for want of memory
+abbrev pub IsTextFault : TextPlan → Option LaunchFault → Type 0
+IsTextFault planned None = Unit {0}
+IsTextFault planned (Some fault) = planned ≡ Err fault
+
+-- a fault of a launch file and one of its plan; none, where memory is wanting
+abbrev pub of_file : YamlFault → Option LaunchFault
+of_file (At line kind) = Some (Yaml line kind)
+of_file NoMemory = None
+
+abbrev pub of_plan : PlanFault → Option LaunchFault
+of_plan (plans.UnknownTag line) = Some (Plan (plans.UnknownTag line))
+of_plan (plans.BadFd line) = Some (Plan (plans.BadFd line))
+of_plan (plans.NotBuilt line) = Some (Plan (plans.NotBuilt line))
+of_plan plans.TooMany = Some (Plan plans.TooMany)
+of_plan plans.TooLarge = Some (Plan plans.TooLarge)
+of_plan plans.NoMemory = None
+
+-- the line of a fault, where it has one
+abbrev pub line_of_fault : LaunchFault → Option ℕ
+line_of_fault (Yaml line kind) = Some line
+line_of_fault (Plan (plans.UnknownTag line)) = Some line
+line_of_fault (Plan (plans.BadFd line)) = Some line
+line_of_fault (Plan (plans.NotBuilt line)) = Some line
+line_of_fault (Plan plans.TooMany) = None
+line_of_fault (Plan plans.TooLarge) = None
+line_of_fault (Plan plans.NoMemory) = None

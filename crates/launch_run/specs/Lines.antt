@@ -1,7 +1,13 @@
 -- The line and the status of each refusal.
-use Rattle.std.specs.Prelude.{ℕ, ◌+◌, ◌/◌, ◌%◌, cond, nat_lt, List, [], ◌∷◌, ◌++◌, codes}
+use Rattle.std.specs.Prelude.{ℕ, List, [], ◌∷◌, ◌++◌, codes, decimal, Option, None, Some, is_some, if◌then◌else◌}
 use Rattle.elf_image.specs.declared.fault.ElfFault.{ElfFault}
 use Rattle.elf_image.specs.declared.fault.ElfFault.TheVariants as fault
+use Rattle.yaml_values.specs.declared.kind.YamlKind.{YamlKind}
+use Rattle.yaml_values.specs.declared.kind.YamlKind.TheVariants as kinds
+use Rattle.launch_plan.specs.declared.fault.PlanFault.TheVariants as plans
+use Rattle.launch_run.specs.LaunchText.{line_of_fault}
+use Rattle.launch_run.specs.declared.launch_text.LaunchFault.{LaunchFault}
+use Rattle.launch_run.specs.declared.launch_text.LaunchFault.TheVariants.{Yaml, Plan}
 use Rattle.launch_run.specs.declared.lines.Refusal.{Refusal}
 use Rattle.launch_run.specs.declared.lines.Refusal.TheVariants.{Words, Input, TooLong, Program, LaunchText, Memory}
 
@@ -37,10 +43,6 @@ fault_name (fault.Overlap header) = codes "Overlap "
 fault_name fault.Entry = codes "Entry"
 fault_name fault.NoMemory = codes "NoMemory"
 
--- a number below 100 in decimal
-abbrev pub decimal : ℕ → List ℕ
-decimal n = cond (nat_lt n 10) ((48 + n) ∷ []) ((48 + n / 10 % 10) ∷ (48 + n % 10) ∷ [])
-
 -- the number of the program header that is at fault, for a fault that is of one
 abbrev pub fault_number : ElfFault → List ℕ
 fault_number (fault.Segment header) = decimal header
@@ -51,9 +53,44 @@ fault_number _ = []
 abbrev pub program_line : ElfFault → List ℕ
 program_line found = ended (codes "program: " ++ fault_name found ++ fault_number found)
 
--- the input is no launch text
-abbrev pub launch_text_line : List ℕ
-launch_text_line = ended (codes "launch: not built")
+-- what stands behind the number of the line of a fault in a launch file
+abbrev pub kind_ending : YamlKind → List ℕ
+kind_ending kinds.Indent = ended (codes ": Indent")
+kind_ending kinds.Tab = ended (codes ": Tab")
+kind_ending kinds.Quote = ended (codes ": Quote")
+kind_ending kinds.Escape = ended (codes ": Escape")
+kind_ending kinds.Flow = ended (codes ": Flow")
+kind_ending kinds.Tag = ended (codes ": Tag")
+kind_ending kinds.DuplicateKey = ended (codes ": DuplicateKey")
+kind_ending kinds.Anchor = ended (codes ": Anchor")
+kind_ending kinds.BlockScalar = ended (codes ": BlockScalar")
+kind_ending kinds.Float = ended (codes ": Float")
+kind_ending kinds.IntegerRange = ended (codes ": IntegerRange")
+kind_ending kinds.End = ended (codes ": End")
+kind_ending kinds.Depth = ended (codes ": Depth")
+kind_ending kinds.Character = ended (codes ": Character")
+kind_ending kinds.Base64 = ended (codes ": Base64")
+
+-- a line has its number behind these words; two faults are of no line
+abbrev pub launch_front : LaunchFault → List ℕ
+launch_front fault = if is_some (line_of_fault fault) then codes "launch: line " else codes "launch: "
+
+abbrev pub line_number : Option ℕ → List ℕ
+line_number None = []
+line_number (Some line) = decimal line
+
+abbrev pub launch_ending : LaunchFault → List ℕ
+launch_ending (Yaml line kind) = kind_ending kind
+launch_ending (Plan (plans.UnknownTag line)) = ended (codes ": UnknownTag")
+launch_ending (Plan (plans.BadFd line)) = ended (codes ": BadFd")
+launch_ending (Plan (plans.NotBuilt line)) = ended (codes ": NotBuilt")
+launch_ending (Plan plans.TooMany) = ended (codes "too many")
+launch_ending (Plan plans.TooLarge) = ended (codes "too large")
+launch_ending (Plan plans.NoMemory) = ended (codes "no memory")
+
+-- the launch text has this fault
+abbrev pub launch_line : LaunchFault → List ℕ
+launch_line fault = launch_front fault ++ (line_number (line_of_fault fault) ++ launch_ending fault)
 
 -- memory is wanting
 abbrev pub memory_line : List ℕ
@@ -65,7 +102,7 @@ line_of Words = words_line
 line_of (Input name) = input_line name.now
 line_of (TooLong name) = too_long_line name.now
 line_of (Program found) = program_line found
-line_of LaunchText = launch_text_line
+line_of (LaunchText fault) = launch_line fault
 line_of Memory = memory_line
 
 -- the status of each refusal
@@ -74,7 +111,7 @@ status_of Words = 2
 status_of (Input name) = 66
 status_of (TooLong name) = 66
 status_of (Program found) = 67
-status_of LaunchText = 65
+status_of (LaunchText fault) = 65
 status_of Memory = 70
 
 -- a line in four parts: the text before the name, the name, the number, and the text after it
@@ -83,7 +120,7 @@ front_of Words = codes "words: refused"
 front_of (Input name) = codes "input: "
 front_of (TooLong name) = codes "input: "
 front_of (Program found) = codes "program: "
-front_of LaunchText = codes "launch: not built"
+front_of (LaunchText fault) = launch_front fault
 front_of Memory = codes "memory"
 
 abbrev pub name_of : Refusal → List ℕ
@@ -94,8 +131,10 @@ name_of _ = []
 
 abbrev pub number_of : Refusal → List ℕ
 number_of (Program found) = fault_number found
+number_of (LaunchText fault) = line_number (line_of_fault fault)
 number_of _ = []
 
 abbrev pub back_of : Refusal → List ℕ
 back_of (TooLong name) = ended (codes " too long")
+back_of (LaunchText fault) = launch_ending fault
 back_of _ = ended []

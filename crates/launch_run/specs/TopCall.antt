@@ -17,9 +17,10 @@ use Rattle.run_model.specs.Legal.{Legal}
 use Rattle.run_model.specs.World.{world}
 use Rattle.launch_run.specs.Launch.{Spelled, untold, refuses, spells, launch_of, inputs_of, IsToldAs, IsBuiltLaunch, IfInput, IfTooLong, IsOfTexts, AnswersSpelled}
 use Rattle.elf_image.specs.declared.fault.ElfFault.{ElfFault}
-use Rattle.launch_run.specs.Lines.{line_of, status_of, memory_line, input_line, program_line, too_long_line}
+use Rattle.launch_run.specs.Lines.{line_of, status_of, memory_line, input_line, program_line, launch_line, too_long_line}
 use Rattle.launch_run.specs.Report.{report_of}
 use Rattle.launch_run.specs.Words.{program_of}
+use Rattle.launch_run.specs.declared.launch_text.LaunchFault.{LaunchFault}
 use Rattle.launch_run.specs.declared.lines.Refusal.{Refusal}
 use Rattle.launch_run.specs.declared.lines.Refusal.TheVariants.{Words}
 use Rattle.launch_run.specs.declared.top.Finished.{Finished}
@@ -137,6 +138,12 @@ pub record HasReported (before after : Option (List ℕ)) (status : ℕ) (r : Re
 abbrev pub IsProgramRefused : Spelled → (List ℕ → Type 0) → Type 0
 IsProgramRefused spelled wrote =
     (found : ElfFault) × IsToldAs spelled (refuses 67 (program_line found)) × wrote (program_line found)
+
+-- the launch text is refused for a fault, which is the first refusal that is spelled, where anything is told of it, and its
+-- line was written
+abbrev pub IsTextRefused : Spelled → (List ℕ → Type 0) → Type 0
+IsTextRefused spelled wrote =
+    (fault : LaunchFault) × IsToldAs spelled (refuses 65 (launch_line fault)) × wrote (launch_line fault)
 
 -- the run of the record has ended, and a prefix of its report was written
 pub record HasFailed (before after : Option (List ℕ)) (r : Record) : Type 0 where

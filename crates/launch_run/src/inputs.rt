@@ -7,13 +7,14 @@ ghost use Rattle.launch_run.specs.Launch.{spells, refuses, input_limit, standard
 ghost use Rattle.launch_run.specs.Lines.{line_of, status_of};
 ghost use Rattle.launch_run.specs.Words.{program_of};
 
-use crate::launch_text::{is_stdout_launch, stdout_argdata, stdout_grants};
+use crate::launch_text::plan_text;
 use crate::lines::Refusal;
 use crate::words::program_word;
 use abi_types::Bytes;
 use abi_types::outside::{ReadFault, Source, read_whole};
 use elf_image::{ElfFault, read_elf};
 use kernel_core::Launch;
+use launch_plan::Planned;
 use std::alloc::{AllocError, Global};
 
 // The name of standard input, which has the launch text.
@@ -66,15 +67,16 @@ fn launch_from<'a>(alloc: Global, program: &[u8], text: &[u8]) -> Result<Launch,
         Err(ElfFault::NoMemory) => return Err(Refusal::Memory),
         Err(fault) => return Err(Refusal::Program(fault)),
     };
-    if !is_stdout_launch(text) {
-        return Err(Refusal::LaunchText);
+    match plan_text(alloc, text) {
+        Ok(Planned { argdata, grants }) => Ok(Launch {
+            elf,
+            argdata,
+            grants,
+            turns: LAUNCH_TURNS,
+        }),
+        Err(Some(fault)) => Err(Refusal::LaunchText(fault)),
+        Err(None) => Err(Refusal::Memory),
     }
-    Ok(Launch {
-        elf,
-        argdata: stdout_argdata(alloc)?,
-        grants: stdout_grants(alloc)?,
-        turns: LAUNCH_TURNS,
-    })
 }
 
 // The launch of the program of this name.

@@ -2,12 +2,11 @@
 #![tactic(auto)]
 
 pub use inputs::read_launch;
-pub use launch_text::{is_stdout_launch, stdout_argdata, stdout_grants};
+pub use launch_text::{LaunchFault, plan_text};
 pub use lines::Refusal;
 pub use top::{Finished, run_launch};
 pub use words::program_word;
 
-mod decimal;
 mod inputs;
 mod launch_text;
 mod lines;

@@ -2,11 +2,14 @@
 ghost use Rattle.std.specs.Prelude.{◌≡◌, ◌≤◌, ◌++◌, OnOk, OnErr};
 ghost use Rattle.abi_types.specs.Outside.Source.{Rose};
 ghost use Rattle.abi_types.specs.Outside.Sink.{grown, GrewByPrefix};
-ghost use Rattle.launch_run.specs.Lines.{line_of, status_of, fault_name, front_of, name_of, number_of, back_of};
+ghost use Rattle.launch_run.specs.Lines.{line_of, status_of, fault_name, kind_ending, launch_front, launch_ending, front_of, name_of, number_of, back_of};
 
-use crate::decimal::Decimal;
+use crate::launch_text::LaunchFault;
 use abi_types::outside::{Failed, Sink, write_whole};
 use elf_image::ElfFault;
+use itoa::Buffer;
+use launch_plan::PlanFault;
+use launch_yaml::YamlKind;
 
 // The name of a fault of a program's file, with a space behind it where a number follows.
 fn fault_name(fault: ElfFault) -> &'static str
@@ -29,6 +32,55 @@ fn fault_name(fault: ElfFault) -> &'static str
     }
 }
 
+// What stands behind the line's number for a fault of a launch file.
+fn kind_ending(kind: YamlKind) -> &'static str
+    ensures { result.now ≡ kind_ending kind }
+{
+    match kind {
+        YamlKind::Indent => ": Indent\n",
+        YamlKind::Tab => ": Tab\n",
+        YamlKind::Quote => ": Quote\n",
+        YamlKind::Escape => ": Escape\n",
+        YamlKind::Flow => ": Flow\n",
+        YamlKind::Tag => ": Tag\n",
+        YamlKind::DuplicateKey => ": DuplicateKey\n",
+        YamlKind::Anchor => ": Anchor\n",
+        YamlKind::BlockScalar => ": BlockScalar\n",
+        YamlKind::Float => ": Float\n",
+        YamlKind::IntegerRange => ": IntegerRange\n",
+        YamlKind::End => ": End\n",
+        YamlKind::Depth => ": Depth\n",
+        YamlKind::Character => ": Character\n",
+        YamlKind::Base64 => ": Base64\n",
+    }
+}
+
+// The line's text before the number.
+fn launch_front(fault: LaunchFault) -> &'static str
+    ensures { result.now ≡ launch_front fault }
+{
+    if fault.line().is_some() {
+        "launch: line "
+    } else {
+        "launch: "
+    }
+}
+
+// The line's text after the number.
+fn launch_ending(fault: LaunchFault) -> &'static str
+    ensures { result.now ≡ launch_ending fault }
+{
+    match fault {
+        LaunchFault::Yaml(_, kind) => kind_ending(kind),
+        LaunchFault::Plan(PlanFault::UnknownTag(_)) => ": UnknownTag\n",
+        LaunchFault::Plan(PlanFault::BadFd(_)) => ": BadFd\n",
+        LaunchFault::Plan(PlanFault::NotBuilt(_)) => ": NotBuilt\n",
+        LaunchFault::Plan(PlanFault::TooMany) => "too many\n",
+        LaunchFault::Plan(PlanFault::TooLarge) => "too large\n",
+        LaunchFault::Plan(PlanFault::NoMemory) => "no memory\n",
+    }
+}
+
 /// Why a run did not begin.
 #[derive(Clone, Copy, Debug, PartialEq, Eq)]
 pub enum Refusal<'a> {
@@ -40,8 +92,8 @@ pub enum Refusal<'a> {
     TooLong(&'a str),
     /// The program's file has this fault. It isn't `NoMemory`.
     Program(ElfFault),
-    /// Standard input is no launch text.
-    LaunchText,
+    /// The launch text has this fault.
+    LaunchText(LaunchFault),
     /// Memory is wanting.
     Memory,
 }
@@ -55,7 +107,7 @@ impl<'a> Refusal<'a> {
             Refusal::Words => 2,
             Refusal::Input(_) | Refusal::TooLong(_) => 66,
             Refusal::Program(_) => 67,
-            Refusal::LaunchText => 65,
+            Refusal::LaunchText(_) => 65,
             Refusal::Memory => 70,
         }
     }
@@ -68,7 +120,7 @@ impl<'a> Refusal<'a> {
             Refusal::Words => "words: refused",
             Refusal::Input(_) | Refusal::TooLong(_) => "input: ",
             Refusal::Program(_) => "program: ",
-            Refusal::LaunchText => "launch: not built",
+            Refusal::LaunchText(fault) => launch_front(*fault),
             Refusal::Memory => "memory",
         }
     }
@@ -84,15 +136,19 @@ impl<'a> Refusal<'a> {
         }
     }
 
-    // The number in the line.
-    fn number(&self) -> Decimal
-        ensures { result ≡ number_of self.now }
+    // The number in the line, in decimal.
+    fn number<'b>(&self, buffer: &'b mut Buffer) -> &'b str
+        ensures { result.now ≡ number_of self.now }
     {
         match self {
             Refusal::Program(ElfFault::Segment(header) | ElfFault::Overlap(header)) => {
-                Decimal::of(*header)
+                buffer.format(*header)
             }
-            _ => Decimal::none(),
+            Refusal::LaunchText(fault) => match fault.line() {
+                Some(line) => buffer.format(line),
+                None => "",
+            },
+            _ => "",
         }
     }
 
@@ -102,6 +158,7 @@ impl<'a> Refusal<'a> {
     {
         match self {
             Refusal::TooLong(_) => " too long\n",
+            Refusal::LaunchText(fault) => launch_ending(*fault),
             _ => "\n",
         }
     }
@@ -115,7 +172,7 @@ impl<'a> Refusal<'a> {
     {
         write_whole(sink, self.front().as_bytes())?;
         write_whole(sink, self.name().as_bytes())?;
-        write_whole(sink, self.number().as_slice())?;
+        write_whole(sink, self.number(&mut Buffer::new()).as_bytes())?;
         write_whole(sink, self.back().as_bytes())
     }
 }

@@ -48,20 +48,6 @@ fn reads_words(rt: HostRuntime) -> Result<(), Fail> {
     Ok(())
 }
 
-#[test]
-fn reads_launch_texts(rt: HostRuntime) {
-    for (text, want) in [
-        (&b"!fd stdout"[..], true),
-        (&b"!fd stdout\n"[..], true),
-        (&b"!fd stdout\n\n"[..], false),
-        (&b"!fd stderr"[..], false),
-        (&b"!fd stdout "[..], false),
-        (&b""[..], false),
-    ] {
-        assert_eq!(rt; is_stdout_launch(text), want);
-    }
-}
-
 // The status and the line of the refusal, or status 0 and no line for a launch.
 fn refusal_of(
     alloc: Global,
@@ -85,14 +71,41 @@ fn refusal_of(
 }
 
 // Words, how many bytes of the first program there are, a launch text, and the status and the line of the refusal.
-const REFUSALS: [(&[&str], usize, &str, u8, &str); 7] = [
+const REFUSALS: [(&[&str], usize, &str, u8, &str); 16] = [
     (&["", "p"], 182, "!fd stdout\n", 0, ""),
     (&["", "p", "q"], 182, "!fd stdout\n", 2, "words: refused\n"),
     (&["", "q"], 182, "!fd stdout\n", 66, "input: q\n"),
     (&["", "p"], 63, "!fd stdout", 67, "program: TooShort\n"),
-    (&["", "p"], 119, "!fd stderr", 67, "program: Header\n"),
+    (&["", "p"], 119, "!fd no", 67, "program: Header\n"),
     (&["", "p"], 181, "!fd stdout", 67, "program: Segment 0\n"),
-    (&["", "p"], 182, "!fd stderr", 65, "launch: not built\n"),
+    (&["", "p"], 182, "!fd stderr", 0, ""),
+    (&["", "p"], 182, "", 0, ""),
+    (
+        &["", "p"],
+        182,
+        "a: 1\na: 2",
+        65,
+        "launch: line 2: DuplicateKey\n",
+    ),
+    (&["", "p"], 182, "v: 1.5", 65, "launch: line 1: Float\n"),
+    (&["", "p"], 182, "a: |", 65, "launch: line 1: BlockScalar\n"),
+    (
+        &["", "p"],
+        182,
+        "x: !socket {}",
+        65,
+        "launch: line 1: UnknownTag\n",
+    ),
+    (&["", "p"], 182, "\n\n!fd no", 65, "launch: line 3: BadFd\n"),
+    (
+        &["", "p"],
+        182,
+        "!file {path: no}",
+        65,
+        "launch: line 1: NotBuilt\n",
+    ),
+    (&["", "p"], 63, "v: 1.5", 67, "program: TooShort\n"),
+    (&["", "p"], 182, "!x\na: 1.5", 65, "launch: line 2: Float\n"),
 ];
 
 #[test]
@@ -101,6 +114,29 @@ fn refuses_with_a_line(rt: HostRuntime) -> Result<(), Fail> {
         let program = &HELLO[..length.min(182)];
         let got = refusal_of(rt.alloc(), words, program, text.as_bytes())?;
         assert_eq!(rt; got.0, status);
+        assert_eq!(rt; got.1.as_slice(), line.as_bytes());
+    }
+    Ok(())
+}
+
+// A launch text of so many descriptors, and one whose argument data is too large.
+#[test]
+fn refuses_too_much(rt: HostRuntime) -> Result<(), Fail> {
+    let alloc = rt.alloc();
+    let mut many = String::new(alloc);
+    for _ in 0..1025 {
+        many.push_str("- !fd stdin\n")?;
+    }
+    let mut large = String::new(alloc);
+    for _ in 0..65_536 {
+        large.push('a')?;
+    }
+    for (text, line) in [
+        (&many, "launch: too many\n"),
+        (&large, "launch: too large\n"),
+    ] {
+        let got = refusal_of(alloc, &["", "p"], &HELLO, text.as_bytes())?;
+        assert_eq!(rt; got.0, 65);
         assert_eq!(rt; got.1.as_slice(), line.as_bytes());
     }
     Ok(())

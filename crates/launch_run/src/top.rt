@@ -2,11 +2,11 @@
 ghost use Rattle.std.specs.Prelude.{◌≡◌, ◌≢◌, ◌⊎◌, ◌↔◌, ◌≤◌, ℕ, List, [], None, IsSome, IfSome, IsSomeAnd, map, string_bytes, All};
 ghost use Rattle.abi_types.specs.Outside.Source.{Rose};
 ghost use Rattle.launch_run.specs.Launch.{launch_of, inputs_of, refuses, IsToldAs};
-ghost use Rattle.launch_run.specs.Lines.{line_of, words_line, launch_text_line, memory_line};
+ghost use Rattle.launch_run.specs.Lines.{line_of, words_line, memory_line};
 ghost use Rattle.launch_run.specs.Report.{report_of};
 ghost use Rattle.launch_run.specs.Run.{IsBounded, IsBetween, IsLive};
 ghost use Rattle.launch_run.specs.Words.{program_of};
-ghost use Rattle.launch_run.specs.TopCall.{Wrote, IsEndOf, IsToldEnd, TellsEnd, IsTopEnd, IsTopStatus, IsInputRefused, IsProgramRefused, HasReported, HasFailed, IsKept, Completes, status_number, kept_of, finished_run, finished_of};
+ghost use Rattle.launch_run.specs.TopCall.{Wrote, IsEndOf, IsToldEnd, TellsEnd, IsTopEnd, IsTopStatus, IsInputRefused, IsProgramRefused, IsTextRefused, HasReported, HasFailed, IsKept, Completes, status_number, kept_of, finished_run, finished_of};
 
 use crate::inputs::read_launch;
 use crate::lines::Refusal;
@@ -221,8 +221,8 @@ pub fn run_launch<S: Source, K: Sink>(
         (Wrote (K.written sink.old) (K.written sink.new) (Rose (K.faults sink.old) (K.faults sink.new))) }
     ensures program { result.status ≡ 67 → IsProgramRefused (launch_of (map string_bytes words.now) (S.told source.old))
         (Wrote (K.written sink.old) (K.written sink.new) (Rose (K.faults sink.old) (K.faults sink.new))) }
-    ensures launch_text { result.status ≡ 65 → IsToldAs (launch_of (map string_bytes words.now) (S.told source.old)) (refuses 65 launch_text_line)
-        × Wrote (K.written sink.old) (K.written sink.new) (Rose (K.faults sink.old) (K.faults sink.new)) launch_text_line }
+    ensures launch_text { result.status ≡ 65 → IsTextRefused (launch_of (map string_bytes words.now) (S.told source.old))
+        (Wrote (K.written sink.old) (K.written sink.new) (Rose (K.faults sink.old) (K.faults sink.new))) }
     ensures memory { result.status ≡ 70 → Wrote (K.written sink.old) (K.written sink.new) (Rose (K.faults sink.old) (K.faults sink.new)) memory_line
         × IfSome result.kept (λ r. r.history ≢ []) }
     ensures ended { (result.status ≡ 0) ⊎ (result.status ≡ 1) → IsSomeAnd result.kept (HasReported (K.written sink.old) (K.written sink.new) result.status) }

@@ -285,13 +285,80 @@ fn shows_what_programs_write(rt: HostRuntime) -> Result<(), Fail> {
     Ok(())
 }
 
+// A guest, a launch text, the exit status, and the report.
+const LAUNCHES: [(&str, &str, u8, &str); 10] = [
+    (guest_kit::ARGUMENT_LENGTH, "", 0, EXIT_0),
+    (guest_kit::ARGUMENT_LENGTH, "null", 0, EXIT_0),
+    (
+        guest_kit::ARGUMENT_LENGTH,
+        "# nothing\n---\n...\n",
+        0,
+        EXIT_0,
+    ),
+    (guest_kit::ARGUMENT_LENGTH, "7", 1, EXIT_2),
+    (guest_kit::FIRST_DESCRIPTOR, "", 1, EXIT_8),
+    (guest_kit::FIRST_DESCRIPTOR, "!fd stdout", 0, EXIT_0),
+    (
+        guest_kit::WRITE_TO_EACH,
+        "[!fd stdin, ~, !fd stdout, !fd stderr, 5]",
+        0,
+        LINE_ON_EACH,
+    ),
+    (
+        guest_kit::WRITE_TO_EACH,
+        "in: !fd stdin\nout: !fd stdout\nerr: !fd stderr\n",
+        0,
+        LINE_ON_EACH,
+    ),
+    (
+        guest_kit::WRITE_TO_EACH,
+        "- a\n- !fd stdout\n- !fd stdout\n",
+        0,
+        TWO_LINES,
+    ),
+    (guest_kit::WRITE_TO_EACH, "{}", 0, EXIT_0),
+];
+
+const EXIT_0: &str =
+    "== stdout 0\n== stderr 0\n== status exit 0\n== run ended\n== denials 0\n== tree 0\n";
+
+const EXIT_2: &str =
+    "== stdout 0\n== stderr 0\n== status exit 2\n== run ended\n== denials 0\n== tree 0\n";
+
+const EXIT_8: &str =
+    "== stdout 0\n== stderr 0\n== status exit 8\n== run ended\n== denials 0\n== tree 0\n";
+
+// Standard input can't be written, and both others get a line.
+const LINE_ON_EACH: &str =
+    "== stdout 2\nx\n== stderr 2\nx\n== status exit 0\n== run ended\n== denials 1\n\
+    00000000.1 fd_write fd 0 base FD_WRITE inheriting -\n== tree 0\n";
+
+const TWO_LINES: &str =
+    "== stdout 4\nx\nx\n== stderr 0\n== status exit 0\n== run ended\n== denials 0\n== tree 0\n";
+
+#[test]
+fn gives_what_launch_texts_say(rt: HostRuntime) -> Result<(), Fail> {
+    for (guest, text, status, report) in LAUNCHES {
+        let program = program_of(rt.alloc(), guest)?;
+        let (finished, sink) = ran(rt.alloc(), &program, text.as_bytes())?;
+        assert_eq!(rt; sink.bytes(), report.as_bytes(), "{text}");
+        assert_eq!(rt; finished.status, status, "{text}");
+    }
+    Ok(())
+}
+
 #[test]
 fn refuses_what_it_cannot_run(rt: HostRuntime) -> Result<(), Fail> {
     for (program, text, status, line) in [
         (&HELLO[..63], "!fd stdout\n", 67, "program: TooShort\n"),
         (&HELLO[..119], "!fd stdout\n", 67, "program: Header\n"),
-        (&HELLO[..], "!fd stderr\n", 65, "launch: not built\n"),
-        (&HELLO[..181], "!fd stderr\n", 67, "program: Segment 0\n"),
+        (
+            &HELLO[..],
+            "a: 1\na: 2\n",
+            65,
+            "launch: line 2: DuplicateKey\n",
+        ),
+        (&HELLO[..181], "a: 1\na: 2\n", 67, "program: Segment 0\n"),
     ] {
         let (finished, sink) = ran(rt.alloc(), program, text.as_bytes())?;
         assert_eq!(rt; finished.status, status, "{line}");

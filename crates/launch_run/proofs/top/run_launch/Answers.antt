@@ -3,7 +3,7 @@ use Rattle.std.specs.Prelude.{IfSome, map, string_bytes}
 use Rattle.launch_run.specs.declared.top.Finished.{Finished}
 use Rattle.launch_run.specs.Launch.{launch_of}
 use Rattle.launch_run.specs.TopCall.{IsKept}
-use Rattle.launch_run.proofs.TopClauses.{top_complete, top_ended, top_input, top_kept, top_memory, top_program, top_unwritten}
+use Rattle.launch_run.proofs.TopClauses.{top_complete, top_ended, top_input, top_kept, top_memory, top_program, top_text, top_unwritten}
 use Rattle.launch_run.proofs.top.run_launch.Goals as goal
 
 pub returns-clause-input : goal.returns-clause-input
@@ -20,6 +20,10 @@ returns-clause-kept g c =
 pub returns-clause-program : goal.returns-clause-program
 returns-clause-program g c is =
     top_program _ _ _ _ _ _ c.launch_and_run.result c.launch_and_run.ensures.end (ap (λ (f : Finished). f.status) (sym c.finish.ensures) ∙ is)
+
+pub returns-clause-launch_text : goal.returns-clause-launch_text
+returns-clause-launch_text g c is =
+    top_text _ _ _ _ _ _ c.launch_and_run.result c.launch_and_run.ensures.end (ap (λ (f : Finished). f.status) (sym c.finish.ensures) ∙ is)
 
 pub returns-clause-memory : goal.returns-clause-memory
 returns-clause-memory g c = rw (c.finish.ensures) (top_memory _ _ _ _ _ _ c.launch_and_run.result c.launch_and_run.ensures.end)

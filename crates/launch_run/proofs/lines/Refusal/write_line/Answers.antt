@@ -20,20 +20,20 @@ returns-in_err-write_whole-3-clause-failed_prefix g c =
     let r = c.args.self.now in
     let front = began r _ _ _ (c.as_bytes.ensures.value ∙ c.front.ensures) c.in_ok-write_whole.ensures.ok in
     let name = went_on r _ _ _ (name_of r) _ (number_of r ++ back_of r) front (c.as_bytes-2.ensures.value ∙ c.name.ensures) c.in_ok-write_whole-2.ensures.ok in
-    for_err _ (failed_later r _ _ _ (number_of r) _ (back_of r) name (c.as_slice.ensures ∙ c.number.ensures) c.in_err-write_whole-3.ensures.failed_prefix)
+    for_err _ (failed_later r _ _ _ (number_of r) _ (back_of r) name (c.as_bytes-3.ensures.value ∙ c.number.ensures) c.in_err-write_whole-3.ensures.failed_prefix)
 
 pub returns-clause-ok : goal.returns-clause-ok
 returns-clause-ok g c =
     let r = c.args.self.now in
     let front = began r _ _ _ (c.as_bytes.ensures.value ∙ c.front.ensures) c.in_ok-write_whole.ensures.ok in
     let name = went_on r _ _ _ (name_of r) _ (number_of r ++ back_of r) front (c.as_bytes-2.ensures.value ∙ c.name.ensures) c.in_ok-write_whole-2.ensures.ok in
-    let number = went_on r _ _ _ (number_of r) _ (back_of r) name (c.as_slice.ensures ∙ c.number.ensures) c.in_ok-write_whole-3.ensures.ok in
-    on_ok_weaker c.write_whole-4.result (ended_line r _ _ _ _ number (c.as_bytes-3.ensures.value ∙ c.back.ensures)) c.write_whole-4.ensures.ok
+    let number = went_on r _ _ _ (number_of r) _ (back_of r) name (c.as_bytes-3.ensures.value ∙ c.number.ensures) c.in_ok-write_whole-3.ensures.ok in
+    on_ok_weaker c.write_whole-4.result (ended_line r _ _ _ _ number (c.as_bytes-4.ensures.value ∙ c.back.ensures)) c.write_whole-4.ensures.ok
 
 pub returns-clause-failed_prefix : goal.returns-clause-failed_prefix
 returns-clause-failed_prefix g c =
     let r = c.args.self.now in
     let front = began r _ _ _ (c.as_bytes.ensures.value ∙ c.front.ensures) c.in_ok-write_whole.ensures.ok in
     let name = went_on r _ _ _ (name_of r) _ (number_of r ++ back_of r) front (c.as_bytes-2.ensures.value ∙ c.name.ensures) c.in_ok-write_whole-2.ensures.ok in
-    let number = went_on r _ _ _ (number_of r) _ (back_of r) name (c.as_slice.ensures ∙ c.number.ensures) c.in_ok-write_whole-3.ensures.ok in
-    on_err_weaker c.write_whole-4.result (failed_last r _ _ _ _ number (c.as_bytes-3.ensures.value ∙ c.back.ensures)) c.write_whole-4.ensures.failed_prefix
+    let number = went_on r _ _ _ (number_of r) _ (back_of r) name (c.as_bytes-3.ensures.value ∙ c.number.ensures) c.in_ok-write_whole-3.ensures.ok in
+    on_err_weaker c.write_whole-4.result (failed_last r _ _ _ _ number (c.as_bytes-4.ensures.value ∙ c.back.ensures)) c.write_whole-4.ensures.failed_prefix

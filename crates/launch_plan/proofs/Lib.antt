@@ -1,0 +1,6 @@
+pub mod Depths
+pub mod Grants
+pub mod ArgumentLists
+pub mod Soundness
+pub mod Streams
+pub mod Plans

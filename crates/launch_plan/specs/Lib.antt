@@ -1,0 +1,4 @@
+pub mod Tagged
+pub mod Values
+pub mod Plan
+pub mod Answers

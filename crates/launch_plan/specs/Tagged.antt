@@ -1,0 +1,80 @@
+-- The nodes of a document that have a tag, and what each asks for.
+use Rattle.std.specs.Prelude.{ℕ, if◌then◌else◌, nat_eq, Bool, false, List, [], ◌∷◌, ◌++◌, codes, Option, Some, None, Result, Ok, Err}
+use lib.Pointwise.{pointwise}
+use Rattle.abi_types.specs.declared.grant.Grant.{Grant}
+use Rattle.abi_types.specs.declared.grant.GrantTarget.TheVariants.{Terminal}
+use Rattle.kernel_model.specs.Valid.{stream_rights}
+use Rattle.yaml_values.specs.Shape.{Shape, Content, Shapes, Pairs, node, null, boolean, integer, text, binary, mapping, sequence, no_items, item, no_pairs, pair}
+use Rattle.launch_plan.specs.declared.fault.PlanFault.{PlanFault}
+use Rattle.launch_plan.specs.declared.fault.PlanFault.TheVariants as faults
+
+pub record Tagged : Type 0 where
+  pub line : ℕ
+  pub name : List ℕ
+  pub value : Content
+
+-- The nodes with a tag, in document order: a key before its value. What is inside such a node isn't looked at: the node asks
+-- for a descriptor or is at fault.
+abbrev mutual
+  pub tagged : Shape → List Tagged
+  tagged (node line None value) = tagged_in value
+  tagged (node line (Some name) value) = record { line = line; name = name; value = value } ∷ []
+
+  pub tagged_in : Content → List Tagged
+  tagged_in null = []
+  tagged_in (boolean b) = []
+  tagged_in (integer i) = []
+  tagged_in (text bytes) = []
+  tagged_in (binary bytes) = []
+  tagged_in (mapping ps) = tagged_in_pairs ps
+  tagged_in (sequence xs) = tagged_in_items xs
+
+  pub tagged_in_items : Shapes → List Tagged
+  tagged_in_items no_items = []
+  tagged_in_items (item x xs) = tagged x ++ tagged_in_items xs
+
+  pub tagged_in_pairs : Pairs → List Tagged
+  tagged_in_pairs no_pairs = []
+  tagged_in_pairs (pair k v ps) = tagged k ++ (tagged v ++ tagged_in_pairs ps)
+
+abbrev pub is_text : List ℕ → Content → Bool
+is_text wanted (text bytes) = pointwise nat_eq bytes wanted
+is_text wanted other = false
+
+-- the standard stream that a node asks for: 0 is stdin, 1 is stdout, 2 is stderr
+abbrev pub stream_of : Content → Option ℕ
+stream_of value =
+    if is_text (codes "stdin") value then Some 0
+    else if is_text (codes "stdout") value then Some 1
+    else if is_text (codes "stderr") value then Some 2
+    else None
+
+-- a stream with all rights of its type. Nothing is opened through it
+abbrev pub stream_grant : ℕ → Grant
+stream_grant which = record { target = Terminal which; base = record { 0 = stream_rights which }; inheriting = record { 0 = 0 } }
+
+abbrev pub stream_or_fault : ℕ → Option ℕ → Result Grant PlanFault
+stream_or_fault line None = Err (faults.BadFd line)
+stream_or_fault line (Some which) = Ok (stream_grant which)
+
+-- the descriptor that a node with a tag asks for, or what is wrong with it
+abbrev pub grant_of : Tagged → Result Grant PlanFault
+grant_of t =
+    if pointwise nat_eq t.name (codes "fd") then stream_or_fault t.line (stream_of t.value)
+    else if pointwise nat_eq t.name (codes "file") then Err (faults.NotBuilt t.line)
+    else Err (faults.UnknownTag t.line)
+
+infixl 10 ◌>>=◌
+abbrev pub ◌>>=◌ : {A B : Type 0} → Result A PlanFault → (A → Result B PlanFault) → Result B PlanFault
+(Ok x) >>= f = f x
+(Err e) >>= f = Err e
+
+-- the descriptors that nodes ask for, in their order, or the first fault
+abbrev pub grants_of : List Tagged → Result (List Grant) PlanFault
+grants_of [] = Ok []
+grants_of (t ∷ ts) = grant_of t >>= λ grant. grants_of ts >>= λ grants. Ok (grant ∷ grants)
+
+-- the same, behind descriptors that were asked for before
+abbrev pub grants_behind : List Grant → List Tagged → Result (List Grant) PlanFault
+grants_behind before [] = Ok before
+grants_behind before (t ∷ ts) = grant_of t >>= λ grant. grants_behind (before ++ grant ∷ []) ts

@@ -1,0 +1,12 @@
+//! What a launch file asks for: the descriptors of a program, and its argument data.
+#![tactic(auto)]
+
+pub use fault::PlanFault;
+pub use planning::{Planned, plan};
+
+mod arguments;
+mod fault;
+mod planning;
+mod tagged_nodes;
+#[cfg(test)]
+mod tests;

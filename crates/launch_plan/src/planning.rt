@@ -1,0 +1,65 @@
+//! The plan of a launch.
+ghost use Rattle.std.specs.Prelude.{◌≡◌, ◌≤◌, ◌<◌, ◌^◌, IfOk, length};
+ghost use Rattle.argdata_codec.specs.Writing.{spelling};
+ghost use Rattle.kernel_model.specs.Start.{AreGrants};
+ghost use Rattle.yaml_values.specs.Documents.{IsDocument};
+ghost use Rattle.yaml_values.specs.Views.{shape_of};
+ghost use Rattle.launch_plan.specs.Tagged.{tagged};
+ghost use Rattle.launch_plan.specs.Values.{value_of};
+ghost use Rattle.launch_plan.specs.Answers.{Adds, Plans};
+
+use crate::arguments::argument;
+use crate::fault::PlanFault;
+use crate::tagged_nodes::push_grants;
+use abi_types::{Bytes, GrantList};
+use argdata_codec::encode;
+use launch_yaml::{Doc, Node};
+use std::alloc::{AllocError, Global};
+
+/// What a launch gives a program.
+#[derive(Drop)]
+pub struct Planned {
+    /// The argument data, at most 65,536 bytes.
+    pub argdata: Bytes,
+    /// The descriptors in the order of their numbers, at most 1024.
+    pub grants: GrantList,
+}
+
+// A table has so many numbers.
+const MOST_DESCRIPTORS: usize = 1024;
+
+const MOST_ARGDATA: usize = 65_536;
+
+/// The plan that a document is, or its first fault: in the order of the document, then too many descriptors, then too
+/// much argument data.
+#[tactic(auto, unfolding(crate::specs::Plan::plan_of))]
+pub fn plan(alloc: Global, doc: &Doc) -> Result<Planned, PlanFault>
+    requires { IsDocument (shape_of doc.now.root) }
+    ensures plan { Plans result (shape_of doc.now.root) }
+    // What a launch may give.
+    ensures grants { IfOk result (λ planned. AreGrants planned.grants) }
+    ensures small { IfOk result (λ planned. length planned.argdata ≤ 65_536) }
+{
+    let mut grants = GrantList::new(alloc);
+    push_grants(&mut grants, &doc.root)?;
+    if grants.len() > MOST_DESCRIPTORS {
+        return Err(PlanFault::TooMany);
+    }
+    let Ok(argdata) = argdata(alloc, &doc.root) else {
+        return Err(PlanFault::NoMemory);
+    };
+    if argdata.len() > MOST_ARGDATA {
+        return Err(PlanFault::TooLarge);
+    }
+    Ok(Planned { argdata, grants })
+}
+
+// The argument data of a document, however much it is.
+fn argdata(alloc: Global, root: &Node) -> Result<Bytes, AllocError>
+    requires document { IsDocument (shape_of root.now) }
+    requires few { length (tagged (shape_of root.now)) ≤ 1024 }
+    ensures { IfOk result (λ argdata. argdata ≡ spelling (value_of 0 (shape_of root.now))) }
+{
+    let mut next = 0;
+    encode(alloc, &argument(alloc, &mut next, root)?)
+}

@@ -1,0 +1,99 @@
+//! The nodes of a document that have a tag, and the descriptors that they ask for.
+ghost use Rattle.std.specs.Prelude.{◌≡◌, map};
+ghost use Rattle.yaml_values.specs.Shape.{of_list, of_pairs};
+ghost use Rattle.yaml_values.specs.Views.{shape_of, pair_of, content_of_value};
+ghost use Rattle.launch_plan.specs.Tagged.{stream_of, stream_grant, grant_of, tagged, tagged_in, tagged_in_items, tagged_in_pairs};
+ghost use Rattle.launch_plan.specs.Answers.{Adds};
+
+use crate::fault::PlanFault;
+use abi_types::{Grant, GrantList, GrantTarget, Rights, Text};
+use yaml_values::{Node, NodeValue};
+
+// The rights of standard input, and those of standard output and standard error.
+const READING: Rights = Rights(0x1008_000a);
+
+const WRITING: Rights = Rights(0x1008_0048);
+
+fn stream_named(value: &NodeValue) -> Option<u32>
+    ensures { result ≡ stream_of (content_of_value value.now) }
+{
+    let NodeValue::Str(text) = value else {
+        return None;
+    };
+    match text.as_str() {
+        "stdin" => Some(0),
+        "stdout" => Some(1),
+        "stderr" => Some(2),
+        _ => None,
+    }
+}
+
+fn stream(which: u32) -> Grant
+    ensures { result ≡ stream_grant which }
+{
+    Grant {
+        target: GrantTarget::Terminal(which),
+        base: if which == 0 { READING } else { WRITING },
+        inheriting: Rights::NONE,
+    }
+}
+
+// The descriptor that a node with a tag asks for.
+fn grant(line: u32, name: &Text, value: &NodeValue) -> Result<Grant, PlanFault>
+    ensures { result ≡ grant_of (record { line = line; name = name.now; value = content_of_value value.now }) }
+{
+    match name.as_str() {
+        "fd" => match stream_named(value) {
+            Some(which) => Ok(stream(which)),
+            None => Err(PlanFault::BadFd(line)),
+        },
+        "file" => Err(PlanFault::NotBuilt(line)),
+        _ => Err(PlanFault::UnknownTag(line)),
+    }
+}
+
+/// Puts the descriptors that a node and those in it ask for behind the others, in document order.
+#[cycle(tagged)]
+pub fn push_grants(grants: &mut GrantList, node: &Node) -> Result<(), PlanFault>
+    ensures { Adds result grants.old grants.new (tagged (shape_of node.now)) }
+{
+    match &node.tag {
+        Some(name) => match grants.push(grant(node.line, name, &node.value)?) {
+            Ok(()) => Ok(()),
+            Err(_) => Err(PlanFault::NoMemory),
+        },
+        None => push_inside(grants, &node.value),
+    }
+}
+
+#[cycle(tagged)]
+fn push_inside(grants: &mut GrantList, value: &NodeValue) -> Result<(), PlanFault>
+    ensures { Adds result grants.old grants.new (tagged_in (content_of_value value.now)) }
+{
+    match value {
+        NodeValue::Map(pairs) => push_of_pairs(grants, pairs.as_slice()),
+        NodeValue::Seq(items) => push_of_items(grants, items.as_slice()),
+        _ => Ok(()),
+    }
+}
+
+#[cycle(tagged)]
+fn push_of_items(grants: &mut GrantList, items: &[Node]) -> Result<(), PlanFault>
+    ensures { Adds result grants.old grants.new (tagged_in_items (of_list (map shape_of items.now))) }
+{
+    for item in items {
+        push_grants(grants, item)?;
+    }
+    Ok(())
+}
+
+#[cycle(tagged)]
+fn push_of_pairs(grants: &mut GrantList, pairs: &[(Node, Node)]) -> Result<(), PlanFault>
+    ensures { Adds result grants.old grants.new (tagged_in_pairs (of_pairs (map pair_of pairs.now))) }
+{
+    for (key, value) in pairs {
+        push_grants(grants, key)?;
+        push_grants(grants, value)?;
+    }
+    Ok(())
+}
