@@ -1,0 +1,13 @@
+pub mod Building
+pub mod Finished
+pub mod Forms
+pub mod Found
+pub mod Hyphens
+pub mod LawProofs
+pub mod Loose
+pub mod Named
+pub mod Rules
+pub mod Spelling
+pub mod Steps
+pub mod Taking
+pub mod Walking

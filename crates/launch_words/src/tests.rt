@@ -1,0 +1,207 @@
+//! Words, with the settings that they spell.
+use crate::*;
+use std::alloc::{AllocError, Global};
+use std::test::Fail;
+
+// What `p` alone spells.
+const PLAIN: LaunchWords<'static> = LaunchWords {
+    program: "p",
+    tree: None,
+    stdin: None,
+    workers: 4,
+    turns: 100_000,
+    key: [0; 32],
+    epoch: 0,
+    history: false,
+};
+
+// 32 bytes as 64 digits of both cases.
+const DIGITS: &str = "--key=00112233445566778899aabbccddeeff0123456789ABCDEFfedcba9876543210";
+
+const KEY: [u8; 32] = [
+    0x00, 0x11, 0x22, 0x33, 0x44, 0x55, 0x66, 0x77, 0x88, 0x99, 0xaa, 0xbb, 0xcc, 0xdd, 0xee, 0xff,
+    0x01, 0x23, 0x45, 0x67, 0x89, 0xab, 0xcd, 0xef, 0xfe, 0xdc, 0xba, 0x98, 0x76, 0x54, 0x32, 0x10,
+];
+
+// The name of the running program, and words of these texts.
+fn words_of(alloc: Global, texts: &[&str]) -> Result<Vec<String>, AllocError> {
+    let mut words = Vec::new(alloc);
+    words.push(String::from_str(alloc, "--history")?)?;
+    for text in texts {
+        words.push(String::from_str(alloc, text)?)?;
+    }
+    Ok(words)
+}
+
+#[test]
+fn takes_words(rt: HostRuntime) -> Result<(), Fail> {
+    for (texts, want) in [
+        (&["p"][..], PLAIN),
+        (&["p", "--"][..], PLAIN),
+        (
+            &["--", "-x"][..],
+            LaunchWords {
+                program: "-x",
+                ..PLAIN
+            },
+        ),
+        (
+            &["--", "--"][..],
+            LaunchWords {
+                program: "--",
+                ..PLAIN
+            },
+        ),
+        (
+            &["--", "--tree"][..],
+            LaunchWords {
+                program: "--tree",
+                ..PLAIN
+            },
+        ),
+        (
+            &["--workers=2", "--", "p"][..],
+            LaunchWords {
+                workers: 2,
+                ..PLAIN
+            },
+        ),
+        (
+            &["--workers", "64", "p"][..],
+            LaunchWords {
+                workers: 64,
+                ..PLAIN
+            },
+        ),
+        (
+            &["--turns", "0000000000000000001", "p"][..],
+            LaunchWords { turns: 1, ..PLAIN },
+        ),
+        (
+            &["--turns=1000000000", "p"][..],
+            LaunchWords {
+                turns: 1_000_000_000,
+                ..PLAIN
+            },
+        ),
+        (
+            &["--epoch", "4611686018427387904", "p"][..],
+            LaunchWords {
+                epoch: 1 << 62,
+                ..PLAIN
+            },
+        ),
+        (&["p", "--epoch=0"][..], PLAIN),
+        (&[DIGITS, "p"][..], LaunchWords { key: KEY, ..PLAIN }),
+        (
+            &["--tree=-x", "p"][..],
+            LaunchWords {
+                tree: Some("-x"),
+                ..PLAIN
+            },
+        ),
+        (
+            &["--tree=a=b", "p"][..],
+            LaunchWords {
+                tree: Some("a=b"),
+                ..PLAIN
+            },
+        ),
+        (
+            &["--stdin", "p", "p"][..],
+            LaunchWords {
+                stdin: Some("p"),
+                ..PLAIN
+            },
+        ),
+        (
+            &["p", "--tree", "t", "--history"][..],
+            LaunchWords {
+                tree: Some("t"),
+                history: true,
+                ..PLAIN
+            },
+        ),
+    ] {
+        let words = words_of(rt.alloc(), texts)?;
+        assert!(rt; read_words(rt.alloc(), words.as_slice()) == Ok(want));
+    }
+    Ok(())
+}
+
+#[test]
+fn refuses_no_words(rt: HostRuntime) {
+    let words: Vec<String> = Vec::new(rt.alloc());
+    assert!(rt; read_words(rt.alloc(), words.as_slice()) == Err(WordsFault::Refused));
+}
+
+// Whether words of these texts are refused.
+fn are_refused(alloc: Global, texts: &[&str]) -> Result<bool, AllocError> {
+    let words = words_of(alloc, texts)?;
+    Ok(read_words(alloc, words.as_slice()) == Err(WordsFault::Refused))
+}
+
+#[test]
+fn refuses_words(rt: HostRuntime) -> Result<(), Fail> {
+    for texts in [
+        &[][..],
+        // the program
+        &[""][..],
+        &["-"][..],
+        &["--", "-"][..],
+        &["p", "q"][..],
+        &["p", "--", "q"][..],
+        &["--", "p", "--history"][..],
+        // what stands twice
+        &["--history", "--history", "p"][..],
+        &["--workers=2", "--workers=2", "p"][..],
+        &["--tree", "t", "p", "--tree=t"][..],
+        // values in the next word
+        &["--tree", "-x", "p"][..],
+        &["--tree", "-", "p"][..],
+        &["--tree", "--history", "p"][..],
+        &["--tree", "--", "p"][..],
+        &["p", "--tree"][..],
+        // no files
+        &["--tree=", "p"][..],
+        &["--tree", "", "p"][..],
+        &["--tree=-", "p"][..],
+        &["--stdin=-", "p"][..],
+        // no numbers in the range
+        &["--workers", "0", "p"][..],
+        &["--workers", "65", "p"][..],
+        &["--workers", "+2", "p"][..],
+        &["--workers=-1", "p"][..],
+        &["--workers=", "p"][..],
+        &["--turns", "0", "p"][..],
+        &["--turns=1000000001", "p"][..],
+        &["--turns", "00000000000000000001", "p"][..],
+        &["--epoch=4611686018427387905", "p"][..],
+        &["--epoch", "", "p"][..],
+        // no keys
+        &["--key", "00", "p"][..],
+        &["--key=", "p"][..],
+        &[
+            "--key=0011223344556677889900112233445566778899001122334455667788990011g",
+            "p",
+        ][..],
+        &[
+            "--key=001122334455667788990011223344556677889900112233445566778899001",
+            "p",
+        ][..],
+        // no options
+        &["--history=1", "p"][..],
+        &["--history=", "p"][..],
+        &["--his", "p"][..],
+        &["-h"][..],
+        &["--help"][..],
+        &["-V", "p"][..],
+        &["--version"][..],
+        &["-é", "p"][..],
+        &["--=x", "p"][..],
+        &["--program", "p"][..],
+    ] {
+        assert!(rt; are_refused(rt.alloc(), texts)?);
+    }
+    Ok(())
+}
