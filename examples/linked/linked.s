@@ -1,4 +1,4 @@
-# A linked program: writes five bytes to descriptor 0 and exits with 0. The script `build` makes linked.elf of this text,
+# A linked program: writes five bytes to descriptor 0 and exits with 0. `examples/build linked` makes linked.elf of this text,
 # with a segment of code and one of data.
 #
 # A call's number is in a7 and its arguments are in a0 to a6.

@@ -57,7 +57,9 @@ fn spell_integer(alloc: Global, integer: i128) -> Result<Vec<u8>, AllocError>
     tagged(alloc, tag::INT, &bytes[16 - width(integer)..])
 }
 
-// How many bytes of two's complement hold the integer.
+/// How many bytes of two's complement hold the integer: the fewest that do, 0 for 0 and at most 16.
+///
+/// Argdata spells an integer in these bytes, the highest first.
 pub fn width(integer: i128) -> usize
     ensures value { result ≡ width_of integer }
     ensures small { result ≤ 16 }

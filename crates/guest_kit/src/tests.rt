@@ -6,7 +6,7 @@ use std::alloc::{AllocError, Global};
 use std::test::Fail;
 
 // A guest, and the hexadecimal digits of its code.
-const GUESTS: [(&str, &str); 27] = [
+const GUESTS: &[(&str, &str)] = &[
     (ILLEGAL, "ffffffff"),
     (ARGUMENT_LENGTH, "033585019308700273000000"),
     (
@@ -123,7 +123,7 @@ fn code_of(alloc: Global, text: &str) -> Result<Option<String>, AllocError> {
 
 #[test]
 fn guests_assemble(rt: HostRuntime) -> Result<(), Fail> {
-    for (text, code) in GUESTS {
+    for &(text, code) in GUESTS {
         let digits = code_of(rt.alloc(), text)?;
         assert_eq!(rt; digits.as_deref(), Some(code), "{text}");
     }

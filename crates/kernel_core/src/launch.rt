@@ -3,12 +3,22 @@ use abi_types::{Bytes, GrantList, TryClone};
 use elf_image::Elf;
 use std::alloc::AllocError;
 
-/// A launch: the program, its argument data, the descriptors that it is given, and the turns that it may take.
+/// What a run starts from.
 #[derive(Drop)]
 pub struct Launch {
+    /// The program.
     pub elf: Elf,
+    /// Its argument data.
     pub argdata: Bytes,
+    /// The descriptors that it is given.
     pub grants: GrantList,
+    /// What it can read from the terminal `stdin`.
+    pub stdin: Bytes,
+    /// The key of its random bytes.
+    pub key: [u8; 32],
+    /// The time at which the run begins, in nanoseconds since 1970.
+    pub epoch: u64,
+    /// The turns that it may take.
     pub turns: u64,
 }
 
@@ -18,6 +28,9 @@ impl TryClone for Launch {
             elf: self.elf.copy()?,
             argdata: self.argdata.copy()?,
             grants: self.grants.copy()?,
+            stdin: self.stdin.copy()?,
+            key: self.key,
+            epoch: self.epoch,
             turns: self.turns,
         })
     }

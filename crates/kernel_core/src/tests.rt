@@ -36,6 +36,9 @@ fn stdout_kernel(alloc: Global, base: u64) -> Result<Kernel, AllocError>
         elf,
         argdata: Bytes::new(alloc),
         grants,
+        stdin: Bytes::new(alloc),
+        key: [0; 32],
+        epoch: 0,
         turns: 1,
     };
     Kernel::start(alloc, &launch)

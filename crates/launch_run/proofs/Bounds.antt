@@ -16,6 +16,7 @@ use Rattle.launch_yaml.specs.Document.{parse_at}
 use Rattle.launch_plan.specs.declared.fault.PlanFault.{PlanFault}
 use Rattle.launch_plan.specs.Plan.{plan_of}
 use Rattle.launch_plan.proofs.Plans.{IsPlan, plan_is}
+use Rattle.launch_words.specs.Settings.{Settings, IsWithin}
 use Rattle.launch_run.specs.Launch.{IsBuiltLaunch}
 use Rattle.launch_run.specs.LaunchText.{with_plan, with_document, planned_text}
 use Rattle.launch_run.specs.Run.{IsBounded}
@@ -41,19 +42,23 @@ pub text_plan_is : (text : List ℕ) (planned : List ℕ × List Grant) → plan
 unfolding planned_text
 text_plan_is text planned e = with_document_is (parse_at text) planned e
 
-pub bounded : (launch : Launch) → IsBuiltLaunch launch → AreGrants launch.grants → IsBounded launch
-bounded launch b grants =
+bounded : (settings : Settings) (launch : Launch) → IsWithin settings → IsBuiltLaunch settings launch → AreGrants launch.grants → IsBounded launch
+bounded settings launch within b grants =
     let image : All IsPlaced launch.elf.segments = subst (λ (e : Elf). All IsPlaced e.segments) (sym b.elf) (All-weaker IsInProgramPart IsPlaced placed _ (image_placed b.program b.sound)) in
     record {
       grants = grants;
       start = record { placed = image; short = omega (arith, (text_plan_is b.text _ b.planned).0); whole = refl };
-      turns = omega (arith, b.turns);
+      turns = omega (arith, b.turns, within.turns.1);
     }
 
 -- a launch that words and inputs spell grants what is there
-granted : (launch : Launch) → IsBuiltLaunch launch → AreGrants launch.grants
-granted launch b = (text_plan_is b.text _ b.planned).1
+granted : (settings : Settings) (launch : Launch) → IsBuiltLaunch settings launch → AreGrants launch.grants
+granted settings launch b = (text_plan_is b.text _ b.planned).1
 
-pub all_granted : (read : Result Launch Refusal) → IfOk read IsBuiltLaunch → IfOk read (λ launch. AreGrants launch.grants)
-all_granted (Ok launch) b = granted launch b
-all_granted (Err refusal) b = tt
+pub all_granted : (settings : Settings) (read : Result Launch Refusal) → IfOk read (IsBuiltLaunch settings) → IfOk read (λ launch. AreGrants launch.grants)
+all_granted settings (Ok launch) b = granted settings launch b
+all_granted settings (Err refusal) b = tt
+
+pub all_bounded : (settings : Settings) (read : Result Launch Refusal) → IsWithin settings → IfOk read (IsBuiltLaunch settings) → IfOk read IsBounded
+all_bounded settings (Ok launch) within b = bounded settings launch within b (granted settings launch b)
+all_bounded settings (Err refusal) within b = tt

@@ -6,7 +6,7 @@ use Rattle.abi_types.specs.Outside.Sink.{grown, GrewByPrefix}
 use Rattle.abi_types.proofs.OutsideLaws.{grown_twice, grew_later}
 use Rattle.launch_run.specs.Lines.{line_of, front_of, name_of, number_of, back_of, fault_name, fault_number}
 use Rattle.launch_run.specs.declared.lines.Refusal.{Refusal}
-use Rattle.launch_run.specs.declared.lines.Refusal.TheVariants.{Words, Input, TooLong, Program, LaunchText, Memory}
+use Rattle.launch_run.specs.declared.lines.Refusal.TheVariants.{Words, Input, TooLong, Program, Tree, LaunchText, Memory}
 
 -- a line is its four parts
 line_parts : (r : Refusal) → front_of r ++ (name_of r ++ (number_of r ++ back_of r)) ≡ line_of r
@@ -16,6 +16,7 @@ line_parts (TooLong name) =
     sym (ap (λ (xs : List ℕ). xs ++ 10 ∷ []) (refl {a = codes "input: " ++ (name.now ++ codes " too long")}) ∙ append_assoc (codes "input: ") (name.now ++ codes " too long") (10 ∷ []) ∙ ap (λ (xs : List ℕ). codes "input: " ++ xs) (append_assoc name.now (codes " too long") (10 ∷ [])))
 line_parts (Program found) =
     sym (append_assoc (codes "program: ") (fault_name found ++ fault_number found) (10 ∷ []) ∙ ap (λ (xs : List ℕ). codes "program: " ++ xs) (append_assoc (fault_name found) (fault_number found) (10 ∷ [])))
+line_parts Tree = refl
 line_parts (LaunchText fault) = refl
 line_parts Memory = refl
 

@@ -1,5 +1,5 @@
 -- What the record of an ended run is.
-use Rattle.std.proofs.Common.{◌≡◌, ℕ, List, sym, ap, subst, ◌∙◌}
+use Rattle.std.proofs.Common.{◌≡◌, ℕ, Bool, List, sym, ap, subst, ◌∙◌}
 use Rattle.std.specs.FinMap.{get}
 use Rattle.kernel_core.specs.declared.history.Entry.{Entry}
 use Rattle.kernel_core.specs.declared.history.Record.{Record}
@@ -10,7 +10,7 @@ use Rattle.run_model.specs.Legal.{Legal}
 use Rattle.run_model.specs.World.{World, world}
 use Rattle.run_model.proofs.Ends.{ended_where}
 use Rattle.launch_run.specs.declared.run.Run.{Run}
-use Rattle.launch_run.specs.Report.{report_of}
+use Rattle.run_report.specs.Report.{report_of}
 use Rattle.launch_run.specs.Run.{IsBetween, IsLive}
 use Rattle.launch_run.specs.TopCall.{IsRecordOf, state_of, record_report}
 
@@ -32,5 +32,5 @@ module _ (r : Run) (rec : Record) (of : IsOfRun r rec) (between : IsBetween r) w
   pub record_ended : ¬ IsLive r → Ended rec.launch rec.history
   record_ended dead = ended_where rec.launch rec.history record_of.1 (λ live. dead (ap (λ (S : State). get S.statuses 0) (sym record_state) ∙ live))
 
-  pub record_text : (text : List ℕ) → text ≡ report_of r.kernel r.history → text ≡ record_report rec
-  record_text text is = is ∙ (λ i. report_of (sym record_state i) (sym of.1 i))
+  pub record_text : (lines : Bool) (text : List ℕ) → text ≡ report_of r.kernel r.history lines → text ≡ record_report lines rec
+  record_text lines text is = is ∙ (λ i. report_of (sym record_state i) (sym of.1 i) lines)

@@ -9,25 +9,26 @@ use Rattle.kernel_core.specs.declared.history.Record.{Record}
 use Rattle.kernel_core.specs.declared.launch.Launch.{Launch}
 use Rattle.kernel_model.specs.Start.{AreGrants}
 use Rattle.run_model.proofs.Confinements.{legal_is_confined}
-use Rattle.launch_run.specs.Launch.{Spelled, untold, refuses, spells, launch_of, AnswersSpelled, IsToldAs, IsBuiltLaunch}
-use Rattle.launch_run.specs.Lines.{memory_line, status_of}
+use Rattle.launch_words.specs.Settings.{Settings}
+use Rattle.launch_run.specs.Launch.{Spelled, untold, refuses, spells, words_spell, inputs_with, history_with, AnswersSpelled, IsToldAs, IsBuiltBy}
+use Rattle.launch_run.specs.Lines.{words_line, memory_line, status_of}
 use Rattle.launch_run.specs.declared.lines.Refusal.{Refusal}
-use Rattle.launch_run.specs.declared.lines.Refusal.TheVariants.{Words, Input, TooLong, Program, LaunchText, Memory}
+use Rattle.launch_run.specs.declared.lines.Refusal.TheVariants.{Words, Input, TooLong, Program, Tree, LaunchText, Memory}
 use Rattle.launch_run.specs.declared.top.RunEnd.{RunEnd}
 use Rattle.launch_run.specs.declared.top.RunEnd.TheVariants.{Reported, Unwritten, NoMemory}
 use Rattle.launch_run.specs.declared.top.TopEnd.{TopEnd}
 use Rattle.launch_run.specs.declared.top.TopEnd.TheVariants.{Refused, Ran}
-use Rattle.launch_run.specs.TopCall.{Wrote, IsRecordOf, IsRunOf, IsTopEnd, IsToldEnd, IsInputRefused, IsKept, Completes, HasFailed, HasReported, status_number, finished_run, finished_of, IsProgramRefused, IsTextRefused}
+use Rattle.launch_run.specs.TopCall.{Wrote, IsRecordOf, IsRunOf, IsTopEnd, IsToldEnd, IsInputRefused, IsKept, Completes, HasFailed, HasReported, status_number, finished_run, finished_of, IsProgramRefused, IsTreeRefused, IsTextRefused}
 
 -- a record of a run is as every record that is kept
-is_kept : (spelled : Spelled) (launch : Launch) (r : Record) → IsRecordOf launch r → IsToldAs spelled (spells launch) →
-    IsBuiltLaunch launch → AreGrants launch.grants → IsKept spelled r
-is_kept spelled launch r of told built grants =
+is_kept : (given : Option Settings) (spelled : Spelled) (launch : Launch) (r : Record) → IsRecordOf launch r → IsToldAs spelled (spells launch) →
+    IsBuiltBy given launch → AreGrants launch.grants → IsKept given spelled r
+is_kept given spelled launch r of told built grants =
     record {
       legal = of.1;
       confined = legal_is_confined r.launch r.history of.1 (subst (λ (l : Launch). AreGrants l.grants) (sym of.0) grants);
       launch_spelled = subst (λ (l : Launch). IsToldAs spelled (spells l)) (sym of.0) told;
-      built = subst IsBuiltLaunch (sym of.0) built;
+      built = subst (IsBuiltBy given) (sym of.0) built;
     }
 
 -- what holds of a record holds of it where it is kept
@@ -41,20 +42,21 @@ memory_status Words is = absurd (cc)
 memory_status (Input name) is = absurd (cc)
 memory_status (TooLong name) is = absurd (cc)
 memory_status (Program found) is = absurd (cc)
+memory_status Tree is = absurd (cc)
 memory_status (LaunchText fault) is = absurd (cc)
 memory_status Memory is = refl
 
-module _ (words : List (List ℕ)) (told : List ℕ → Told) (rose : Type 0) (before after : Option (List ℕ)) (sink_rose : Type 0) where
-  run_kept : (end : RunEnd) → IsRunOf words told rose before after sink_rose end →
-      IfSome (finished_run end).kept (IsKept (launch_of words told))
-  run_kept (Reported r status) o = is_kept _ o.launch r o.end_told.0 o.spelled o.built o.grants
-  run_kept (Unwritten r) o = is_kept _ o.launch r o.end_told.0 o.spelled o.built o.grants
+module _ (given : Option Settings) (told : List ℕ → Told) (rose : Type 0) (before after : Option (List ℕ)) (sink_rose : Type 0) where
+  run_kept : (end : RunEnd) → IsRunOf given told rose before after sink_rose end →
+      IfSome (finished_run end).kept (IsKept given (words_spell given told))
+  run_kept (Reported r status) o = is_kept given _ o.launch r o.end_told.0 o.spelled o.built o.grants
+  run_kept (Unwritten r) o = is_kept given _ o.launch r o.end_told.0 o.spelled o.built o.grants
   run_kept (NoMemory None) o = tt
   run_kept (NoMemory (Some r)) o =
-      where_kept (IsKept (launch_of words told)) r (length r.history == 0) (is_kept _ o.launch r o.end_told.0 o.spelled o.built o.grants)
+      where_kept (IsKept given (words_spell given told)) r (length r.history == 0) (is_kept given _ o.launch r o.end_told.0 o.spelled o.built o.grants)
 
-  pub top_kept : (end : TopEnd) → IsTopEnd words told rose before after sink_rose end →
-      IfSome (finished_of end).kept (IsKept (launch_of words told))
+  pub top_kept : (end : TopEnd) → IsTopEnd given told rose before after sink_rose end →
+      IfSome (finished_of end).kept (IsKept given (words_spell given told))
   top_kept (Refused refusal) o = tt
   top_kept (Ran end) o = run_kept end o
 
@@ -81,12 +83,13 @@ module _ (words : List (List ℕ)) (told : List ℕ → Told) (rose : Type 0) (b
   no_input_status (Some (Exit code)) is = zero_or_one (code == 0) is
   no_input_status (Some (Killed signal)) is = omega arith
 
-  pub top_input : (end : TopEnd) → IsTopEnd words told rose before after sink_rose end → (finished_of end).status ≡ 66 →
-      IsInputRefused words told rose (Wrote before after sink_rose)
+  pub top_input : (end : TopEnd) → IsTopEnd given told rose before after sink_rose end → (finished_of end).status ≡ 66 →
+      IsInputRefused (inputs_with given) (words_spell given told) rose (Wrote before after sink_rose)
   top_input (Refused Words) o is = absurd (omega arith)
   top_input (Refused (Input name)) o is = (name.now, o.0.input.0, inl (o.0.input.1, o.1))
   top_input (Refused (TooLong name)) o is = (name.now, o.0.too_long, inr (o.0.refused tt, o.1))
   top_input (Refused (Program found)) o is = absurd (omega arith)
+  top_input (Refused Tree) o is = absurd (omega arith)
   top_input (Refused (LaunchText fault)) o is = absurd (omega arith)
   top_input (Refused Memory) o is = absurd (omega arith)
   top_input (Ran (Reported r status)) o is = absurd (no_input_status status is)
@@ -99,12 +102,13 @@ module _ (words : List (List ℕ)) (told : List ℕ → Told) (rose : Type 0) (b
   no_program_status (Some (Exit code)) is = not_67 (code == 0) is
   no_program_status (Some (Killed signal)) is = omega arith
 
-  pub top_program : (end : TopEnd) → IsTopEnd words told rose before after sink_rose end → (finished_of end).status ≡ 67 →
-      IsProgramRefused (launch_of words told) (Wrote before after sink_rose)
+  pub top_program : (end : TopEnd) → IsTopEnd given told rose before after sink_rose end → (finished_of end).status ≡ 67 →
+      IsProgramRefused (words_spell given told) (Wrote before after sink_rose)
   top_program (Refused Words) o is = absurd (omega arith)
   top_program (Refused (Input name)) o is = absurd (omega arith)
   top_program (Refused (TooLong name)) o is = absurd (omega arith)
   top_program (Refused (Program found)) o is = (found, o.0.refused tt, o.1)
+  top_program (Refused Tree) o is = absurd (omega arith)
   top_program (Refused (LaunchText fault)) o is = absurd (omega arith)
   top_program (Refused Memory) o is = absurd (omega arith)
   top_program (Ran (Reported r status)) o is = absurd (no_program_status status is)
@@ -121,17 +125,82 @@ module _ (words : List (List ℕ)) (told : List ℕ → Told) (rose : Type 0) (b
   no_text_status (Some (Exit code)) is = not_65 (code == 0) is
   no_text_status (Some (Killed signal)) is = omega arith
 
-  pub top_text : (end : TopEnd) → IsTopEnd words told rose before after sink_rose end → (finished_of end).status ≡ 65 →
-      IsTextRefused (launch_of words told) (Wrote before after sink_rose)
+  pub top_text : (end : TopEnd) → IsTopEnd given told rose before after sink_rose end → (finished_of end).status ≡ 65 →
+      IsTextRefused (words_spell given told) (Wrote before after sink_rose)
   top_text (Refused Words) o is = absurd (omega arith)
   top_text (Refused (Input name)) o is = absurd (omega arith)
   top_text (Refused (TooLong name)) o is = absurd (omega arith)
   top_text (Refused (Program found)) o is = absurd (omega arith)
+  top_text (Refused Tree) o is = absurd (omega arith)
   top_text (Refused (LaunchText fault)) o is = (fault, o.0.refused tt, o.1)
   top_text (Refused Memory) o is = absurd (omega arith)
   top_text (Ran (Reported r status)) o is = absurd (no_text_status status is)
   top_text (Ran (Unwritten r)) o is = absurd (omega arith)
   top_text (Ran (NoMemory r)) o is = absurd (omega arith)
+
+  not_68 : (none : Bool) → ◌≡◌ {A = ℕ} (if none then 0 else 1) 68 → ⊥
+  not_68 true is = omega arith
+  not_68 false is = omega arith
+
+  no_tree_status : (status : Option Status) → status_number status ≡ 68 → ⊥
+  no_tree_status None is = omega arith
+  no_tree_status (Some Live) is = omega arith
+  no_tree_status (Some (Exit code)) is = not_68 (code == 0) is
+  no_tree_status (Some (Killed signal)) is = omega arith
+
+  pub top_tree : (end : TopEnd) → IsTopEnd given told rose before after sink_rose end → (finished_of end).status ≡ 68 →
+      IsTreeRefused (words_spell given told) (Wrote before after sink_rose)
+  top_tree (Refused Words) o is = absurd (omega arith)
+  top_tree (Refused (Input name)) o is = absurd (omega arith)
+  top_tree (Refused (TooLong name)) o is = absurd (omega arith)
+  top_tree (Refused (Program found)) o is = absurd (omega arith)
+  top_tree (Refused Tree) o is = (o.0.refused tt, o.1)
+  top_tree (Refused (LaunchText fault)) o is = absurd (omega arith)
+  top_tree (Refused Memory) o is = absurd (omega arith)
+  top_tree (Ran (Reported r status)) o is = absurd (no_tree_status status is)
+  top_tree (Ran (Unwritten r)) o is = absurd (omega arith)
+  top_tree (Ran (NoMemory r)) o is = absurd (omega arith)
+
+  -- ---- the words
+
+  not_2 : (none : Bool) → ◌≡◌ {A = ℕ} (if none then 0 else 1) 2 → ⊥
+  not_2 true is = omega arith
+  not_2 false is = omega arith
+
+  no_words_status : (status : Option Status) → status_number status ≡ 2 → ⊥
+  no_words_status None is = omega arith
+  no_words_status (Some Live) is = omega arith
+  no_words_status (Some (Exit code)) is = not_2 (code == 0) is
+  no_words_status (Some (Killed signal)) is = omega arith
+
+  -- what the status 2 says
+  pub record HasRefusedWords : Type 0 where
+    pub none_given : given ≡ None
+    pub wrote : Wrote before after sink_rose words_line
+
+  pub top_words : (end : TopEnd) → IsTopEnd given told rose before after sink_rose end → (finished_of end).status ≡ 2 → HasRefusedWords
+  top_words (Refused Words) o is = record { none_given = o.0.words_refused refl; wrote = o.1 }
+  top_words (Refused (Input name)) o is = absurd (omega arith)
+  top_words (Refused (TooLong name)) o is = absurd (omega arith)
+  top_words (Refused (Program found)) o is = absurd (omega arith)
+  top_words (Refused Tree) o is = absurd (omega arith)
+  top_words (Refused (LaunchText fault)) o is = absurd (omega arith)
+  top_words (Refused Memory) o is = absurd (omega arith)
+  top_words (Ran (Reported r status)) o is = absurd (no_words_status status is)
+  top_words (Ran (Unwritten r)) o is = absurd (omega arith)
+  top_words (Ran (NoMemory r)) o is = absurd (omega arith)
+
+  words_status : (refusal : Refusal) → (refusal ≡ Words) ⊎ (refusal ≡ Memory) → (status_of refusal ≡ 2) ⊎ (status_of refusal ≡ 70)
+  words_status refusal (inl is) = inl (ap status_of is)
+  words_status refusal (inr is) = inr (ap status_of is)
+
+  no_run : (end : RunEnd) → given ≡ None → IsRunOf given told rose before after sink_rose end → ⊥
+  no_run end none o = subst (λ g. IsBuiltBy g o.launch) none o.built
+
+  pub top_words_refused : (end : TopEnd) → IsTopEnd given told rose before after sink_rose end → given ≡ None →
+      ((finished_of end).status ≡ 2) ⊎ ((finished_of end).status ≡ 70)
+  top_words_refused (Refused refusal) o none = words_status refusal (o.0.words_answered none)
+  top_words_refused (Ran end) o none = absurd (no_run end none o)
 
   -- ---- want of memory
 
@@ -145,12 +214,13 @@ module _ (words : List (List ℕ)) (told : List ℕ → Told) (rose : Type 0) (b
   no_memory_status (Some (Exit code)) is = not_70 (code == 0) is
   no_memory_status (Some (Killed signal)) is = omega arith
 
-  pub top_memory : (end : TopEnd) → IsTopEnd words told rose before after sink_rose end → (finished_of end).status ≡ 70 →
+  pub top_memory : (end : TopEnd) → IsTopEnd given told rose before after sink_rose end → (finished_of end).status ≡ 70 →
       Wrote before after sink_rose memory_line × IfSome (finished_of end).kept (λ r. r.history ≢ [])
   top_memory (Refused Words) o is = absurd (omega arith)
   top_memory (Refused (Input name)) o is = absurd (omega arith)
   top_memory (Refused (TooLong name)) o is = absurd (omega arith)
   top_memory (Refused (Program found)) o is = absurd (omega arith)
+  top_memory (Refused Tree) o is = absurd (omega arith)
   top_memory (Refused (LaunchText fault)) o is = absurd (omega arith)
   top_memory (Refused Memory) o is = (o.1, tt)
   top_memory (Ran (Reported r status)) o is = absurd (no_memory_status status is)
@@ -164,12 +234,13 @@ module _ (words : List (List ℕ)) (told : List ℕ → Told) (rose : Type 0) (b
   not_01 n more (inl is) = omega arith
   not_01 n more (inr is) = omega arith
 
-  pub top_ended : (end : TopEnd) → IsTopEnd words told rose before after sink_rose end → ((finished_of end).status ≡ 0) ⊎ ((finished_of end).status ≡ 1) →
-      IsSomeAnd (finished_of end).kept (HasReported before after (finished_of end).status)
+  pub top_ended : (end : TopEnd) → IsTopEnd given told rose before after sink_rose end → ((finished_of end).status ≡ 0) ⊎ ((finished_of end).status ≡ 1) →
+      IsSomeAnd (finished_of end).kept (HasReported (history_with given) before after (finished_of end).status)
   top_ended (Refused Words) o is = absurd (not_01 2 (omega arith) is)
   top_ended (Refused (Input name)) o is = absurd (not_01 66 (omega arith) is)
   top_ended (Refused (TooLong name)) o is = absurd (not_01 66 (omega arith) is)
   top_ended (Refused (Program found)) o is = absurd (not_01 67 (omega arith) is)
+  top_ended (Refused Tree) o is = absurd (not_01 68 (omega arith) is)
   top_ended (Refused (LaunchText fault)) o is = absurd (not_01 65 (omega arith) is)
   top_ended (Refused Memory) o is = absurd (not_01 70 (omega arith) is)
   top_ended (Ran (Reported r status)) o is =
@@ -183,12 +254,13 @@ module _ (words : List (List ℕ)) (told : List ℕ → Told) (rose : Type 0) (b
   no_unwritten_status (Some (Exit code)) is = not_69 (code == 0) is
   no_unwritten_status (Some (Killed signal)) is = omega arith
 
-  pub top_unwritten : (end : TopEnd) → IsTopEnd words told rose before after sink_rose end → (finished_of end).status ≡ 69 →
-      sink_rose × IsSomeAnd (finished_of end).kept (HasFailed before after)
+  pub top_unwritten : (end : TopEnd) → IsTopEnd given told rose before after sink_rose end → (finished_of end).status ≡ 69 →
+      sink_rose × IsSomeAnd (finished_of end).kept (HasFailed (history_with given) before after)
   top_unwritten (Refused Words) o is = absurd (omega arith)
   top_unwritten (Refused (Input name)) o is = absurd (omega arith)
   top_unwritten (Refused (TooLong name)) o is = absurd (omega arith)
   top_unwritten (Refused (Program found)) o is = absurd (omega arith)
+  top_unwritten (Refused Tree) o is = absurd (omega arith)
   top_unwritten (Refused (LaunchText fault)) o is = absurd (omega arith)
   top_unwritten (Refused Memory) o is = absurd (omega arith)
   top_unwritten (Ran (Reported r status)) o is = absurd (no_unwritten_status status is)
@@ -216,18 +288,18 @@ module _ (words : List (List ℕ)) (told : List ℕ → Told) (rose : Type 0) (b
   status_is_small (Some (Killed signal)) = inr refl
 
   -- how a run may end where the sink's count did not rise
-  calm_end : (launch : Launch) (end : RunEnd) → IsToldEnd launch before after sink_rose end → ¬ sink_rose
+  calm_end : (launch : Launch) (end : RunEnd) → IsToldEnd launch (history_with given) before after sink_rose end → ¬ sink_rose
       → ((finished_run end).status ≡ 0) ⊎ ((finished_run end).status ≡ 1) ⊎ ((finished_run end).status ≡ 70)
   calm_end launch (Reported r status) o calm = elim (status_is_small status) [ inl h ↦ inl h | inr h ↦ inr (inl h) ]
   calm_end launch (Unwritten r) o calm = absurd (calm o.2)
   calm_end launch (NoMemory r) o calm = inr (inr refl)
 
-  completes_run : (spelled : Spelled) (launch : Launch) (end : RunEnd) → AnswersSpelled spelled (Ok launch) → IsToldEnd launch before after sink_rose end
+  completes_run : (spelled : Spelled) (launch : Launch) (end : RunEnd) → AnswersSpelled spelled (Ok launch) → IsToldEnd launch (history_with given) before after sink_rose end
       → Completes spelled sink_rose (finished_run end).status
   completes_run untold launch end h o = tt
   completes_run (refuses status line) launch end h o = absurd h
   completes_run (spells other) launch end h o = λ calm. calm_end launch end o calm
 
-  pub top_complete : (end : TopEnd) → IsTopEnd words told rose before after sink_rose end → ¬ rose → Completes (launch_of words told) sink_rose (finished_of end).status
-  top_complete (Refused refusal) o calm = completes_refused (launch_of words told) refusal (o.0.complete calm)
-  top_complete (Ran end) o calm = completes_run (launch_of words told) o.launch end (o.complete calm) o.end_told
+  pub top_complete : (end : TopEnd) → IsTopEnd given told rose before after sink_rose end → ¬ rose → Completes (words_spell given told) sink_rose (finished_of end).status
+  top_complete (Refused refusal) o calm = completes_refused (words_spell given told) refusal (o.0.complete calm)
+  top_complete (Ran end) o calm = completes_run (words_spell given told) o.launch end (o.complete calm) o.end_told

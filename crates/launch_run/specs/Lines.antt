@@ -9,7 +9,7 @@ use Rattle.launch_run.specs.LaunchText.{line_of_fault}
 use Rattle.launch_run.specs.declared.launch_text.LaunchFault.{LaunchFault}
 use Rattle.launch_run.specs.declared.launch_text.LaunchFault.TheVariants.{Yaml, Plan}
 use Rattle.launch_run.specs.declared.lines.Refusal.{Refusal}
-use Rattle.launch_run.specs.declared.lines.Refusal.TheVariants.{Words, Input, TooLong, Program, LaunchText, Memory}
+use Rattle.launch_run.specs.declared.lines.Refusal.TheVariants.{Words, Input, TooLong, Program, Tree, LaunchText, Memory}
 
 -- a text with a line feed at its end
 abbrev pub ended : List ℕ → List ℕ
@@ -52,6 +52,10 @@ fault_number _ = []
 -- the program's file has this fault
 abbrev pub program_line : ElfFault → List ℕ
 program_line found = ended (codes "program: " ++ fault_name found ++ fault_number found)
+
+-- a tree document is not empty, and none can be read yet
+abbrev pub tree_line : List ℕ
+tree_line = ended (codes "tree: not built")
 
 -- what stands behind the number of the line of a fault in a launch file
 abbrev pub kind_ending : YamlKind → List ℕ
@@ -102,6 +106,7 @@ line_of Words = words_line
 line_of (Input name) = input_line name.now
 line_of (TooLong name) = too_long_line name.now
 line_of (Program found) = program_line found
+line_of Tree = tree_line
 line_of (LaunchText fault) = launch_line fault
 line_of Memory = memory_line
 
@@ -111,6 +116,7 @@ status_of Words = 2
 status_of (Input name) = 66
 status_of (TooLong name) = 66
 status_of (Program found) = 67
+status_of Tree = 68
 status_of (LaunchText fault) = 65
 status_of Memory = 70
 
@@ -120,6 +126,7 @@ front_of Words = codes "words: refused"
 front_of (Input name) = codes "input: "
 front_of (TooLong name) = codes "input: "
 front_of (Program found) = codes "program: "
+front_of Tree = codes "tree: not built"
 front_of (LaunchText fault) = launch_front fault
 front_of Memory = codes "memory"
 

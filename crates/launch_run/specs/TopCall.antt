@@ -1,7 +1,7 @@
 -- What the top call answers and writes. The words are those of its caller; what a source tells of its inputs and what a
 -- sink tells of its bytes are as the traits say (a source or a sink may tell nothing). A count of faults rose in a call
 -- where it is greater afterwards, or stands at its last value.
-use Rattle.std.specs.Prelude.{◌≡◌, ◌≢◌, ◌⊎◌, ◌↔◌, ◌==◌, ⊤, ℕ, List, length, Option, None, Some, Ok, Err, IfSome, Contains, if◌then◌else◌}
+use Rattle.std.specs.Prelude.{◌≡◌, ◌⊎◌, ◌==◌, ⊤, ℕ, Bool, List, length, Option, None, Some, Ok, Err, IfSome, Contains, if◌then◌else◌}
 use Rattle.std.specs.FinMap.{get}
 use Rattle.abi_types.specs.Outside.Sink.{grown, GrewByPrefix}
 use Rattle.abi_types.specs.Outside.Source.{Told}
@@ -15,14 +15,14 @@ use Rattle.run_model.specs.Confined.{IsConfined}
 use Rattle.run_model.specs.Ends.{Ended}
 use Rattle.run_model.specs.Legal.{Legal}
 use Rattle.run_model.specs.World.{world}
-use Rattle.launch_run.specs.Launch.{Spelled, untold, refuses, spells, launch_of, inputs_of, IsToldAs, IsBuiltLaunch, IfInput, IfTooLong, IsOfTexts, AnswersSpelled}
+use Rattle.launch_words.specs.Settings.{Settings}
+use Rattle.launch_run.specs.Launch.{Spelled, untold, refuses, spells, words_spell, inputs_with, history_with, IsToldAs, IsBuiltBy, IfInput, IfTooLong, IsOfTexts, AnswersSpelled}
 use Rattle.elf_image.specs.declared.fault.ElfFault.{ElfFault}
-use Rattle.launch_run.specs.Lines.{line_of, status_of, memory_line, input_line, program_line, launch_line, too_long_line}
-use Rattle.launch_run.specs.Report.{report_of}
-use Rattle.launch_run.specs.Words.{program_of}
+use Rattle.launch_run.specs.Lines.{line_of, status_of, memory_line, input_line, program_line, tree_line, launch_line, too_long_line}
+use Rattle.run_report.specs.Report.{report_of}
 use Rattle.launch_run.specs.declared.launch_text.LaunchFault.{LaunchFault}
 use Rattle.launch_run.specs.declared.lines.Refusal.{Refusal}
-use Rattle.launch_run.specs.declared.lines.Refusal.TheVariants.{Words}
+use Rattle.launch_run.specs.declared.lines.Refusal.TheVariants.{Words, Memory}
 use Rattle.launch_run.specs.declared.top.Finished.{Finished}
 use Rattle.launch_run.specs.declared.top.RunEnd.{RunEnd}
 use Rattle.launch_run.specs.declared.top.RunEnd.TheVariants.{Reported, Unwritten, NoMemory}
@@ -44,9 +44,9 @@ status_number (Some (Killed signal)) = 1
 abbrev pub state_of : Record → State
 state_of r = (world r.launch r.history).state
 
--- the report of the record
-abbrev pub record_report : Record → List ℕ
-record_report r = report_of (state_of r) r.history
+-- the report of the record, with the history's lines or without
+abbrev pub record_report : Bool → Record → List ℕ
+record_report lines r = report_of (state_of r) r.history lines
 
 -- a record of a run of the launch: its history is legal
 abbrev pub IsRecordOf : Launch → Record → Type 0
@@ -55,17 +55,17 @@ IsRecordOf launch r = (r.launch ≡ launch) × Legal r.launch r.history
 -- How a run of the launch came to its end, where before and after are what the sink tells of its bytes, and rose says
 -- that its count of faults rose. The report is of an ended run, and was written whole, or a prefix of it where the sink
 -- failed; for want of memory nothing was written of it.
-abbrev pub IsEndOf : Launch → Option (List ℕ) → Option (List ℕ) → Type 0 → RunEnd → Type 0
-IsEndOf launch before after rose (Reported r status) =
-    IsRecordOf launch r × Ended r.launch r.history × (status ≡ get (state_of r).statuses 0) × (after ≡ grown before (record_report r))
-IsEndOf launch before after rose (Unwritten r) = IsRecordOf launch r × Ended r.launch r.history × rose × GrewByPrefix before after (record_report r)
-IsEndOf launch before after rose (NoMemory r) = IfSome r (IsRecordOf launch) × (after ≡ before)
+abbrev pub IsEndOf : Launch → Bool → Option (List ℕ) → Option (List ℕ) → Type 0 → RunEnd → Type 0
+IsEndOf launch lines before after rose (Reported r status) =
+    IsRecordOf launch r × Ended r.launch r.history × (status ≡ get (state_of r).statuses 0) × (after ≡ grown before (record_report lines r))
+IsEndOf launch lines before after rose (Unwritten r) = IsRecordOf launch r × Ended r.launch r.history × rose × GrewByPrefix before after (record_report lines r)
+IsEndOf launch lines before after rose (NoMemory r) = IfSome r (IsRecordOf launch) × (after ≡ before)
 
 -- the same once the line that says so was written for want of memory
-abbrev pub IsToldEnd : Launch → Option (List ℕ) → Option (List ℕ) → Type 0 → RunEnd → Type 0
-IsToldEnd launch before after rose (Reported r status) = IsEndOf launch before after rose (Reported r status)
-IsToldEnd launch before after rose (Unwritten r) = IsEndOf launch before after rose (Unwritten r)
-IsToldEnd launch before after rose (NoMemory r) = IfSome r (IsRecordOf launch) × Wrote before after rose memory_line
+abbrev pub IsToldEnd : Launch → Bool → Option (List ℕ) → Option (List ℕ) → Type 0 → RunEnd → Type 0
+IsToldEnd launch lines before after rose (Reported r status) = IsEndOf launch lines before after rose (Reported r status)
+IsToldEnd launch lines before after rose (Unwritten r) = IsEndOf launch lines before after rose (Unwritten r)
+IsToldEnd launch lines before after rose (NoMemory r) = IfSome r (IsRecordOf launch) × Wrote before after rose memory_line
 
 -- what is written after a run's end: the line for want of memory, and else nothing
 abbrev pub TellsEnd : Option (List ℕ) → Option (List ℕ) → Type 0 → RunEnd → Type 0
@@ -73,30 +73,31 @@ TellsEnd before after rose (Reported r status) = after ≡ before
 TellsEnd before after rose (Unwritten r) = after ≡ before
 TellsEnd before after rose (NoMemory r) = Wrote before after rose memory_line
 
--- ---- the whole call, for these words, what the source tells of each input, and whether its count of faults rose
+-- ---- the whole call, for words that give these settings or none, what the source tells of each input, and whether its
+-- count of faults rose
 
 -- a refusal, which is the first that the words and the inputs spell, where anything is told of it
-pub record IsRefusalOf (words : List (List ℕ)) (told : List ℕ → Told) (rose : Type 0) (refusal : Refusal) : Type 0 where
-  pub words_refused : (refusal ≡ Words) ↔ (program_of words ≡ None)
-  pub input : IfInput refusal (λ name. Contains (inputs_of words) name × rose)
-  pub too_long : IfTooLong refusal (Contains (inputs_of words))
-  pub refused : IsOfTexts refusal → IsToldAs (launch_of words told) (refuses (status_of refusal) (line_of refusal))
-  pub complete : ¬ rose → AnswersSpelled (launch_of words told) (Err refusal)
+pub record IsRefusalOf (given : Option Settings) (told : List ℕ → Told) (rose : Type 0) (refusal : Refusal) : Type 0 where
+  pub words_refused : refusal ≡ Words → given ≡ None
+  pub words_answered : given ≡ None → (refusal ≡ Words) ⊎ (refusal ≡ Memory)
+  pub input : IfInput refusal (λ name. Contains (inputs_with given) name × rose)
+  pub too_long : IfTooLong refusal (Contains (inputs_with given))
+  pub refused : IsOfTexts refusal → IsToldAs (words_spell given told) (refuses (status_of refusal) (line_of refusal))
+  pub complete : ¬ rose → AnswersSpelled (words_spell given told) (Err refusal)
 
 -- a run of the launch that the words and the inputs spell, where anything is told of it
-pub record IsRunOf (words : List (List ℕ)) (told : List ℕ → Told) (rose : Type 0) (before after : Option (List ℕ)) (sink_rose : Type 0) (end : RunEnd) : Type 0 where
+pub record IsRunOf (given : Option Settings) (told : List ℕ → Told) (rose : Type 0) (before after : Option (List ℕ)) (sink_rose : Type 0) (end : RunEnd) : Type 0 where
   pub launch : Launch
-  pub words_taken : program_of words ≢ None
-  pub spelled : IsToldAs (launch_of words told) (spells launch)
-  pub built : IsBuiltLaunch launch
+  pub spelled : IsToldAs (words_spell given told) (spells launch)
+  pub built : IsBuiltBy given launch
   pub grants : AreGrants launch.grants
-  pub complete : ¬ rose → AnswersSpelled (launch_of words told) (Ok launch)
-  pub end_told : IsToldEnd launch before after sink_rose end
+  pub complete : ¬ rose → AnswersSpelled (words_spell given told) (Ok launch)
+  pub end_told : IsToldEnd launch (history_with given) before after sink_rose end
 
 -- how the call ended
-abbrev pub IsTopEnd : List (List ℕ) → (List ℕ → Told) → Type 0 → Option (List ℕ) → Option (List ℕ) → Type 0 → TopEnd → Type 0
-IsTopEnd words told rose before after sink_rose (Refused refusal) = IsRefusalOf words told rose refusal × Wrote before after sink_rose (line_of refusal)
-IsTopEnd words told rose before after sink_rose (Ran end) = IsRunOf words told rose before after sink_rose end
+abbrev pub IsTopEnd : Option Settings → (List ℕ → Told) → Type 0 → Option (List ℕ) → Option (List ℕ) → Type 0 → TopEnd → Type 0
+IsTopEnd given told rose before after sink_rose (Refused refusal) = IsRefusalOf given told rose refusal × Wrote before after sink_rose (line_of refusal)
+IsTopEnd given told rose before after sink_rose (Ran end) = IsRunOf given told rose before after sink_rose end
 
 -- the record that is kept for want of memory: that of a run which had an entry
 abbrev pub kept_of : Option Record → Option Record
@@ -118,26 +119,31 @@ finished_of (Ran end) = finished_run end
 -- one of the statuses that the call may answer
 abbrev pub IsTopStatus : ℕ → Type 0
 IsTopStatus status =
-    (status ≡ 0) ⊎ (status ≡ 1) ⊎ (status ≡ 2) ⊎ (status ≡ 65) ⊎ (status ≡ 66) ⊎ (status ≡ 67) ⊎ (status ≡ 69) ⊎ (status ≡ 70)
+    (status ≡ 0) ⊎ (status ≡ 1) ⊎ (status ≡ 2) ⊎ (status ≡ 65) ⊎ (status ≡ 66) ⊎ (status ≡ 67) ⊎ (status ≡ 68) ⊎ (status ≡ 69) ⊎ (status ≡ 70)
 
 -- An input could not be read, and the source's count of faults rose; or an input is too long, as it is spelled, where
 -- anything is told of it. The line names the input.
-abbrev pub IsInputRefused : List (List ℕ) → (List ℕ → Told) → Type 0 → (List ℕ → Type 0) → Type 0
-IsInputRefused words told rose wrote =
-    (name : List ℕ) × Contains (inputs_of words) name
-    × ((rose × wrote (input_line name)) ⊎ (IsToldAs (launch_of words told) (refuses 66 (too_long_line name)) × wrote (too_long_line name)))
+abbrev pub IsInputRefused : List (List ℕ) → Spelled → Type 0 → (List ℕ → Type 0) → Type 0
+IsInputRefused names spelled rose wrote =
+    (name : List ℕ) × Contains names name
+    × ((rose × wrote (input_line name)) ⊎ (IsToldAs spelled (refuses 66 (too_long_line name)) × wrote (too_long_line name)))
 
 -- the run of the record has ended, the status is that of its process 0, and exactly its report was written
-pub record HasReported (before after : Option (List ℕ)) (status : ℕ) (r : Record) : Type 0 where
+pub record HasReported (lines : Bool) (before after : Option (List ℕ)) (status : ℕ) (r : Record) : Type 0 where
   pub ended : Ended r.launch r.history
   pub status_is : status ≡ status_number (get (state_of r).statuses 0)
-  pub written : after ≡ grown before (record_report r)
+  pub written : after ≡ grown before (record_report lines r)
 
 -- the program is refused for a fault of its file, which is the first refusal that is spelled, where anything is told of it,
 -- and its line was written
 abbrev pub IsProgramRefused : Spelled → (List ℕ → Type 0) → Type 0
 IsProgramRefused spelled wrote =
     (found : ElfFault) × IsToldAs spelled (refuses 67 (program_line found)) × wrote (program_line found)
+
+-- the tree document is refused, which is the first refusal that is spelled, where anything is told of it, and its line was
+-- written
+abbrev pub IsTreeRefused : Spelled → (List ℕ → Type 0) → Type 0
+IsTreeRefused spelled wrote = IsToldAs spelled (refuses 68 tree_line) × wrote tree_line
 
 -- the launch text is refused for a fault, which is the first refusal that is spelled, where anything is told of it, and its
 -- line was written
@@ -146,17 +152,18 @@ IsTextRefused spelled wrote =
     (fault : LaunchFault) × IsToldAs spelled (refuses 65 (launch_line fault)) × wrote (launch_line fault)
 
 -- the run of the record has ended, and a prefix of its report was written
-pub record HasFailed (before after : Option (List ℕ)) (r : Record) : Type 0 where
+pub record HasFailed (lines : Bool) (before after : Option (List ℕ)) (r : Record) : Type 0 where
   pub ended : Ended r.launch r.history
-  pub prefix : GrewByPrefix before after (record_report r)
+  pub prefix : GrewByPrefix before after (record_report lines r)
 
 -- What every record that is kept is: its history is legal, each entry is confined to what its process's descriptors
--- reach with the rights needed, and its launch is the one that is spelled, where anything is told of it.
-pub record IsKept (spelled : Spelled) (r : Record) : Type 0 where
+-- reach with the rights needed, and its launch is the one that is spelled, where anything is told of it, and in any case
+-- one of these settings.
+pub record IsKept (given : Option Settings) (spelled : Spelled) (r : Record) : Type 0 where
   pub legal : Legal r.launch r.history
   pub confined : IsConfined r.launch r.history
   pub launch_spelled : IsToldAs spelled (spells r.launch)
-  pub built : IsBuiltLaunch r.launch
+  pub built : IsBuiltBy given r.launch
 
 -- Where the source's count of faults did not rise, a refusal that is spelled is answered, and a launch that is spelled is
 -- run to its report where the sink's count did not rise; or memory was wanting.

@@ -1,27 +1,38 @@
-//! The launch that words and inputs ask for.
-ghost use Rattle.std.specs.Prelude.{◌≡◌, ◌≤◌, ◌↔◌, ◌∷◌, ℕ, List, [], None, map, string_bytes, length, All, Contains, IfOk, IfErr};
+//! The launch that settings and inputs ask for.
+ghost use Rattle.std.specs.Prelude.{◌≡◌, ◌≤◌, ℕ, List, length, All, IfOk, IfErr, option_map};
+ghost use Rattle.std.specs.Option.{option_to_list};
 ghost use Rattle.abi_types.specs.Outside.Source.{Rose, IsWhole};
 ghost use Rattle.kernel_model.specs.Start.{AreGrants};
-ghost use Rattle.launch_run.specs.Inputs.{IsUnread, IsNoLaunch, IsNoLaunchOf};
-ghost use Rattle.launch_run.specs.Launch.{spells, refuses, input_limit, standard_input, spelled_by, inputs_spell, launch_of, inputs_of, IsToldAs, IsBuiltLaunch, IfInput, IfTooLong, IsOfTexts, AnswersSpelled};
-ghost use Rattle.launch_run.specs.Lines.{line_of, status_of};
-ghost use Rattle.launch_run.specs.Words.{program_of};
+ghost use Rattle.launch_words.specs.Settings.{IsWithin, view};
+ghost use Rattle.launch_run.specs.Inputs.{AreRead, IsReadAs, IsUnread, IsUnreadOf, IsNoLaunch, IsNoLaunchOf};
+ghost use Rattle.launch_run.specs.Launch.{spells, input_limit, spelled_by, inputs_spell, settings_inputs, IsToldAs, IsBuiltLaunch, AnswersSpelled};
+ghost use Rattle.launch_run.specs.Run.{IsBounded};
 
 use crate::launch_text::plan_text;
 use crate::lines::Refusal;
-use crate::words::program_word;
 use abi_types::Bytes;
 use abi_types::outside::{ReadFault, Source, read_whole};
 use elf_image::{ElfFault, read_elf};
 use kernel_core::Launch;
 use launch_plan::Planned;
+use launch_words::LaunchWords;
 use std::alloc::{AllocError, Global};
 
 // The name of standard input, which has the launch text.
 const STANDARD_INPUT: &str = "-";
 
-// The turns that a launch may take.
-const LAUNCH_TURNS: u64 = 100_000;
+/// What was read of the inputs of a run.
+#[derive(Drop)]
+pub struct Inputs {
+    /// The program's file.
+    pub program: Bytes,
+    /// The launch text.
+    pub text: Bytes,
+    /// The tree document; empty where none is asked for.
+    pub tree: Bytes,
+    /// What the program reads as standard input; empty where nothing is asked for.
+    pub stdin: Bytes,
+}
 
 impl<'a> From<AllocError> for Refusal<'a> {
     ghost use Rattle.std.specs.Prelude.{◌≡◌};
@@ -56,82 +67,113 @@ fn read_input<'a, S: Source>(
     }
 }
 
-// The launch that a program and a launch text spell.
-#[tactic(auto, unfolding(crate::specs::Launch::spelled_by))]
-fn launch_from<'a>(alloc: Global, program: &[u8], text: &[u8]) -> Result<Launch, Refusal<'a>>
-    ensures ok { IfOk result (λ launch. spelled_by program.now text.now ≡ spells launch) }
-    ensures err { IfErr result (IsNoLaunch (spelled_by program.now text.now)) }
+// Reads the whole input of this name, where one is given.
+fn read_optional<'a, S: Source>(
+    alloc: Global,
+    source: &mut S,
+    name: Option<&'a str>,
+) -> Result<Bytes, Refusal<'a>>
+    requires { All (S.may_read source.old) (option_to_list (option_map (λ name. name.now) name)) }
+    ensures told_stays { (n : List ℕ) → S.told source.new n ≡ S.told source.old n }
+    ensures may_read_stays { (n : List ℕ) → S.may_read source.old n → S.may_read source.new n }
+    ensures faults_never_fall { S.faults source.old ≤ S.faults source.new }
+    ensures ok { IfOk result (IsReadAs (option_map (λ name. name.now) name.entry) (S.told source.old)) }
+    ensures err { IfErr result (IsUnreadOf (option_map (λ name. name.now) name.entry) (S.told source.old) (Rose (S.faults source.old) (S.faults source.new))) }
 {
-    let elf = match read_elf(alloc, program) {
+    match name {
+        None => Ok(Bytes::new(alloc)),
+        Some(name) => read_input(alloc, source, name),
+    }
+}
+
+// Reads the inputs of these settings, in their order.
+fn read_inputs<'a, S: Source>(
+    alloc: Global,
+    settings: &LaunchWords<'a>,
+    source: &mut S,
+) -> Result<Inputs, Refusal<'a>>
+    requires { All (S.may_read source.old) (settings_inputs (view settings.now)) }
+    ensures told_stays { (n : List ℕ) → S.told source.new n ≡ S.told source.old n }
+    ensures may_read_stays { (n : List ℕ) → S.may_read source.old n → S.may_read source.new n }
+    ensures faults_never_fall { S.faults source.old ≤ S.faults source.new }
+    ensures ok { IfOk result (AreRead (view settings.now) (S.told source.old)) }
+    ensures err { IfErr result (IsNoLaunchOf (settings_inputs (view settings.now)) (inputs_spell (view settings.now) (S.told source.old)) (Rose (S.faults source.old) (S.faults source.new))) }
+{
+    let program = read_input(alloc, source, settings.program)?;
+    let text = read_input(alloc, source, STANDARD_INPUT)?;
+    let tree = read_optional(alloc, source, settings.tree)?;
+    let stdin = read_optional(alloc, source, settings.stdin)?;
+    Ok(Inputs {
+        program,
+        text,
+        tree,
+        stdin,
+    })
+}
+
+// The launch that settings and inputs spell.
+#[tactic(auto, unfolding(crate::specs::Launch::spelled_by))]
+fn launch_from<'a>(
+    alloc: Global,
+    settings: &LaunchWords<'a>,
+    inputs: Inputs,
+) -> Result<Launch, Refusal<'a>>
+    ensures ok { IfOk result (λ launch. spelled_by (view settings.now) inputs ≡ spells launch) }
+    ensures err { IfErr result (IsNoLaunch (spelled_by (view settings.now) inputs)) }
+{
+    let elf = match read_elf(alloc, inputs.program.as_slice()) {
         Ok(elf) => elf,
         Err(ElfFault::NoMemory) => return Err(Refusal::Memory),
         Err(fault) => return Err(Refusal::Program(fault)),
     };
-    match plan_text(alloc, text) {
+    if inputs.tree.len() != 0 {
+        return Err(Refusal::Tree);
+    }
+    match plan_text(alloc, inputs.text.as_slice()) {
         Ok(Planned { argdata, grants }) => Ok(Launch {
             elf,
             argdata,
             grants,
-            turns: LAUNCH_TURNS,
+            stdin: inputs.stdin,
+            key: settings.key,
+            epoch: settings.epoch,
+            turns: settings.turns,
         }),
         Err(Some(fault)) => Err(Refusal::LaunchText(fault)),
         Err(None) => Err(Refusal::Memory),
     }
 }
 
-// The launch of the program of this name.
-fn read_named<'a, S: Source>(
-    alloc: Global,
-    name: &'a str,
-    source: &mut S,
-) -> Result<Launch, Refusal<'a>>
-    requires program { S.may_read source.old name.now }
-    requires launch_text { S.may_read source.old standard_input }
-    ensures told_stays { (n : List ℕ) → S.told source.new n ≡ S.told source.old n }
-    ensures may_read_stays { (n : List ℕ) → S.may_read source.old n → S.may_read source.new n }
-    ensures faults_never_fall { S.faults source.old ≤ S.faults source.new }
-    ensures ok { IfOk result (λ launch. IsToldAs (inputs_spell name.now (S.told source.old)) (spells launch)) }
-    ensures built { IfOk result IsBuiltLaunch }
-    ensures err { IfErr result (IsNoLaunchOf (name.now ∷ standard_input ∷ []) (inputs_spell name.now (S.told source.old)) (Rose (S.faults source.old) (S.faults source.new))) }
-{
-    let program = read_input(alloc, source, name)?;
-    let text = read_input(alloc, source, STANDARD_INPUT)?;
-    launch_from(alloc, program.as_slice(), text.as_slice())
-}
-
-/// The launch that the words and the inputs spell. The words name the program; standard input has the launch text. It
-/// reads no other input than these two, the program first.
+/// The launch that settings and inputs spell. It reads the settings' inputs and no other: the program, standard input with
+/// the launch text, the tree document and the program's standard input, where they are asked for, in this order.
 ///
-/// A refusal is the first in this order: the words, an input that could not be read or is too long, the program, the
-/// launch text. Where the source tells nothing of an input, only its bytes as they were read are looked at.
+/// A refusal is the first in this order: an input that could not be read or is too long, the program, the tree document,
+/// the launch text. Where the source tells nothing of an input, only its bytes as they were read are looked at.
 pub fn read_launch<'a, S: Source>(
     alloc: Global,
-    words: &'a [String],
+    settings: &LaunchWords<'a>,
     source: &mut S,
 ) -> Result<Launch, Refusal<'a>>
-    requires { All (S.may_read source.old) (inputs_of (map string_bytes words.now)) }
+    requires may_read { All (S.may_read source.old) (settings_inputs (view settings.now)) }
+    requires within { IsWithin (view settings.now) }
 
     // What the source tells stays, and so does which names may be read.
     ensures told_stays { (n : List ℕ) → S.told source.new n ≡ S.told source.old n }
     ensures may_read_stays { (n : List ℕ) → S.may_read source.old n → S.may_read source.new n }
     ensures faults_never_fall { S.faults source.old ≤ S.faults source.new }
 
-    // A launch is the one that is spelled, where anything is told of it, and in any case one of this width.
-    ensures ok { IfOk result (λ launch. IsToldAs (launch_of (map string_bytes words.now) (S.told source.old)) (spells launch)) }
-    ensures built { IfOk result IsBuiltLaunch }
+    // A launch is the one that is spelled, where anything is told of it, and in any case one of these settings.
+    ensures ok { IfOk result (λ launch. IsToldAs (inputs_spell (view settings.now) (S.told source.old)) (spells launch)) }
+    ensures built { IfOk result (IsBuiltLaunch (view settings.now)) }
     ensures grants { IfOk result (λ launch. AreGrants launch.grants) }
+    ensures bounded { IfOk result IsBounded }
 
     // When each refusal comes.
-    ensures words { (result ≡ Err Refusal.Words) ↔ (program_of (map string_bytes words.now) ≡ None) }
-    ensures input { IfErr result (λ refusal. IfInput refusal (λ name. Contains (inputs_of (map string_bytes words.now)) name × Rose (S.faults source.old) (S.faults source.new))) }
-    ensures too_long { IfErr result (λ refusal. IfTooLong refusal (Contains (inputs_of (map string_bytes words.now)))) }
-    ensures refused { IfErr result (λ refusal. IsOfTexts refusal → IsToldAs (launch_of (map string_bytes words.now) (S.told source.old)) (refuses (status_of refusal) (line_of refusal))) }
+    ensures err { IfErr result (IsNoLaunchOf (settings_inputs (view settings.now)) (inputs_spell (view settings.now) (S.told source.old)) (Rose (S.faults source.old) (S.faults source.new))) }
 
     // Where no fault was counted, what is spelled is answered, or want of memory.
-    ensures complete { ¬ Rose (S.faults source.old) (S.faults source.new) → AnswersSpelled (launch_of (map string_bytes words.now) (S.told source.old)) result }
+    ensures complete { ¬ Rose (S.faults source.old) (S.faults source.new) → AnswersSpelled (inputs_spell (view settings.now) (S.told source.old)) result }
 {
-    match program_word(words) {
-        Some(name) => read_named(alloc, name, source),
-        None => Err(Refusal::Words),
-    }
+    let inputs = read_inputs(alloc, settings, source)?;
+    launch_from(alloc, settings, inputs)
 }

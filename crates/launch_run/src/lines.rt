@@ -92,6 +92,8 @@ pub enum Refusal<'a> {
     TooLong(&'a str),
     /// The program's file has this fault. It isn't `NoMemory`.
     Program(ElfFault),
+    /// The tree document is not empty, and none can be read yet.
+    Tree,
     /// The launch text has this fault.
     LaunchText(LaunchFault),
     /// Memory is wanting.
@@ -99,7 +101,7 @@ pub enum Refusal<'a> {
 }
 
 impl<'a> Refusal<'a> {
-    /// The exit status: 2, 65, 66, 67 or 70.
+    /// The exit status: 2, 65, 66, 67, 68 or 70.
     pub fn status(&self) -> u8
         ensures { result ≡ status_of self.now }
     {
@@ -107,6 +109,7 @@ impl<'a> Refusal<'a> {
             Refusal::Words => 2,
             Refusal::Input(_) | Refusal::TooLong(_) => 66,
             Refusal::Program(_) => 67,
+            Refusal::Tree => 68,
             Refusal::LaunchText(_) => 65,
             Refusal::Memory => 70,
         }
@@ -120,6 +123,7 @@ impl<'a> Refusal<'a> {
             Refusal::Words => "words: refused",
             Refusal::Input(_) | Refusal::TooLong(_) => "input: ",
             Refusal::Program(_) => "program: ",
+            Refusal::Tree => "tree: not built",
             Refusal::LaunchText(fault) => launch_front(*fault),
             Refusal::Memory => "memory",
         }

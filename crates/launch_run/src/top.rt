@@ -1,20 +1,23 @@
 //! The top call: from the words of a command line to a status, a record, and what is written.
-ghost use Rattle.std.specs.Prelude.{◌≡◌, ◌≢◌, ◌⊎◌, ◌↔◌, ◌≤◌, ℕ, List, [], None, IsSome, IfSome, IsSomeAnd, map, string_bytes, All};
+ghost use Rattle.std.specs.Prelude.{◌≡◌, ◌≢◌, ◌⊎◌, ◌≤◌, ℕ, List, [], None, Some, IsSome, IfSome, IsSomeAnd, map, string_bytes, All};
 ghost use Rattle.abi_types.specs.Outside.Source.{Rose};
-ghost use Rattle.launch_run.specs.Launch.{launch_of, inputs_of, refuses, IsToldAs};
+ghost use Rattle.launch_words.specs.Settings.{IsWithin, view};
+ghost use Rattle.launch_words.specs.Words.{words_of};
+ghost use Rattle.run_report.specs.Report.{report_of};
+ghost use Rattle.launch_run.specs.Launch.{launch_of, inputs_of, settings_inputs, asks_history};
 ghost use Rattle.launch_run.specs.Lines.{line_of, words_line, memory_line};
-ghost use Rattle.launch_run.specs.Report.{report_of};
 ghost use Rattle.launch_run.specs.Run.{IsBounded, IsBetween, IsLive};
-ghost use Rattle.launch_run.specs.Words.{program_of};
-ghost use Rattle.launch_run.specs.TopCall.{Wrote, IsEndOf, IsToldEnd, TellsEnd, IsTopEnd, IsTopStatus, IsInputRefused, IsProgramRefused, IsTextRefused, HasReported, HasFailed, IsKept, Completes, status_number, kept_of, finished_run, finished_of};
+ghost use Rattle.launch_run.specs.TopCall.{Wrote, IsEndOf, IsToldEnd, TellsEnd, IsTopEnd, IsTopStatus, IsInputRefused, IsProgramRefused, IsTreeRefused, IsTextRefused, HasReported, HasFailed, IsKept, Completes, status_number, kept_of, finished_run, finished_of};
+ghost use Rattle.launch_run.specs.declared.top.TopEnd.TheVariants.{Refused};
 
 use crate::inputs::read_launch;
 use crate::lines::Refusal;
-use crate::report::report;
 use crate::run::Run;
 use abi_types::outside::{Sink, Source, write_whole};
 use abi_types::{Pid, Status};
 use kernel_core::{Launch, Record};
+use launch_words::{LaunchWords, WordsFault, read_words};
+use run_report::report;
 use std::alloc::Global;
 
 /// The launched process.
@@ -49,12 +52,12 @@ fn status_number(status: Option<Status>) -> u8
 }
 
 /// Writes the report of a run that has ended.
-fn write_report<K: Sink>(run: Run, text: &[u8], sink: &mut K) -> RunEnd
+fn write_report<K: Sink>(run: Run, lines: bool, text: &[u8], sink: &mut K) -> RunEnd
     requires between { IsBetween run }
     requires ended { ¬ IsLive run }
-    requires text { text.now ≡ report_of run.kernel run.history }
+    requires text { text.now ≡ report_of run.kernel run.history lines }
     ensures faults_never_fall { K.faults sink.old ≤ K.faults sink.new }
-    ensures end { IsEndOf run.launch (K.written sink.old) (K.written sink.new) (Rose (K.faults sink.old) (K.faults sink.new)) result }
+    ensures end { IsEndOf run.launch lines (K.written sink.old) (K.written sink.new) (Rose (K.faults sink.old) (K.faults sink.new)) result }
 {
     match write_whole(sink, text) {
         Ok(()) => {
@@ -66,10 +69,10 @@ fn write_report<K: Sink>(run: Run, text: &[u8], sink: &mut K) -> RunEnd
 }
 
 /// Runs a launch to its end, and writes its report.
-fn run_launched<K: Sink>(alloc: Global, launch: Launch, sink: &mut K) -> RunEnd
+fn run_launched<K: Sink>(alloc: Global, launch: Launch, lines: bool, sink: &mut K) -> RunEnd
     requires { IsBounded launch }
     ensures faults_never_fall { K.faults sink.old ≤ K.faults sink.new }
-    ensures end { IsEndOf launch (K.written sink.old) (K.written sink.new) (Rose (K.faults sink.old) (K.faults sink.new)) result }
+    ensures end { IsEndOf launch lines (K.written sink.old) (K.written sink.new) (Rose (K.faults sink.old) (K.faults sink.new)) result }
 {
     let Ok(mut run) = Run::new(alloc, launch) else {
         return RunEnd::NoMemory(None);
@@ -77,8 +80,8 @@ fn run_launched<K: Sink>(alloc: Global, launch: Launch, sink: &mut K) -> RunEnd
     if run.go_on(alloc).is_err() {
         return RunEnd::NoMemory(Some(run.into_record()));
     }
-    match report(alloc, &run.kernel, run.history.as_slice()) {
-        Ok(text) => write_report(run, text.as_slice(), sink),
+    match report(alloc, &run.kernel, run.history.as_slice(), lines) {
+        Ok(text) => write_report(run, lines, text.as_slice(), sink),
         Err(_) => RunEnd::NoMemory(Some(run.into_record())),
     }
 }
@@ -103,12 +106,12 @@ fn refuse<K: Sink>(refusal: &Refusal<'_>, sink: &mut K)
 }
 
 /// Runs a launch to its end, and writes its report, or the line for want of memory.
-fn run_told<K: Sink>(alloc: Global, launch: Launch, sink: &mut K) -> RunEnd
+fn run_told<K: Sink>(alloc: Global, launch: Launch, lines: bool, sink: &mut K) -> RunEnd
     requires { IsBounded launch }
     ensures faults_never_fall { K.faults sink.old ≤ K.faults sink.new }
-    ensures end { IsToldEnd launch (K.written sink.old) (K.written sink.new) (Rose (K.faults sink.old) (K.faults sink.new)) result }
+    ensures end { IsToldEnd launch lines (K.written sink.old) (K.written sink.new) (Rose (K.faults sink.old) (K.faults sink.new)) result }
 {
-    let end = run_launched(alloc, launch, sink);
+    let end = run_launched(alloc, launch, lines, sink);
     tell_end(&end, sink);
     end
 }
@@ -122,8 +125,37 @@ pub enum TopEnd<'a> {
     Ran(RunEnd),
 }
 
-/// Reads the launch, runs it, and writes its report, or the line of a refusal.
-#[tactic(auto, using(crate::proofs::Bounds::bounded))]
+/// A refusal, with its line written.
+fn refused<'a, K: Sink>(refusal: Refusal<'a>, sink: &mut K) -> TopEnd<'a>
+    ensures end { result ≡ Refused refusal.entry }
+    ensures faults_never_fall { K.faults sink.old ≤ K.faults sink.new }
+    ensures wrote { Wrote (K.written sink.old) (K.written sink.new) (Rose (K.faults sink.old) (K.faults sink.new)) (line_of refusal.entry) }
+{
+    refuse(&refusal, sink);
+    TopEnd::Refused(refusal)
+}
+
+/// Reads the launch of these settings, runs it, and writes its report, or the line of a refusal.
+fn run_settings<'a, S: Source, K: Sink>(
+    alloc: Global,
+    settings: &LaunchWords<'a>,
+    source: &mut S,
+    sink: &mut K,
+) -> TopEnd<'a>
+    requires may_read { All (S.may_read source.old) (settings_inputs (view settings.now)) }
+    requires within { IsWithin (view settings.now) }
+    ensures told_stays { (n : List ℕ) → S.told source.new n ≡ S.told source.old n }
+    ensures source_faults { S.faults source.old ≤ S.faults source.new }
+    ensures sink_faults { K.faults sink.old ≤ K.faults sink.new }
+    ensures end { IsTopEnd (Some (view settings.now)) (S.told source.old) (Rose (S.faults source.old) (S.faults source.new)) (K.written sink.old) (K.written sink.new) (Rose (K.faults sink.old) (K.faults sink.new)) result }
+{
+    match read_launch(alloc, settings, source) {
+        Ok(launch) => TopEnd::Ran(run_told(alloc, launch, settings.history, sink)),
+        Err(refusal) => refused(refusal, sink),
+    }
+}
+
+/// Reads the words and their launch, runs it, and writes its report, or the line of a refusal.
 fn launch_and_run<'a, S: Source, K: Sink>(
     alloc: Global,
     words: &'a [String],
@@ -134,14 +166,13 @@ fn launch_and_run<'a, S: Source, K: Sink>(
     ensures told_stays { (n : List ℕ) → S.told source.new n ≡ S.told source.old n }
     ensures source_faults { S.faults source.old ≤ S.faults source.new }
     ensures sink_faults { K.faults sink.old ≤ K.faults sink.new }
-    ensures end { IsTopEnd (map string_bytes words.now) (S.told source.old) (Rose (S.faults source.old) (S.faults source.new)) (K.written sink.old) (K.written sink.new) (Rose (K.faults sink.old) (K.faults sink.new)) result }
+    ensures unread { words_of (map string_bytes words.now) ≡ None → source.new ≡ source.old }
+    ensures end { IsTopEnd (words_of (map string_bytes words.now)) (S.told source.old) (Rose (S.faults source.old) (S.faults source.new)) (K.written sink.old) (K.written sink.new) (Rose (K.faults sink.old) (K.faults sink.new)) result }
 {
-    match read_launch(alloc, words, source) {
-        Ok(launch) => TopEnd::Ran(run_told(alloc, launch, sink)),
-        Err(refusal) => {
-            refuse(&refusal, sink);
-            TopEnd::Refused(refusal)
-        }
+    match read_words(alloc, words) {
+        Ok(settings) => run_settings(alloc, &settings, source, sink),
+        Err(WordsFault::Refused) => refused(Refusal::Words, sink),
+        Err(WordsFault::NoMemory) => refused(Refusal::Memory, sink),
     }
 }
 
@@ -197,9 +228,9 @@ fn finish(end: TopEnd<'_>) -> Finished
 /// Runs the program that the words name on the launch text of standard input, and writes its report.
 ///
 /// The status is 0 where the run ended and process 0 exited with 0, 1 where it ended otherwise, 2 for faulty words, 65
-/// for a launch text and 67 for a program that is refused, 66 for an input that can't be read or is too long, 69 where
-/// the sink failed while the report was written, and 70 for want of memory. What a refusal writes is its line, or a
-/// prefix of it where the sink failed.
+/// for a launch text, 67 for a program and 68 for a tree document that is refused, 66 for an input that can't be read or
+/// is too long, 69 where the sink failed while the report was written, and 70 for want of memory. What a refusal writes
+/// is its line, or a prefix of it where the sink failed.
 pub fn run_launch<S: Source, K: Sink>(
     alloc: Global,
     words: &[String],
@@ -215,21 +246,25 @@ pub fn run_launch<S: Source, K: Sink>(
 
     // When each status comes, and what is written for it.
     ensures statuses { IsTopStatus result.status }
-    ensures words { (result.status ≡ 2) ↔ (program_of (map string_bytes words.now) ≡ None) }
+    ensures words { result.status ≡ 2 → words_of (map string_bytes words.now) ≡ None }
+    ensures words_refused { words_of (map string_bytes words.now) ≡ None → (result.status ≡ 2) ⊎ (result.status ≡ 70) }
+    ensures unread { words_of (map string_bytes words.now) ≡ None → source.new ≡ source.old }
     ensures words_line { result.status ≡ 2 → Wrote (K.written sink.old) (K.written sink.new) (Rose (K.faults sink.old) (K.faults sink.new)) words_line }
-    ensures input { result.status ≡ 66 → IsInputRefused (map string_bytes words.now) (S.told source.old) (Rose (S.faults source.old) (S.faults source.new))
+    ensures input { result.status ≡ 66 → IsInputRefused (inputs_of (map string_bytes words.now)) (launch_of (map string_bytes words.now) (S.told source.old)) (Rose (S.faults source.old) (S.faults source.new))
         (Wrote (K.written sink.old) (K.written sink.new) (Rose (K.faults sink.old) (K.faults sink.new))) }
     ensures program { result.status ≡ 67 → IsProgramRefused (launch_of (map string_bytes words.now) (S.told source.old))
+        (Wrote (K.written sink.old) (K.written sink.new) (Rose (K.faults sink.old) (K.faults sink.new))) }
+    ensures tree { result.status ≡ 68 → IsTreeRefused (launch_of (map string_bytes words.now) (S.told source.old))
         (Wrote (K.written sink.old) (K.written sink.new) (Rose (K.faults sink.old) (K.faults sink.new))) }
     ensures launch_text { result.status ≡ 65 → IsTextRefused (launch_of (map string_bytes words.now) (S.told source.old))
         (Wrote (K.written sink.old) (K.written sink.new) (Rose (K.faults sink.old) (K.faults sink.new))) }
     ensures memory { result.status ≡ 70 → Wrote (K.written sink.old) (K.written sink.new) (Rose (K.faults sink.old) (K.faults sink.new)) memory_line
         × IfSome result.kept (λ r. r.history ≢ []) }
-    ensures ended { (result.status ≡ 0) ⊎ (result.status ≡ 1) → IsSomeAnd result.kept (HasReported (K.written sink.old) (K.written sink.new) result.status) }
-    ensures unwritten { result.status ≡ 69 → Rose (K.faults sink.old) (K.faults sink.new) × IsSomeAnd result.kept (HasFailed (K.written sink.old) (K.written sink.new)) }
+    ensures ended { (result.status ≡ 0) ⊎ (result.status ≡ 1) → IsSomeAnd result.kept (HasReported (asks_history (map string_bytes words.now)) (K.written sink.old) (K.written sink.new) result.status) }
+    ensures unwritten { result.status ≡ 69 → Rose (K.faults sink.old) (K.faults sink.new) × IsSomeAnd result.kept (HasFailed (asks_history (map string_bytes words.now)) (K.written sink.old) (K.written sink.new)) }
 
     // What is kept.
-    ensures kept { IfSome result.kept (IsKept (launch_of (map string_bytes words.now) (S.told source.old))) }
+    ensures kept { IfSome result.kept (IsKept (words_of (map string_bytes words.now)) (launch_of (map string_bytes words.now) (S.told source.old))) }
     ensures none_kept { IsSome result.kept → (result.status ≡ 0) ⊎ (result.status ≡ 1) ⊎ (result.status ≡ 69) ⊎ (result.status ≡ 70) }
 
     // What is spelled is answered where no fault came.

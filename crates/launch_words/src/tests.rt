@@ -33,96 +33,99 @@ fn words_of(alloc: Global, texts: &[&str]) -> Result<Vec<String>, AllocError> {
     Ok(words)
 }
 
+// Words, and what they spell.
+const TAKEN: &[(&[&str], LaunchWords<'static>)] = &[
+    (&["p"], PLAIN),
+    (&["p", "--"], PLAIN),
+    (
+        &["--", "-x"],
+        LaunchWords {
+            program: "-x",
+            ..PLAIN
+        },
+    ),
+    (
+        &["--", "--"],
+        LaunchWords {
+            program: "--",
+            ..PLAIN
+        },
+    ),
+    (
+        &["--", "--tree"],
+        LaunchWords {
+            program: "--tree",
+            ..PLAIN
+        },
+    ),
+    (
+        &["--workers=2", "--", "p"],
+        LaunchWords {
+            workers: 2,
+            ..PLAIN
+        },
+    ),
+    (
+        &["--workers", "64", "p"],
+        LaunchWords {
+            workers: 64,
+            ..PLAIN
+        },
+    ),
+    (
+        &["--turns", "0000000000000000001", "p"],
+        LaunchWords { turns: 1, ..PLAIN },
+    ),
+    (
+        &["--turns=1000000000", "p"],
+        LaunchWords {
+            turns: 1_000_000_000,
+            ..PLAIN
+        },
+    ),
+    (
+        &["--epoch", "4611686018427387904", "p"],
+        LaunchWords {
+            epoch: 1 << 62,
+            ..PLAIN
+        },
+    ),
+    (&["p", "--epoch=0"], PLAIN),
+    (&[DIGITS, "p"], LaunchWords { key: KEY, ..PLAIN }),
+    (
+        &["--tree=-x", "p"],
+        LaunchWords {
+            tree: Some("-x"),
+            ..PLAIN
+        },
+    ),
+    (
+        &["--tree=a=b", "p"],
+        LaunchWords {
+            tree: Some("a=b"),
+            ..PLAIN
+        },
+    ),
+    (
+        &["--stdin", "p", "p"],
+        LaunchWords {
+            stdin: Some("p"),
+            ..PLAIN
+        },
+    ),
+    (
+        &["p", "--tree", "t", "--history"],
+        LaunchWords {
+            tree: Some("t"),
+            history: true,
+            ..PLAIN
+        },
+    ),
+];
+
 #[test]
 fn takes_words(rt: HostRuntime) -> Result<(), Fail> {
-    for (texts, want) in [
-        (&["p"][..], PLAIN),
-        (&["p", "--"][..], PLAIN),
-        (
-            &["--", "-x"][..],
-            LaunchWords {
-                program: "-x",
-                ..PLAIN
-            },
-        ),
-        (
-            &["--", "--"][..],
-            LaunchWords {
-                program: "--",
-                ..PLAIN
-            },
-        ),
-        (
-            &["--", "--tree"][..],
-            LaunchWords {
-                program: "--tree",
-                ..PLAIN
-            },
-        ),
-        (
-            &["--workers=2", "--", "p"][..],
-            LaunchWords {
-                workers: 2,
-                ..PLAIN
-            },
-        ),
-        (
-            &["--workers", "64", "p"][..],
-            LaunchWords {
-                workers: 64,
-                ..PLAIN
-            },
-        ),
-        (
-            &["--turns", "0000000000000000001", "p"][..],
-            LaunchWords { turns: 1, ..PLAIN },
-        ),
-        (
-            &["--turns=1000000000", "p"][..],
-            LaunchWords {
-                turns: 1_000_000_000,
-                ..PLAIN
-            },
-        ),
-        (
-            &["--epoch", "4611686018427387904", "p"][..],
-            LaunchWords {
-                epoch: 1 << 62,
-                ..PLAIN
-            },
-        ),
-        (&["p", "--epoch=0"][..], PLAIN),
-        (&[DIGITS, "p"][..], LaunchWords { key: KEY, ..PLAIN }),
-        (
-            &["--tree=-x", "p"][..],
-            LaunchWords {
-                tree: Some("-x"),
-                ..PLAIN
-            },
-        ),
-        (
-            &["--tree=a=b", "p"][..],
-            LaunchWords {
-                tree: Some("a=b"),
-                ..PLAIN
-            },
-        ),
-        (
-            &["--stdin", "p", "p"][..],
-            LaunchWords {
-                stdin: Some("p"),
-                ..PLAIN
-            },
-        ),
-        (
-            &["p", "--tree", "t", "--history"][..],
-            LaunchWords {
-                tree: Some("t"),
-                history: true,
-                ..PLAIN
-            },
-        ),
-    ] {
+    for &(texts, want) in TAKEN {
         let words = words_of(rt.alloc(), texts)?;
         assert!(rt; read_words(rt.alloc(), words.as_slice()) == Ok(want));
     }
@@ -135,6 +138,66 @@ fn refuses_no_words(rt: HostRuntime) {
     assert!(rt; read_words(rt.alloc(), words.as_slice()) == Err(WordsFault::Refused));
 }
 
+// Words that are refused.
+const REFUSED: &[&[&str]] = &[
+    &[],
+    // the program
+    &[""],
+    &["-"],
+    &["--", "-"],
+    &["p", "q"],
+    &["p", "--", "q"],
+    &["--", "p", "--history"],
+    // what stands twice
+    &["--history", "--history", "p"],
+    &["--workers=2", "--workers=2", "p"],
+    &["--tree", "t", "p", "--tree=t"],
+    // values in the next word
+    &["--tree", "-x", "p"],
+    &["--tree", "-", "p"],
+    &["--tree", "--history", "p"],
+    &["--tree", "--", "p"],
+    &["p", "--tree"],
+    // no files
+    &["--tree=", "p"],
+    &["--tree", "", "p"],
+    &["--tree=-", "p"],
+    &["--stdin=-", "p"],
+    // no numbers in the range
+    &["--workers", "0", "p"],
+    &["--workers", "65", "p"],
+    &["--workers", "+2", "p"],
+    &["--workers=-1", "p"],
+    &["--workers=", "p"],
+    &["--turns", "0", "p"],
+    &["--turns=1000000001", "p"],
+    &["--turns", "00000000000000000001", "p"],
+    &["--epoch=4611686018427387905", "p"],
+    &["--epoch", "", "p"],
+    // no keys
+    &["--key", "00", "p"],
+    &["--key=", "p"],
+    &[
+        "--key=0011223344556677889900112233445566778899001122334455667788990011g",
+        "p",
+    ],
+    &[
+        "--key=001122334455667788990011223344556677889900112233445566778899001",
+        "p",
+    ],
+    // no options
+    &["--history=1", "p"],
+    &["--history=", "p"],
+    &["--his", "p"],
+    &["-h"],
+    &["--help"],
+    &["-V", "p"],
+    &["--version"],
+    &["-é", "p"],
+    &["--=x", "p"],
+    &["--program", "p"],
+];
+
 // Whether words of these texts are refused.
 fn are_refused(alloc: Global, texts: &[&str]) -> Result<bool, AllocError> {
     let words = words_of(alloc, texts)?;
@@ -143,65 +206,8 @@ fn are_refused(alloc: Global, texts: &[&str]) -> Result<bool, AllocError> {
 
 #[test]
 fn refuses_words(rt: HostRuntime) -> Result<(), Fail> {
-    for texts in [
-        &[][..],
-        // the program
-        &[""][..],
-        &["-"][..],
-        &["--", "-"][..],
-        &["p", "q"][..],
-        &["p", "--", "q"][..],
-        &["--", "p", "--history"][..],
-        // what stands twice
-        &["--history", "--history", "p"][..],
-        &["--workers=2", "--workers=2", "p"][..],
-        &["--tree", "t", "p", "--tree=t"][..],
-        // values in the next word
-        &["--tree", "-x", "p"][..],
-        &["--tree", "-", "p"][..],
-        &["--tree", "--history", "p"][..],
-        &["--tree", "--", "p"][..],
-        &["p", "--tree"][..],
-        // no files
-        &["--tree=", "p"][..],
-        &["--tree", "", "p"][..],
-        &["--tree=-", "p"][..],
-        &["--stdin=-", "p"][..],
-        // no numbers in the range
-        &["--workers", "0", "p"][..],
-        &["--workers", "65", "p"][..],
-        &["--workers", "+2", "p"][..],
-        &["--workers=-1", "p"][..],
-        &["--workers=", "p"][..],
-        &["--turns", "0", "p"][..],
-        &["--turns=1000000001", "p"][..],
-        &["--turns", "00000000000000000001", "p"][..],
-        &["--epoch=4611686018427387905", "p"][..],
-        &["--epoch", "", "p"][..],
-        // no keys
-        &["--key", "00", "p"][..],
-        &["--key=", "p"][..],
-        &[
-            "--key=0011223344556677889900112233445566778899001122334455667788990011g",
-            "p",
-        ][..],
-        &[
-            "--key=001122334455667788990011223344556677889900112233445566778899001",
-            "p",
-        ][..],
-        // no options
-        &["--history=1", "p"][..],
-        &["--history=", "p"][..],
-        &["--his", "p"][..],
-        &["-h"][..],
-        &["--help"][..],
-        &["-V", "p"][..],
-        &["--version"][..],
-        &["-é", "p"][..],
-        &["--=x", "p"][..],
-        &["--program", "p"][..],
-    ] {
-        assert!(rt; are_refused(rt.alloc(), texts)?);
+    for &texts in REFUSED {
+        assert!(rt; are_refused(rt.alloc(), texts)?, "{texts:?}");
     }
     Ok(())
 }

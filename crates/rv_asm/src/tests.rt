@@ -5,7 +5,7 @@ use crate::{AsmFault, assemble};
 use std::test::Fail;
 
 /// A line of each mnemonic, and its word.
-const LINES: [(&str, u32); 94] = [
+const LINES: &[(&str, u32)] = &[
     ("add zero, x31, tp", 0x004f_8033),
     ("sub ra, x30, a1", 0x40bf_00b3),
     ("sll sp, x29, s2", 0x012e_9133),
@@ -103,7 +103,7 @@ const LINES: [(&str, u32); 94] = [
 ];
 
 /// Texts, and their bytes.
-const TEXTS: [(&str, &[u8]); 8] = [
+const TEXTS: &[(&str, &[u8])] = &[
     // one instruction
     ("addi a7, zero, 39", &[0x93, 0x8, 0x70, 0x2]),
     // nothing
@@ -151,7 +151,7 @@ const TEXTS: [(&str, &[u8]); 8] = [
 ];
 
 /// Texts, and the words that their bytes begin with.
-const FRONTS: [(&str, &[u32]); 4] = [
+const FRONTS: &[(&str, &[u32])] = &[
     // the branch that goes furthest
     ("beq a0, a1, b\n.zero 4090\nb:", &[0x7eb5_0fe3]),
     // la whose low part is the greatest
@@ -166,7 +166,7 @@ const FRONTS: [(&str, &[u32]); 4] = [
 ];
 
 /// Texts, and the number of the first line that is outside the grammar.
-const FAULTS: [(&str, u32); 75] = [
+const FAULTS: &[(&str, u32)] = &[
     // an unknown mnemonic
     ("frob", 1),
     // an upper case mnemonic
@@ -267,7 +267,7 @@ const FAULTS: [(&str, u32); 75] = [
 
 #[test]
 fn lines(rt: HostRuntime) -> Result<(), Fail> {
-    for (text, word) in LINES {
+    for &(text, word) in LINES {
         let bytes = assemble(rt.alloc(), text)?;
         assert_eq!(rt; bytes.as_slice(), word.to_le_bytes().as_slice(), "{text}");
     }
@@ -276,7 +276,7 @@ fn lines(rt: HostRuntime) -> Result<(), Fail> {
 
 #[test]
 fn texts(rt: HostRuntime) -> Result<(), Fail> {
-    for (text, expected) in TEXTS {
+    for &(text, expected) in TEXTS {
         let bytes = assemble(rt.alloc(), text)?;
         assert_eq!(rt; bytes.as_slice(), expected, "{text}");
     }
@@ -285,7 +285,7 @@ fn texts(rt: HostRuntime) -> Result<(), Fail> {
 
 #[test]
 fn fronts(rt: HostRuntime) -> Result<(), Fail> {
-    for (text, words) in FRONTS {
+    for &(text, words) in FRONTS {
         let bytes = assemble(rt.alloc(), text)?;
         let mut rest = bytes.as_slice();
         for word in words {
@@ -298,7 +298,7 @@ fn fronts(rt: HostRuntime) -> Result<(), Fail> {
 
 #[test]
 fn faults(rt: HostRuntime) -> Result<(), Fail> {
-    for (text, line) in FAULTS {
+    for &(text, line) in FAULTS {
         match assemble(rt.alloc(), text) {
             Ok(_) => assert!(rt; false, "{text}"),
             Err(fault) => assert_eq!(rt; fault, AsmFault::Line(line), "{text}"),

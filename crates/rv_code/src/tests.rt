@@ -12,7 +12,7 @@ const OPERANDS: [(u64, u64); 6] = [
 ];
 
 /// What each operation gives for those operands, computed by the manual's rules in exact integers of another language.
-const RESULTS: [(Op, [u64; 6]); 41] = [
+const RESULTS: &[(Op, [u64; 6])] = &[
     (
         Op::Add,
         [
@@ -382,7 +382,7 @@ const RESULTS: [(Op, [u64; 6]); 41] = [
 ];
 
 /// Words that the GNU assembler gives, with the operation, the registers rd, rs1 and rs2, and the immediate.
-const WORDS: [(u32, Op, [u32; 3], i64); 89] = [
+const WORDS: &[(u32, Op, [u32; 3], i64)] = &[
     (0x8000_05b7, Op::Lui, [11, 0, 0], -2147483648), // lui a1, 0x80000
     (0x1234_5f97, Op::Auipc, [31, 0, 0], 305418240), // auipc x31, 0x12345
     (0x8000_00ef, Op::Jal, [1, 0, 0], -1048576), // jal ra, .-0x100000
@@ -475,7 +475,7 @@ const WORDS: [(u32, Op, [u32; 3], i64); 89] = [
 ];
 
 /// Words that are no instruction here.
-const NO_INSTRUCTIONS: [u32; 21] = [
+const NO_INSTRUCTIONS: &[u32] = &[
     0x0000_0000, // all zeros
     0xffff_ffff, // all ones
     0x0000_1067, // jalr with funct3 1
@@ -501,7 +501,7 @@ const NO_INSTRUCTIONS: [u32; 21] = [
 
 #[test]
 fn operations(rt: HostRuntime) -> Result<(), Fail> {
-    for (op, results) in RESULTS {
+    for &(op, results) in RESULTS {
         let given = OPERANDS.map(|(a, b)| alu(op, a, b));
         assert_eq!(rt; given, results, "{op:?}");
     }
@@ -510,7 +510,7 @@ fn operations(rt: HostRuntime) -> Result<(), Fail> {
 
 #[test]
 fn words_of_an_assembler(rt: HostRuntime) -> Result<(), Fail> {
-    for (word, op, [rd, rs1, rs2], imm) in WORDS {
+    for &(word, op, [rd, rs1, rs2], imm) in WORDS {
         let instr = Instr {
             op,
             rd,
@@ -525,7 +525,7 @@ fn words_of_an_assembler(rt: HostRuntime) -> Result<(), Fail> {
 
 #[test]
 fn words_of_no_instruction(rt: HostRuntime) -> Result<(), Fail> {
-    for word in NO_INSTRUCTIONS {
+    for &word in NO_INSTRUCTIONS {
         assert_eq!(rt; decode(word), None, "at {word}");
     }
     Ok(())

@@ -97,7 +97,7 @@ fn do_word(memory: &mut GuestMemory, word: u32, regs: &mut Regs) -> Result<Outco
 }
 
 /// Words, a0, a1, and what a2 has afterwards, which had 0.
-const COMPUTATIONS: [(u32, u64, u64, u64); 26] = [
+const COMPUTATIONS: &[(u32, u64, u64, u64)] = &[
     (0x02b5_4633, 5, 0, u64::MAX), // div
     (0x02b5_6633, 5, 0, 5), // rem
     (0x02b5_5633, 5, 0, u64::MAX), // divu
@@ -144,7 +144,7 @@ const COMPUTATIONS: [(u32, u64, u64, u64); 26] = [
 #[test]
 fn numbers_are_computed(rt: HostRuntime) -> Result<(), Fail> {
     let mut memory = memory_of(rt.alloc(), &[])?;
-    for (word, a0, a1, a2) in COMPUTATIONS {
+    for &(word, a0, a1, a2) in COMPUTATIONS {
         let mut regs = registers(CODE, a0, a1, 0);
         let outcome = do_word(&mut memory, word, &mut regs)?;
         assert_eq!(rt; outcome, Outcome::Done, "{word:x} of {a0:x}, {a1:x}");
@@ -161,7 +161,7 @@ fn numbers_are_computed(rt: HostRuntime) -> Result<(), Fail> {
 const BYTES: [u8; 12] = [1, 0xf2, 3, 0xf4, 5, 0xf6, 7, 0xf8, 9, 10, 11, 12];
 
 /// Words, a0, and what a2 has afterwards, which had 0.
-const LOADS: [(u32, u64, u64); 19] = [
+const LOADS: &[(u32, u64, u64)] = &[
     (0x0005_0603, 0x20100, 1), // lb
     (0x0005_0603, 0x20101, 0xffff_ffff_ffff_fff2), // lb
     (0x0005_4603, 0x20101, 0xf2), // lbu
@@ -184,7 +184,7 @@ const LOADS: [(u32, u64, u64); 19] = [
 ];
 
 /// Words, a0, the address before the first byte that is written, and ten bytes from there on, each of which was 0xee.
-const STORES: [(u32, u64, u64, [u8; 10]); 9] = [
+const STORES: &[(u32, u64, u64, [u8; 10])] = &[
     (
         0x00b5_0023,
         0x20101,
@@ -246,14 +246,14 @@ fn numbers_are_loaded_and_stored(rt: HostRuntime) -> Result<(), Fail> {
     let mut memory = memory_of(rt.alloc(), &[])?;
     memory.write_bytes(0x20100, &BYTES)?;
     memory.write_bytes(0x20ffa, &BYTES)?;
-    for (word, a0, a2) in LOADS {
+    for &(word, a0, a2) in LOADS {
         let mut regs = registers(CODE, a0, 7, 0);
         let outcome = do_word(&mut memory, word, &mut regs)?;
         assert_eq!(rt; outcome, Outcome::Done, "{word:x} at {a0:x}");
         assert_eq!(rt; regs, registers(CODE + 4, a0, 7, a2), "{word:x} at {a0:x}");
     }
     let a1 = 0x8877_6655_4433_2211;
-    for (word, a0, before, want) in STORES {
+    for &(word, a0, before, want) in STORES {
         memory.write_bytes(before, &[0xee; 10])?;
         let mut regs = registers(CODE, a0, a1, 7);
         let outcome = do_word(&mut memory, word, &mut regs)?;
@@ -268,7 +268,7 @@ fn numbers_are_loaded_and_stored(rt: HostRuntime) -> Result<(), Fail> {
 
 /// Words, a0, a1, and the pc, a0 and a2 afterwards. The pc was 0x10000, and a2 had 7. A target that is no multiple of 4
 /// is a bus error, after which all is as before.
-const JUMPS: [(u32, u64, u64, u64, u64, u64); 24] = [
+const JUMPS: &[(u32, u64, u64, u64, u64, u64)] = &[
     (0x0080_066f, 0, 0, 0x10008, 0, 0x10004), // jal a2, 8
     (0xffdf_f66f, 0, 0, 0xfffc, 0, 0x10004), // jal a2, -4
     (0x0080_006f, 0, 0, 0x10008, 0, 7), // jal zero, 8
@@ -298,7 +298,7 @@ const JUMPS: [(u32, u64, u64, u64, u64, u64); 24] = [
 #[test]
 fn jumps_go_to_multiples_of_four(rt: HostRuntime) -> Result<(), Fail> {
     let mut memory = memory_of(rt.alloc(), &[])?;
-    for (word, a0, a1, pc, a0_after, a2) in JUMPS {
+    for &(word, a0, a1, pc, a0_after, a2) in JUMPS {
         let mut regs = registers(CODE, a0, a1, 7);
         let outcome = do_word(&mut memory, word, &mut regs)?;
         let want = if pc == CODE {
@@ -317,7 +317,7 @@ fn jumps_go_to_multiples_of_four(rt: HostRuntime) -> Result<(), Fail> {
 }
 
 /// Words, a0, and why they can't be done. The pages are named by what may be done with them.
-const TRAPS: [(u32, u64, Signal); 31] = [
+const TRAPS: &[(u32, u64, Signal)] = &[
     (0x0010_0073, 0, Signal::Trap), // ebreak
     (0xffff_ffff, 0, Signal::Ill),
     (0, 0, Signal::Ill),
@@ -352,7 +352,7 @@ const TRAPS: [(u32, u64, Signal); 31] = [
 ];
 
 /// Addresses, and how the instruction there ends: `addi a2, a2, 1`, where it can be fetched.
-const FETCHES: [(u64, Outcome); 10] = [
+const FETCHES: &[(u64, Outcome)] = &[
     (0x10000, Outcome::Done), // read and execute
     (0x10ffe, Outcome::Trap(Signal::Segv)), // read and execute, and then no page
     (0x20000, Outcome::Trap(Signal::Segv)), // read and write
@@ -371,7 +371,7 @@ fn traps_change_nothing(rt: HostRuntime) -> Result<(), Fail> {
     let bytes = [0x11; 8];
     memory.write_bytes(0x20100, &bytes)?;
     memory.write_bytes(0x21ff8, &bytes)?;
-    for (word, a0, signal) in TRAPS {
+    for &(word, a0, signal) in TRAPS {
         let before = registers(CODE, a0, 9, 7);
         let mut regs = before;
         let outcome = do_word(&mut memory, word, &mut regs)?;
@@ -395,7 +395,7 @@ fn executable_pages_run(rt: HostRuntime) -> Result<(), Fail> {
     memory.write_bytes(0x24000, &word.to_le_bytes())?;
     memory.write_bytes(0x24ffe, &word.to_le_bytes())?;
     memory.protect(0x24000, 2, EXEC)?;
-    for (pc, want) in FETCHES {
+    for &(pc, want) in FETCHES {
         let before = registers(pc, 0, 0, 7);
         let mut regs = before;
         let outcome = step(&mut regs, &mut memory, &mut Reservation::none());
@@ -422,7 +422,7 @@ struct Program {
     a3: u64,
 }
 
-const PROGRAMS: [Program; 11] = [
+const PROGRAMS: &[Program] = &[
     // addi a2, a2, 1; ecall
     Program {
         words: [0x0016_0613, 0x73, 0, 0, 0],

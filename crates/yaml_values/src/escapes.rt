@@ -98,7 +98,10 @@ fn letter(byte: u8) -> Option<u8>
     }
 }
 
-// What stands behind a backslash: what it stands for, and what stands behind that.
+/// What stands behind a backslash of a double-quoted scalar: what it stands for, and the bytes behind it.
+///
+/// # Errors
+/// [`Refusal`] where no escape stands there, with the place of the fault, which is counted from the end of the text.
 pub fn escape(bytes: &[u8]) -> Result<(Piece, &[u8]), Refusal>
     ensures reads { Gives (λ p. (Some (bytes_of p.0), p.1.now)) result (escape (suc (length bytes.now)) bytes.now) }
     ensures shorter { IfOk result (λ p. length p.1.now < length bytes.now) }

@@ -1,14 +1,10 @@
 //! The top call from its words to a status, a record and what is written, over inputs in memory.
-use crate::tests::HELLO;
+use crate::tests::{HELLO, REPORT, words_of};
 use crate::top::{Finished, run_launch};
 use abi_types::outside::{MemSink, MemSource};
 use rv_asm::assemble;
 use std::alloc::{AllocError, Global};
 use std::test::Fail;
-
-// What the first program's report is.
-const REPORT: &str =
-    "== stdout 6\nhello\n== stderr 0\n== status exit 0\n== run ended\n== denials 0\n== tree 0\n";
 
 // The report of a program that wrote nothing and exited with the error BADF, which is 8.
 const BADF_REPORT: &str =
@@ -29,14 +25,6 @@ fn source(
     source.add("p", program)?;
     source.add("-", text)?;
     Ok(source)
-}
-
-// The words `cloudabi-run p`.
-fn words(alloc: Global) -> Result<Vec<String>, AllocError> {
-    let mut words = Vec::new(alloc);
-    words.push(String::from_str(alloc, "cloudabi-run")?)?;
-    words.push(String::from_str(alloc, "p")?)?;
-    Ok(words)
 }
 
 // The first program with four of its bytes changed.
@@ -72,7 +60,7 @@ fn quiet_report(alloc: Global, status: &str) -> Result<String, AllocError> {
 }
 
 // A guest that writes nothing, the exit status, how its program ends, and how many entries its history has.
-const QUIET: [(&str, u8, &str, usize); 20] = [
+const QUIET: &[(&str, u8, &str, usize)] = &[
     (guest_kit::TWO_MAPPINGS, 0, "exit 0", 3),
     (guest_kit::MAP_OVER, 0, "exit 0", 3),
     (guest_kit::PROTECT_A_HOLE, 1, "exit 21", 3),
@@ -97,7 +85,7 @@ const QUIET: [(&str, u8, &str, usize); 20] = [
 ];
 
 // A call's number, its arguments, and its error. A page is at 0x10000, none is at 0x20000.
-const MEMORY_CALLS: [(u32, [u64; 6], u32); 67] = [
+const MEMORY_CALLS: &[(u32, [u64; 6], u32)] = &[
     // mem_advise
     (32, [0x1_0000, 4096, 1, 0, 0, 0], 0),
     (32, [0x1_0000, 4096, 6, 0, 0, 0], 0),
@@ -173,7 +161,7 @@ const MEMORY_CALLS: [(u32, [u64; 6], u32); 67] = [
 ];
 
 // The entries of the vector that the first thread finds, as numbers and values.
-const VECTOR: [(u64, u64); 12] = [
+const VECTOR: &[(u64, u64)] = &[
     (256, 0x3f_0000_0100),
     (257, 5),
     (7, 0),
@@ -191,7 +179,7 @@ const VECTOR: [(u64, u64); 12] = [
 // The start block: the vector, the canary and the argument data.
 fn start_block(alloc: Global) -> Result<Vec<u8>, AllocError> {
     let mut block = Vec::new(alloc);
-    for (number, value) in VECTOR {
+    for &(number, value) in VECTOR {
         block.extend_from_slice(&u64::to_le_bytes(number))?;
         block.extend_from_slice(&u64::to_le_bytes(value))?;
     }
@@ -213,9 +201,19 @@ fn loud_report(alloc: Global, bytes: &[u8]) -> Result<Vec<u8>, AllocError> {
 
 // What the top call answers for a program and a launch text, and what it writes.
 fn ran(alloc: Global, program: &[u8], text: &[u8]) -> Result<(Finished, MemSink), AllocError> {
+    ran_with(alloc, &["cloudabi-run", "p"], program, text)
+}
+
+// The same for these words.
+fn ran_with(
+    alloc: Global,
+    texts: &[&str],
+    program: &[u8],
+    text: &[u8],
+) -> Result<(Finished, MemSink), AllocError> {
     let mut source = source(alloc, program, text, &[])?;
     let mut sink = MemSink::new(alloc, Vec::new(alloc));
-    let finished = run_launch(alloc, &words(alloc)?, &mut source, &mut sink);
+    let finished = run_launch(alloc, &words_of(alloc, texts)?, &mut source, &mut sink);
     Ok((finished, sink))
 }
 
@@ -243,7 +241,7 @@ fn runs_programs(rt: HostRuntime) -> Result<(), Fail> {
 
 #[test]
 fn ends_programs(rt: HostRuntime) -> Result<(), Fail> {
-    for (text, number, status, entries) in QUIET {
+    for &(text, number, status, entries) in QUIET {
         let program = program_of(rt.alloc(), text)?;
         let (finished, sink) = ran(rt.alloc(), &program, b"!fd stdout\n")?;
         let report = quiet_report(rt.alloc(), status)?;
@@ -257,7 +255,7 @@ fn ends_programs(rt: HostRuntime) -> Result<(), Fail> {
 
 #[test]
 fn answers_memory_calls(rt: HostRuntime) -> Result<(), Fail> {
-    for (number, arguments, errno) in MEMORY_CALLS {
+    for &(number, arguments, errno) in MEMORY_CALLS {
         let text = guest_kit::call_with(rt.alloc(), number, arguments)?;
         let program = program_of(rt.alloc(), &text)?;
         let (finished, sink) = ran(rt.alloc(), &program, b"!fd stdout\n")?;
@@ -286,7 +284,7 @@ fn shows_what_programs_write(rt: HostRuntime) -> Result<(), Fail> {
 }
 
 // A guest, a launch text, the exit status, and the report.
-const LAUNCHES: [(&str, &str, u8, &str); 10] = [
+const LAUNCHES: &[(&str, &str, u8, &str)] = &[
     (guest_kit::ARGUMENT_LENGTH, "", 0, EXIT_0),
     (guest_kit::ARGUMENT_LENGTH, "null", 0, EXIT_0),
     (
@@ -338,11 +336,57 @@ const TWO_LINES: &str =
 
 #[test]
 fn gives_what_launch_texts_say(rt: HostRuntime) -> Result<(), Fail> {
-    for (guest, text, status, report) in LAUNCHES {
+    for &(guest, text, status, report) in LAUNCHES {
         let program = program_of(rt.alloc(), guest)?;
         let (finished, sink) = ran(rt.alloc(), &program, text.as_bytes())?;
         assert_eq!(rt; sink.bytes(), report.as_bytes(), "{text}");
         assert_eq!(rt; finished.status, status, "{text}");
+    }
+    Ok(())
+}
+
+// Words, a guest, a launch text, the exit status, and the report.
+const HISTORIES: &[(&[&str], &str, &str, u8, &str)] = &[
+    (
+        &["run", "--history", "p"],
+        guest_kit::HELLO,
+        "!fd stdout",
+        0,
+        "== stdout 6\nhello\n== stderr 0\n== status exit 0\n== run ended\n== denials 0\n== tree 0\n\
+        == history 2\n1000 00000000.1 1 call fd_write SUCCESS 6 0\n2000 00000000.1 1 call proc_exit SUCCESS 0 0\n",
+    ),
+    (
+        &["run", "--turns", "3", "--history", "p"],
+        guest_kit::SPIN,
+        "",
+        1,
+        "== stdout 0\n== stderr 0\n== status signal 25 XCPU\n== run ended\n== denials 0\n== tree 0\n\
+        == history 1\n1000 00000000.1 3 expire - - 0 0\n",
+    ),
+    (
+        &["run", "p", "--history"],
+        guest_kit::LOAD_AT_ZERO,
+        "null",
+        1,
+        "== stdout 0\n== stderr 0\n== status signal 13 SEGV\n== run ended\n== denials 0\n== tree 0\n\
+        == history 1\n1000 00000000.1 1 trap - - 0 0\n",
+    ),
+    (
+        &["run", "p"],
+        "addi a0, zero, 7\naddi a7, zero, 39\necall",
+        "null",
+        1,
+        "== stdout 0\n== stderr 0\n== status exit 7\n== run ended\n== denials 0\n== tree 0\n",
+    ),
+];
+
+#[test]
+fn prints_histories(rt: HostRuntime) -> Result<(), Fail> {
+    for &(words, guest, text, status, report) in HISTORIES {
+        let program = program_of(rt.alloc(), guest)?;
+        let (finished, sink) = ran_with(rt.alloc(), words, &program, text.as_bytes())?;
+        assert_eq!(rt; sink.bytes(), report.as_bytes());
+        assert_eq!(rt; finished.status, status, "{report}");
     }
     Ok(())
 }
@@ -371,9 +415,10 @@ fn refuses_what_it_cannot_run(rt: HostRuntime) -> Result<(), Fail> {
 #[test]
 fn meets_faults_of_the_outside(rt: HostRuntime) -> Result<(), Fail> {
     let alloc = rt.alloc();
+    let words = words_of(alloc, &["cloudabi-run", "p"])?;
     let mut failing = source(alloc, &HELLO, b"!fd stdout\n", &[0])?;
     let mut sink = MemSink::new(alloc, Vec::new(alloc));
-    let finished = run_launch(alloc, &words(alloc)?, &mut failing, &mut sink);
+    let finished = run_launch(alloc, &words, &mut failing, &mut sink);
     assert_eq!(rt; finished.status, 66);
     assert_eq!(rt; sink.bytes(), b"input: p\n".as_slice());
     assert!(rt; finished.kept.is_none());
@@ -381,7 +426,7 @@ fn meets_faults_of_the_outside(rt: HostRuntime) -> Result<(), Fail> {
     // the sink takes 64 bytes, and fails at its second call
     let mut steady = source(alloc, &HELLO, b"!fd stdout\n", &[])?;
     let mut full = MemSink::new(alloc, [1u64].to_vec(alloc)?);
-    let finished = run_launch(alloc, &words(alloc)?, &mut steady, &mut full);
+    let finished = run_launch(alloc, &words, &mut steady, &mut full);
     assert_eq!(rt; finished.status, 69);
     assert_eq!(rt; full.bytes(), &REPORT.as_bytes()[..64]);
     assert!(rt; finished.kept.is_some());

@@ -25,7 +25,7 @@ const FILE: [u8; 132] = [
 ];
 
 /// Code, its address and flags, and the fault of the file.
-const CASES: [(&[u8], u64, u32, Option<ElfFault>); 16] = [
+const CASES: &[(&[u8], u64, u32, Option<ElfFault>)] = &[
     (&CODE, 0x1_0000, 0, None),
     (&CODE, 0x1_0004, 0, None),
     (&[0x13], 0x1_0000, 0, None),
@@ -88,7 +88,7 @@ fn makes_one_segment(rt: HostRuntime) -> Result<(), Fail> {
 
 #[test]
 fn files_are_taken_or_refused(rt: HostRuntime) -> Result<(), Fail> {
-    for (code, at, flags, want) in CASES {
+    for &(code, at, flags, want) in CASES {
         let file = write_elf(rt.alloc(), code, at, flags)?;
         assert_eq!(rt; fault_of(rt.alloc(), &file), want, "{at} {flags}");
     }

@@ -15,7 +15,7 @@ const OPERANDS: [(u64, u64, u64); 5] = [
 ];
 
 /// Atomic instructions on words, and what each leaves in memory for each of the operands.
-const WORD_ATOMICS: [(u32, [u64; 5]); 9] = [
+const WORD_ATOMICS: &[(u32, [u64; 5])] = &[
     // amoswap.w
     (
         0x08b5_262f,
@@ -118,7 +118,7 @@ const WORD_ATOMICS: [(u32, [u64; 5]); 9] = [
 ];
 
 /// The same on double words.
-const DOUBLE_ATOMICS: [(u32, [u64; 5]); 9] = [
+const DOUBLE_ATOMICS: &[(u32, [u64; 5])] = &[
     // amoswap.d
     (
         0x08b5_362f,
@@ -232,7 +232,7 @@ fn memory_is_exchanged(rt: HostRuntime) -> Result<(), Fail> {
     let mut memory = memory_of(rt.alloc(), &[])?;
     let at = 0x20108;
     for (k, (number, a1, low_word)) in OPERANDS.into_iter().enumerate() {
-        for (word, after) in WORD_ATOMICS {
+        for &(word, after) in WORD_ATOMICS {
             let mut regs = registers(CODE, at, a1, 7);
             let found = exchange(&mut memory, word, number, &mut regs)?;
             assert_eq!(rt;
@@ -246,7 +246,7 @@ fn memory_is_exchanged(rt: HostRuntime) -> Result<(), Fail> {
                 "{word:x} of {number:x}, {a1:x}"
             );
         }
-        for (word, after) in DOUBLE_ATOMICS {
+        for &(word, after) in DOUBLE_ATOMICS {
             let mut regs = registers(CODE, at, a1, 7);
             let found = exchange(&mut memory, word, number, &mut regs)?;
             assert_eq!(rt;
@@ -274,7 +274,7 @@ struct ConditionalStore {
     a3: u64,
 }
 
-const CONDITIONAL_STORES: [ConditionalStore; 12] = [
+const CONDITIONAL_STORES: &[ConditionalStore] = &[
     // lr.w a2, (a0); sc.w a3, a1, (a0)
     ConditionalStore {
         words: [0x1005_262f, 0x18b5_26af, 0x73, 0x73],

@@ -3,8 +3,23 @@ use Rattle.std.specs.Prelude.{IfSome, map, string_bytes}
 use Rattle.launch_run.specs.declared.top.Finished.{Finished}
 use Rattle.launch_run.specs.Launch.{launch_of}
 use Rattle.launch_run.specs.TopCall.{IsKept}
-use Rattle.launch_run.proofs.TopClauses.{top_complete, top_ended, top_input, top_kept, top_memory, top_program, top_text, top_unwritten}
+use Rattle.launch_words.specs.Words.{words_of}
+use Rattle.launch_run.proofs.TopClauses.{top_complete, top_ended, top_input, top_kept, top_memory, top_program, top_text, top_tree, top_unwritten, top_words, top_words_refused}
 use Rattle.launch_run.proofs.top.run_launch.Goals as goal
+
+pub returns-clause-words : goal.returns-clause-words
+returns-clause-words g c is =
+    (top_words _ _ _ _ _ _ c.launch_and_run.result c.launch_and_run.ensures.end (ap (λ (f : Finished). f.status) (sym c.finish.ensures) ∙ is)).none_given
+
+pub returns-clause-words_refused : goal.returns-clause-words_refused
+returns-clause-words_refused g c = rw (c.finish.ensures) (top_words_refused _ _ _ _ _ _ c.launch_and_run.result c.launch_and_run.ensures.end)
+
+pub returns-clause-unread : goal.returns-clause-unread
+returns-clause-unread g c = c.launch_and_run.ensures.unread
+
+pub returns-clause-words_line : goal.returns-clause-words_line
+returns-clause-words_line g c is =
+    (top_words _ _ _ _ _ _ c.launch_and_run.result c.launch_and_run.ensures.end (ap (λ (f : Finished). f.status) (sym c.finish.ensures) ∙ is)).wrote
 
 pub returns-clause-input : goal.returns-clause-input
 returns-clause-input g c is =
@@ -13,13 +28,17 @@ returns-clause-input g c is =
 pub returns-clause-kept : goal.returns-clause-kept
 returns-clause-kept g c =
     subst
-    (λ (f : Finished). IfSome f.kept (IsKept (launch_of (map string_bytes c.args.words.now) (g.S.Source.told c.args.source.now))))
+    (λ (f : Finished). IfSome f.kept (IsKept (words_of (map string_bytes c.args.words.now)) (launch_of (map string_bytes c.args.words.now) (g.S.Source.told c.args.source.now))))
     (sym c.finish.ensures)
     (top_kept _ _ _ _ _ _ c.launch_and_run.result c.launch_and_run.ensures.end)
 
 pub returns-clause-program : goal.returns-clause-program
 returns-clause-program g c is =
     top_program _ _ _ _ _ _ c.launch_and_run.result c.launch_and_run.ensures.end (ap (λ (f : Finished). f.status) (sym c.finish.ensures) ∙ is)
+
+pub returns-clause-tree : goal.returns-clause-tree
+returns-clause-tree g c is =
+    top_tree _ _ _ _ _ _ c.launch_and_run.result c.launch_and_run.ensures.end (ap (λ (f : Finished). f.status) (sym c.finish.ensures) ∙ is)
 
 pub returns-clause-launch_text : goal.returns-clause-launch_text
 returns-clause-launch_text g c is =

@@ -14,7 +14,7 @@ returns-in-Ok-clause-end g c =
       record_of r rec of b,
       record_ended r rec of b c.requires.ended,
       c.status-status.ensures ∙ ap (λ (S : State). get S.statuses 0) (sym (record_state r rec of b)),
-      c.in-Ok.ensures.ok ∙ ap (grown (g.K.Sink.written c.args.sink.now)) (record_text r rec of b c.args.text.now c.requires.text),
+      c.in-Ok.ensures.ok ∙ ap (grown (g.K.Sink.written c.args.sink.now)) (record_text r rec of b c.args.lines c.args.text.now c.requires.text),
     )
 
 pub returns-in-Err-clause-end : goal.returns-in-Err-clause-end
@@ -26,5 +26,5 @@ returns-in-Err-clause-end g c =
       record_of r rec of b,
       record_ended r rec of b c.requires.ended,
       c.in-Err.ensures.failed,
-      subst (GrewByPrefix (g.K.Sink.written c.args.sink.now) (g.K.Sink.written c.write_whole.new.sink)) (record_text r rec of b c.args.text.now c.requires.text) c.in-Err.ensures.failed_prefix,
+      subst (GrewByPrefix (g.K.Sink.written c.args.sink.now) (g.K.Sink.written c.write_whole.new.sink)) (record_text r rec of b c.args.lines c.args.text.now c.requires.text) c.in-Err.ensures.failed_prefix,
     )

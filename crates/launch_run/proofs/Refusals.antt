@@ -1,0 +1,85 @@
+-- A refusal of settings or of words, as the top call answers it.
+use Rattle.std.proofs.Common.{◌≢◌, ℕ, List, refl, subst, inl, inr}
+use Rattle.std.specs.Prelude.{Option, None, Some, Err, Contains}
+use Rattle.abi_types.specs.Outside.Source.{Told}
+use Rattle.launch_words.specs.Settings.{Settings}
+use Rattle.launch_run.specs.Inputs.{IsNoLaunchOf}
+use Rattle.launch_run.specs.Launch.{Spelled, untold, refuses, spells, words_spell, inputs_spell, settings_inputs, AnswersSpelled, IfInput, IfTooLong, IsOfTexts, IsToldAs}
+use Rattle.launch_run.specs.Lines.{line_of, status_of}
+use Rattle.launch_run.specs.TopCall.{IsRefusalOf}
+use Rattle.launch_run.specs.declared.lines.Refusal.{Refusal}
+use Rattle.launch_run.specs.declared.lines.Refusal.TheVariants.{Words, Input, TooLong, Program, Tree, LaunchText, Memory}
+
+-- want of memory answers anything
+memory_answers : (spelled : Spelled) → AnswersSpelled spelled (Err Memory)
+memory_answers untold = tt
+memory_answers (refuses status line) = inl refl
+memory_answers (spells launch) = inr refl
+
+-- settings that were read are not refused for their words
+pub not_words : (names : List (List ℕ)) (spelled : Spelled) (rose : Type 0) (r : Refusal) → IsNoLaunchOf names spelled rose r → r ≢ Words
+not_words names spelled rose r h is = subst (IsNoLaunchOf names spelled rose) is h
+
+module _ (settings : Settings) (told : List ℕ → Told) (rose : Type 0) where
+  -- a refusal of what texts say
+  of_text : (r : Refusal) → IsNoLaunchOf (settings_inputs settings) (inputs_spell settings told) rose r → IsOfTexts r
+      → IsToldAs (inputs_spell settings told) (refuses (status_of r) (line_of r))
+  of_text Words h text = absurd h
+  of_text (Input name) h text = absurd text
+  of_text (TooLong name) h text = h.1
+  of_text (Program found) h text = h
+  of_text Tree h text = h
+  of_text (LaunchText fault) h text = h
+  of_text Memory h text = absurd text
+
+  of_input : (r : Refusal) → IsNoLaunchOf (settings_inputs settings) (inputs_spell settings told) rose r
+      → IfInput r (λ name. Contains (settings_inputs settings) name × rose)
+  of_input Words h = absurd h
+  of_input (Input name) h = h
+  of_input (TooLong name) h = tt
+  of_input (Program found) h = tt
+  of_input Tree h = tt
+  of_input (LaunchText fault) h = tt
+  of_input Memory h = tt
+
+  of_length : (r : Refusal) → IsNoLaunchOf (settings_inputs settings) (inputs_spell settings told) rose r → IfTooLong r (Contains (settings_inputs settings))
+  of_length Words h = absurd h
+  of_length (Input name) h = tt
+  of_length (TooLong name) h = h.0
+  of_length (Program found) h = tt
+  of_length Tree h = tt
+  of_length (LaunchText fault) h = tt
+  of_length Memory h = tt
+
+  pub settings_refused : (r : Refusal) → IsNoLaunchOf (settings_inputs settings) (inputs_spell settings told) rose r
+      → (¬ rose → AnswersSpelled (inputs_spell settings told) (Err r)) → IsRefusalOf (Some settings) told rose r
+  settings_refused r h complete = record {
+    words_refused = λ is. absurd (not_words (settings_inputs settings) (inputs_spell settings told) rose r h is);
+    words_answered = λ none. absurd (cc);
+    input = of_input r h;
+    too_long = of_length r h;
+    refused = of_text r h;
+    complete = complete;
+  }
+
+-- the words are refused
+pub words_refused : (told : List ℕ → Told) (rose : Type 0) → IsRefusalOf None told rose Words
+words_refused told rose = record {
+  words_refused = λ is. refl;
+  words_answered = λ none. inl refl;
+  input = tt;
+  too_long = tt;
+  refused = λ text. refl;
+  complete = λ calm. inr (refl, refl);
+}
+
+-- memory was wanting while the words were read
+pub words_unread : (given : Option Settings) (told : List ℕ → Told) (rose : Type 0) → IsRefusalOf given told rose Memory
+words_unread given told rose = record {
+  words_refused = λ is. absurd (cc);
+  words_answered = λ none. inr refl;
+  input = tt;
+  too_long = tt;
+  refused = λ text. absurd text;
+  complete = λ calm. memory_answers (words_spell given told);
+}

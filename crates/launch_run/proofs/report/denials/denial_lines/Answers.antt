@@ -1,9 +1,0 @@
-use Rattle.std.proofs.Common.{arith}
-use Rattle.std.proofs.lemmas.Grind.{common_steps}
-use Rattle.std.proofs.lemmas.List.Elements.{filter_map-append}
-use Rattle.launch_run.specs.Denials.{denial_lines}
-use Rattle.launch_run.proofs.report.denials.denial_lines.Goals as goal
-
-pub loop-entry-preserved : goal.loop-entry-preserved
-unfolding denial_lines
-loop-entry-preserved c = grind (arith, common_steps, filter_map-append)

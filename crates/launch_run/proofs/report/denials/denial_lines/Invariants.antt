@@ -1,7 +1,0 @@
-use Rattle.std.proofs.Common.{◌≡◌, map, take}
-use Rattle.std.specs.String.{string_bytes}
-use Rattle.launch_run.specs.Denials.{denial_lines}
-use Rattle.launch_run.proofs.report.denials.denial_lines.Given as goal
-
-abbrev pub invariant-loop-entry : goal.invariant-loop-entry
-invariant-loop-entry l = map string_bytes l.lines.items ≡ denial_lines (take l.entry-index l.history)

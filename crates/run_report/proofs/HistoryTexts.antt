@@ -1,0 +1,18 @@
+-- The history's lines under the line with their number.
+use Rattle.std.proofs.Common.{◌≡◌, ℕ, List, [], ◌∷◌, ◌++◌, length, codes, ap, ◌∙◌, append_assoc}
+use Rattle.std.specs.Fmt.{decimal}
+use Rattle.std.specs.List.{flat_map}
+use Rattle.kernel_core.specs.declared.history.Entry.{Entry}
+use Rattle.run_report.specs.HistoryLines.{entry_text, history_text}
+
+regroup : (a b c d e : List ℕ) → (a ++ (b ++ (c ++ d))) ++ e ≡ a ++ (b ++ (c ++ (d ++ e)))
+regroup a b c d e = simp append_assoc
+
+-- the first line was put behind a text, and then the others
+pub history_told : (before line with_line all : List ℕ) (history : List Entry)
+    → line ≡ codes "== history " ++ (decimal (length history) ++ 10 ∷ []) → with_line ≡ before ++ line
+    → all ≡ with_line ++ flat_map entry_text history → all ≡ before ++ history_text history
+unfolding history_text
+history_told before line with_line all history first put more =
+    more ∙ ap (λ t. t ++ flat_map entry_text history) (put ∙ ap (λ t. before ++ t) first)
+    ∙ regroup before (codes "== history ") (decimal (length history)) (10 ∷ []) (flat_map entry_text history)

@@ -1,0 +1,3 @@
+mod ReportTexts
+mod ReportLines
+mod HistoryTexts

@@ -1,0 +1,5 @@
+pub mod CallNames
+pub mod Denials
+pub mod HistoryLines
+pub mod Report
+pub mod ReportLaws

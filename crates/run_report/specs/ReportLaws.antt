@@ -1,0 +1,24 @@
+-- What a report tells, whatever the run.
+use Rattle.std.specs.Prelude.{Bool, ◌≡◌, ◌+◌, ◌^◌, ◌<◌, ◌==◌, List, codes, length, take, drop}
+use Rattle.std.specs.List.{before_first}
+use Rattle.kernel_core.specs.declared.history.Entry.{Entry}
+use Rattle.kernel_model.specs.State.{State}
+use Rattle.run_report.specs.Report.{written_to, stream_line, report_of}
+
+-- 64 bits can count what was written to stdout and to stderr
+abbrev pub IsCountable : State → Type 0
+IsCountable S = (length (written_to 1 S) < 2 ^ 64) × (length (written_to 2 S) < 2 ^ 64)
+
+-- Two runs with the same report wrote the same to stdout, and the same to stderr.
+abbrev pub ReportTellsStreams : Type 0
+ReportTellsStreams =
+    (S T : State) (history other : List Entry) (lines more : Bool) → IsCountable S → IsCountable T
+    → report_of S history lines ≡ report_of T other more
+    → (written_to 1 S ≡ written_to 1 T) × (written_to 2 S ≡ written_to 2 T)
+
+-- The first line of a report tells how many bytes were written to stdout, and as many bytes after it are those.
+abbrev pub StdoutIsCutOut : Type 0
+StdoutIsCutOut =
+    (S : State) (history : List Entry) (lines : Bool) → IsCountable S
+    → (before_first (λ b. b == 10) (report_of S history lines) ≡ stream_line (codes "stdout") (written_to 1 S))
+    × (take (length (written_to 1 S)) (drop (length (stream_line (codes "stdout") (written_to 1 S)) + 1) (report_of S history lines)) ≡ written_to 1 S)

@@ -1,0 +1,12 @@
+//! Laws of reports. The statements are in `specs/ReportLaws.antt`, and each holds of every state and history, with the history's lines and without.
+ghost use Rattle.run_report.specs.ReportLaws.{ReportTellsStreams, StdoutIsCutOut};
+
+/// Two runs with the same report wrote the same to stdout, and the same to stderr.
+pub fn report_tells_streams()
+    ensures { ReportTellsStreams }
+{}
+
+/// The first line of a report tells how many bytes were written to stdout, and as many bytes after it are those.
+pub fn stdout_is_cut_out()
+    ensures { StdoutIsCutOut }
+{}
