@@ -21,12 +21,23 @@ pub(crate) const HELLO: [u8; 182] = [
 ];
 
 // Words of these texts.
-pub(crate) fn words_of(alloc: Global, texts: &[&str]) -> Result<Vec<String>, AllocError> {
+fn words_of(alloc: Global, texts: &[&str]) -> Result<Vec<String>, AllocError> {
     let mut words = Vec::new(alloc);
     for text in texts {
         words.push(String::from_str(alloc, text)?)?;
     }
     Ok(words)
+}
+
+// What the top call answers for these words. Its contract is long, and no test needs it: so the tests call this.
+pub(crate) fn finished(
+    alloc: Global,
+    texts: &[&str],
+    source: &mut MemSource,
+    sink: &mut MemSink,
+) -> Result<Finished, AllocError> {
+    let words = words_of(alloc, texts)?;
+    Ok(run_launch(alloc, words.as_slice(), source, sink))
 }
 
 // What the first program's report is.
@@ -46,9 +57,8 @@ fn outcome(
     source.add("empty", b"")?;
     source.add("tree", b"file 3 a\nabc\n")?;
     source.add("input", b"some input")?;
-    let words = words_of(alloc, words)?;
     let mut sink = MemSink::new(alloc, Vec::new(alloc));
-    let finished = run_launch(alloc, words.as_slice(), &mut source, &mut sink);
+    let finished = finished(alloc, words, &mut source, &mut sink)?;
     Ok((finished, sink))
 }
 

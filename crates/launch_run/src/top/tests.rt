@@ -1,6 +1,6 @@
 //! The top call from its words to a status, a record and what is written, over inputs in memory.
-use crate::tests::{HELLO, REPORT, words_of};
-use crate::top::{Finished, run_launch};
+use crate::tests::{HELLO, REPORT, finished};
+use crate::top::Finished;
 use abi_types::outside::{MemSink, MemSource};
 use rv_asm::assemble;
 use std::alloc::{AllocError, Global};
@@ -213,7 +213,7 @@ fn ran_with(
 ) -> Result<(Finished, MemSink), AllocError> {
     let mut source = source(alloc, program, text, &[])?;
     let mut sink = MemSink::new(alloc, Vec::new(alloc));
-    let finished = run_launch(alloc, &words_of(alloc, texts)?, &mut source, &mut sink);
+    let finished = finished(alloc, texts, &mut source, &mut sink)?;
     Ok((finished, sink))
 }
 
@@ -415,20 +415,20 @@ fn refuses_what_it_cannot_run(rt: HostRuntime) -> Result<(), Fail> {
 #[test]
 fn meets_faults_of_the_outside(rt: HostRuntime) -> Result<(), Fail> {
     let alloc = rt.alloc();
-    let words = words_of(alloc, &["cloudabi-run", "p"])?;
+    let words = ["cloudabi-run", "p"];
     let mut failing = source(alloc, &HELLO, b"!fd stdout\n", &[0])?;
     let mut sink = MemSink::new(alloc, Vec::new(alloc));
-    let finished = run_launch(alloc, &words, &mut failing, &mut sink);
-    assert_eq!(rt; finished.status, 66);
+    let failed = finished(alloc, &words, &mut failing, &mut sink)?;
+    assert_eq!(rt; failed.status, 66);
     assert_eq!(rt; sink.bytes(), b"input: p\n".as_slice());
-    assert!(rt; finished.kept.is_none());
+    assert!(rt; failed.kept.is_none());
 
     // the sink takes 64 bytes, and fails at its second call
     let mut steady = source(alloc, &HELLO, b"!fd stdout\n", &[])?;
     let mut full = MemSink::new(alloc, [1u64].to_vec(alloc)?);
-    let finished = run_launch(alloc, &words, &mut steady, &mut full);
-    assert_eq!(rt; finished.status, 69);
+    let unwritten = finished(alloc, &words, &mut steady, &mut full)?;
+    assert_eq!(rt; unwritten.status, 69);
     assert_eq!(rt; full.bytes(), &REPORT.as_bytes()[..64]);
-    assert!(rt; finished.kept.is_some());
+    assert!(rt; unwritten.kept.is_some());
     Ok(())
 }
