@@ -1,8 +1,8 @@
 -- The layouts of events and subscriptions are proper for each kind.
 use Rattle.std.proofs.Common.{ℕ, Bool, true, false, [], ◌∷◌, if◌then◌else◌, rules}
 use Rattle.std.specs.Prelude.{codes}
-use Rattle.abi_types.specs.declared.events.What.{What}
-use Rattle.abi_types.specs.declared.events.What.TheVariants as what
+use Rattle.abi_structures.specs.declared.events.What.{What}
+use Rattle.abi_structures.specs.declared.events.What.TheVariants as what
 use Rattle.abi_layout.specs.Layout.{field, FollowFrom, IsProper}
 use Rattle.abi_layout.specs.Events.{event_layout, is_transfer, is_end, subscription_layout}
 

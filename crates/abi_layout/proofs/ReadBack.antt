@@ -1,12 +1,12 @@
 -- An event or a subscription that is read of the bytes of one is that one.
 use Rattle.std.proofs.Common.{◌≡◌, ◌==◌, ℕ, Bool, true, false, List, [], ◌∷◌, if◌then◌else◌, refl, sym, ap, ◌∙◌, arith}
-use Rattle.abi_types.specs.declared.events.Event.{Event}
-use Rattle.abi_types.specs.declared.events.EventType.{EventType}
-use Rattle.abi_types.specs.declared.events.EventType.TheVariants as types
-use Rattle.abi_types.specs.declared.events.Subscription.{Subscription}
-use Rattle.abi_types.specs.declared.events.What.{What}
-use Rattle.abi_types.specs.declared.events.What.TheVariants as what
-use Rattle.abi_types.specs.Events.{number_of, type_of}
+use Rattle.abi_structures.specs.declared.events.Event.{Event}
+use Rattle.abi_structures.specs.declared.events.EventType.{EventType}
+use Rattle.abi_structures.specs.declared.events.EventType.TheVariants as types
+use Rattle.abi_structures.specs.declared.events.Subscription.{Subscription}
+use Rattle.abi_structures.specs.declared.events.What.{What}
+use Rattle.abi_structures.specs.declared.events.What.TheVariants as what
+use Rattle.abi_structures.specs.Events.{number_of, type_of}
 use Rattle.abi_layout.specs.Layout.{number_from, numbers}
 use Rattle.abi_layout.specs.Events.{WordsAreZero, is_transfer, is_end, outcome_fields, outcome_values}
 use Rattle.abi_layout.specs.Events.{what_fields, what_values}

@@ -1,11 +1,11 @@
 -- The layouts of subscriptions and events: some fields are there for some types of events only.
 use Rattle.std.specs.Prelude.{◌≡◌, ◌==◌, ◌||◌, ℕ, Bool, false, ⊤, List, [], ◌∷◌, codes, if◌then◌else◌}
-use Rattle.abi_types.specs.declared.events.Event.{Event}
-use Rattle.abi_types.specs.declared.events.EventType.TheVariants.{FdRead, FdWrite, ProcTerminate}
-use Rattle.abi_types.specs.declared.events.Subscription.{Subscription}
-use Rattle.abi_types.specs.declared.events.What.{What}
-use Rattle.abi_types.specs.declared.events.What.TheVariants as what
-use Rattle.abi_types.specs.Events.{IsOfNoType, number_of, type_of}
+use Rattle.abi_structures.specs.declared.events.Event.{Event}
+use Rattle.abi_structures.specs.declared.events.EventType.TheVariants.{FdRead, FdWrite, ProcTerminate}
+use Rattle.abi_structures.specs.declared.events.Subscription.{Subscription}
+use Rattle.abi_structures.specs.declared.events.What.{What}
+use Rattle.abi_structures.specs.declared.events.What.TheVariants as what
+use Rattle.abi_structures.specs.Events.{IsOfNoType, number_of, type_of}
 use Rattle.abi_layout.specs.Layout.{Field, Layout, field, number_at, numbers}
 
 -- ---- events

@@ -1,8 +1,8 @@
 -- What holds of every layout, value and list of bytes: the statements that are the contracts of src/laws.rt.
 use Rattle.std.specs.Prelude.{◌≡◌, ℕ, ◌<◌, List, slice_index}
-use Rattle.abi_types.specs.declared.events.Event.{Event}
-use Rattle.abi_types.specs.declared.events.Subscription.{Subscription}
-use Rattle.abi_types.specs.declared.events.What.{What}
+use Rattle.abi_structures.specs.declared.events.Event.{Event}
+use Rattle.abi_structures.specs.declared.events.Subscription.{Subscription}
+use Rattle.abi_structures.specs.declared.events.What.{What}
 use Rattle.abi_layout.specs.Layout.{Layout, IsLaidOut, IsProper, numbers}
 use Rattle.abi_layout.specs.Events.{HasNoType, IsSubscriptionIn, LacksAreZero, WordsAreZero}
 use Rattle.abi_layout.specs.Events.{event_layout, event_values, subscription_layout, subscription_values}

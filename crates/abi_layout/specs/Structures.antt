@@ -1,14 +1,14 @@
 -- The layout of each structure that has one, and its fields' values in the layout's order.
 use Rattle.std.specs.Prelude.{ℕ, List, [], ◌∷◌, codes}
-use Rattle.abi_types.specs.declared.structures.Dirent.{Dirent}
-use Rattle.abi_types.specs.declared.structures.FdStat.{FdStat}
-use Rattle.abi_types.specs.declared.structures.FileStat.{FileStat}
-use Rattle.abi_types.specs.declared.structures.Iovec.{Iovec}
-use Rattle.abi_types.specs.declared.structures.RecvIn.{RecvIn}
-use Rattle.abi_types.specs.declared.structures.RecvOut.{RecvOut}
-use Rattle.abi_types.specs.declared.structures.SendIn.{SendIn}
-use Rattle.abi_types.specs.declared.structures.SendOut.{SendOut}
-use Rattle.abi_types.specs.declared.structures.ThreadAttr.{ThreadAttr}
+use Rattle.abi_structures.specs.declared.structures.Dirent.{Dirent}
+use Rattle.abi_structures.specs.declared.structures.FdStat.{FdStat}
+use Rattle.abi_structures.specs.declared.structures.FileStat.{FileStat}
+use Rattle.abi_structures.specs.declared.structures.Iovec.{Iovec}
+use Rattle.abi_structures.specs.declared.structures.RecvIn.{RecvIn}
+use Rattle.abi_structures.specs.declared.structures.RecvOut.{RecvOut}
+use Rattle.abi_structures.specs.declared.structures.SendIn.{SendIn}
+use Rattle.abi_structures.specs.declared.structures.SendOut.{SendOut}
+use Rattle.abi_structures.specs.declared.structures.ThreadAttr.{ThreadAttr}
 use Rattle.abi_layout.specs.Layout.{Layout, field}
 
 abbrev pub iovec_layout : Layout

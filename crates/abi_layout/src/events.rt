@@ -1,6 +1,6 @@
 //! Events and subscriptions, whose layouts depend on the type of the event.
 ghost use Rattle.std.specs.Prelude.{◌≡◌, ◌≤◌, length, MatchOption};
-ghost use Rattle.abi_types.specs.Events.{number_of, type_of};
+ghost use Rattle.abi_structures.specs.Events.{number_of, type_of};
 ghost use Rattle.abi_layout.specs.Layout as layout;
 ghost use Rattle.abi_layout.specs.Layout.{Fit, IsLaidOut, numbers};
 ghost use Rattle.abi_layout.specs.Events as specs;
@@ -9,7 +9,7 @@ ghost use Rattle.abi_layout.specs.Events.{event_layout, event_values, outcome_fi
 ghost use Rattle.abi_layout.specs.Events.{subscription_layout, subscription_values, what_fields, what_values};
 
 use crate::fields::{put_u8, put_u16, put_u32, put_u64, u8_at, u16_at, u32_at, u64_at};
-use abi_types::{Event, EventType, Subscription, What};
+use abi_structures::{Event, EventType, Subscription, What};
 
 // ---- events
 

@@ -8,8 +8,9 @@ ghost use Rattle.abi_layout.specs.Structures.{send_in_layout, send_in_values, se
 ghost use Rattle.abi_layout.specs.Structures.{threadattr_layout, threadattr_values};
 
 use crate::fields::{put_u8, put_u16, put_u32, put_u64, u8_at, u16_at, u32_at, u64_at};
-use abi_types::{
-    Dirent, FdStat, FileStat, Iovec, RecvIn, RecvOut, Rights, SendIn, SendOut, ThreadAttr,
+use abi_base::Rights;
+use abi_structures::{
+    Dirent, FdStat, FileStat, Iovec, RecvIn, RecvOut, SendIn, SendOut, ThreadAttr,
 };
 
 /// Reads a range of memory from its bytes.

@@ -2,9 +2,10 @@
 ghost use Rattle.abi_layout.specs.Events.{WordsAreZero};
 
 use super::*;
-use abi_types::{
-    Dirent, Event, FdStat, FileStat, Iovec, RecvIn, RecvOut, Rights, SendIn, SendOut, Subscription,
-    ThreadAttr, What,
+use abi_base::Rights;
+use abi_structures::{
+    Dirent, Event, FdStat, FileStat, Iovec, RecvIn, RecvOut, SendIn, SendOut, Subscription, ThreadAttr,
+    What,
 };
 
 // ---- structures of one layout

@@ -1,8 +1,8 @@
 //! Calls of the kernel and what it answers.
-use crate::bytes::Bytes;
+use lists::Bytes;
 use crate::descriptor::Denial;
-use crate::errno::Errno;
-use crate::items::TryClone;
+use abi_base::Errno;
+use lists::TryClone;
 use crate::place::Place;
 use std::alloc::AllocError;
 

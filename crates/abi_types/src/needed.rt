@@ -1,5 +1,5 @@
 //! What a call needs of a descriptor.
-use crate::rights::Rights;
+use abi_base::Rights;
 
 /// The rights that a call needs of the descriptor `fd`: base rights, and rights that it asks of the inheriting ones.
 /// A descriptor that need only be there has no right in either.

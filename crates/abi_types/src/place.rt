@@ -1,5 +1,5 @@
 //! Where a mapping goes.
-use crate::errno::Errno;
+use abi_base::Errno;
 
 /// Where a mapping goes, as the caller's memory gives it.
 #[derive(Clone, Copy, Debug, PartialEq, Eq)]

@@ -1,5 +1,5 @@
 //! How a process stands.
-use crate::signal::Signal;
+use abi_base::Signal;
 
 /// Whether a process lives, or how it ended.
 #[derive(Clone, Copy, Debug, PartialEq, Eq)]

@@ -7,7 +7,7 @@ ghost use Rattle.argdata_codec.specs.Writing.{groups_of, length_bytes, further_b
 
 use crate::tag;
 use crate::value::Value;
-use abi_types::Bytes;
+use lists::Bytes;
 use std::alloc::{AllocError, Global};
 
 /// The bytes that spell the value.

@@ -9,7 +9,7 @@ use crate::refusal::Refusal;
 use crate::tag;
 use crate::value::Value;
 use crate::value_list::ValueList;
-use abi_types::{Bytes, Text};
+use lists::{Bytes, Text};
 use std::alloc::Global;
 
 #[cycle(read)]

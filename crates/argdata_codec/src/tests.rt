@@ -6,7 +6,7 @@ ghost use Rattle.argdata_codec.specs.Spelling.{CanBeSpelled, IsSpellable};
 ghost use Rattle.argdata_codec.specs.Views.{shape_of};
 
 use super::*;
-use abi_types::{Bytes, Text};
+use lists::{Bytes, Text};
 use std::alloc::{AllocError, Global};
 use std::test::Fail;
 

@@ -2,7 +2,7 @@
 
 use crate::pair_list::PairList;
 use crate::value_list::ValueList;
-use abi_types::{Bytes, Text};
+use lists::{Bytes, Text};
 
 /// A value that a program is given at its start.
 #[cycle(value)]

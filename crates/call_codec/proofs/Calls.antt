@@ -3,8 +3,8 @@ use Rattle.std.proofs.Common.{ℕ, ◌==◌, Bool, true, false, cond}
 use Rattle.std.specs.Prelude.{slice_index}
 use Rattle.abi_types.specs.declared.call.Call.{Call}
 use Rattle.abi_types.specs.declared.call.Call.TheVariants.{ProcExit, Refused}
-use Rattle.abi_types.specs.declared.errno.Errno.TheVariants.{Nosys}
-use Rattle.abi_types.specs.Registers.{Registers}
+use Rattle.abi_base.specs.declared.errno.Errno.TheVariants.{Nosys}
+use Rattle.abi_base.specs.Registers.{Registers}
 use Rattle.guest_memory.specs.Page.{Pages}
 use Rattle.call_codec.specs.Arguments.{argument, low}
 use Rattle.call_codec.specs.Args.{fd_write_of, call_of, args_of}

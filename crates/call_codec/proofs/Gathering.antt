@@ -1,7 +1,7 @@
 -- What is read so far, and what is left to read.
 use Rattle.std.proofs.Common.{◌≡◌, ℕ, zero, suc, ◌+◌, ◌-◌, ◌%◌, ◌^◌, ◌<◌, List, [], ◌∷◌, ◌++◌, Option, None, Some, option_map, Result, Ok, Err, refl, sym, ap, ◌∙◌, append_assoc, arith}
 use Rattle.std.specs.Result.{result_ok}
-use Rattle.abi_types.specs.declared.structures.Iovec.{Iovec}
+use Rattle.abi_structures.specs.declared.structures.Iovec.{Iovec}
 use Rattle.guest_memory.specs.declared.fault.MemFault.{MemFault}
 use Rattle.guest_memory.specs.Bytes.{bytes_at}
 use Rattle.guest_memory.specs.Page.{Pages}

@@ -2,7 +2,7 @@
 use Rattle.std.proofs.Common.{◌≡◌, ℕ, ◌+◌, ◌/◌, ◌≤◌, Bool, true, false, cond, Option, Some, None, IsSome, refl, sym, ap, ◌∙◌}
 use Rattle.std.proofs.lemmas.Bool.{le-leb}
 use Rattle.std.specs.FinMap.{get, len}
-use Rattle.abi_types.specs.declared.errno.Errno.TheVariants.{Success, Fault, Nobufs}
+use Rattle.abi_base.specs.declared.errno.Errno.TheVariants.{Success, Fault, Nobufs}
 use Rattle.abi_types.specs.declared.place.Place.TheVariants as place
 use Rattle.abi_types.specs.declared.place.Place.TheVariants.{At}
 use Rattle.guest_memory.specs.declared.fault.MemFault.{MemFault}

@@ -4,9 +4,9 @@ use Rattle.std.specs.Prelude.{ℕ, zero, suc, ◌+◌, ◌-◌, ◌%◌, ◌^◌
 use Rattle.abi_layout.specs.Layout.{number_from}
 use Rattle.abi_types.specs.declared.call.Call.{Call}
 use Rattle.abi_types.specs.declared.call.Call.TheVariants.{FdWrite, ProcExit, Refused}
-use Rattle.abi_types.specs.declared.errno.Errno.TheVariants.{Fault, Inval, Nosys}
-use Rattle.abi_types.specs.declared.structures.Iovec.{Iovec}
-use Rattle.abi_types.specs.Registers.{Registers}
+use Rattle.abi_base.specs.declared.errno.Errno.TheVariants.{Fault, Inval, Nosys}
+use Rattle.abi_structures.specs.declared.structures.Iovec.{Iovec}
+use Rattle.abi_base.specs.Registers.{Registers}
 use Rattle.guest_memory.specs.declared.fault.MemFault.{MemFault}
 use Rattle.guest_memory.specs.Bytes.{bytes_at}
 use Rattle.guest_memory.specs.Page.{Pages}

@@ -1,6 +1,6 @@
 -- A call's arguments, which are in a0 and the registers after it (x10 on: RISC-V ELF psABI, integer register convention).
 use Rattle.std.specs.Prelude.{ℕ, ◌+◌, ◌%◌, ◌^◌, slice_index}
-use Rattle.abi_types.specs.Registers.{Registers}
+use Rattle.abi_base.specs.Registers.{Registers}
 
 -- the argument with this number, from 0
 abbrev pub argument : Registers → ℕ → ℕ

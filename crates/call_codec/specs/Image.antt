@@ -1,7 +1,7 @@
 -- The memory that segments make.
 use Rattle.std.specs.Prelude.{◌≤◌, ℕ, zero, suc, ◌+◌, ◌*◌, ◌/◌, ◌%◌, List, [], ◌∷◌, ◌++◌, length, replicate, take, drop}
 use Rattle.std.specs.FinMap.{insert}
-use Rattle.abi_types.specs.declared.prot.Prot.{Prot}
+use Rattle.abi_base.specs.declared.prot.Prot.{Prot}
 use Rattle.guest_memory.specs.Page.{Page, Pages}
 use Rattle.elf_image.specs.declared.elf.Segment.{Segment}
 

@@ -5,13 +5,13 @@ use Rattle.std.specs.Int.RustNames.{bit_and}
 use Rattle.std.specs.FinMap.{len}
 use Rattle.abi_types.specs.declared.call.Call.{Call}
 use Rattle.abi_types.specs.declared.call.Call.TheVariants.{FdWrite, MemMap, Memory, ProcExit, Refused}
-use Rattle.abi_types.specs.declared.errno.Errno.{Errno}
-use Rattle.abi_types.specs.declared.errno.Errno.TheVariants.{Success, Fault, Inval, Nobufs, Nosys, Notsup}
+use Rattle.abi_base.specs.declared.errno.Errno.{Errno}
+use Rattle.abi_base.specs.declared.errno.Errno.TheVariants.{Success, Fault, Inval, Nobufs, Nosys, Notsup}
 use Rattle.abi_types.specs.declared.place.Place.{Place}
 use Rattle.abi_types.specs.declared.place.Place.TheVariants as place
 use Rattle.abi_types.specs.declared.place.Place.TheVariants.{At}
-use Rattle.abi_types.specs.declared.prot.Prot.{Prot}
-use Rattle.abi_types.specs.Registers.{Registers}
+use Rattle.abi_base.specs.declared.prot.Prot.{Prot}
+use Rattle.abi_base.specs.Registers.{Registers}
 use Rattle.guest_memory.specs.Changes.{all_there, lowest_gap, mapped, protected, without_pages}
 use Rattle.guest_memory.specs.Mapping.{page_limit}
 use Rattle.guest_memory.specs.Page.{Pages}

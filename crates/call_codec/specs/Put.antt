@@ -6,8 +6,8 @@ use Rattle.abi_types.specs.declared.call.Answer.TheVariants as answer
 use Rattle.abi_types.specs.declared.call.Call.{Call}
 use Rattle.abi_types.specs.declared.call.Call.TheVariants.{FdWrite, MemMap, Memory, ProcExit, Refused}
 use Rattle.abi_types.specs.declared.call.Reply.{Reply}
-use Rattle.abi_types.specs.Errno.{number_of}
-use Rattle.abi_types.specs.Registers.{Registers, with_pc, with_x}
+use Rattle.abi_base.specs.Errno.{number_of}
+use Rattle.abi_base.specs.Registers.{Registers, with_pc, with_x}
 use Rattle.guest_memory.specs.Page.{Pages}
 use Rattle.call_codec.specs.MemoryCalls.{memory_with, on_success}
 

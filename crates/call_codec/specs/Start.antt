@@ -3,8 +3,8 @@ use Rattle.std.specs.Prelude.{◌≡◌, ◌≤◌, ℕ, ◌+◌, ◌-◌, true,
 use Rattle.std.specs.Int.{w64, to_le_bytes}
 use Rattle.std.specs.FinMap.{empty}
 use Rattle.std.specs.List.{All}
-use Rattle.abi_types.specs.declared.prot.Prot.{Prot}
-use Rattle.abi_types.specs.Registers.{Registers, start_registers, with_x}
+use Rattle.abi_base.specs.declared.prot.Prot.{Prot}
+use Rattle.abi_base.specs.Registers.{Registers, start_registers, with_x}
 use Rattle.elf_image.specs.declared.elf.Elf.{Elf}
 use Rattle.elf_image.specs.declared.elf.Segment.{Segment}
 use Rattle.guest_memory.specs.Page.{Pages}

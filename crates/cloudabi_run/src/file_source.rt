@@ -1,8 +1,8 @@
 //! The inputs of the program: files by their paths, and standard input as `-`.
 ghost use Rattle.std.specs.Prelude.{◌≡◌, ◌≤◌, ⊤, length, IfOk};
-ghost use Rattle.abi_types.specs.Outside.Source.{Untold};
+ghost use Rattle.outside.specs.Source.{Untold};
 
-use abi_types::outside::{Failed, Source};
+use outside::{Failed, Source};
 use std::alloc::Global;
 use std::io::{Read, Seek, SeekFrom};
 use std::rt::Files;

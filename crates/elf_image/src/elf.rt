@@ -1,5 +1,6 @@
 //! A checked program image.
-use abi_types::{Bytes, Items, Prot, TryClone};
+use abi_base::Prot;
+use lists::{Bytes, Items, TryClone};
 use std::alloc::AllocError;
 
 /// A loadable segment (gABI, PT_LOAD): its placed address, its file bytes, its length in memory and its protection.

@@ -8,7 +8,8 @@ ghost use Rattle.elf_image.specs.Segments.{is_load, may_read};
 use crate::elf::{Segment, SegmentList};
 use crate::program_header::ProgramHeader;
 use crate::segments::{is_load, may_execute, may_write};
-use abi_types::{Bytes, Prot};
+use abi_base::Prot;
+use lists::Bytes;
 use std::alloc::{AllocError, Global};
 
 /// p_flags: the segment may be read.

@@ -1,7 +1,8 @@
 //! Files that are read and files that are refused.
 use crate::program_header::ProgramHeader;
 use crate::{Elf, ElfFault, read_elf};
-use abi_types::{Prot, TryClone};
+use abi_base::Prot;
+use lists::TryClone;
 use std::alloc::{AllocError, Global};
 use std::test::Fail;
 

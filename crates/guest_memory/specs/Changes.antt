@@ -1,7 +1,7 @@
 -- The changes of a memory's pages and the tests of them as functions: what the relations of Mapping.antt determine.
 use Rattle.std.specs.Prelude.{◌≡◌, ◌↔◌, ℕ, zero, suc, ◌+◌, ◌*◌, Bool, true, ◌&&◌, not, cond, nat_le, Option, Some, None, is_some, is_none, option_map}
 use Rattle.std.specs.FinMap.{get, insert, retain_keys}
-use Rattle.abi_types.specs.declared.prot.Prot.{Prot}
+use Rattle.abi_base.specs.declared.prot.Prot.{Prot}
 use Rattle.guest_memory.specs.Page.{Page, Pages, zero_page, with_prot}
 use Rattle.guest_memory.specs.Ranges.{in_range}
 use Rattle.guest_memory.specs.Mapping.{AreThere, AreMapped, AreUnmapped, AreProtected, IsLowestGap, HasNoGap}

@@ -1,7 +1,7 @@
 -- Which pages a guest's memory has.
 use Rattle.std.specs.Prelude.{◌≡◌, ℕ, ◌+◌, ◌*◌, ◌/◌, ◌<◌, ◌≤◌, true, false, cond, Some, None, IsSome, option_map}
 use Rattle.std.specs.FinMap.{get, len}
-use Rattle.abi_types.specs.declared.prot.Prot.{Prot}
+use Rattle.abi_base.specs.declared.prot.Prot.{Prot}
 use Rattle.guest_memory.specs.declared.fault.MemFault.{MemFault}
 use Rattle.guest_memory.specs.declared.fault.MemFault.TheVariants.{NotMapped, NoRight, PageLimit, Overlaps, NoMemory}
 use Rattle.guest_memory.specs.Page.{Pages, zero_page, with_prot}

@@ -2,7 +2,7 @@ use Rattle.std.specs.Prelude.{ℕ, List, Bool, replicate, refl}
 use Rattle.std.specs.Coded.{Coded, code_by, coded×, coded_bool, coded_list, coded_ℕ}
 use Rattle.std.specs.Ordering.{nat_cmp}
 use Rattle.std.specs.FinMap.{FinMap}
-use Rattle.abi_types.specs.declared.prot.Prot.{Prot}
+use Rattle.abi_base.specs.declared.prot.Prot.{Prot}
 
 -- a page of a guest's memory: its 4096 bytes, and what may be done with them
 pub record Page : Type 0 where

@@ -2,7 +2,7 @@
 ghost use Rattle.std.specs.Prelude.{◌≡◌};
 ghost use Rattle.guest_memory.specs.Access.{allows};
 
-use abi_types::Prot;
+use abi_base::Prot;
 
 /// What is done with a byte of memory.
 #[derive(Clone, Copy, Debug, PartialEq, Eq)]

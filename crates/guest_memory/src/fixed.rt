@@ -8,7 +8,7 @@ ghost use Rattle.guest_memory.specs.Fixed.{without_each};
 
 use crate::mapped_page::{MappedPage, PAGE};
 use crate::memory::GuestMemory;
-use abi_types::Prot;
+use abi_base::Prot;
 use number_map::NumMap;
 use std::alloc::{AllocError, Global};
 

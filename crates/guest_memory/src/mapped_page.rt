@@ -6,7 +6,7 @@ ghost use Rattle.guest_memory.specs.Words.{IsWidth, bytes_of};
 
 use crate::access::Access;
 use crate::fault::MemFault;
-use abi_types::Prot;
+use abi_base::Prot;
 use std::alloc::{AllocError, Global};
 use std::marker::Model;
 

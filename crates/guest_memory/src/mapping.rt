@@ -11,7 +11,7 @@ use crate::memory::GuestMemory;
 use crate::page_map::{
     add_pages, count_pages, first_absent, first_page, protect_pages, remove_pages,
 };
-use abi_types::Prot;
+use abi_base::Prot;
 use std::alloc::Global;
 
 /// The most pages of a memory.

@@ -2,7 +2,7 @@
 use crate::access::Access;
 use crate::mapped_page::PAGE;
 use crate::{GuestMemory, MemFault};
-use abi_types::Prot;
+use abi_base::Prot;
 use std::alloc::Global;
 use std::test::Fail;
 

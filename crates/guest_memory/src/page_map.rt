@@ -6,7 +6,7 @@ ghost use Rattle.guest_memory.specs.Mapping.{AreFree, AreThere, AreMapped, AreUn
 ghost use Rattle.guest_memory.specs.Changes.{without_pages};
 
 use crate::mapped_page::MappedPage;
-use abi_types::Prot;
+use abi_base::Prot;
 use number_map::NumMap;
 use std::alloc::{AllocError, Global};
 

@@ -1,6 +1,6 @@
 //! Bytes, numbers and pages of a memory by example.
 use crate::{Access, GuestMemory, MemFault};
-use abi_types::Prot;
+use abi_base::Prot;
 use std::alloc::Global;
 use std::test::Fail;
 

@@ -7,7 +7,7 @@ use Rattle.abi_types.specs.declared.call.Call.{Call}
 use Rattle.abi_types.specs.declared.call.Reply.{Reply}
 use Rattle.abi_types.specs.declared.descriptor.Denial.{Denial}
 use Rattle.abi_types.specs.declared.descriptor.Descriptor.{Descriptor}
-use Rattle.abi_types.specs.declared.errno.Errno.TheVariants.{Success, Nomem}
+use Rattle.abi_base.specs.declared.errno.Errno.TheVariants.{Success, Nomem}
 use Rattle.abi_types.specs.declared.needed.Needed.{Needed}
 use Rattle.kernel_model.specs.Laws.{HasAll, IsFirstLack, IsOfFirstLack}
 use Rattle.kernel_model.specs.Need.{need, missing}

@@ -1,7 +1,7 @@
 -- What the kernel's code keeps of the opens that a launch grants.
 use Rattle.std.specs.Prelude.{List}
 use Rattle.std.specs.FinMap.{from_entries}
-use Rattle.abi_types.specs.declared.grant.Grant.{Grant}
+use Rattle.abi_base.specs.declared.grant.Grant.{Grant}
 use Rattle.kernel_core.specs.Objects.{Held}
 use Rattle.kernel_model.specs.Start.{launch_object, numbered, granted_open}
 

@@ -1,6 +1,6 @@
 //! The kernel's calls by example.
 ghost use Rattle.std.specs.Prelude.{IsTrue};
-ghost use Rattle.abi_types.specs.Rights.{has_all};
+ghost use Rattle.abi_base.specs.Rights.{has_all};
 
 use crate::{Kernel, Launch};
 use abi_types::{

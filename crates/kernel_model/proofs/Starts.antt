@@ -7,9 +7,9 @@ use Rattle.std.specs.Cmp.{nat_cmp_total, tied_itself}
 use Rattle.std.specs.List.{AllByRecursion}
 use Rattle.std.specs.FinMap.{get, get-empty, get-from_entries, insert, empty, find, from_entries, from_entries_push, nat_cmp-IsAntisymmetric}
 use Rattle.abi_types.specs.declared.descriptor.Descriptor.{Descriptor}
-use Rattle.abi_types.specs.declared.grant.Grant.{Grant}
-use Rattle.abi_types.specs.declared.grant.GrantTarget.{GrantTarget}
-use Rattle.abi_types.specs.declared.grant.GrantTarget.TheVariants as target
+use Rattle.abi_base.specs.declared.grant.Grant.{Grant}
+use Rattle.abi_base.specs.declared.grant.GrantTarget.{GrantTarget}
+use Rattle.abi_base.specs.declared.grant.GrantTarget.TheVariants as target
 use Rattle.abi_types.specs.declared.open_kind.OpenKind.{OpenKind}
 use Rattle.abi_types.specs.declared.status.Status.TheVariants.{Live}
 use Rattle.number_map.specs.Maps.{get-insert-same, get-insert-other}

@@ -8,11 +8,11 @@ use Rattle.abi_types.specs.declared.call.Reply.{Reply}
 use Rattle.abi_types.specs.declared.descriptor.Denial.{Denial}
 use Rattle.abi_types.specs.declared.descriptor.Denial.TheVariants.{Missing}
 use Rattle.abi_types.specs.declared.descriptor.Descriptor.{Descriptor}
-use Rattle.abi_types.specs.declared.errno.Errno.TheVariants.{Badf}
+use Rattle.abi_base.specs.declared.errno.Errno.TheVariants.{Badf}
 use Rattle.abi_types.specs.declared.needed.Needed.{Needed}
-use Rattle.abi_types.specs.declared.rights.Rights.{Rights}
-use Rattle.abi_types.specs.declared.rights.TheConstants.Rights.{FD_WRITE, NONE}
-use Rattle.abi_types.specs.Rights.{minus_of}
+use Rattle.abi_base.specs.declared.rights.Rights.{Rights}
+use Rattle.abi_base.specs.declared.rights.TheConstants.Rights.{FD_WRITE, NONE}
+use Rattle.abi_base.specs.Rights.{minus_of}
 use Rattle.kernel_model.specs.Reply.{refused, denied}
 use Rattle.kernel_model.specs.State.{Table}
 

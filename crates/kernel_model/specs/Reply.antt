@@ -2,8 +2,8 @@
 use Rattle.std.specs.Prelude.{ℕ, None, Some}
 use Rattle.abi_types.specs.declared.call.Reply.{Reply}
 use Rattle.abi_types.specs.declared.descriptor.Denial.{Denial}
-use Rattle.abi_types.specs.declared.errno.Errno.{Errno}
-use Rattle.abi_types.specs.declared.errno.Errno.TheVariants.{Success, Notcapable}
+use Rattle.abi_base.specs.declared.errno.Errno.{Errno}
+use Rattle.abi_base.specs.declared.errno.Errno.TheVariants.{Success, Notcapable}
 
 -- the call is done, with these two results
 abbrev pub success : ℕ → ℕ → Reply

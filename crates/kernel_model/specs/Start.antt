@@ -3,9 +3,9 @@ use Rattle.std.specs.Prelude.{ℕ, ◌+◌, ◌*◌, ◌^◌, ◌<◌, ◌≤◌
 use Rattle.std.specs.FinMap.{empty, insert, from_entries}
 use Rattle.std.specs.List.{AllByRecursion}
 use Rattle.abi_types.specs.declared.descriptor.Descriptor.{Descriptor}
-use Rattle.abi_types.specs.declared.grant.Grant.{Grant}
-use Rattle.abi_types.specs.declared.grant.GrantTarget.{GrantTarget}
-use Rattle.abi_types.specs.declared.grant.GrantTarget.TheVariants as target
+use Rattle.abi_base.specs.declared.grant.Grant.{Grant}
+use Rattle.abi_base.specs.declared.grant.GrantTarget.{GrantTarget}
+use Rattle.abi_base.specs.declared.grant.GrantTarget.TheVariants as target
 use Rattle.abi_types.specs.declared.open_kind.OpenKind.{OpenKind}
 use Rattle.abi_types.specs.declared.open_kind.OpenKind.TheVariants as kind
 use Rattle.abi_types.specs.declared.status.Status.TheVariants.{Live}

@@ -6,7 +6,7 @@ use Rattle.abi_types.specs.declared.open_kind.OpenKind.{OpenKind}
 use Rattle.abi_types.specs.declared.open_kind.OpenKind.TheVariants.{Terminal}
 use Rattle.abi_types.specs.declared.status.Status.{Status}
 use Rattle.abi_types.specs.declared.status.Status.TheVariants.{Live}
-use Rattle.abi_types.specs.Rights.{has_all}
+use Rattle.abi_base.specs.Rights.{has_all}
 use Rattle.kernel_model.specs.Release.{holders}
 use Rattle.kernel_model.specs.State.{State, Table}
 

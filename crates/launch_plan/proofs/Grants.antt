@@ -2,7 +2,7 @@
 use Rattle.std.proofs.Common.{◌≡◌, ℕ, zero, suc, ◌+◌, ◌<◌, List, [], ◌∷◌, ◌++◌, length, map, drop, get_or, Result, Ok, Err, refl, sym, ap, subst, ◌∙◌, append_assoc, arith}
 use Rattle.std.specs.Prelude.{IfOk}
 use Rattle.std.proofs.lemmas.List.{append-nil}
-use Rattle.abi_types.specs.declared.grant.Grant.{Grant}
+use Rattle.abi_base.specs.declared.grant.Grant.{Grant}
 use Rattle.yaml_values.specs.declared.node.Node.{Node}
 use Rattle.yaml_values.specs.Shape.{of_list, of_pairs}
 use Rattle.yaml_values.specs.Views.{shape_of, pair_of}

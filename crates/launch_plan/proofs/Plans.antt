@@ -1,7 +1,7 @@
 -- The plan, case by case.
 use Rattle.std.proofs.Common.{◌≡◌, ℕ, ◌<◌, ◌≤◌, Bool, true, false, List, length, nat_lt, if◌then◌else◌, Result, Ok, Err, refl, sym, ap, subst, ◌∙◌}
 use Rattle.std.proofs.lemmas.Bool.{lt-ltb, le-ltb, ltb-false}
-use Rattle.abi_types.specs.declared.grant.Grant.{Grant}
+use Rattle.abi_base.specs.declared.grant.Grant.{Grant}
 use Rattle.kernel_model.specs.Start.{AreGrants}
 use Rattle.argdata_codec.specs.Writing.{spelling}
 use Rattle.yaml_values.specs.Shape.{Shape}

@@ -3,7 +3,7 @@ use Rattle.std.proofs.Common.{◌≡◌, ℕ, Bool, true, false, List, [], ◌�
 use Rattle.std.specs.Prelude.{IfOk}
 use Rattle.std.specs.List.{AllByRecursion}
 use lib.Pointwise.{pointwise}
-use Rattle.abi_types.specs.declared.grant.Grant.{Grant}
+use Rattle.abi_base.specs.declared.grant.Grant.{Grant}
 use Rattle.kernel_model.specs.Start.{IsGrant}
 use Rattle.launch_plan.specs.declared.fault.PlanFault.{PlanFault}
 use Rattle.launch_plan.specs.declared.fault.PlanFault.TheVariants as faults

@@ -1,6 +1,6 @@
 -- The plan of a document.
 use Rattle.std.specs.Prelude.{ℕ, if◌then◌else◌, nat_lt, List, length, Result, Ok, Err}
-use Rattle.abi_types.specs.declared.grant.Grant.{Grant}
+use Rattle.abi_base.specs.declared.grant.Grant.{Grant}
 use Rattle.argdata_codec.specs.Writing.{spelling}
 use Rattle.yaml_values.specs.Shape.{Shape}
 use Rattle.launch_plan.specs.declared.fault.PlanFault.{PlanFault}

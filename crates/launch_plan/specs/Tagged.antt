@@ -1,8 +1,8 @@
 -- The nodes of a document that have a tag, and what each asks for.
 use Rattle.std.specs.Prelude.{ℕ, if◌then◌else◌, nat_eq, Bool, false, List, [], ◌∷◌, ◌++◌, codes, Option, Some, None, Result, Ok, Err}
 use lib.Pointwise.{pointwise}
-use Rattle.abi_types.specs.declared.grant.Grant.{Grant}
-use Rattle.abi_types.specs.declared.grant.GrantTarget.TheVariants.{Terminal}
+use Rattle.abi_base.specs.declared.grant.Grant.{Grant}
+use Rattle.abi_base.specs.declared.grant.GrantTarget.TheVariants.{Terminal}
 use Rattle.kernel_model.specs.Valid.{stream_rights}
 use Rattle.yaml_values.specs.Shape.{Shape, Content, Shapes, Pairs, node, null, boolean, integer, text, binary, mapping, sequence, no_items, item, no_pairs, pair}
 use Rattle.launch_plan.specs.declared.fault.PlanFault.{PlanFault}

@@ -6,7 +6,8 @@ ghost use Rattle.launch_plan.specs.Tagged.{stream_of, stream_grant, grant_of, ta
 ghost use Rattle.launch_plan.specs.Answers.{Adds};
 
 use crate::fault::PlanFault;
-use abi_types::{Grant, GrantList, GrantTarget, Rights, Text};
+use abi_base::{Grant, GrantList, GrantTarget, Rights};
+use lists::Text;
 use yaml_values::{Node, NodeValue};
 
 // The rights of standard input, and those of standard output and standard error.

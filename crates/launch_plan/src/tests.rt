@@ -4,7 +4,7 @@ ghost use Rattle.yaml_values.specs.Documents.{IsDocument};
 ghost use Rattle.yaml_values.specs.Views.{shape_of};
 
 use crate::{PlanFault, plan};
-use abi_types::{Grant, GrantTarget, Rights};
+use abi_base::{Grant, GrantTarget, Rights};
 use launch_yaml::{Doc, YamlFault, parse};
 use std::alloc::{AllocError, Global};
 use std::test::Fail;

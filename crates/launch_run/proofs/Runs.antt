@@ -1,6 +1,6 @@
 -- How a run's parts follow its world as turns are taken and entries come.
 use Rattle.std.proofs.Common.{◌≡◌, ℕ, ◌-◌, ◌<◌, List, [], ◌∷◌, ◌++◌, sym, ap, subst, ◌∙◌, arith}
-use Rattle.abi_types.specs.Registers.{Registers}
+use Rattle.abi_base.specs.Registers.{Registers}
 use Rattle.guest_memory.specs.Page.{Pages}
 use Rattle.number_map.specs.Maps.{get-insert-same}
 use Rattle.rv_interp.specs.declared.turns.TurnEnd.{TurnEnd}

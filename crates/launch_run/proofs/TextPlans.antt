@@ -1,6 +1,6 @@
 -- What a launch text gives, part by part.
 use Rattle.std.proofs.Common.{◌≡◌, ℕ, List, Result, Ok, Err, ap, ◌∙◌}
-use Rattle.abi_types.specs.declared.grant.Grant.{Grant}
+use Rattle.abi_base.specs.declared.grant.Grant.{Grant}
 use Rattle.yaml_values.specs.Shape.{Shape}
 use Rattle.launch_yaml.specs.declared.document.YamlFault.{YamlFault}
 use Rattle.launch_yaml.specs.declared.document.YamlFault.TheVariants.{At, NoMemory}

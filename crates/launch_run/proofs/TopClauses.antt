@@ -1,7 +1,7 @@
 -- What the top call's clauses say, by the end of the call.
 use Rattle.std.proofs.Common.{◌≡◌, ◌≢◌, ◌==◌, ◌<◌, ◌⊎◌, ℕ, Bool, true, false, List, [], length, refl, sym, ap, subst, arith, inl, inr, if◌then◌else◌}
 use Rattle.std.specs.Prelude.{Option, None, Some, IfSome, IsSomeAnd, Result, Ok, Err}
-use Rattle.abi_types.specs.Outside.Source.{Told}
+use Rattle.outside.specs.Source.{Told}
 use Rattle.abi_types.specs.declared.status.Status.{Status}
 use Rattle.abi_types.specs.declared.status.Status.TheVariants.{Live, Exit, Killed}
 use Rattle.kernel_core.specs.declared.history.Entry.{Entry}

@@ -1,12 +1,12 @@
 -- What words and inputs spell: a launch, or the first refusal.
 use Rattle.std.specs.Prelude.{◌≡◌, ◌==◌, ◌++◌, ℕ, ◌⊎◌, ⊤, Bool, false, List, [], ◌∷◌, cond, length, nat_lt, Option, None, Some, Result, Ok, Err}
 use Rattle.std.specs.Option.{option_to_list}
-use Rattle.abi_types.specs.Outside.Source.{Told, Untold, Lacking, Content}
+use Rattle.outside.specs.Source.{Told, Untold, Lacking, Content}
 use Rattle.elf_image.specs.Checks.{fault_of}
 use Rattle.elf_image.specs.Image.{image}
 use Rattle.elf_image.specs.declared.fault.ElfFault.{ElfFault}
 use Rattle.kernel_core.specs.declared.launch.Launch.{Launch}
-use Rattle.abi_types.specs.declared.grant.Grant.{Grant}
+use Rattle.abi_base.specs.declared.grant.Grant.{Grant}
 use Rattle.launch_words.specs.Settings.{Settings}
 use Rattle.launch_words.specs.Words.{words_of}
 use Rattle.launch_run.specs.LaunchText.{TextPlan, planned_text}

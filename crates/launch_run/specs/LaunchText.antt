@@ -1,6 +1,6 @@
 -- What a launch text gives a program, or its first fault.
 use Rattle.std.specs.Prelude.{◌≡◌, ℕ, List, Option, None, Some, Result, Ok, Err}
-use Rattle.abi_types.specs.declared.grant.Grant.{Grant}
+use Rattle.abi_base.specs.declared.grant.Grant.{Grant}
 use Rattle.yaml_values.specs.Shape.{Shape}
 use Rattle.launch_yaml.specs.declared.fault.Fault.{Fault}
 use Rattle.launch_yaml.specs.Document.{parse_at}

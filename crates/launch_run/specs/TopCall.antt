@@ -3,8 +3,8 @@
 -- where it is greater afterwards, or stands at its last value.
 use Rattle.std.specs.Prelude.{◌≡◌, ◌⊎◌, ◌==◌, ⊤, ℕ, Bool, List, length, Option, None, Some, Ok, Err, IfSome, Contains, if◌then◌else◌}
 use Rattle.std.specs.FinMap.{get}
-use Rattle.abi_types.specs.Outside.Sink.{grown, GrewByPrefix}
-use Rattle.abi_types.specs.Outside.Source.{Told}
+use Rattle.outside.specs.Sink.{grown, GrewByPrefix}
+use Rattle.outside.specs.Source.{Told}
 use Rattle.abi_types.specs.declared.status.Status.{Status}
 use Rattle.abi_types.specs.declared.status.Status.TheVariants.{Live, Exit, Killed}
 use Rattle.kernel_core.specs.declared.history.Record.{Record}

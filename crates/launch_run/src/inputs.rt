@@ -1,7 +1,7 @@
 //! The launch that settings and inputs ask for.
 ghost use Rattle.std.specs.Prelude.{◌≡◌, ◌≤◌, ℕ, List, length, All, IfOk, IfErr, option_map};
 ghost use Rattle.std.specs.Option.{option_to_list};
-ghost use Rattle.abi_types.specs.Outside.Source.{Rose, IsWhole};
+ghost use Rattle.outside.specs.Source.{Rose, IsWhole};
 ghost use Rattle.kernel_model.specs.Start.{AreGrants};
 ghost use Rattle.launch_words.specs.Settings.{IsWithin, view};
 ghost use Rattle.launch_run.specs.Inputs.{AreRead, IsReadAs, IsUnread, IsUnreadOf, IsNoLaunch, IsNoLaunchOf};
@@ -11,7 +11,7 @@ ghost use Rattle.launch_run.specs.Run.{IsBounded};
 use crate::launch_text::plan_text;
 use crate::lines::Refusal;
 use abi_types::Bytes;
-use abi_types::outside::{ReadFault, Source, read_whole};
+use outside::{ReadFault, Source, read_whole};
 use elf_image::{ElfFault, read_elf};
 use kernel_core::Launch;
 use launch_plan::Planned;

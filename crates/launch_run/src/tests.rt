@@ -1,6 +1,6 @@
 //! Command lines, programs and launch texts, and what they come to.
 use crate::*;
-use abi_types::outside::{MemSink, MemSource};
+use outside::{MemSink, MemSource};
 use std::alloc::{AllocError, Global};
 use std::test::Fail;
 

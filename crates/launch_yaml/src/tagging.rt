@@ -7,7 +7,7 @@ ghost use Rattle.launch_yaml.specs.Views.{Gives};
 ghost use Rattle.launch_yaml.specs.TaggingViews.{tagging_view};
 
 use crate::fault::{Fault, Refusal};
-use abi_types::Text;
+use lists::Text;
 use yaml_values::{Mode, Node, NodeValue};
 
 /// What stands before a value.

@@ -4,7 +4,7 @@
 
 mod loops;
 
-use abi_types::{Prot, Regs};
+use abi_base::{Prot, Regs};
 use guest_memory::{GuestMemory, MemFault};
 use loops::code_of;
 use rv_interp::{QUANTUM, TurnEnd, turn};

@@ -11,8 +11,8 @@ use Rattle.abi_types.specs.declared.call.Call.TheVariants.{FdWrite, MemMap, Memo
 use Rattle.abi_types.specs.declared.call.Reply.{Reply}
 use Rattle.abi_types.specs.declared.descriptor.Denial.{Denial}
 use Rattle.abi_types.specs.declared.descriptor.Descriptor.{Descriptor}
-use Rattle.abi_types.specs.declared.errno.Errno.{Errno}
-use Rattle.abi_types.specs.declared.errno.Errno.TheVariants.{Success, Badf, Nomem, Notcapable}
+use Rattle.abi_base.specs.declared.errno.Errno.{Errno}
+use Rattle.abi_base.specs.declared.errno.Errno.TheVariants.{Success, Badf, Nomem, Notcapable}
 use Rattle.abi_types.specs.declared.open_kind.OpenKind.{OpenKind}
 use Rattle.abi_types.specs.declared.place.Place.{Place}
 use Rattle.abi_types.specs.declared.place.Place.TheVariants as place
@@ -20,7 +20,7 @@ use Rattle.abi_types.specs.declared.place.Place.TheVariants.{At}
 use Rattle.abi_types.specs.declared.open_kind.OpenKind.TheVariants.{Terminal}
 use Rattle.abi_types.specs.declared.status.Status.{Status}
 use Rattle.abi_types.specs.declared.status.Status.TheVariants.{Live, Exit}
-use Rattle.abi_types.specs.Registers.{Registers}
+use Rattle.abi_base.specs.Registers.{Registers}
 use Rattle.kernel_model.specs.Cases.{Outcome, answers, placed, write_term, write_open, fd_write, end_updates, case_of}
 use Rattle.kernel_model.specs.Need.{need, some_absent, first_lack, denied_by, refusal}
 use Rattle.kernel_model.specs.Reply.{refused}

@@ -6,8 +6,8 @@ use Rattle.std.specs.FinMap.{empty, get, get-empty}
 use Rattle.abi_types.specs.declared.call.Answer.{Answer}
 use Rattle.abi_types.specs.declared.call.Answer.TheVariants as answer
 use Rattle.abi_types.specs.declared.call.Call.{Call}
-use Rattle.abi_types.specs.declared.signal.Signal.{Signal}
-use Rattle.abi_types.specs.declared.signal.Signal.TheVariants.{Xcpu}
+use Rattle.abi_base.specs.declared.signal.Signal.{Signal}
+use Rattle.abi_base.specs.declared.signal.Signal.TheVariants.{Xcpu}
 use Rattle.abi_types.specs.declared.status.Status.TheVariants.{Live, Killed}
 use Rattle.abi_types.specs.declared.thread.Thread.{Thread}
 use Rattle.abi_types.specs.declared.thread.Thread.TheVariants.{Runnable}

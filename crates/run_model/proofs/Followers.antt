@@ -3,12 +3,12 @@ use Rattle.std.proofs.Common.{◌≡◌, ◌≢◌, ◌⊎◌, inl, inr, ℕ, ze
 use Rattle.std.proofs.lemmas.Bool.Decides.{eqb_tells}
 use Rattle.std.specs.FinMap.{empty, get, insert}
 use Rattle.abi_types.specs.declared.call.Answer.TheVariants as answer
-use Rattle.abi_types.specs.declared.signal.Signal.{Signal}
-use Rattle.abi_types.specs.declared.signal.Signal.TheVariants.{Xcpu}
+use Rattle.abi_base.specs.declared.signal.Signal.{Signal}
+use Rattle.abi_base.specs.declared.signal.Signal.TheVariants.{Xcpu}
 use Rattle.abi_types.specs.declared.status.Status.{Status}
 use Rattle.abi_types.specs.declared.status.Status.TheVariants.{Live, Exit, Killed}
 use Rattle.abi_types.specs.declared.thread.Thread.TheVariants.{Runnable}
-use Rattle.abi_types.specs.Registers.{Registers}
+use Rattle.abi_base.specs.Registers.{Registers}
 use Rattle.kernel_core.specs.declared.history.Act.{Act}
 use Rattle.kernel_core.specs.declared.history.Act.TheVariants as act
 use Rattle.kernel_core.specs.declared.history.Entry.{Entry}

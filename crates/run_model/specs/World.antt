@@ -5,11 +5,11 @@ use Rattle.std.specs.FinMap.{FinMap, empty, get, insert}
 use Rattle.abi_types.specs.declared.call.Answer.{Answer}
 use Rattle.abi_types.specs.declared.call.Answer.TheVariants as answer
 use Rattle.abi_types.specs.declared.call.Call.{Call}
-use Rattle.abi_types.specs.declared.errno.Errno.{Errno}
-use Rattle.abi_types.specs.declared.errno.Errno.TheVariants.{Nomem}
-use Rattle.abi_types.specs.declared.signal.Signal.TheVariants.{Xcpu}
+use Rattle.abi_base.specs.declared.errno.Errno.{Errno}
+use Rattle.abi_base.specs.declared.errno.Errno.TheVariants.{Nomem}
+use Rattle.abi_base.specs.declared.signal.Signal.TheVariants.{Xcpu}
 use Rattle.abi_types.specs.declared.status.Status.TheVariants.{Killed}
-use Rattle.abi_types.specs.Registers.{Registers, start_registers}
+use Rattle.abi_base.specs.Registers.{Registers, start_registers}
 use Rattle.guest_memory.specs.Page.{Pages}
 use Rattle.kernel_core.specs.declared.history.Act.{Act}
 use Rattle.kernel_core.specs.declared.history.Act.TheVariants as act

@@ -5,8 +5,8 @@ use Rattle.std.proofs.lemmas.List.Concat.{concat_is}
 use Rattle.std.proofs.lemmas.List.Folds.{flat_map-map}
 use Rattle.std.specs.Fmt.{padded_integral, format_spec, char_count, decimal}
 use Rattle.std.specs.List.{flat_map, join_by, concat, filter}
-use Rattle.abi_types.specs.declared.rights.Rights.{Rights}
-use Rattle.abi_types.specs.Rights.{has_all, names}
+use Rattle.abi_base.specs.declared.rights.Rights.{Rights}
+use Rattle.abi_base.specs.Rights.{has_all, names}
 use Rattle.bitflags.specs.declared.traits.Flag.{Flag}
 use Rattle.run_report.specs.Denials.{listed, right_names, counted}
 

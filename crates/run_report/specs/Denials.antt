@@ -6,8 +6,8 @@ use Rattle.abi_types.specs.declared.call.Answer.TheVariants.{Reply}
 use Rattle.abi_types.specs.declared.call.Call.{Call}
 use Rattle.abi_types.specs.declared.descriptor.Denial.{Denial}
 use Rattle.abi_types.specs.declared.descriptor.Denial.TheVariants.{Missing}
-use Rattle.abi_types.specs.declared.rights.Rights.{Rights}
-use Rattle.abi_types.specs.Rights.{names, has_all}
+use Rattle.abi_base.specs.declared.rights.Rights.{Rights}
+use Rattle.abi_base.specs.Rights.{names, has_all}
 use Rattle.kernel_core.specs.declared.history.Act.{Act}
 use Rattle.kernel_core.specs.declared.history.Act.TheVariants as act
 use Rattle.kernel_core.specs.declared.history.Entry.{Entry}

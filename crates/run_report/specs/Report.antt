@@ -2,10 +2,10 @@
 use Rattle.std.specs.Prelude.{ℕ, Bool, ◌-◌, ◌==◌, ◌||◌, ◌++◌, List, [], ◌∷◌, Option, None, Some, codes, length, slice_index, unwrap_or, if◌then◌else◌}
 use Rattle.std.specs.FinMap.{get}
 use Rattle.std.specs.Fmt.{decimal}
-use Rattle.abi_types.specs.declared.signal.Signal.{Signal}
+use Rattle.abi_base.specs.declared.signal.Signal.{Signal}
 use Rattle.abi_types.specs.declared.status.Status.{Status}
 use Rattle.abi_types.specs.declared.status.Status.TheVariants.{Live, Exit, Killed}
-use Rattle.abi_types.specs.Signal.{number_of, name_of}
+use Rattle.abi_base.specs.Signal.{number_of, name_of}
 use Rattle.kernel_core.specs.declared.history.Entry.{Entry}
 use Rattle.kernel_core.specs.Kernel.{any_live}
 use Rattle.kernel_model.specs.State.{State}

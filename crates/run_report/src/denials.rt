@@ -1,6 +1,6 @@
 //! The lines of a report on denied calls.
 ghost use Rattle.std.specs.Prelude.{◌≡◌, ◌++◌, IfOk, OnOk, map, filter, option_map};
-ghost use Rattle.abi_types.specs.Rights.{has_all};
+ghost use Rattle.abi_base.specs.Rights.{has_all};
 ghost use Rattle.std.specs.String.{string_bytes};
 ghost use Rattle.run_report.specs.Denials.{denial_line, denial_text, missing_text, thread_text, listed, counted, rights_text, right_names, entry_line, denial_lines, denials_text};
 

@@ -1,6 +1,6 @@
 //! Reports by example.
 ghost use Rattle.std.specs.Prelude.{IfOk, IsTrue};
-ghost use Rattle.abi_types.specs.Rights.{has_all};
+ghost use Rattle.abi_base.specs.Rights.{has_all};
 
 use crate::report;
 use abi_types::{

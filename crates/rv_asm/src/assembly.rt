@@ -7,7 +7,7 @@ ghost use Rattle.rv_asm.specs.Text.{lines_of};
 use crate::names::Label;
 use crate::place::Place;
 use crate::statement::piece;
-use abi_types::Bytes;
+use lists::Bytes;
 use std::alloc::{AllocError, Global};
 
 /// Why a text gave no bytes.

@@ -4,7 +4,7 @@ ghost use Rattle.elf_image.specs.Checks.{fault_of};
 ghost use Rattle.elf_image.specs.Image.{image};
 ghost use Rattle.rv_asm.specs.ElfFile.{HasHeaders, IsProgram, one_segment, with_sizes, with_file_header, with_program_header, file_bytes};
 
-use abi_types::Bytes;
+use lists::Bytes;
 use std::alloc::{AllocError, Global};
 
 #[cfg(test)]

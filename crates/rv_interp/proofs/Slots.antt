@@ -7,8 +7,8 @@ use Rattle.std.proofs.Common.{◌≡◌, ℕ, zero, suc, ◌+◌, ◌/◌, ◌%�
 use Rattle.std.proofs.lemmas.List.Elements.{All-set, All-weaker}
 use Rattle.std.specs.FinMap.{get}
 use Rattle.std.specs.Result.{is_err}
-use Rattle.abi_types.specs.Registers.{Registers}
-use Rattle.abi_types.specs.declared.signal.Signal.{Signal}
+use Rattle.abi_base.specs.Registers.{Registers}
+use Rattle.abi_base.specs.declared.signal.Signal.{Signal}
 use Rattle.guest_memory.specs.declared.access.Access.{Access}
 use Rattle.guest_memory.specs.declared.access.Access.TheVariants.{Write, Exec}
 use Rattle.guest_memory.specs.declared.fault.MemFault.{MemFault}

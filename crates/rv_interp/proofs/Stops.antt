@@ -1,8 +1,8 @@
 -- An instruction that isn't done changes nothing.
 use Rattle.std.proofs.Common.{◌≡◌, ℕ, ◌%◌, ◌==◌, Bool, true, false, cond, Result, Ok, Err, refl, sym, ap, ◌∙◌}
-use Rattle.abi_types.specs.Registers.{Registers}
-use Rattle.abi_types.specs.declared.signal.Signal.{Signal}
-use Rattle.abi_types.specs.declared.signal.Signal.TheVariants as signal
+use Rattle.abi_base.specs.Registers.{Registers}
+use Rattle.abi_base.specs.declared.signal.Signal.{Signal}
+use Rattle.abi_base.specs.declared.signal.Signal.TheVariants as signal
 use Rattle.guest_memory.specs.declared.fault.MemFault.{MemFault}
 use Rattle.guest_memory.specs.Page.{Pages}
 use Rattle.guest_memory.specs.Words.{load_of, store_of}

@@ -1,9 +1,9 @@
 -- What each instruction does (RISC-V unprivileged manual, "RV32I Base Integer Instruction Set", "RV64I", "A" Extension for
 -- Atomic Instructions and "Zifencei").
 use Rattle.std.specs.Prelude.{ℕ, ◌+◌, ◌-◌, ◌%◌, ◌^◌, ◌==◌, cond, slice_index, Option, Some, None, Result, Ok, Err}
-use Rattle.abi_types.specs.Registers.{Registers, with_pc, with_x}
-use Rattle.abi_types.specs.declared.signal.Signal.{Signal}
-use Rattle.abi_types.specs.declared.signal.Signal.TheVariants as signal
+use Rattle.abi_base.specs.Registers.{Registers, with_pc, with_x}
+use Rattle.abi_base.specs.declared.signal.Signal.{Signal}
+use Rattle.abi_base.specs.declared.signal.Signal.TheVariants as signal
 use Rattle.guest_memory.specs.declared.fault.MemFault.{MemFault}
 use Rattle.guest_memory.specs.Page.{Pages}
 use Rattle.guest_memory.specs.Words.{load_of, store_of, fetch_of}

@@ -1,6 +1,6 @@
 -- A thread as it runs, and what an instruction did to it.
 use Rattle.std.specs.Prelude.{ℕ, None, Some, Option, Bool, false, ◌&&◌, ◌==◌}
-use Rattle.abi_types.specs.Registers.{Registers}
+use Rattle.abi_base.specs.Registers.{Registers}
 use Rattle.guest_memory.specs.Page.{Pages}
 use Rattle.rv_interp.specs.declared.execution.Outcome.{Outcome}
 use Rattle.rv_interp.specs.declared.reservation.Reservation.{Reservation}

@@ -1,6 +1,6 @@
 -- What a turn of instructions does.
 use Rattle.std.specs.Prelude.{◌≡◌, ℕ, zero, suc, ◌<◌, Option, Some, None}
-use Rattle.abi_types.specs.Registers.{Registers}
+use Rattle.abi_base.specs.Registers.{Registers}
 use Rattle.guest_memory.specs.Page.{Pages}
 use Rattle.rv_interp.specs.declared.execution.Outcome.{Outcome}
 use Rattle.rv_interp.specs.declared.execution.Outcome.TheVariants as outcome

@@ -14,7 +14,7 @@ use crate::jumps::done;
 use crate::kind::width;
 use crate::reservation::Reservation;
 use crate::values::{atomic_value, loaded_value};
-use abi_types::{Regs, Signal};
+use abi_base::{Regs, Signal};
 use guest_memory::{Access, GuestMemory};
 use rv_code::Instr;
 

@@ -8,7 +8,7 @@ ghost use Rattle.rv_interp.specs.Machine.{machine};
 
 use crate::execution::{Outcome, execute, instruction};
 use crate::reservation::Reservation;
-use abi_types::{Regs, Signal};
+use abi_base::{Regs, Signal};
 use guest_memory::{Access, GuestMemory};
 use rv_code::{Instr, Op};
 

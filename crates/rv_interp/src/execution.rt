@@ -10,7 +10,7 @@ use crate::jumps::{branch, done, jump, jump_register, next, plus_immediate};
 use crate::kind::Kind;
 use crate::loads::{load, store};
 use crate::reservation::Reservation;
-use abi_types::{Regs, Signal};
+use abi_base::{Regs, Signal};
 use guest_memory::GuestMemory;
 use rv_code::{Instr, alu, decode};
 

@@ -5,7 +5,7 @@ ghost use Rattle.rv_interp.specs.Instructions.{next, done_of, plus_immediate, ju
 
 use crate::execution::Outcome;
 use crate::values::is_taken;
-use abi_types::{Regs, Signal};
+use abi_base::{Regs, Signal};
 use rv_code::Instr;
 
 /// The address after the instruction at the pc.

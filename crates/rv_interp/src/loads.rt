@@ -8,7 +8,7 @@ use crate::execution::Outcome;
 use crate::jumps::{address, done};
 use crate::kind::width;
 use crate::values::loaded_value;
-use abi_types::{Regs, Signal};
+use abi_base::{Regs, Signal};
 use guest_memory::{GuestMemory, MemFault};
 use rv_code::Instr;
 

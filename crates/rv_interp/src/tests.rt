@@ -1,7 +1,7 @@
 //! Instructions and turns by example. The words are an assembler's, and the numbers follow from the manual's rules.
 //! Where an instruction's registers aren't named, it reads a0 and a1 and writes a2, and its address is in a0.
 use crate::{Outcome, Reservation, TurnEnd, step, turn};
-use abi_types::{Prot, Regs, Signal};
+use abi_base::{Prot, Regs, Signal};
 use guest_memory::{GuestMemory, MemFault};
 use std::alloc::Global;
 use std::test::Fail;

@@ -5,7 +5,7 @@ ghost use Rattle.rv_interp.specs.Turns.{Turns, TurnIsOne, TurnOfIsTurn, turn_of}
 use crate::cache::Cache;
 use crate::execution::Outcome;
 use crate::reservation::Reservation;
-use abi_types::{Regs, Signal};
+use abi_base::{Regs, Signal};
 use guest_memory::GuestMemory;
 
 /// How many instructions a turn does, if nothing ends it before.

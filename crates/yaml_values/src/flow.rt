@@ -22,7 +22,7 @@ use crate::plain::is_behind_key;
 use crate::resolution::scalar_value;
 use crate::spaces::after_gap;
 use crate::tags::{Tag, tag_at};
-use abi_types::Text;
+use lists::Text;
 use std::alloc::Global;
 
 /// The value at the front of a line's rest in a block: a scalar or a flow value, in which so many maps and sequences may

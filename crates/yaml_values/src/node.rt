@@ -2,7 +2,7 @@
 
 use crate::node_list::NodeList;
 use crate::node_pairs::NodePairs;
-use abi_types::{Bytes, Text};
+use lists::{Bytes, Text};
 
 /// A value of a document, with its tag.
 #[cycle(node)]

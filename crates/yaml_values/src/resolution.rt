@@ -16,7 +16,7 @@ use crate::mode::Mode;
 use crate::node::NodeValue;
 use crate::numbers::{integer, is_float};
 use crate::scalars::{Scalar, scalar_at};
-use abi_types::{Bytes, Text};
+use lists::{Bytes, Text};
 use base64::DecodeAllocError;
 use base64::engine::general_purpose::STANDARD;
 use std::alloc::Global;

@@ -11,7 +11,7 @@ use crate::kind::YamlKind;
 use crate::plain::{begins_plain, plain_length, wrong_beginning};
 use crate::quoted::{after_quoted, quoted_content};
 use crate::spaces::without_last_spaces;
-use abi_types::Text;
+use lists::Text;
 use std::alloc::Global;
 
 /// A scalar.

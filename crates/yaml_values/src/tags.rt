@@ -9,7 +9,7 @@ ghost use Rattle.yaml_values.specs.TagViews.{tag_view};
 use crate::characters::bad_at;
 use crate::fault::Refusal;
 use crate::kind::YamlKind;
-use abi_types::Text;
+use lists::Text;
 use std::alloc::{AllocError, Global};
 use std::str;
 

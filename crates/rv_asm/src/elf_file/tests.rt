@@ -1,6 +1,7 @@
 //! Files that are written, and what a reader says of them.
 use crate::write_elf;
-use abi_types::{Bytes, Prot};
+use abi_base::Prot;
+use lists::Bytes;
 use elf_image::{ElfFault, read_elf};
 use std::alloc::Global;
 use std::test::Fail;

@@ -1,7 +1,7 @@
 -- The plan, case by case.
 use Rattle.std.proofs.Common.{◌≡◌, List, [], Ok, ap, sym, ◌∙◌, arith}
 use Rattle.std.proofs.lemmas.Result.{err_from_is_err_and}
-use Rattle.abi_types.specs.declared.grant.Grant.{Grant}
+use Rattle.abi_base.specs.declared.grant.Grant.{Grant}
 use Rattle.yaml_values.specs.Shape.{Shape}
 use Rattle.yaml_values.specs.Views.{shape_of}
 use Rattle.launch_plan.specs.Tagged.{tagged, grants_of, grants_behind}

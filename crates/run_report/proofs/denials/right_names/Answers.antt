@@ -1,7 +1,7 @@
 use Rattle.std.proofs.Common.{◌≡◌, ◌∙◌, ap, map}
 use Rattle.std.proofs.lemmas.Result.{IfOk-weaker}
 use Rattle.std.specs.List.{filter}
-use Rattle.abi_types.specs.Rights.{has_all}
+use Rattle.abi_base.specs.Rights.{has_all}
 use Rattle.run_report.specs.Denials.{right_names}
 use Rattle.run_report.proofs.ReportTexts.{right_names_of}
 use Rattle.run_report.proofs.denials.right_names.Goals as goal

@@ -1,0 +1,4 @@
+pub mod Errno
+pub mod Registers
+pub mod Rights
+pub mod Signal

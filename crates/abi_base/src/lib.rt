@@ -1,0 +1,21 @@
+//! The numbers of the host's interface: identifiers, errors, signals, rights, protections and registers, and the
+//! descriptors that a launch grants.
+//!
+//! CloudABI gives the names. The numbers are this project's profile, in docs/ABI.md.
+#![tactic(auto)]
+
+pub use errno::Errno;
+pub use grant::{Grant, GrantList, GrantTarget};
+pub use ids::{ObjId, Pid, Tid, TidList};
+pub use prot::Prot;
+pub use regs::Regs;
+pub use rights::Rights;
+pub use signal::Signal;
+
+mod errno;
+mod grant;
+mod ids;
+mod prot;
+mod regs;
+mod rights;
+mod signal;

@@ -1,4 +1,0 @@
-pub mod Bits
-pub mod InputParts
-pub mod OutputParts
-pub mod OutsideLaws

@@ -1,5 +1,0 @@
-use Rattle.abi_types.proofs.Bits.{has-meet}
-use Rattle.abi_types.proofs.rights.Rights.meet.Goals as goal
-
-pub returns-clause-each : goal.returns-clause-each
-returns-clause-each c = λ k. has-meet _ _ k

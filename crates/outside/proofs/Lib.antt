@@ -1,0 +1,3 @@
+pub mod InputParts
+pub mod OutputParts
+pub mod OutsideLaws
