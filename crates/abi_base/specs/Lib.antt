@@ -1,4 +1,5 @@
 pub mod Errno
+pub mod Grants
 pub mod Registers
 pub mod Rights
 pub mod Signal

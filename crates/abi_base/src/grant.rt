@@ -1,7 +1,7 @@
 //! The descriptors that a launch gives.
 use crate::ids::ObjId;
-use lists::{Items, TryClone};
 use crate::rights::Rights;
+use lists::{Items, TryClone};
 use std::alloc::AllocError;
 
 /// What a granted descriptor stands for.

@@ -1,9 +1,8 @@
 //! Calls of the kernel and what it answers.
-use lists::Bytes;
 use crate::descriptor::Denial;
-use abi_base::Errno;
-use lists::TryClone;
 use crate::place::Place;
+use abi_base::Errno;
+use lists::{Bytes, TryClone};
 use std::alloc::AllocError;
 
 /// A call, as the registers and the memory of its thread spell it (docs/ABI.md has the numbers).

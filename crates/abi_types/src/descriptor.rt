@@ -1,6 +1,5 @@
 //! Descriptors, and why a call was denied.
-use abi_base::ObjId;
-use abi_base::Rights;
+use abi_base::{ObjId, Rights};
 
 /// What a number of a process's table stands for: an open, the rights that it has there, and those that a descriptor
 /// opened through it may have.

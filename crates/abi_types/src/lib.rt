@@ -13,10 +13,10 @@ pub use abi_structures::{
 };
 pub use call::{Answer, Call, Reply};
 pub use descriptor::{Denial, Descriptor};
+pub use input_output as outside;
 pub use lists::{Bytes, Items, Text, TryClone};
 pub use needed::Needed;
 pub use open_kind::OpenKind;
-pub use outside as outside;
 pub use place::Place;
 pub use status::Status;
 pub use thread::Thread;

@@ -1,8 +1,8 @@
 //! The inputs of the program: files by their paths, and standard input as `-`.
 ghost use Rattle.std.specs.Prelude.{◌≡◌, ◌≤◌, ⊤, length, IfOk};
-ghost use Rattle.outside.specs.Source.{Untold};
+ghost use Rattle.input_output.specs.Source.{Untold};
 
-use outside::{Failed, Source};
+use input_output::{Failed, Source};
 use std::alloc::Global;
 use std::io::{Read, Seek, SeekFrom};
 use std::rt::Files;

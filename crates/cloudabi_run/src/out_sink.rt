@@ -1,7 +1,7 @@
 //! The output of the program: standard output.
 ghost use Rattle.std.specs.Prelude.{◌≡◌, None};
 
-use outside::{Failed, Sink};
+use input_output::{Failed, Sink};
 
 /// Standard output, without a buffer. It tells nothing of what was written. A write that takes nothing of a piece that
 /// isn't empty is a fault.

@@ -12,7 +12,8 @@ use Rattle.kernel_core.specs.Kernel.{IsKept}
 use Rattle.kernel_core.specs.Objects.{Held}
 use Rattle.kernel_core.specs.Start.{granted_objects}
 use Rattle.kernel_model.specs.Release.{names_open, count_in, holders}
-use Rattle.kernel_model.specs.Start.{launch_object, numbered, granted_descriptor, granted_open, granted_table, AreGrants, start_state}
+use Rattle.abi_base.specs.Grants.{AreGrants}
+use Rattle.kernel_model.specs.Start.{launch_object, numbered, granted_descriptor, granted_open, granted_table, start_state}
 use Rattle.kernel_model.specs.State.{State, Table}
 use Rattle.kernel_model.specs.Valid.{IsValid}
 use Rattle.kernel_model.proofs.Starts.{find_below, find_above, from_numbered-push, start_valid}

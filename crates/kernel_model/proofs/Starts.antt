@@ -14,9 +14,10 @@ use Rattle.abi_types.specs.declared.open_kind.OpenKind.{OpenKind}
 use Rattle.abi_types.specs.declared.status.Status.TheVariants.{Live}
 use Rattle.number_map.specs.Maps.{get-insert-same, get-insert-other}
 use Rattle.kernel_model.specs.Release.{holders}
-use Rattle.kernel_model.specs.Start.{launch_object, numbered, granted_descriptor, open_of, granted_open, granted_table, IsTarget, IsGrant, AreGrants, start_state}
+use Rattle.abi_base.specs.Grants.{IsTarget, IsGrant, AreGrants, HasRightsOfTarget}
+use Rattle.kernel_model.specs.Start.{launch_object, numbered, granted_descriptor, open_of, granted_open, granted_table, start_state}
 use Rattle.kernel_model.specs.State.{Table}
-use Rattle.kernel_model.specs.Valid.{IsNamed, HasBehind, IsValid}
+use Rattle.kernel_model.specs.Valid.{HasRightsOf, IsNamed, HasBehind, IsValid}
 use Rattle.kernel_model.proofs.Tests.{none_is_no, not_true}
 use Rattle.kernel_model.proofs.Valids.{same_value, named_is_held, same_keys_inserted}
 
@@ -135,9 +136,12 @@ of_open grants o kind all there =
     let place = number.1 in
     (number.0, at.0, omega (arith, place), granted_at grants number.0 at.0 all at.1, at.2)
 
+has_rights : (k : ℕ) (grant : Grant) (t : GrantTarget) → HasRightsOfTarget grant t → HasRightsOf (granted_descriptor k grant) (open_of t)
+has_rights k grant (target.Terminal which) has = has
+
 named : (grants : List Grant) (k : ℕ) (grant : Grant) → IsGranted grants k grant
     → IsNamed (get (start_state grants).opens (granted_descriptor k grant).id) (granted_descriptor k grant)
-named grants k grant at = subst (λ o. IsNamed o (granted_descriptor k grant)) (sym at.opened) at.allowed.1
+named grants k grant at = subst (λ o. IsNamed o (granted_descriptor k grant)) (sym at.opened) (has_rights k grant grant.target at.allowed.1)
 
 -- ---- the standard streams
 

@@ -19,7 +19,8 @@ use Rattle.abi_types.specs.declared.status.Status.{Status}
 use Rattle.kernel_model.specs.Need.{need, has_needed, missing}
 use Rattle.kernel_model.specs.Release.{is_ending, is_released}
 use Rattle.kernel_model.specs.Reply.{denied}
-use Rattle.kernel_model.specs.Start.{AreGrants, start_state}
+use Rattle.abi_base.specs.Grants.{AreGrants}
+use Rattle.kernel_model.specs.Start.{start_state}
 use Rattle.kernel_model.specs.State.{State, Table, Part, at_clock, at_proc, at_status, at_open, has_part, Agree, AgreeOn}
 use Rattle.kernel_model.specs.Step.{tick, sight, act, outcome, unreleased, step_reply, step_state, IsStep, IsUntouched, end_unreleased, end_state}
 use Rattle.kernel_model.specs.Valid.{IsValid}

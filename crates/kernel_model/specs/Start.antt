@@ -1,7 +1,6 @@
 -- The state that a launch starts from.
-use Rattle.std.specs.Prelude.{ℕ, ◌+◌, ◌*◌, ◌^◌, ◌<◌, ◌≤◌, List, [], ◌∷◌, length}
+use Rattle.std.specs.Prelude.{ℕ, ◌+◌, ◌*◌, ◌^◌, List, [], ◌∷◌}
 use Rattle.std.specs.FinMap.{empty, insert, from_entries}
-use Rattle.std.specs.List.{AllByRecursion}
 use Rattle.abi_types.specs.declared.descriptor.Descriptor.{Descriptor}
 use Rattle.abi_base.specs.declared.grant.Grant.{Grant}
 use Rattle.abi_base.specs.declared.grant.GrantTarget.{GrantTarget}
@@ -11,7 +10,6 @@ use Rattle.abi_types.specs.declared.open_kind.OpenKind.TheVariants as kind
 use Rattle.abi_types.specs.declared.status.Status.TheVariants.{Live}
 use Rattle.abi_types.specs.declared.thread.Thread.TheVariants.{Runnable}
 use Rattle.kernel_model.specs.State.{State, Table}
-use Rattle.kernel_model.specs.Valid.{HasRightsOf}
 
 -- Objects that the launch makes have numbers of process 0xffffffff: 1 to 3 are the standard streams, 4 is the root of
 -- the file tree, and from 5 on come the opens of the granted descriptors.
@@ -37,18 +35,6 @@ granted_open n grant = open_of grant.target
 -- the first process's table
 abbrev pub granted_table : List Grant → Table
 granted_table grants = from_entries (numbered granted_descriptor 0 grants)
-
--- A target that is there: one of the three standard streams.
-abbrev pub IsTarget : GrantTarget → Type 0
-IsTarget (target.Terminal which) = which < 3
-
--- a grant of what is there, with rights of its type alone
-abbrev pub IsGrant : Grant → Type 0
-IsGrant grant = IsTarget grant.target × HasRightsOf (granted_descriptor 0 grant) (open_of grant.target)
-
--- at most as many grants as a table has numbers, each of what is there
-abbrev pub AreGrants : List Grant → Type 0
-AreGrants grants = (length grants ≤ 1024) × AllByRecursion IsGrant grants
 
 -- Process 0 is live with thread 1 and the granted descriptors, and nothing was written yet.
 abbrev pub start_state : List Grant → State

@@ -1,18 +1,15 @@
 -- States that a kernel may be in.
-use Rattle.std.specs.Prelude.{◌≡◌, ◌≢◌, ℕ, ◌==◌, ◌<◌, Option, None, Some, IsSome, IsTrue, is_some, if◌then◌else◌}
+use Rattle.std.specs.Prelude.{◌≡◌, ◌≢◌, ℕ, ◌<◌, Option, None, Some, IsSome, IsTrue, is_some}
 use Rattle.std.specs.FinMap.{get, empty}
 use Rattle.abi_types.specs.declared.descriptor.Descriptor.{Descriptor}
 use Rattle.abi_types.specs.declared.open_kind.OpenKind.{OpenKind}
 use Rattle.abi_types.specs.declared.open_kind.OpenKind.TheVariants.{Terminal}
 use Rattle.abi_types.specs.declared.status.Status.{Status}
 use Rattle.abi_types.specs.declared.status.Status.TheVariants.{Live}
+use Rattle.abi_base.specs.Grants.{stream_rights}
 use Rattle.abi_base.specs.Rights.{has_all}
 use Rattle.kernel_model.specs.Release.{holders}
 use Rattle.kernel_model.specs.State.{State, Table}
-
--- all rights that a descriptor of a standard stream may have: stdin is read, stdout and stderr are written
-abbrev pub stream_rights : ℕ → ℕ
-stream_rights which = if which == 0 then 0x1008000a else 0x10080048
 
 -- the base rights that a descriptor of the open may have, and the inheriting rights
 abbrev pub fits : OpenKind → ℕ

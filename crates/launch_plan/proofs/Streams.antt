@@ -4,7 +4,7 @@ use Rattle.std.specs.Prelude.{IfOk}
 use Rattle.std.specs.List.{AllByRecursion}
 use lib.Pointwise.{pointwise}
 use Rattle.abi_base.specs.declared.grant.Grant.{Grant}
-use Rattle.kernel_model.specs.Start.{IsGrant}
+use Rattle.abi_base.specs.Grants.{IsGrant}
 use Rattle.launch_plan.specs.declared.fault.PlanFault.{PlanFault}
 use Rattle.launch_plan.specs.declared.fault.PlanFault.TheVariants as faults
 use Rattle.launch_plan.specs.Tagged.{◌>>=◌, Tagged, is_text, stream_or_fault, grant_of, grants_of}

@@ -3,7 +3,7 @@ use Rattle.std.specs.Prelude.{ℕ, if◌then◌else◌, nat_eq, Bool, false, Lis
 use lib.Pointwise.{pointwise}
 use Rattle.abi_base.specs.declared.grant.Grant.{Grant}
 use Rattle.abi_base.specs.declared.grant.GrantTarget.TheVariants.{Terminal}
-use Rattle.kernel_model.specs.Valid.{stream_rights}
+use Rattle.abi_base.specs.Grants.{stream_rights}
 use Rattle.yaml_values.specs.Shape.{Shape, Content, Shapes, Pairs, node, null, boolean, integer, text, binary, mapping, sequence, no_items, item, no_pairs, pair}
 use Rattle.launch_plan.specs.declared.fault.PlanFault.{PlanFault}
 use Rattle.launch_plan.specs.declared.fault.PlanFault.TheVariants as faults

@@ -1,7 +1,7 @@
 //! The plan of a launch.
 ghost use Rattle.std.specs.Prelude.{◌≡◌, ◌≤◌, ◌<◌, ◌^◌, IfOk, length};
 ghost use Rattle.argdata_codec.specs.Writing.{spelling};
-ghost use Rattle.kernel_model.specs.Start.{AreGrants};
+ghost use Rattle.abi_base.specs.Grants.{AreGrants};
 ghost use Rattle.yaml_values.specs.Documents.{IsDocument};
 ghost use Rattle.yaml_values.specs.Views.{shape_of};
 ghost use Rattle.launch_plan.specs.Tagged.{tagged};

@@ -4,7 +4,7 @@ use Rattle.std.specs.Prelude.{nat_lt, Option, None, Some, Result, Ok, Err, IfOk,
 use Rattle.std.specs.Option.{option_to_list}
 use Rattle.std.proofs.lemmas.List.{append-nil}
 use Rattle.std.proofs.lemmas.Bool.{le-ltb, lt-ltb}
-use Rattle.outside.specs.Source.{Told, Untold, Lacking, Content, IsWhole, IsLongerThan}
+use Rattle.input_output.specs.Source.{Told, Untold, Lacking, Content, IsWhole, IsLongerThan}
 use Rattle.elf_image.specs.Checks.{fault_of}
 use Rattle.elf_image.specs.declared.fault.ElfFault.{ElfFault}
 use Rattle.kernel_core.specs.declared.launch.Launch.{Launch}

@@ -2,8 +2,8 @@
 use Rattle.std.proofs.Common.{◌≡◌, ◌∙◌, ◌≤◌, ℕ, List, [], ◌∷◌, ◌++◌, length, min, ap, sym, refl, subst, arith, append_assoc}
 use Rattle.std.specs.Prelude.{Option, codes}
 use Rattle.std.proofs.lemmas.List.{take-append-le, take_min}
-use Rattle.outside.specs.Sink.{grown, GrewByPrefix}
-use Rattle.outside.proofs.OutsideLaws.{grown_twice, grew_later}
+use Rattle.input_output.specs.Sink.{grown, GrewByPrefix}
+use Rattle.input_output.proofs.OutsideLaws.{grown_twice, grew_later}
 use Rattle.launch_run.specs.Lines.{line_of, front_of, name_of, number_of, back_of, fault_name, fault_number}
 use Rattle.launch_run.specs.declared.lines.Refusal.{Refusal}
 use Rattle.launch_run.specs.declared.lines.Refusal.TheVariants.{Words, Input, TooLong, Program, Tree, LaunchText, Memory}

@@ -1,7 +1,7 @@
 -- A refusal of settings or of words, as the top call answers it.
 use Rattle.std.proofs.Common.{◌≢◌, ℕ, List, refl, subst, inl, inr}
 use Rattle.std.specs.Prelude.{Option, None, Some, Err, Contains}
-use Rattle.outside.specs.Source.{Told}
+use Rattle.input_output.specs.Source.{Told}
 use Rattle.launch_words.specs.Settings.{Settings}
 use Rattle.launch_run.specs.Inputs.{IsNoLaunchOf}
 use Rattle.launch_run.specs.Launch.{Spelled, untold, refuses, spells, words_spell, inputs_spell, settings_inputs, AnswersSpelled, IfInput, IfTooLong, IsOfTexts, IsToldAs}

@@ -1,13 +1,13 @@
 -- What the top call's clauses say, by the end of the call.
 use Rattle.std.proofs.Common.{◌≡◌, ◌≢◌, ◌==◌, ◌<◌, ◌⊎◌, ℕ, Bool, true, false, List, [], length, refl, sym, ap, subst, arith, inl, inr, if◌then◌else◌}
 use Rattle.std.specs.Prelude.{Option, None, Some, IfSome, IsSomeAnd, Result, Ok, Err}
-use Rattle.outside.specs.Source.{Told}
+use Rattle.input_output.specs.Source.{Told}
 use Rattle.abi_types.specs.declared.status.Status.{Status}
 use Rattle.abi_types.specs.declared.status.Status.TheVariants.{Live, Exit, Killed}
 use Rattle.kernel_core.specs.declared.history.Entry.{Entry}
 use Rattle.kernel_core.specs.declared.history.Record.{Record}
 use Rattle.kernel_core.specs.declared.launch.Launch.{Launch}
-use Rattle.kernel_model.specs.Start.{AreGrants}
+use Rattle.abi_base.specs.Grants.{AreGrants}
 use Rattle.run_model.proofs.Confinements.{legal_is_confined}
 use Rattle.launch_words.specs.Settings.{Settings}
 use Rattle.launch_run.specs.Launch.{Spelled, untold, refuses, spells, words_spell, inputs_with, history_with, AnswersSpelled, IsToldAs, IsBuiltBy}

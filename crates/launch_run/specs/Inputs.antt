@@ -1,6 +1,6 @@
 -- Why the inputs of a run were not read, or spell no launch.
 use Rattle.std.specs.Prelude.{◌≡◌, ◌≤◌, ℕ, ⊤, List, [], length, Option, None, Some, Contains}
-use Rattle.outside.specs.Source.{Told, IsLongerThan, IsWhole}
+use Rattle.input_output.specs.Source.{Told, IsLongerThan, IsWhole}
 use Rattle.launch_words.specs.Settings.{Settings}
 use Rattle.launch_run.specs.Launch.{Spelled, refuses, input_limit, standard_input, IsToldAs}
 use Rattle.launch_run.specs.Lines.{too_long_line, program_line, tree_line, launch_line}

@@ -1,7 +1,7 @@
 -- What words and inputs spell: a launch, or the first refusal.
 use Rattle.std.specs.Prelude.{◌≡◌, ◌==◌, ◌++◌, ℕ, ◌⊎◌, ⊤, Bool, false, List, [], ◌∷◌, cond, length, nat_lt, Option, None, Some, Result, Ok, Err}
 use Rattle.std.specs.Option.{option_to_list}
-use Rattle.outside.specs.Source.{Told, Untold, Lacking, Content}
+use Rattle.input_output.specs.Source.{Told, Untold, Lacking, Content}
 use Rattle.elf_image.specs.Checks.{fault_of}
 use Rattle.elf_image.specs.Image.{image}
 use Rattle.elf_image.specs.declared.fault.ElfFault.{ElfFault}

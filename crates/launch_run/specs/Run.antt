@@ -7,7 +7,7 @@ use Rattle.abi_base.specs.declared.signal.Signal.TheVariants.{Xcpu}
 use Rattle.kernel_core.specs.declared.history.Act.{Act}
 use Rattle.kernel_core.specs.declared.history.Act.TheVariants as act
 use Rattle.kernel_core.specs.declared.launch.Launch.{Launch}
-use Rattle.kernel_model.specs.Start.{AreGrants}
+use Rattle.abi_base.specs.Grants.{AreGrants}
 use Rattle.rv_interp.specs.declared.turns.TurnEnd.{TurnEnd}
 use Rattle.run_model.specs.Legal.{Legal, AreWhole, LastEnds, IsRunnable}
 use Rattle.run_model.specs.World.{Guest, canary, world, guest_of, registers_of, turned_guest_by}

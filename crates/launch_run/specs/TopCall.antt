@@ -3,13 +3,13 @@
 -- where it is greater afterwards, or stands at its last value.
 use Rattle.std.specs.Prelude.{◌≡◌, ◌⊎◌, ◌==◌, ⊤, ℕ, Bool, List, length, Option, None, Some, Ok, Err, IfSome, Contains, if◌then◌else◌}
 use Rattle.std.specs.FinMap.{get}
-use Rattle.outside.specs.Sink.{grown, GrewByPrefix}
-use Rattle.outside.specs.Source.{Told}
+use Rattle.input_output.specs.Sink.{grown, GrewByPrefix}
+use Rattle.input_output.specs.Source.{Told}
 use Rattle.abi_types.specs.declared.status.Status.{Status}
 use Rattle.abi_types.specs.declared.status.Status.TheVariants.{Live, Exit, Killed}
 use Rattle.kernel_core.specs.declared.history.Record.{Record}
 use Rattle.kernel_core.specs.declared.launch.Launch.{Launch}
-use Rattle.kernel_model.specs.Start.{AreGrants}
+use Rattle.abi_base.specs.Grants.{AreGrants}
 use Rattle.kernel_model.specs.State.{State}
 use Rattle.run_model.specs.Confined.{IsConfined}
 use Rattle.run_model.specs.Ends.{Ended}

@@ -1,8 +1,8 @@
 //! The launch that settings and inputs ask for.
 ghost use Rattle.std.specs.Prelude.{◌≡◌, ◌≤◌, ℕ, List, length, All, IfOk, IfErr, option_map};
 ghost use Rattle.std.specs.Option.{option_to_list};
-ghost use Rattle.outside.specs.Source.{Rose, IsWhole};
-ghost use Rattle.kernel_model.specs.Start.{AreGrants};
+ghost use Rattle.input_output.specs.Source.{Rose, IsWhole};
+ghost use Rattle.abi_base.specs.Grants.{AreGrants};
 ghost use Rattle.launch_words.specs.Settings.{IsWithin, view};
 ghost use Rattle.launch_run.specs.Inputs.{AreRead, IsReadAs, IsUnread, IsUnreadOf, IsNoLaunch, IsNoLaunchOf};
 ghost use Rattle.launch_run.specs.Launch.{spells, input_limit, spelled_by, inputs_spell, settings_inputs, IsToldAs, IsBuiltLaunch, AnswersSpelled};
@@ -11,7 +11,7 @@ ghost use Rattle.launch_run.specs.Run.{IsBounded};
 use crate::launch_text::plan_text;
 use crate::lines::Refusal;
 use abi_types::Bytes;
-use outside::{ReadFault, Source, read_whole};
+use input_output::{ReadFault, Source, read_whole};
 use elf_image::{ElfFault, read_elf};
 use kernel_core::Launch;
 use launch_plan::Planned;

@@ -1,11 +1,11 @@
 //! Why a run did not begin, with the status and the line of each refusal.
 ghost use Rattle.std.specs.Prelude.{◌≡◌, ◌≤◌, ◌++◌, OnOk, OnErr};
-ghost use Rattle.outside.specs.Source.{Rose};
-ghost use Rattle.outside.specs.Sink.{grown, GrewByPrefix};
+ghost use Rattle.input_output.specs.Source.{Rose};
+ghost use Rattle.input_output.specs.Sink.{grown, GrewByPrefix};
 ghost use Rattle.launch_run.specs.Lines.{line_of, status_of, fault_name, kind_ending, launch_front, launch_ending, front_of, name_of, number_of, back_of};
 
 use crate::launch_text::LaunchFault;
-use outside::{Failed, Sink, write_whole};
+use input_output::{Failed, Sink, write_whole};
 use elf_image::ElfFault;
 use itoa::Buffer;
 use launch_plan::PlanFault;

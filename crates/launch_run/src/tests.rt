@@ -1,6 +1,6 @@
 //! Command lines, programs and launch texts, and what they come to.
 use crate::*;
-use outside::{MemSink, MemSource};
+use input_output::{MemSink, MemSource};
 use std::alloc::{AllocError, Global};
 use std::test::Fail;
 

@@ -1,6 +1,6 @@
 //! The top call: from the words of a command line to a status, a record, and what is written.
 ghost use Rattle.std.specs.Prelude.{◌≡◌, ◌≢◌, ◌⊎◌, ◌≤◌, ℕ, List, [], None, Some, IsSome, IfSome, IsSomeAnd, map, string_bytes, All};
-ghost use Rattle.outside.specs.Source.{Rose};
+ghost use Rattle.input_output.specs.Source.{Rose};
 ghost use Rattle.launch_words.specs.Settings.{IsWithin, view};
 ghost use Rattle.launch_words.specs.Words.{words_of};
 ghost use Rattle.run_report.specs.Report.{report_of};
@@ -13,7 +13,7 @@ ghost use Rattle.launch_run.specs.declared.top.TopEnd.TheVariants.{Refused};
 use crate::inputs::read_launch;
 use crate::lines::Refusal;
 use crate::run::Run;
-use outside::{Sink, Source, write_whole};
+use input_output::{Sink, Source, write_whole};
 use abi_types::{Pid, Status};
 use kernel_core::{Launch, Record};
 use launch_words::{LaunchWords, WordsFault, read_words};

@@ -19,7 +19,7 @@ use Rattle.kernel_model.specs.Cases.{Outcome}
 use Rattle.kernel_model.specs.Laws.{HasSameSight, HasAll, IsFirstLack, IsOfFirstLack, IsNotDeniedEarly}
 use Rattle.kernel_model.specs.Need.{need, missing}
 use Rattle.kernel_model.specs.Reply.{refused}
-use Rattle.kernel_model.specs.Start.{AreGrants}
+use Rattle.abi_base.specs.Grants.{AreGrants}
 use Rattle.kernel_model.specs.State.{State, Table}
 use Rattle.kernel_model.specs.Step.{tick, step_reply, step_state, IsStep}
 use Rattle.kernel_model.specs.Valid.{IsValid}

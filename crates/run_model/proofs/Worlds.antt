@@ -6,7 +6,7 @@ use Rattle.kernel_core.specs.declared.history.Act.{Act}
 use Rattle.kernel_core.specs.declared.history.Act.TheVariants as act
 use Rattle.kernel_core.specs.declared.history.Entry.{Entry}
 use Rattle.kernel_core.specs.declared.launch.Launch.{Launch}
-use Rattle.kernel_model.specs.Start.{AreGrants}
+use Rattle.abi_base.specs.Grants.{AreGrants}
 use Rattle.kernel_model.specs.State.{State}
 use Rattle.kernel_model.specs.Valid.{IsValid}
 use Rattle.kernel_model.proofs.Starts.{start_valid}

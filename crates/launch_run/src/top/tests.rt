@@ -1,7 +1,7 @@
 //! The top call from its words to a status, a record and what is written, over inputs in memory.
 use crate::tests::{HELLO, REPORT, finished};
 use crate::top::Finished;
-use outside::{MemSink, MemSource};
+use input_output::{MemSink, MemSource};
 use rv_asm::assemble;
 use std::alloc::{AllocError, Global};
 use std::test::Fail;

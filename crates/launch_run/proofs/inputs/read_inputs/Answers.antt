@@ -2,7 +2,7 @@ use Rattle.std.proofs.Common.{◌∙◌, ◌≡◌, ◌≤◌, ℕ, List, arith}
 use Rattle.std.specs.Prelude.{Some}
 use Rattle.std.proofs.lemmas.List.Elements.{All-weaker}
 use Rattle.std.proofs.lemmas.Result.{err_from_is_err_and}
-use Rattle.outside.proofs.OutsideLaws.{rose_since}
+use Rattle.input_output.proofs.OutsideLaws.{rose_since}
 use Rattle.launch_words.specs.Settings.{view}
 use Rattle.launch_run.specs.Launch.{standard_input}
 use Rattle.launch_run.proofs.Asked.{each_may_read}

@@ -1,4 +1,4 @@
-use Rattle.outside.specs.Source.{Rose}
+use Rattle.input_output.specs.Source.{Rose}
 use Rattle.launch_words.specs.Settings.{view}
 use Rattle.launch_run.specs.Launch.{inputs_spell, settings_inputs}
 use Rattle.launch_run.proofs.Bounds.{all_bounded, all_granted}

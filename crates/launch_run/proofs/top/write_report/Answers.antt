@@ -1,6 +1,6 @@
 use Rattle.std.proofs.Common.{sym, ap, subst, ◌∙◌}
 use Rattle.std.specs.FinMap.{get}
-use Rattle.outside.specs.Sink.{grown, GrewByPrefix}
+use Rattle.input_output.specs.Sink.{grown, GrewByPrefix}
 use Rattle.kernel_model.specs.State.{State}
 use Rattle.launch_run.proofs.TopCalls.{IsOfRun, record_of, record_state, record_ended, record_text}
 use Rattle.launch_run.proofs.top.write_report.Goals as goal

@@ -1,6 +1,6 @@
 use Rattle.std.proofs.Common.{◌∙◌, ◌++◌}
 use Rattle.std.proofs.lemmas.Result.{on_ok_weaker, on_err_weaker}
-use Rattle.outside.proofs.OutputParts.{for_err}
+use Rattle.input_output.proofs.OutputParts.{for_err}
 use Rattle.launch_run.specs.Lines.{name_of, number_of, back_of}
 use Rattle.launch_run.proofs.LineParts.{began, went_on, ended_line, failed_first, failed_later, failed_last}
 use Rattle.launch_run.proofs.lines.Refusal.write_line.Goals as goal
