@@ -4,8 +4,8 @@ ghost use Rattle.abi_layout.specs.Events.{WordsAreZero};
 use super::*;
 use abi_base::Rights;
 use abi_structures::{
-    Dirent, Event, FdStat, FileStat, Iovec, RecvIn, RecvOut, SendIn, SendOut, Subscription, ThreadAttr,
-    What,
+    Dirent, Event, FdStat, FileStat, Iovec, RecvIn, RecvOut, SendIn, SendOut, Subscription,
+    ThreadAttr, What,
 };
 
 // ---- structures of one layout

@@ -14,7 +14,6 @@ ghost use Rattle.kernel_model.specs.Step.{act, tick, MayLackMemory, IsStep, IsUn
 ghost use Rattle.kernel_model.specs.Valid.{IsValid};
 ghost use Rattle.kernel_model.specs.View.{whole};
 
-use crate::launch::Launch;
 use crate::needs::{need, placed, refusal, refused, success};
 use crate::objects::Objects;
 use crate::start::{granted, single, unwritten};
@@ -24,6 +23,7 @@ use abi_types::{
     Tid,
 };
 use number_map::NumMap;
+use run_types::Launch;
 use std::alloc::{AllocError, Global};
 use std::marker::Model;
 

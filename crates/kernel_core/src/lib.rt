@@ -1,13 +1,10 @@
 //! The sequential kernel: one state, and a step for each call. It knows no machine, no worker and no lock.
 #![tactic(auto)]
 
-pub use history::{Act, Entry, History, Record};
 pub use kernel::Kernel;
-pub use launch::Launch;
+pub use run_types::{Act, Entry, History, Launch, Record};
 
-mod history;
 mod kernel;
-mod launch;
 mod needs;
 mod objects;
 mod start;

@@ -7,8 +7,8 @@ ghost use Rattle.yaml_values.specs.Views.{shape_of, pair_of, content_of_value};
 ghost use Rattle.launch_plan.specs.Tagged.{tagged_in, tagged_in_items, tagged_in_pairs};
 ghost use Rattle.launch_plan.specs.Values.{count, value_of, content_value, item_values, pair_values};
 
-use lists::TryClone;
 use argdata_codec::{PairList, Value, ValueList};
+use lists::TryClone;
 use std::alloc::{AllocError, Global};
 use yaml_values::{Node, NodeValue};
 

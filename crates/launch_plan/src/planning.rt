@@ -12,9 +12,9 @@ use crate::arguments::argument;
 use crate::fault::PlanFault;
 use crate::tagged_nodes::push_grants;
 use abi_base::GrantList;
-use lists::Bytes;
 use argdata_codec::encode;
 use launch_yaml::{Doc, Node};
+use lists::Bytes;
 use std::alloc::{AllocError, Global};
 
 /// What a launch gives a program.

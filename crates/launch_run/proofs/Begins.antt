@@ -1,8 +1,8 @@
 -- A run that has not begun stands at the start of its launch's world.
 use Rattle.std.proofs.Common.{◌≡◌, ℕ, List, [], sym, ap, subst, ◌∙◌, arith}
 use Rattle.abi_base.specs.Registers.{Registers}
-use Rattle.kernel_core.specs.declared.history.Entry.{Entry}
-use Rattle.kernel_core.specs.declared.launch.Launch.{Launch}
+use Rattle.run_types.specs.declared.history.Entry.{Entry}
+use Rattle.run_types.specs.declared.launch.Launch.{Launch}
 use Rattle.kernel_model.specs.Start.{start_state}
 use Rattle.kernel_model.specs.State.{State}
 use Rattle.guest_memory.specs.Page.{Pages}

@@ -7,7 +7,7 @@ use Rattle.elf_image.specs.Image.{IsInProgramPart}
 use Rattle.elf_image.specs.declared.elf.Elf.{Elf}
 use Rattle.elf_image.specs.declared.elf.Segment.{Segment}
 use Rattle.elf_image.proofs.Placed.{image_placed}
-use Rattle.kernel_core.specs.declared.launch.Launch.{Launch}
+use Rattle.run_types.specs.declared.launch.Launch.{Launch}
 use Rattle.abi_base.specs.Grants.{AreGrants}
 use Rattle.abi_base.specs.declared.grant.Grant.{Grant}
 use Rattle.yaml_values.specs.Shape.{Shape}

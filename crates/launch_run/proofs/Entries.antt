@@ -6,9 +6,9 @@ use Rattle.abi_types.specs.declared.call.Answer.{Answer}
 use Rattle.abi_types.specs.declared.call.Call.{Call}
 use Rattle.abi_types.specs.declared.status.Status.{Status}
 use Rattle.abi_types.specs.declared.status.Status.TheVariants.{Live}
-use Rattle.kernel_core.specs.declared.history.Act.{Act}
-use Rattle.kernel_core.specs.declared.history.Act.TheVariants as act
-use Rattle.kernel_core.specs.declared.history.Entry.{Entry}
+use Rattle.run_types.specs.declared.history.Act.{Act}
+use Rattle.run_types.specs.declared.history.Act.TheVariants as act
+use Rattle.run_types.specs.declared.history.Entry.{Entry}
 use Rattle.kernel_model.specs.State.{State}
 use Rattle.kernel_model.specs.Step.{end_state, IsStep}
 use Rattle.rv_interp.specs.declared.turns.TurnEnd.TheVariants as turn_end_is

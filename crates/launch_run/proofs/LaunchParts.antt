@@ -7,7 +7,7 @@ use Rattle.std.proofs.lemmas.Bool.{le-ltb, lt-ltb}
 use Rattle.input_output.specs.Source.{Told, Untold, Lacking, Content, IsWhole, IsLongerThan}
 use Rattle.elf_image.specs.Checks.{fault_of}
 use Rattle.elf_image.specs.declared.fault.ElfFault.{ElfFault}
-use Rattle.kernel_core.specs.declared.launch.Launch.{Launch}
+use Rattle.run_types.specs.declared.launch.Launch.{Launch}
 use Rattle.launch_words.specs.Settings.{Settings}
 use Rattle.launch_run.specs.Inputs.{AreRead, IsReadAs, IsUnread, IsUnreadOf, IsNoLaunch, IsNoLaunchOf}
 use Rattle.launch_run.specs.Launch.{Spelled, untold, refuses, spells, input_limit, standard_input, launch_with, spelled_text, spelled_at, spelled_by, spelled_with, spelled_optional, inputs_spell, settings_inputs, IsToldAs, IsBuiltLaunch, AnswersSpelled}

@@ -5,7 +5,7 @@ use Rattle.input_output.specs.Source.{Told, Untold, Lacking, Content}
 use Rattle.elf_image.specs.Checks.{fault_of}
 use Rattle.elf_image.specs.Image.{image}
 use Rattle.elf_image.specs.declared.fault.ElfFault.{ElfFault}
-use Rattle.kernel_core.specs.declared.launch.Launch.{Launch}
+use Rattle.run_types.specs.declared.launch.Launch.{Launch}
 use Rattle.abi_base.specs.declared.grant.Grant.{Grant}
 use Rattle.launch_words.specs.Settings.{Settings}
 use Rattle.launch_words.specs.Words.{words_of}

@@ -7,8 +7,8 @@ use Rattle.input_output.specs.Sink.{grown, GrewByPrefix}
 use Rattle.input_output.specs.Source.{Told}
 use Rattle.abi_types.specs.declared.status.Status.{Status}
 use Rattle.abi_types.specs.declared.status.Status.TheVariants.{Live, Exit, Killed}
-use Rattle.kernel_core.specs.declared.history.Record.{Record}
-use Rattle.kernel_core.specs.declared.launch.Launch.{Launch}
+use Rattle.run_types.specs.declared.history.Record.{Record}
+use Rattle.run_types.specs.declared.launch.Launch.{Launch}
 use Rattle.abi_base.specs.Grants.{AreGrants}
 use Rattle.kernel_model.specs.State.{State}
 use Rattle.run_model.specs.Confined.{IsConfined}

@@ -11,11 +11,11 @@ ghost use Rattle.launch_run.specs.Run.{IsBounded};
 use crate::launch_text::plan_text;
 use crate::lines::Refusal;
 use abi_types::Bytes;
-use input_output::{ReadFault, Source, read_whole};
 use elf_image::{ElfFault, read_elf};
-use kernel_core::Launch;
+use input_output::{ReadFault, Source, read_whole};
 use launch_plan::Planned;
 use launch_words::LaunchWords;
+use run_types::Launch;
 use std::alloc::{AllocError, Global};
 
 // The name of standard input, which has the launch text.

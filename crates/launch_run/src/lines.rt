@@ -5,8 +5,8 @@ ghost use Rattle.input_output.specs.Sink.{grown, GrewByPrefix};
 ghost use Rattle.launch_run.specs.Lines.{line_of, status_of, fault_name, kind_ending, launch_front, launch_ending, front_of, name_of, number_of, back_of};
 
 use crate::launch_text::LaunchFault;
-use input_output::{Failed, Sink, write_whole};
 use elf_image::ElfFault;
+use input_output::{Failed, Sink, write_whole};
 use itoa::Buffer;
 use launch_plan::PlanFault;
 use launch_yaml::YamlKind;

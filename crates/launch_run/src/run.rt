@@ -7,7 +7,8 @@ ghost use Rattle.launch_run.specs.Run.{IsBounded, IsAt, IsBetween, IsStopped, Is
 use abi_types::{Pid, Regs, Signal, Status, Tid, TidList};
 use call_codec::{args, put_answer, start_memory};
 use guest_memory::GuestMemory;
-use kernel_core::{Act, Entry, History, Kernel, Launch, Record};
+use kernel_core::Kernel;
+use run_types::{Act, Entry, History, Launch, Record};
 use rv_interp::{TurnEnd, turn};
 use std::alloc::{AllocError, Global};
 use std::mem;

@@ -13,11 +13,11 @@ ghost use Rattle.launch_run.specs.declared.top.TopEnd.TheVariants.{Refused};
 use crate::inputs::read_launch;
 use crate::lines::Refusal;
 use crate::run::Run;
-use input_output::{Sink, Source, write_whole};
 use abi_types::{Pid, Status};
-use kernel_core::{Launch, Record};
+use input_output::{Sink, Source, write_whole};
 use launch_words::{LaunchWords, WordsFault, read_words};
 use run_report::report;
+use run_types::{Launch, Record};
 use std::alloc::Global;
 
 /// The launched process.

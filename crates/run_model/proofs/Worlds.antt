@@ -2,10 +2,10 @@
 use Rattle.std.proofs.Common.{◌≡◌, ◌≢◌, ℕ, ◌+◌, ◌*◌, List, [], ◌∷◌, length, refl, sym, ap, subst, ◌∙◌, arith}
 use Rattle.abi_base.specs.declared.signal.Signal.TheVariants.{Xcpu}
 use Rattle.abi_types.specs.declared.status.Status.TheVariants.{Killed}
-use Rattle.kernel_core.specs.declared.history.Act.{Act}
-use Rattle.kernel_core.specs.declared.history.Act.TheVariants as act
-use Rattle.kernel_core.specs.declared.history.Entry.{Entry}
-use Rattle.kernel_core.specs.declared.launch.Launch.{Launch}
+use Rattle.run_types.specs.declared.history.Act.{Act}
+use Rattle.run_types.specs.declared.history.Act.TheVariants as act
+use Rattle.run_types.specs.declared.history.Entry.{Entry}
+use Rattle.run_types.specs.declared.launch.Launch.{Launch}
 use Rattle.abi_base.specs.Grants.{AreGrants}
 use Rattle.kernel_model.specs.State.{State}
 use Rattle.kernel_model.specs.Valid.{IsValid}

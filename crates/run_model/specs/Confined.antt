@@ -12,10 +12,10 @@ use Rattle.abi_types.specs.declared.needed.Needed.{Needed}
 use Rattle.abi_base.specs.declared.signal.Signal.TheVariants.{Xcpu}
 use Rattle.abi_types.specs.declared.status.Status.{Status}
 use Rattle.abi_types.specs.declared.status.Status.TheVariants.{Killed}
-use Rattle.kernel_core.specs.declared.history.Act.{Act}
-use Rattle.kernel_core.specs.declared.history.Act.TheVariants as act
-use Rattle.kernel_core.specs.declared.history.Entry.{Entry}
-use Rattle.kernel_core.specs.declared.launch.Launch.{Launch}
+use Rattle.run_types.specs.declared.history.Act.{Act}
+use Rattle.run_types.specs.declared.history.Act.TheVariants as act
+use Rattle.run_types.specs.declared.history.Entry.{Entry}
+use Rattle.run_types.specs.declared.launch.Launch.{Launch}
 use Rattle.kernel_model.specs.Laws.{HasSameSight, HasAll, IsFirstLack, IsOfFirstLack}
 use Rattle.kernel_model.specs.Need.{need, missing}
 use Rattle.kernel_model.specs.Release.{is_released}

@@ -4,8 +4,8 @@ use Rattle.std.specs.FinMap.{get}
 use Rattle.abi_types.specs.declared.status.Status.TheVariants.{Live}
 use Rattle.abi_types.specs.declared.thread.Thread.{Thread}
 use Rattle.abi_types.specs.declared.thread.Thread.TheVariants.{Runnable}
-use Rattle.kernel_core.specs.declared.history.Entry.{Entry}
-use Rattle.kernel_core.specs.declared.launch.Launch.{Launch}
+use Rattle.run_types.specs.declared.history.Entry.{Entry}
+use Rattle.run_types.specs.declared.launch.Launch.{Launch}
 use Rattle.kernel_model.specs.State.{State, Threads}
 use Rattle.run_model.specs.World.{world}
 

@@ -3,10 +3,10 @@ use Rattle.std.specs.Prelude.{◌≡◌, ℕ, ◌<◌, ◌==◌, List, [], ◌�
 use Rattle.std.specs.FinMap.{get}
 use Rattle.abi_types.specs.declared.status.Status.TheVariants.{Live}
 use Rattle.abi_types.specs.declared.thread.Thread.TheVariants.{Runnable}
-use Rattle.kernel_core.specs.declared.history.Act.{Act}
-use Rattle.kernel_core.specs.declared.history.Act.TheVariants as act
-use Rattle.kernel_core.specs.declared.history.Entry.{Entry}
-use Rattle.kernel_core.specs.declared.launch.Launch.{Launch}
+use Rattle.run_types.specs.declared.history.Act.{Act}
+use Rattle.run_types.specs.declared.history.Act.TheVariants as act
+use Rattle.run_types.specs.declared.history.Entry.{Entry}
+use Rattle.run_types.specs.declared.launch.Launch.{Launch}
 use Rattle.kernel_model.specs.State.{State, Threads}
 use Rattle.kernel_model.specs.Step.{IsStep}
 use Rattle.rv_interp.specs.declared.turns.TurnEnd.{TurnEnd}

@@ -6,9 +6,9 @@ use Rattle.abi_base.specs.Errno.{name_of}
 use Rattle.abi_types.specs.declared.call.Answer.{Answer}
 use Rattle.abi_types.specs.declared.call.Answer.TheVariants.{Reply}
 use Rattle.abi_types.specs.declared.call.Call.{Call}
-use Rattle.kernel_core.specs.declared.history.Act.{Act}
-use Rattle.kernel_core.specs.declared.history.Act.TheVariants as act
-use Rattle.kernel_core.specs.declared.history.Entry.{Entry}
+use Rattle.run_types.specs.declared.history.Act.{Act}
+use Rattle.run_types.specs.declared.history.Act.TheVariants as act
+use Rattle.run_types.specs.declared.history.Entry.{Entry}
 use Rattle.run_report.specs.CallNames.{call_name}
 use Rattle.run_report.specs.Denials.{thread_text}
 

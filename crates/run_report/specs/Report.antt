@@ -6,7 +6,7 @@ use Rattle.abi_base.specs.declared.signal.Signal.{Signal}
 use Rattle.abi_types.specs.declared.status.Status.{Status}
 use Rattle.abi_types.specs.declared.status.Status.TheVariants.{Live, Exit, Killed}
 use Rattle.abi_base.specs.Signal.{number_of, name_of}
-use Rattle.kernel_core.specs.declared.history.Entry.{Entry}
+use Rattle.run_types.specs.declared.history.Entry.{Entry}
 use Rattle.kernel_core.specs.Kernel.{any_live}
 use Rattle.kernel_model.specs.State.{State}
 use Rattle.run_report.specs.Denials.{denials_text}

@@ -1,7 +1,7 @@
 -- What a report tells, whatever the run.
 use Rattle.std.specs.Prelude.{Bool, ◌≡◌, ◌+◌, ◌^◌, ◌<◌, ◌==◌, List, codes, length, take, drop}
 use Rattle.std.specs.List.{before_first}
-use Rattle.kernel_core.specs.declared.history.Entry.{Entry}
+use Rattle.run_types.specs.declared.history.Entry.{Entry}
 use Rattle.kernel_model.specs.State.{State}
 use Rattle.run_report.specs.Report.{written_to, stream_line, report_of}
 

@@ -7,7 +7,7 @@ ghost use Rattle.run_report.specs.Denials.{denial_line, denial_text, missing_tex
 use crate::call_names::call_name;
 use abi_types::{Answer, Bytes, Call, Denial, Pid, Rights, Tid};
 use bitflags::{Flag, Flags};
-use kernel_core::{Act, Entry};
+use run_types::{Act, Entry};
 use std::alloc::{AllocError, Global};
 
 /// The names of those flags whose rights are all in the set.

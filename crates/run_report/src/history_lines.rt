@@ -7,7 +7,7 @@ ghost use Rattle.run_report.specs.HistoryLines.{act_text, call_text, entry_text,
 use crate::call_names::call_name;
 use crate::denials::thread_text;
 use abi_types::{Answer, Bytes, Call};
-use kernel_core::{Act, Entry};
+use run_types::{Act, Entry};
 use std::alloc::{AllocError, Global};
 
 /// A call, its answer, and the two numbers that it gave.

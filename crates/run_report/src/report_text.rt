@@ -7,7 +7,8 @@ ghost use Rattle.run_report.specs.Report.{report_of, stream_text, status_text, s
 use crate::denials::append_denials;
 use crate::history_lines::append_history;
 use abi_types::{Bytes, Pid, Signal, Status};
-use kernel_core::{Entry, Kernel};
+use kernel_core::Kernel;
+use run_types::Entry;
 use std::alloc::{AllocError, Global};
 
 /// The report of a run whose kernel stands so and whose history is this one, with a line for each entry of the history

@@ -8,7 +8,8 @@ use abi_types::{
     Status, Thread, Tid, TidList,
 };
 use elf_image::{Elf, SegmentList};
-use kernel_core::{Act, Entry, History, Kernel, Launch};
+use kernel_core::Kernel;
+use run_types::{Act, Entry, History, Launch};
 use std::alloc::{AllocError, Global};
 use std::test::Fail;
 

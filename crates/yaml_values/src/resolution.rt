@@ -16,9 +16,9 @@ use crate::mode::Mode;
 use crate::node::NodeValue;
 use crate::numbers::{integer, is_float};
 use crate::scalars::{Scalar, scalar_at};
-use lists::{Bytes, Text};
 use base64::DecodeAllocError;
 use base64::engine::general_purpose::STANDARD;
+use lists::{Bytes, Text};
 use std::alloc::Global;
 
 fn is_null(bytes: &[u8]) -> bool

@@ -1,8 +1,8 @@
 //! Files that are written, and what a reader says of them.
 use crate::write_elf;
 use abi_base::Prot;
-use lists::Bytes;
 use elf_image::{ElfFault, read_elf};
+use lists::Bytes;
 use std::alloc::Global;
 use std::test::Fail;
 

@@ -1,6 +1,6 @@
 use Rattle.std.proofs.Common.{◌∙◌}
 use Rattle.std.proofs.lemmas.Result.{on_ok_weaker}
-use Rattle.kernel_core.specs.declared.history.Act.TheVariants as act
+use Rattle.run_types.specs.declared.history.Act.TheVariants as act
 use Rattle.run_model.specs.Legal.{Fits}
 use Rattle.launch_run.proofs.Entries.{legal_after, world_now, entry_of, call_fits, call_between}
 use Rattle.launch_run.proofs.run.Run.call.Goals as goal

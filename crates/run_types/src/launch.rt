@@ -1,6 +1,7 @@
 //! What a run starts from.
-use abi_types::{Bytes, GrantList, TryClone};
+use abi_base::GrantList;
 use elf_image::Elf;
+use lists::{Bytes, TryClone};
 use std::alloc::AllocError;
 
 /// What a run starts from.
