@@ -1,6 +1,6 @@
 //! The calls of a number map by example.
 use number_map::NumMap;
-use std::alloc::{AllocFailed, Global};
+use std::alloc::AllocFailed;
 
 // Entries that are put in, one after another, and what was at each one's key before.
 const ENTRIES: &[(u64, u64, Option<u64>)] = &[
@@ -20,14 +20,14 @@ const FIRST_FROM: &[(u64, Option<u64>)] = &[
     (u64::MAX, None),
 ];
 
-// The map with the entries.
-fn filled(alloc: Global) -> Result<NumMap<u64>, AllocFailed<(u64, u64)>> {
-    let mut map = NumMap::new(alloc);
-    for (key, value, _) in ENTRIES {
-        map.insert(*key, *value)?;
-    }
-    Ok(map)
-}
+// The answers of `read`, and those of `change` after it.
+type Read = (usize, bool, Option<u64>, bool, [Option<u64>; 2]);
+
+type Changed = (Option<u64>, Option<(u64, u64)>, Option<u64>, bool);
+
+const READ: Read = (3, false, Some(71), true, [Some(3), Some(7)]);
+
+const CHANGED: Changed = (Some(0), Some((3, 30)), Some(90), true);
 
 // Puts 90 in place of what is at 9.
 fn replace_at_9(map: &mut NumMap<u64>) -> Option<u64> {
@@ -45,9 +45,9 @@ fn write_at_3(map: &mut NumMap<u64>) {
     }
 }
 
-// What is read of a map without a key to begin at: its length, whether it is empty, the value at 7, whether there is one
-// at 9, the first key of a 0, and the first of more than 70.
-fn read(map: &NumMap<u64>) -> (usize, bool, Option<u64>, bool, [Option<u64>; 2]) {
+// Its length, whether it is empty, the value at 7, whether there is one at 9, the first key of a 0, and the first of more
+// than 70.
+fn read(map: &NumMap<u64>) -> Read {
     (
         map.len(),
         map.is_empty(),
@@ -57,9 +57,8 @@ fn read(map: &NumMap<u64>) -> (usize, bool, Option<u64>, bool, [Option<u64>; 2])
     )
 }
 
-// What the changes answer: what 90 replaces, the least entry after 30 is written, what is taken out at 9, and whether the
-// map is empty in the end.
-fn change(map: &mut NumMap<u64>) -> (Option<u64>, Option<(u64, u64)>, Option<u64>, bool) {
+// What 90 replaces, the least entry once 30 is written, what is taken out at 9, and whether the map is empty in the end.
+fn change(map: &mut NumMap<u64>) -> Changed {
     let replaced = replace_at_9(map);
     write_at_3(map);
     let first = map.pop_first();
@@ -69,27 +68,15 @@ fn change(map: &mut NumMap<u64>) -> (Option<u64>, Option<(u64, u64)>, Option<u64
 }
 
 #[test]
-fn inserts(rt: HostRuntime) -> Result<(), AllocFailed<(u64, u64)>> {
+fn each_call(rt: HostRuntime) -> Result<(), AllocFailed<(u64, u64)>> {
     let mut map = NumMap::new(rt.alloc());
     for (key, value, before) in ENTRIES {
         assert_eq!(rt; map.insert(*key, *value)?, *before, "at {key}");
     }
-    Ok(())
-}
-
-#[test]
-fn finds_the_first_from_a_number_on(rt: HostRuntime) -> Result<(), AllocFailed<(u64, u64)>> {
-    let map = filled(rt.alloc())?;
     for (key, first) in FIRST_FROM {
         assert_eq!(rt; map.first_from(*key), *first, "from {key}");
     }
-    Ok(())
-}
-
-#[test]
-fn reads_and_changes(rt: HostRuntime) -> Result<(), AllocFailed<(u64, u64)>> {
-    let mut map = filled(rt.alloc())?;
-    assert_eq!(rt; read(&map), (3, false, Some(71), true, [Some(3), Some(7)]));
-    assert_eq!(rt; change(&mut map), (Some(0), Some((3, 30)), Some(90), true));
+    let read = read(&map);
+    assert_eq!(rt; (read, change(&mut map)), (READ, CHANGED));
     Ok(())
 }

@@ -29,20 +29,12 @@ const LIMITS: &[(usize, Result<usize, ReadFault>)] = &[
 const TEXT: &[u8] =
     b"0123456789abcdefghijklmnopqrstuvwxyzABCDEFGHIJKLMNOPQRSTUVWXYZ.,0123456789abcdefghi";
 
-// So many bytes, of which neighbours differ.
-fn some_bytes(alloc: Global, count: u32) -> Result<Vec<u8>, AllocError> {
-    let mut bytes = Vec::new(alloc);
-    for k in 0..count {
-        bytes.push((k % 251) as u8)?;
-    }
-    Ok(bytes)
-}
-
 // Inputs of which the first read fails.
 fn failing_source(alloc: Global) -> Result<MemSource, AllocError> {
     let mut source = MemSource::new(alloc, vec![in alloc; 0u64]?);
     source.add("a", b"abc")?;
-    source.add("long", some_bytes(alloc, 5000)?.as_slice())?;
+    let long = vec![in alloc; 7u8; 5000]?;
+    source.add("long", &long)?;
     Ok(source)
 }
 
@@ -117,15 +109,15 @@ fn limits_inputs(rt: HostRuntime) {
 #[test]
 fn writes_whole_outputs(rt: HostRuntime) -> Result<(), Fail> {
     let mut sink = failing_sink(rt.alloc())?;
-    assert_eq!(rt; write_whole(&mut sink, TEXT), Err(Failed));
-    assert_eq!(rt; sink.bytes(), &TEXT[..64]);
+    let written = write_whole(&mut sink, TEXT);
+    assert_eq!(rt; (written, sink.bytes()), (Err(Failed), &TEXT[..64]));
     Ok(())
 }
 
 #[test]
 fn writes_steadily(rt: HostRuntime) -> Result<(), Fail> {
     let mut sink = SteadySink::new(rt.alloc(), 4)?;
-    assert_eq!(rt; write_whole(&mut sink, b"abcdef"), Ok(()));
-    assert_eq!(rt; sink.bytes(), b"abcd".as_slice());
+    let written = write_whole(&mut sink, b"abcdef");
+    assert_eq!(rt; (written, sink.bytes()), (Ok(()), b"abcd".as_slice()));
     Ok(())
 }

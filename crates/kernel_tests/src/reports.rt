@@ -158,7 +158,7 @@ fn entry_of(alloc: Global, other: &Other) -> Result<Entry, AllocError> {
     }
 }
 
-// The history of a run, and what the kernel of its first process comes to.
+// The history of a run, as the kernel goes through it.
 fn history_of(alloc: Global, kernel: &mut Kernel, run: &Run) -> Result<History, AllocError> {
     let mut history = History::new(alloc);
     for deed in run.deeds {
@@ -167,16 +167,26 @@ fn history_of(alloc: Global, kernel: &mut Kernel, run: &Run) -> Result<History, 
     for other in run.others {
         history.push(entry_of(alloc, other)?)?;
     }
+    if run.expires {
+        expire(kernel);
+    }
     Ok(history)
+}
+
+// The report of a kernel and a history.
+fn text_of(
+    alloc: Global,
+    kernel: &Kernel,
+    history: &History,
+    lines: bool,
+) -> Result<Bytes, AllocError> {
+    report(alloc, kernel, history.as_slice(), lines)
 }
 
 fn report_of(alloc: Global, run: &Run) -> Result<Bytes, AllocError> {
     let mut kernel = stdout_kernel(alloc, run.may_write)?;
     let history = history_of(alloc, &mut kernel, run)?;
-    if run.expires {
-        expire(&mut kernel);
-    }
-    report(alloc, &kernel, history.as_slice(), run.lines)
+    text_of(alloc, &kernel, &history, run.lines)
 }
 
 #[test]

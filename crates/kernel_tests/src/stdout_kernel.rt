@@ -1,6 +1,7 @@
 //! A kernel whose process has one descriptor, of stdout, and calls of its first thread.
-ghost use Rattle.std.specs.Prelude.{◌≡◌, IfOk};
+ghost use Rattle.std.specs.Prelude.{◌≡◌, IfOk, IsTrue};
 ghost use Rattle.abi_base.specs.Grants.{AreGrants};
+ghost use Rattle.abi_base.specs.Rights.{has_all};
 
 use abi_types::{
     Answer, Bytes, Call, Errno, Grant, GrantList, GrantTarget, Pid, Rights, Signal, Status, Thread,
@@ -24,15 +25,26 @@ pub enum Deed {
     Unknown(u64),
 }
 
-// The grant of stdout, with the rights that a first program has or without that to write.
-fn stdout_grants(alloc: Global, may_write: bool) -> Result<GrantList, AllocError>
+// The rights that a first program has on stdout, or those of them but the right to write.
+fn stdout_rights(may_write: bool) -> Rights
+    ensures { IsTrue (has_all 0x10080048 result.0) }
+{
+    if may_write {
+        Rights(0x1008_0048)
+    } else {
+        Rights(0x08)
+    }
+}
+
+// The grant of stdout with these rights.
+fn stdout_grants(alloc: Global, base: Rights) -> Result<GrantList, AllocError>
+    requires { IsTrue (has_all 0x10080048 base.0) }
     ensures { IfOk result AreGrants }
 {
-    let base = if may_write { 0x1008_0048 } else { 0x08 };
     let mut grants = GrantList::new(alloc);
     grants.push(Grant {
         target: GrantTarget::Terminal(1),
-        base: Rights(base),
+        base,
         inheriting: Rights::NONE,
     })?;
     Ok(grants)
@@ -61,7 +73,7 @@ fn launch_with(alloc: Global, grants: GrantList) -> Launch
 
 /// A kernel whose process has a descriptor of stdout, and may write to it or not.
 pub fn stdout_kernel(alloc: Global, may_write: bool) -> Result<Kernel, AllocError> {
-    let grants = stdout_grants(alloc, may_write)?;
+    let grants = stdout_grants(alloc, stdout_rights(may_write))?;
     Kernel::start(alloc, &launch_with(alloc, grants))
 }
 
@@ -93,7 +105,8 @@ pub fn answer_to(kernel: &mut Kernel, call: &Call) -> Option<Answer> {
 
 /// The end of the process from outside, because its turns are used up.
 pub fn expire(kernel: &mut Kernel) {
-    if kernel.live(PID) && kernel.moment() < 1_000_000 {
-        kernel.end(PID, Status::Killed(Signal::Xcpu));
+    if !kernel.live(PID) || kernel.moment() > 1_000_000 {
+        return;
     }
+    kernel.end(PID, Status::Killed(Signal::Xcpu));
 }
