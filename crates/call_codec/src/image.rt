@@ -4,22 +4,20 @@ ghost use Rattle.std.specs.FinMap as map;
 ghost use Rattle.guest_memory.specs.Ranges.{IsPageAddress};
 ghost use Rattle.call_codec.specs.Image.{IsPlaced, page_with, page_of, page_count, with_segment, with_segments};
 
+use crate::memory_calls::PAGE;
 use abi_types::Prot;
 use elf_image::Segment;
 use guest_memory::{GuestMemory, MemFault};
 use std::alloc::{AllocError, Global};
 
-/// How many bytes a page has.
-const PAGE: u64 = 4096;
-
-/// The rights of a page while its bytes are put in.
-const FILLING: Prot = Prot {
+/// To be read and written, as a page is while its bytes are put in.
+pub const READ_WRITE: Prot = Prot {
     read: true,
     write: true,
     exec: false,
 };
 
-/// Maps one page with bytes from a place in it on, and zeros around them.
+// Maps one page with bytes from a place in it on, and zeros around them.
 fn map_page(
     alloc: Global,
     memory: &mut GuestMemory,
@@ -35,12 +33,12 @@ fn map_page(
     requires fits { place + length bytes.now ≤ 4096 }
     ensures { OnOk result (memory.new ≡ map.insert memory.old (at / 4096) (page_with place bytes.now prot)) }
 {
-    memory.map(alloc, at, 1, FILLING)?;
+    memory.map(alloc, at, 1, READ_WRITE)?;
     memory.write_bytes(at + place as u64, bytes)?;
     memory.protect(at, 1, prot)
 }
 
-/// How many pages a segment's memory touches.
+// How many pages a segment's memory touches.
 fn page_count(segment: &Segment) -> u64
     requires { IsPlaced segment.now }
     ensures { result ≡ page_count segment.now }
@@ -48,7 +46,7 @@ fn page_count(segment: &Segment) -> u64
     (segment.at % PAGE + segment.length).div_ceil(PAGE)
 }
 
-/// Maps the page of a segment with this place among its pages.
+// Maps the page of a segment with this place among its pages.
 fn map_segment_page(
     alloc: Global,
     memory: &mut GuestMemory,

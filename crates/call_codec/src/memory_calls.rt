@@ -26,34 +26,34 @@ pub const MEM_UNMAP: u64 = 36;
 /// How many bytes a page has.
 pub const PAGE: u64 = 4096;
 
-/// The address of the first page of the guest's part of the address space.
+// The address of the first page of the guest's part of the address space.
 const GUESTS_BEGIN: u64 = 0x1_0000;
 
 /// The address after that part.
 pub const GUESTS_END: u64 = 0x40_0000_0000;
 
-/// The most pages of a memory.
+// The most pages of a memory.
 const PAGE_LIMIT: u64 = 65_536;
 
-/// The bits of a prot that are for a writable page that can be executed.
+// The bits of a prot that are for a writable page that can be executed.
 const WRITE_AND_EXEC: u32 = 3;
 
-/// The flag of a mapping without a file.
+// The flag of a mapping without a file.
 const ANON: u32 = 1;
 
-/// The flag of a mapping at the address that the call names.
+// The flag of a mapping at the address that the call names.
 const FIXED: u32 = 2;
 
-/// The flag of a mapping that others don't see.
+// The flag of a mapping that others don't see.
 const PRIVATE: u32 = 4;
 
-/// The flag of a mapping that others see.
+// The flag of a mapping that others see.
 const SHARED: u32 = 8;
 
-/// The flag of a write to the file that comes later.
+// The flag of a write to the file that comes later.
 const ASYNC: u32 = 1;
 
-/// The flag of a write to the file that comes first.
+// The flag of a write to the file that comes first.
 const SYNC: u32 = 4;
 
 /// Whether the flags hold each of these bits.
@@ -63,7 +63,7 @@ pub fn has_bits(flags: u32, bits: u32) -> bool
     flags & bits == bits
 }
 
-/// Whether the flags hold the one bit or the other, and not both.
+// Whether the flags hold the one bit or the other, and not both.
 fn has_one(flags: u32, this: u32, that: u32) -> bool
     ensures { result ≡ has_one flags this that }
 {
@@ -74,7 +74,7 @@ fn has_one(flags: u32, this: u32, that: u32) -> bool
     }
 }
 
-/// Whether an address, or an offset, is a page's.
+// Whether an address, or an offset, is a page's.
 fn is_aligned(at: u64) -> bool
     ensures { result ≡ is_aligned at }
 {
@@ -88,7 +88,7 @@ pub fn pages_in(bytes: u64) -> u64
     bytes.div_ceil(PAGE)
 }
 
-/// Whether so many pages from the address on lie in the guest's part of the address space.
+// Whether so many pages from the address on lie in the guest's part of the address space.
 fn is_guests(at: u64, pages: u64) -> bool
     requires { pages ≤ 2 ^ 52 }
     ensures { result ≡ is_guests at pages }
@@ -96,7 +96,7 @@ fn is_guests(at: u64, pages: u64) -> bool
     at >= GUESTS_BEGIN && at <= GUESTS_END && pages <= (GUESTS_END - at) / PAGE
 }
 
-/// SUCCESS where each page of the range is mapped, else FAULT.
+// SUCCESS where each page of the range is mapped, else FAULT.
 fn if_mapped(memory: &GuestMemory, at: u64, bytes: u64) -> Errno
     requires { IsPageAddress at }
     ensures { result ≡ if_mapped memory.now at bytes }
@@ -107,7 +107,7 @@ fn if_mapped(memory: &GuestMemory, at: u64, bytes: u64) -> Errno
     }
 }
 
-/// A call that is refused with INVAL.
+// A call that is refused with INVAL.
 fn invalid(number: u64) -> Call
     ensures { result ≡ Call.Refused number Errno.Inval }
 {
@@ -133,7 +133,7 @@ pub fn mem_advise(regs: &Regs, memory: &GuestMemory) -> Call
     }
 }
 
-/// Why mem_protect is refused by its address and its prot.
+// Why mem_protect is refused by its address and its prot.
 fn protect_refusal(at: u64, prot: u32) -> Option<Errno>
     ensures { result ≡ protect_refusal at prot }
 {
@@ -193,7 +193,7 @@ pub fn mem_unmap(regs: &Regs) -> Call
     }
 }
 
-/// Why mem_map is refused by its address, length, prot, flags and offset.
+// Why mem_map is refused by its address, length, prot, flags and offset.
 fn map_refusal(at: u64, bytes: u64, prot: u32, flags: u32, offset: u64) -> Option<Errno>
     ensures { result ≡ map_refusal at bytes prot flags offset }
 {
@@ -211,7 +211,7 @@ fn map_refusal(at: u64, bytes: u64, prot: u32, flags: u32, offset: u64) -> Optio
     }
 }
 
-/// Where so many pages go at the address that FIXED names, in place of those that are there.
+// Where so many pages go at the address that FIXED names, in place of those that are there.
 fn place_at(memory: &GuestMemory, at: u64, pages: u64) -> Place
     requires aligned { IsPageAddress at }
     requires guests { at + 4096 * pages ≤ 0x4000000000 }
@@ -225,7 +225,7 @@ fn place_at(memory: &GuestMemory, at: u64, pages: u64) -> Place
     }
 }
 
-/// Where so many pages go: the lowest gap.
+// Where so many pages go: the lowest gap.
 fn place_in_gap(memory: &GuestMemory, pages: u64) -> Place
     requires { pages ≤ 2 ^ 52 }
     ensures { result ≡ place_in_gap memory.now pages }

@@ -11,21 +11,10 @@ pub rose_since : (first before after : ℕ) → first ≤ before → Rose before
 rose_since first before after early (inl more) = inl (omega arith)
 rose_since first before after early (inr last) = inr last
 
--- a count that rose in an earlier part of a call rose in the call, for one that never falls
-pub rose_until : (before between after : ℕ) → before ≤ between → between ≤ after → Rose before between → Rose before after
-rose_until before between after early late (inl more) = inl (omega arith)
-rose_until before between after early late (inr full) =
-    elim (cases_lt between after) [ inl rises ↦ inl (omega arith) | inr stays ↦ inr (omega arith) ]
-
 -- bytes after bytes
 pub grown_twice : (before : Option (List ℕ)) (first more : List ℕ) → grown (grown before first) more ≡ grown before (first ++ more)
 grown_twice None first more = refl
 grown_twice (Some bytes) first more = ap Some (append_assoc bytes first more)
-
--- no byte
-pub grown_by_none : (before : Option (List ℕ)) → grown before [] ≡ before
-grown_by_none None = refl
-grown_by_none (Some bytes) = ap Some (append-nil bytes)
 
 -- after a first piece was written whole, a prefix of the second is one of both
 pub grew_later : (before between after : Option (List ℕ)) (first second : List ℕ) → between ≡ grown before first →

@@ -10,11 +10,11 @@ use abi_types::{Bytes, Descriptor, Grant, GrantTarget, ObjId, OpenKind};
 use number_map::NumMap;
 use std::alloc::{AllocError, Global};
 
-/// The process number that stands in the numbers of the objects that the launch makes.
+// The process number that stands in the numbers of the objects that the launch makes.
 const LAUNCH_PROCESS: u64 = 0xffff_ffff;
 
-/// The count of the first grant's open among the launch's objects: 1 to 3 are the standard streams, 4 is the root of
-/// the file tree, and from 5 on come the opens of the granted descriptors.
+// The count of the first grant's open among the launch's objects: 1 to 3 are the standard streams, 4 is the root of
+// the file tree, and from 5 on come the opens of the granted descriptors.
 const FIRST_GRANT: u64 = 5;
 
 /// The number of the launch's object with this count.
@@ -44,7 +44,7 @@ pub fn unwritten(alloc: Global) -> Result<NumMap<Bytes>, AllocError>
     Ok(made)
 }
 
-/// What a grant opens.
+// What a grant opens.
 fn open_of(target: GrantTarget) -> OpenKind
     ensures { result ≡ open_of target }
 {
@@ -53,7 +53,7 @@ fn open_of(target: GrantTarget) -> OpenKind
     }
 }
 
-/// Puts a granted descriptor at its number, and its open, which it alone holds.
+// Puts a granted descriptor at its number, and its open, which it alone holds.
 fn put_grant(
     table: &mut Table,
     objects: &mut Objects,
