@@ -3,12 +3,12 @@ use Rattle.std.proofs.Common.{◌≢◌, ℕ, List, refl, subst, inl, inr}
 use Rattle.std.specs.Prelude.{Option, None, Some, Err, Contains}
 use Rattle.input_output.specs.Source.{Told}
 use Rattle.launch_words.specs.Settings.{Settings}
-use Rattle.launch_run.specs.Inputs.{IsNoLaunchOf}
-use Rattle.launch_run.specs.Launch.{Spelled, untold, refuses, spells, words_spell, inputs_spell, settings_inputs, AnswersSpelled, IfInput, IfTooLong, IsOfTexts, IsToldAs}
-use Rattle.launch_run.specs.Lines.{line_of, status_of}
+use Rattle.launch_reading.specs.Inputs.{IsNoLaunchOf}
+use Rattle.launch_reading.specs.Launch.{Spelled, untold, refuses, spells, words_spell, inputs_spell, settings_inputs, AnswersSpelled, IfInput, IfTooLong, IsOfTexts, IsToldAs}
+use Rattle.launch_reading.specs.Lines.{line_of, status_of}
 use Rattle.launch_run.specs.TopCall.{IsRefusalOf}
-use Rattle.launch_run.specs.declared.lines.Refusal.{Refusal}
-use Rattle.launch_run.specs.declared.lines.Refusal.TheVariants.{Words, Input, TooLong, Program, Tree, LaunchText, Memory}
+use Rattle.launch_reading.specs.declared.lines.Refusal.{Refusal}
+use Rattle.launch_reading.specs.declared.lines.Refusal.TheVariants.{Words, Input, TooLong, Program, Tree, LaunchText, Memory}
 
 -- want of memory answers anything
 memory_answers : (spelled : Spelled) → AnswersSpelled spelled (Err Memory)

@@ -10,10 +10,10 @@ use Rattle.run_types.specs.declared.launch.Launch.{Launch}
 use Rattle.abi_base.specs.Grants.{AreGrants}
 use Rattle.run_model.proofs.Confinements.{legal_is_confined}
 use Rattle.launch_words.specs.Settings.{Settings}
-use Rattle.launch_run.specs.Launch.{Spelled, untold, refuses, spells, words_spell, inputs_with, history_with, AnswersSpelled, IsToldAs, IsBuiltBy}
-use Rattle.launch_run.specs.Lines.{words_line, memory_line, status_of}
-use Rattle.launch_run.specs.declared.lines.Refusal.{Refusal}
-use Rattle.launch_run.specs.declared.lines.Refusal.TheVariants.{Words, Input, TooLong, Program, Tree, LaunchText, Memory}
+use Rattle.launch_reading.specs.Launch.{Spelled, untold, refuses, spells, words_spell, inputs_with, history_with, AnswersSpelled, IsToldAs, IsBuiltBy}
+use Rattle.launch_reading.specs.Lines.{words_line, memory_line, status_of}
+use Rattle.launch_reading.specs.declared.lines.Refusal.{Refusal}
+use Rattle.launch_reading.specs.declared.lines.Refusal.TheVariants.{Words, Input, TooLong, Program, Tree, LaunchText, Memory}
 use Rattle.launch_run.specs.declared.top.RunEnd.{RunEnd}
 use Rattle.launch_run.specs.declared.top.RunEnd.TheVariants.{Reported, Unwritten, NoMemory}
 use Rattle.launch_run.specs.declared.top.TopEnd.{TopEnd}

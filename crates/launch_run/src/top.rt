@@ -4,18 +4,18 @@ ghost use Rattle.input_output.specs.Source.{Rose};
 ghost use Rattle.launch_words.specs.Settings.{IsWithin, view};
 ghost use Rattle.launch_words.specs.Words.{words_of};
 ghost use Rattle.run_report.specs.Report.{report_of};
-ghost use Rattle.launch_run.specs.Launch.{launch_of, inputs_of, settings_inputs, asks_history};
-ghost use Rattle.launch_run.specs.Lines.{line_of, words_line, memory_line};
-ghost use Rattle.launch_run.specs.Run.{IsBounded, IsBetween, IsLive};
+ghost use Rattle.launch_reading.specs.Launch.{launch_of, inputs_of, settings_inputs, asks_history};
+ghost use Rattle.launch_reading.specs.Lines.{line_of, words_line, memory_line};
+ghost use Rattle.call_codec.specs.Bounded.{IsBounded};
+ghost use Rattle.plain_run.specs.Run.{IsBetween, IsLive};
 ghost use Rattle.launch_run.specs.TopCall.{Wrote, IsEndOf, IsToldEnd, TellsEnd, IsTopEnd, IsTopStatus, IsInputRefused, IsProgramRefused, IsTreeRefused, IsTextRefused, HasReported, HasFailed, IsKept, Completes, status_number, kept_of, finished_run, finished_of};
 ghost use Rattle.launch_run.specs.declared.top.TopEnd.TheVariants.{Refused};
 
-use crate::inputs::read_launch;
-use crate::lines::Refusal;
-use crate::run::Run;
 use abi_types::{Pid, Status};
 use input_output::{Sink, Source, write_whole};
+use launch_reading::{Refusal, read_launch};
 use launch_words::{LaunchWords, WordsFault, read_words};
+use plain_run::Run;
 use run_report::report;
 use run_types::{Launch, Record};
 use std::alloc::Global;
@@ -273,6 +273,3 @@ pub fn run_launch<S: Source, K: Sink>(
 {
     finish(launch_and_run(alloc, words, source, sink))
 }
-
-#[cfg(test)]
-mod tests;
