@@ -1,27 +1,14 @@
 -- What a launch text gives, part by part.
 use Rattle.std.proofs.Common.{◌≡◌, ℕ, List, Result, Ok, Err, ap, ◌∙◌}
-use Rattle.abi_base.specs.declared.grant.Grant.{Grant}
 use Rattle.yaml_values.specs.Shape.{Shape}
 use Rattle.launch_yaml.specs.declared.document.YamlFault.{YamlFault}
 use Rattle.launch_yaml.specs.declared.document.YamlFault.TheVariants.{At, NoMemory}
 use Rattle.launch_yaml.specs.Document.{parse_at}
 use Rattle.launch_yaml.specs.Parsing.{IsFault as IsFileFault}
-use Rattle.launch_plan.specs.declared.fault.PlanFault.{PlanFault}
-use Rattle.launch_plan.specs.declared.fault.PlanFault.TheVariants as plans
-use Rattle.launch_plan.specs.Answers.{IsFault}
 use Rattle.launch_plan.specs.Plan.{plan_of}
-use Rattle.launch_reading.specs.LaunchText.{TextPlan, with_plan, with_document, planned_text, IsTextFault, of_file, of_plan}
+use Rattle.launch_reading.specs.LaunchText.{TextPlan, with_plan, with_document, planned_text, IsTextFault, of_file}
 use Rattle.launch_reading.specs.declared.launch_text.LaunchFault.{LaunchFault}
 use Rattle.launch_reading.specs.declared.launch_text.LaunchFault.TheVariants.{Yaml}
-
--- the fault of a plan
-pub plan_fault : (fault : PlanFault) (read : Result (List ℕ × List Grant) PlanFault) → IsFault fault read → IsTextFault (with_plan read) (of_plan fault)
-plan_fault (plans.UnknownTag line) read h = ap with_plan h
-plan_fault (plans.BadFd line) read h = ap with_plan h
-plan_fault (plans.NotBuilt line) read h = ap with_plan h
-plan_fault plans.TooMany read h = ap with_plan h
-plan_fault plans.TooLarge read h = ap with_plan h
-plan_fault plans.NoMemory read h = tt
 
 -- the fault of a file
 pub file_fault : (fault : YamlFault) (text : List ℕ) → IsFileFault fault (parse_at text) → IsTextFault (planned_text text) (of_file fault)
@@ -37,6 +24,3 @@ file_fault (At line kind) text h =
 pub file_read : (text : List ℕ) (document : Shape) → parse_at text ≡ Ok document → planned_text text ≡ with_plan (plan_of document)
 unfolding planned_text
 file_read text document h = ap with_document h
-
-pub plan_read : (document : Shape) (planned : List ℕ × List Grant) → plan_of document ≡ Ok planned → with_plan (plan_of document) ≡ Ok planned
-plan_read document planned h = ap with_plan h

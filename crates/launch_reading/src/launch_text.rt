@@ -10,7 +10,7 @@ use launch_yaml::{Doc, YamlFault, YamlKind, parse};
 use std::alloc::Global;
 
 /// Why a launch text gives no plan.
-#[derive(Clone, Copy, Debug, Drop, PartialEq, Eq)]
+#[derive(Clone, Copy, Drop)]
 pub enum LaunchFault {
     /// It is no launch file: the line of its first fault, from 1, and what is wrong there.
     Yaml(u32, YamlKind),

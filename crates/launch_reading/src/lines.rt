@@ -82,7 +82,7 @@ fn launch_ending(fault: LaunchFault) -> &'static str
 }
 
 /// Why a run did not begin.
-#[derive(Clone, Copy, Debug, PartialEq, Eq)]
+#[derive(Clone, Copy)]
 pub enum Refusal<'a> {
     /// The words are not in the grammar.
     Words,

@@ -10,12 +10,6 @@ use Rattle.launch_run.specs.TopCall.{IsRefusalOf}
 use Rattle.launch_reading.specs.declared.lines.Refusal.{Refusal}
 use Rattle.launch_reading.specs.declared.lines.Refusal.TheVariants.{Words, Input, TooLong, Program, Tree, LaunchText, Memory}
 
--- want of memory answers anything
-memory_answers : (spelled : Spelled) → AnswersSpelled spelled (Err Memory)
-memory_answers untold = tt
-memory_answers (refuses status line) = inl refl
-memory_answers (spells launch) = inr refl
-
 -- settings that were read are not refused for their words
 pub not_words : (names : List (List ℕ)) (spelled : Spelled) (rose : Type 0) (r : Refusal) → IsNoLaunchOf names spelled rose r → r ≢ Words
 not_words names spelled rose r h is = subst (IsNoLaunchOf names spelled rose) is h
@@ -61,25 +55,3 @@ module _ (settings : Settings) (told : List ℕ → Told) (rose : Type 0) where
     refused = of_text r h;
     complete = complete;
   }
-
--- the words are refused
-pub words_refused : (told : List ℕ → Told) (rose : Type 0) → IsRefusalOf None told rose Words
-words_refused told rose = record {
-  words_refused = λ is. refl;
-  words_answered = λ none. inl refl;
-  input = tt;
-  too_long = tt;
-  refused = λ text. refl;
-  complete = λ calm. inr (refl, refl);
-}
-
--- memory was wanting while the words were read
-pub words_unread : (given : Option Settings) (told : List ℕ → Told) (rose : Type 0) → IsRefusalOf given told rose Memory
-words_unread given told rose = record {
-  words_refused = λ is. absurd (cc);
-  words_answered = λ none. inr refl;
-  input = tt;
-  too_long = tt;
-  refused = λ text. absurd text;
-  complete = λ calm. memory_answers (words_spell given told);
-}

@@ -16,15 +16,15 @@ use Rattle.guest_memory.specs.Page.{Pages}
 use Rattle.call_codec.specs.Args.{args_of}
 use Rattle.run_model.specs.Legal.{Legal, Fits, FitsAct, AreWhole}
 use Rattle.call_codec.specs.Put.{answered_memory, answered_of}
-use Rattle.run_model.specs.World.{World, Guest, world, apply, acted, turned, guest_of, registers_of, turned_guest_by, called_state, called_guest}
+use Rattle.run_model.specs.World.{World, Guest, world, apply, acted, turned, guest_of, registers_of, called_state, called_guest}
 use Rattle.run_model.proofs.Calls.{called_is, ended_by, threads_stay, clock_moves}
 use Rattle.run_model.proofs.Histories.{world_more, legal_more, apply_is, guest_turned, guest_set, registers_set}
 use Rattle.plain_run.specs.declared.run.Run.{Run}
-use Rattle.plain_run.specs.Run.{IsAt, IsBetween, IsStopped, IsLive, GoesOn, EndsBy, settled, turned_now}
+use Rattle.plain_run.specs.Run.{IsAt, IsBetween, IsStopped, IsLive, GoesOn, EndsBy, settled, turned_now, entry_now}
 
 -- the run after an entry, with no turn that has none
-abbrev pub entered : Run → State → Pages → Registers → ℕ → List ℕ → List Entry → Run
-entered r kernel memory regs left turns history = record { launch = r.launch; kernel = kernel; memory = memory; regs = regs; left = left; turns = turns; history = history }
+abbrev pub entered : Run → State → Pages → Registers → List Entry → Run
+entered r kernel memory regs history = record r { kernel = kernel; memory = memory; regs = regs; turns = []; history = history }
 
 -- the world of the history
 abbrev pub world_now : Run → World
@@ -36,14 +36,12 @@ pub legal_after : {T E : Type 0} (result : Result T E) (r : Run) (history : List
 legal_after (Ok x) r history e legal fits more same = subst (Legal r.launch) (sym more) (legal_more r.launch r.history e legal fits)
 legal_after (Err x) r history e legal fits more same = subst (Legal r.launch) (sym same) legal
 
-pub at_entry : (r : Run) (kernel : State) (memory : Pages) (regs : Registers) (left : ℕ) (turns : List ℕ) (history : List Entry) (e : Entry) → IsAt r
-    → Fits (world_now r) e → history ≡ r.history ++ e ∷ [] → turns ≡ [] → kernel ≡ (apply (world_now r) e).state
-    → (guest_of (apply (world_now r) e) 0).memory ≡ memory → registers_of (guest_of (apply (world_now r) e) 0) 1 ≡ regs
-    → (guest_of (apply (world_now r) e) 0).left ≡ left → IsAt (entered r kernel memory regs left turns history)
-at_entry r kernel memory regs left turns history e at fits more none state same_memory same_regs same_left =
+at_entry : (r : Run) (kernel : State) (memory : Pages) (regs : Registers) (history : List Entry) (e : Entry) → IsAt r → Fits (world_now r) e
+    → history ≡ r.history ++ e ∷ [] → kernel ≡ (apply (world_now r) e).state → (guest_of (apply (world_now r) e) 0).memory ≡ memory
+    → registers_of (guest_of (apply (world_now r) e) 0) 1 ≡ regs → (guest_of (apply (world_now r) e) 0).left ≡ r.left → IsAt (entered r kernel memory regs history)
+at_entry r kernel memory regs history e at fits more state same_memory same_regs same_left =
     let there : world r.launch history ≡ apply (world_now r) e = ap (world r.launch) more ∙ world_more r.launch r.history e in
-    let now : turned_guest_by turns (guest_of (world r.launch history) 0) ≡ guest_of (apply (world_now r) e) 0 =
-    ap (λ (ts : List ℕ). turned_guest_by ts (guest_of (world r.launch history) 0)) none ∙ ap (λ (w : World). guest_of w 0) there in
+    let now : guest_of (world r.launch history) 0 ≡ guest_of (apply (world_now r) e) 0 = ap (λ (w : World). guest_of w 0) there in
     record {
       bounded = at.bounded;
       legal = subst (Legal r.launch) (sym more) (legal_more r.launch r.history e at.legal fits);
@@ -68,50 +66,43 @@ not_live (act.Call call given) status by = absurd by
 not_live (act.Trap signal) status by = λ e. cc
 not_live act.Expire status by = λ e. cc
 
--- an entry of process 0's thread
-abbrev pub entry_of : ℕ → List ℕ → Act → Entry
-entry_of moment turns a = record { moment = moment; pid = 0; tid = 1; turns = turns; act = a }
+-- the entry of an act that leaves the kernel in this state
+abbrev pub entry_of : Run → State → Act → Entry
+entry_of r kernel a = entry_now (record r { kernel = kernel }) a
 
 -- the act's wants at the run's own state are those at the world's
-fits_there : (r : Run) (turns : List ℕ) (a : Act) → turns ≡ r.turns → IsAt r → FitsAct r.kernel 0 1 (settled r) r.turns a
-    → FitsAct (world_now r).state 0 1 (settled r) turns a
-fits_there r turns a same at fits =
-    subst (λ (ts : List ℕ). FitsAct (world_now r).state 0 1 (settled r) ts a) (sym same)
-    (subst (λ (S : State). FitsAct S 0 1 (settled r) r.turns a) at.state fits)
+fits_there : (r : Run) (a : Act) → IsAt r → FitsAct r.kernel 0 1 (settled r) r.turns a → FitsAct (world_now r).state 0 1 (settled r) r.turns a
+fits_there r a at fits = subst (λ (S : State). FitsAct S 0 1 (settled r) r.turns a) at.state fits
 
 live_there : (r : Run) → IsAt r → IsLive r → get (world_now r).state.statuses 0 ≡ Some Live
 live_there r at live = ap (λ (S : State). get S.statuses 0) (sym at.state) ∙ live
 
-module _ (r : Run) (moment : ℕ) (turns : List ℕ) (a : Act) (status : Status) (same : turns ≡ r.turns) (by : EndsBy a status) (at : IsAt r) where
-  pub stop_state : (apply (world_now r) (entry_of moment turns a)).state ≡ end_state r.kernel 0 status
-  stop_state = ap (λ (w : World). w.state) (apply_stop (world_now r) (entry_of moment turns a) status by) ∙ ap (λ (S : State). end_state S 0 status) (sym at.state)
+module _ (r : Run) (kernel : State) (a : Act) (status : Status) (by : EndsBy a status) (at : IsAt r) (state : kernel ≡ end_state r.kernel 0 status) where
+  stop_state : (apply (world_now r) (entry_of r kernel a)).state ≡ end_state r.kernel 0 status
+  stop_state = ap (λ (w : World). w.state) (apply_stop (world_now r) (entry_of r kernel a) status by) ∙ ap (λ (S : State). end_state S 0 status) (sym at.state)
 
-  pub stop_guest : guest_of (apply (world_now r) (entry_of moment turns a)) 0 ≡ turned_now r
-  stop_guest =
-      ap (λ (w : World). guest_of w 0) (apply_stop (world_now r) (entry_of moment turns a) status by)
-      ∙ guest_turned (world_now r) 0 turns
-      ∙ ap (λ (ts : List ℕ). turned_guest_by ts (settled r)) same
+  stop_guest : guest_of (apply (world_now r) (entry_of r kernel a)) 0 ≡ turned_now r
+  stop_guest = ap (λ (w : World). guest_of w 0) (apply_stop (world_now r) (entry_of r kernel a) status by) ∙ guest_turned (world_now r) 0 r.turns
 
-  pub stop_fits : IsLive r → FitsAct r.kernel 0 1 (settled r) r.turns a → moment ≡ (end_state r.kernel 0 status).clock → Fits (world_now r) (entry_of moment turns a)
-  stop_fits live fits now = record {
+  pub stop_fits : IsLive r → FitsAct r.kernel 0 1 (settled r) r.turns a → Fits (world_now r) (entry_of r kernel a)
+  stop_fits live fits = record {
     live = live_there r at live;
-    act = fits_there r turns a same at fits;
-    moment = now ∙ sym (ap (λ (S : State). S.clock) stop_state);
+    act = fits_there r a at fits;
+    moment = ap (λ (S : State). S.clock) (state ∙ sym stop_state);
   }
 
   -- the run after the end: process 0 isn't live
-  pub stop_between : (kernel : State) (none : List ℕ) (history : List Entry) → kernel ≡ end_state r.kernel 0 status → none ≡ []
-      → history ≡ r.history ++ entry_of moment turns a ∷ [] → Fits (world_now r) (entry_of moment turns a)
-      → IsBetween (entered r kernel r.memory r.regs r.left none history) × ¬ (get kernel.statuses 0 ≡ Some Live)
-  stop_between kernel none history state empty more fits =
+  pub stop_between : (history : List Entry) → history ≡ r.history ++ entry_of r kernel a ∷ [] → Fits (world_now r) (entry_of r kernel a)
+      → IsBetween (entered r kernel r.memory r.regs history) × ¬ (get kernel.statuses 0 ≡ Some Live)
+  stop_between history more fits =
       let dead : ¬ (get kernel.statuses 0 ≡ Some Live) =
       λ live. ended_by r.kernel 0 status (not_live a status by) (ap (λ (S : State). get S.statuses 0) (sym state) ∙ live) in (
         record {
-          at = at_entry r kernel r.memory r.regs r.left none history (entry_of moment turns a) at fits more empty (state ∙ sym stop_state)
+          at = at_entry r kernel r.memory r.regs history (entry_of r kernel a) at fits more (state ∙ sym stop_state)
               (ap (λ (g : Guest). g.memory) stop_guest ∙ at.memory)
               (ap (λ (g : Guest). registers_of g 1) stop_guest ∙ at.regs)
               (ap (λ (g : Guest). g.left) stop_guest ∙ at.left);
-          whole = subst (AreWhole kernel 0 (guest_of (world r.launch history) 0)) (sym empty) tt;
+          whole = tt;
           goes_on = λ live. absurd (dead live);
         },
         dead,
@@ -122,7 +113,7 @@ module _ (r : Run) (moment : ℕ) (turns : List ℕ) (a : Act) (status : Status)
 called_registers : (guest : Guest) (t : ℕ) (call : Call) (given : Answer) → registers_of (called_guest guest t call given) t ≡ answered_of (registers_of guest t) call given
 called_registers guest t call given = registers_set guest t (answered_of (registers_of guest t) call given)
 
-module _ (r : Run) (moment : ℕ) (turns : List ℕ) (call : Call) (given : Answer) (kernel : State) (same : turns ≡ r.turns) (stopped : IsStopped r turn_end_is.Ecall)
+module _ (r : Run) (call : Call) (given : Answer) (kernel : State) (stopped : IsStopped r turn_end_is.Ecall)
     (spelled : call ≡ args_of r.memory r.regs) (step : IsStep r.kernel 0 call given kernel) where
   -- the state that the entry leaves is the kernel's
   settled_state : kernel ≡ called_state r.kernel 0 call given
@@ -130,34 +121,32 @@ module _ (r : Run) (moment : ℕ) (turns : List ℕ) (call : Call) (given : Answ
       subst (λ (x : Call). IsStep r.kernel 0 x given kernel → kernel ≡ called_state r.kernel 0 x given) (sym spelled)
       (called_is r.memory r.regs r.kernel 0 given kernel) step
 
-  applied : apply (world_now r) (entry_of moment turns (act.Call call given))
-      ≡ acted (turned (world_now r) 0 turns) 0 1 (act.Call call given)
-  applied = apply_is (world_now r) (entry_of moment turns (act.Call call given))
+  applied : apply (world_now r) (entry_of r kernel (act.Call call given)) ≡ acted (turned (world_now r) 0 r.turns) 0 1 (act.Call call given)
+  applied = apply_is (world_now r) (entry_of r kernel (act.Call call given))
 
-  pub call_state : (apply (world_now r) (entry_of moment turns (act.Call call given))).state ≡ kernel
+  call_state : (apply (world_now r) (entry_of r kernel (act.Call call given))).state ≡ kernel
   call_state =
       ap (λ (w : World). w.state) applied
       ∙ ap (λ (S : State). called_state S 0 call given) (sym stopped.at.state)
       ∙ sym settled_state
 
-  pub call_guest : guest_of (apply (world_now r) (entry_of moment turns (act.Call call given))) 0 ≡ called_guest (turned_now r) 1 call given
+  call_guest : guest_of (apply (world_now r) (entry_of r kernel (act.Call call given))) 0 ≡ called_guest (turned_now r) 1 call given
   call_guest =
       ap (λ (w : World). guest_of w 0) applied
-      ∙ guest_set (turned (world_now r) 0 turns) 0 _
-      ∙ ap (λ (g : Guest). called_guest g 1 call given) (guest_turned (world_now r) 0 turns ∙ ap (λ (ts : List ℕ). turned_guest_by ts (settled r)) same)
+      ∙ guest_set (turned (world_now r) 0 r.turns) 0 _
+      ∙ ap (λ (g : Guest). called_guest g 1 call given) (guest_turned (world_now r) 0 r.turns)
 
-  pub call_fits : moment ≡ kernel.clock → Fits (world_now r) (entry_of moment turns (act.Call call given))
-  call_fits now = record {
+  pub call_fits : Fits (world_now r) (entry_of r kernel (act.Call call given))
+  call_fits = record {
     live = live_there r stopped.at stopped.live;
-    act = fits_there r turns (act.Call call given) same stopped.at
+    act = fits_there r (act.Call call given) stopped.at
         (stopped.last, spelled ∙ (λ i. args_of (sym stopped.at.memory i) (sym stopped.at.regs i)), subst (IsStep r.kernel 0 call given) settled_state step);
-    moment = now ∙ sym (ap (λ (S : State). S.clock) call_state);
+    moment = ap (λ (S : State). S.clock) (sym call_state);
   }
 
   -- while the process is live after the call, its thread is runnable
-  still_on : (memory : Pages) (regs : Registers) (none : List ℕ) (history : List Entry) → IsLive (entered r kernel memory regs r.left none history)
-      → GoesOn (entered r kernel memory regs r.left none history)
-  still_on memory regs none history live =
+  still_on : (memory : Pages) (regs : Registers) (history : List Entry) → IsLive (entered r kernel memory regs history) → GoesOn (entered r kernel memory regs history)
+  still_on memory regs history live =
       let thread = stopped.runnable in
       record {
         runnable = (thread.0, threads_stay r.kernel 0 call given kernel step live stopped.live ∙ thread.1, thread.2);
@@ -168,15 +157,13 @@ module _ (r : Run) (moment : ℕ) (turns : List ℕ) (call : Call) (given : Answ
   called_memory : (called_guest (turned_now r) 1 call given).memory ≡ answered_memory r.memory r.regs call given
   called_memory = λ i. answered_memory (stopped.at.memory i) (stopped.at.regs i) call given
 
-  pub call_between : (memory : Pages) (regs : Registers) (none : List ℕ) (history : List Entry) → memory ≡ answered_memory r.memory r.regs call given
-      → regs ≡ answered_of r.regs call given → none ≡ []
-      → history ≡ r.history ++ entry_of moment turns (act.Call call given) ∷ [] → Fits (world_now r) (entry_of moment turns (act.Call call given))
-      → IsBetween (entered r kernel memory regs r.left none history)
-  call_between memory regs none history put_memory put empty more fits = record {
-    at = at_entry r kernel memory regs r.left none history _ stopped.at fits more empty (sym call_state)
+  pub call_between : (memory : Pages) (regs : Registers) (history : List Entry) → memory ≡ answered_memory r.memory r.regs call given
+      → regs ≡ answered_of r.regs call given → history ≡ r.history ++ entry_of r kernel (act.Call call given) ∷ [] → IsBetween (entered r kernel memory regs history)
+  call_between memory regs history put_memory put more = record {
+    at = at_entry r kernel memory regs history _ stopped.at call_fits more (sym call_state)
         (ap (λ (g : Guest). g.memory) call_guest ∙ called_memory ∙ sym put_memory)
         (ap (λ (g : Guest). registers_of g 1) call_guest ∙ called_registers (turned_now r) 1 call given ∙ ap (λ (x : Registers). answered_of x call given) stopped.at.regs ∙ sym put)
         (ap (λ (g : Guest). g.left) call_guest ∙ stopped.at.left);
-    whole = subst (AreWhole kernel 0 (guest_of (world r.launch history) 0)) (sym empty) tt;
-    goes_on = still_on memory regs none history;
+    whole = tt;
+    goes_on = still_on memory regs history;
   }

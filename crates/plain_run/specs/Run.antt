@@ -6,6 +6,7 @@ use Rattle.abi_types.specs.declared.status.Status.TheVariants.{Live, Exit, Kille
 use Rattle.abi_base.specs.declared.signal.Signal.TheVariants.{Xcpu}
 use Rattle.run_types.specs.declared.history.Act.{Act}
 use Rattle.run_types.specs.declared.history.Act.TheVariants as act
+use Rattle.run_types.specs.declared.history.Entry.{Entry}
 use Rattle.run_types.specs.declared.launch.Launch.{Launch}
 use Rattle.rv_interp.specs.declared.turns.TurnEnd.{TurnEnd}
 use Rattle.run_model.specs.Legal.{Legal, AreWhole, LastEnds, IsRunnable}
@@ -70,3 +71,7 @@ abbrev pub EndsBy : Act → Status → Type 0
 EndsBy (act.Call call given) status = ⊥
 EndsBy (act.Trap signal) status = status ≡ Killed signal
 EndsBy act.Expire status = status ≡ Killed Xcpu
+
+-- the entry of an act that was done up to this moment, after the turns that no entry has yet
+abbrev pub entry_now : Run → Act → Entry
+entry_now r a = record { moment = r.kernel.clock; pid = 0; tid = 1; turns = r.turns; act = a }

@@ -1,9 +1,9 @@
 //! The plain run of a launch: process 0's thread takes turns, and each call, trap and expiry is an entry.
-ghost use Rattle.std.specs.Prelude.{◌≡◌, ◌<◌, [], IfOk, OnOk};
+ghost use Rattle.std.specs.Prelude.{◌≡◌, ◌<◌, [], ◌∷◌, ◌++◌, IfOk, OnOk, OnErr};
 ghost use Rattle.run_model.specs.Legal.{Legal, FitsAct};
 ghost use Rattle.rv_interp.specs.declared.turns.TurnEnd.TheVariants as turn_end;
 ghost use Rattle.call_codec.specs.Bounded.{IsBounded};
-ghost use Rattle.plain_run.specs.Run.{IsAt, IsBetween, IsStopped, IsLive, GoesOn, EndsBy, settled, ahead};
+ghost use Rattle.plain_run.specs.Run.{IsAt, IsBetween, IsStopped, IsLive, GoesOn, EndsBy, settled, ahead, entry_now};
 
 use abi_types::{Pid, Regs, Signal, Status, Tid, TidList};
 use call_codec::{args, put_answer, start_memory};
@@ -14,13 +14,13 @@ use rv_interp::{TurnEnd, turn};
 use std::alloc::{AllocError, Global};
 use std::mem;
 
-/// The launched process.
+// The launched process.
 const FIRST: Pid = Pid(0);
 
-/// Its thread.
+// Its thread.
 const THREAD: Tid = Tid(1);
 
-/// The canary of a start, which has no random bytes yet.
+// The canary of a start, which has no random bytes yet.
 const CANARY: [u8; 64] = [0; 64];
 
 /// A run of a launch, as far as it has come: the kernel's state, process 0's memory, its thread's registers, the turns
@@ -58,7 +58,23 @@ impl Run {
         })
     }
 
-    /// Ends process 0 from outside, with an entry that says so.
+    // Adds an entry: what was done up to this moment, after the turns that no entry has yet.
+    fn enter(&mut self, alloc: Global, act: Act) -> Result<(), AllocError>
+        ensures rest { self.new ≡ record self.old { turns = []; history = self.new.history } }
+        ensures ok { OnOk result (self.new.history ≡ self.old.history ++ entry_now self.old act ∷ []) }
+        ensures err { OnErr result (self.new.history ≡ self.old.history) }
+    {
+        let turns = mem::replace(&mut self.turns, TidList::new(alloc));
+        self.history.push(Entry {
+            moment: self.kernel.moment(),
+            pid: FIRST,
+            tid: THREAD,
+            turns,
+            act,
+        })
+    }
+
+    // Ends process 0 from outside, with an entry that says so.
     fn stop(&mut self, alloc: Global, act: Act, status: Status) -> Result<(), AllocError>
         requires at { IsAt self.old }
         requires live { IsLive self.old }
@@ -71,17 +87,10 @@ impl Run {
         ensures legal { Legal self.new.launch self.new.history }
     {
         self.kernel.end(FIRST, status);
-        let turns = mem::replace(&mut self.turns, TidList::new(alloc));
-        self.history.push(Entry {
-            moment: self.kernel.moment(),
-            pid: FIRST,
-            tid: THREAD,
-            turns,
-            act,
-        })
+        self.enter(alloc, act)
     }
 
-    /// The call at which the last turn ended: its answer, and an entry.
+    // The call at which the last turn ended: its answer, and an entry.
     fn call(&mut self, alloc: Global) -> Result<(), AllocError>
         requires { IsStopped self.old turn_end.Ecall }
         ensures ok { OnOk result (IsBetween self.new) }
@@ -92,17 +101,10 @@ impl Run {
         let call = args(alloc, &self.regs, &self.memory)?;
         let answer = self.kernel.step(FIRST, THREAD, &call);
         put_answer(alloc, &mut self.regs, &mut self.memory, &call, &answer)?;
-        let turns = mem::replace(&mut self.turns, TidList::new(alloc));
-        self.history.push(Entry {
-            moment: self.kernel.moment(),
-            pid: FIRST,
-            tid: THREAD,
-            turns,
-            act: Act::Call { call, answer },
-        })
+        self.enter(alloc, Act::Call { call, answer })
     }
 
-    /// One turn, and the entry that it asks for, if it asks for one; or the end of a process that has no turn left.
+    // One turn, and the entry that it asks for, if it asks for one; or the end of a process that has no turn left.
     fn round(&mut self, alloc: Global) -> Result<(), AllocError>
         requires between { IsBetween self.old }
         requires live { IsLive self.old }

@@ -1,26 +1,23 @@
-use Rattle.std.proofs.Common.{◌∙◌}
+use Rattle.std.proofs.Common.{sym, subst}
 use Rattle.std.proofs.lemmas.Result.{on_ok_weaker}
 use Rattle.run_types.specs.declared.history.Act.TheVariants as act
-use Rattle.run_model.specs.Legal.{Fits}
-use Rattle.plain_run.proofs.Entries.{legal_after, world_now, entry_of, call_fits, call_between}
+use Rattle.run_model.specs.Legal.{Legal}
+use Rattle.plain_run.specs.Run.{IsBetween}
+use Rattle.plain_run.specs.declared.run.Run.{Run}
+use Rattle.plain_run.proofs.Entries.{legal_after, call_fits, call_between}
 use Rattle.plain_run.proofs.run.Run.call.Goals as goal
-use Rattle.plain_run.proofs.run.Run.call.Goals.{After-push}
-
--- the entry fits
-fits : (c : After-push) → Fits (world_now c.args.self.now) (entry_of c.moment.result c.replace-turns.result (act.Call c.in_ok-call.call c.step-answer.result))
-fits c =
-    call_fits c.args.self.now c.moment.result c.replace-turns.result c.in_ok-call.call c.step-answer.result c.step-answer.new.self c.replace-turns.ensures.value
-    c.requires c.in_ok-call.ensures c.step-answer.ensures.step c.moment.ensures
 
 pub returns-clause-ok : goal.returns-clause-ok
 returns-clause-ok c =
-    let a = (goal.at.returns-clause-ok c).After-push in
     on_ok_weaker _
-    (λ more. call_between c.args.self.now c.moment.result c.replace-turns.result c.in_ok-call.call c.step-answer.result c.step-answer.new.self c.replace-turns.ensures.value
-    c.requires c.in_ok-call.ensures c.step-answer.ensures.step c.put_answer.new.memory c.put_answer.new.regs c.replace-turns.new.dest c.push.new.self (c.in_ok-put_answer.ensures.memory) (c.in_ok-put_answer.ensures.regs) (c.replace-turns.ensures.after ∙ c.new.ensures) more (fits a))
-    c.push.ensures.ok
+    (λ more. subst IsBetween (sym c.enter.ensures.rest)
+    (call_between c.args.self.now c.in_ok-call.call c.step-answer.result c.step-answer.new.self c.requires c.in_ok-call.ensures c.step-answer.ensures.step
+    c.put_answer.new.memory c.put_answer.new.regs c.enter.new.self.history c.in_ok-put_answer.ensures.memory c.in_ok-put_answer.ensures.regs more))
+    c.enter.ensures.ok
 
 pub returns-clause-legal : goal.returns-clause-legal
 returns-clause-legal c =
-    let a = (goal.at.returns-clause-legal c).After-push in
-    legal_after c.push.result c.args.self.now c.push.new.self _ c.requires.at.legal (fits a) c.push.ensures.ok c.push.ensures.err
+    subst (λ (x : Run). Legal x.launch c.enter.new.self.history) (sym c.enter.ensures.rest)
+    (legal_after c.enter.result c.args.self.now c.enter.new.self.history _ c.requires.at.legal
+    (call_fits c.args.self.now c.in_ok-call.call c.step-answer.result c.step-answer.new.self c.requires c.in_ok-call.ensures c.step-answer.ensures.step)
+    c.enter.ensures.ok c.enter.ensures.err)
