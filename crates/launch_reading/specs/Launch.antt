@@ -2,6 +2,7 @@
 use Rattle.std.specs.Prelude.{◌≡◌, ◌==◌, ◌++◌, ℕ, ◌⊎◌, ⊤, Bool, false, List, [], ◌∷◌, cond, length, nat_lt, Option, None, Some, Result, Ok, Err}
 use Rattle.std.specs.Option.{option_to_list}
 use Rattle.input_output.specs.Source.{Told, Untold, Lacking, Content}
+use Rattle.input_output.specs.declared.whole.TheConstants.{INPUT_LIMIT}
 use Rattle.elf_image.specs.Checks.{fault_of}
 use Rattle.elf_image.specs.Image.{image}
 use Rattle.elf_image.specs.declared.fault.ElfFault.{ElfFault}
@@ -24,7 +25,7 @@ pub data Spelled : Type 0 where
 
 -- the most bytes that an input may have
 abbrev pub input_limit : ℕ
-input_limit = 268_435_456
+input_limit = INPUT_LIMIT
 
 -- the launch of these settings and inputs, under what the launch text gives
 abbrev pub launch_with : Settings → Inputs → List ℕ × List Grant → Launch

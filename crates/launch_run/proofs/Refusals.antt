@@ -1,10 +1,10 @@
 -- A refusal of settings or of words, as the top call answers it.
-use Rattle.std.proofs.Common.{◌≢◌, ℕ, List, refl, subst, inl, inr}
-use Rattle.std.specs.Prelude.{Option, None, Some, Err, Contains}
+use Rattle.std.proofs.Common.{◌≢◌, ℕ, List, subst}
+use Rattle.std.specs.Prelude.{Some, Err, Contains}
 use Rattle.input_output.specs.Source.{Told}
 use Rattle.launch_words.specs.Settings.{Settings}
 use Rattle.launch_reading.specs.Inputs.{IsNoLaunchOf}
-use Rattle.launch_reading.specs.Launch.{Spelled, untold, refuses, spells, words_spell, inputs_spell, settings_inputs, AnswersSpelled, IfInput, IfTooLong, IsOfTexts, IsToldAs}
+use Rattle.launch_reading.specs.Launch.{Spelled, refuses, inputs_spell, settings_inputs, AnswersSpelled, IfInput, IfTooLong, IsOfTexts, IsToldAs}
 use Rattle.launch_reading.specs.Lines.{line_of, status_of}
 use Rattle.launch_run.specs.TopCall.{IsRefusalOf}
 use Rattle.launch_reading.specs.declared.lines.Refusal.{Refusal}

@@ -14,7 +14,7 @@ use Rattle.kernel_model.specs.Step.{end_state, IsStep}
 use Rattle.rv_interp.specs.declared.turns.TurnEnd.TheVariants as turn_end_is
 use Rattle.guest_memory.specs.Page.{Pages}
 use Rattle.call_codec.specs.Args.{args_of}
-use Rattle.run_model.specs.Legal.{Legal, Fits, FitsAct, AreWhole}
+use Rattle.run_model.specs.Legal.{Legal, Fits, FitsAct}
 use Rattle.call_codec.specs.Put.{answered_memory, answered_of}
 use Rattle.run_model.specs.World.{World, Guest, world, apply, acted, turned, guest_of, registers_of, called_state, called_guest}
 use Rattle.run_model.proofs.Calls.{called_is, ended_by, threads_stay, clock_moves}

@@ -7,7 +7,6 @@ use Rattle.abi_base.specs.declared.signal.Signal.TheVariants.{Xcpu}
 use Rattle.run_types.specs.declared.history.Act.{Act}
 use Rattle.run_types.specs.declared.history.Act.TheVariants as act
 use Rattle.run_types.specs.declared.history.Entry.{Entry}
-use Rattle.run_types.specs.declared.launch.Launch.{Launch}
 use Rattle.rv_interp.specs.declared.turns.TurnEnd.{TurnEnd}
 use Rattle.run_model.specs.Legal.{Legal, AreWhole, LastEnds, IsRunnable}
 use Rattle.run_model.specs.World.{Guest, world, guest_of, registers_of, turned_guest_by}

@@ -14,8 +14,8 @@ use rv_interp::{TurnEnd, turn};
 use std::alloc::{AllocError, Global};
 use std::mem;
 
-// The launched process.
-const FIRST: Pid = Pid(0);
+/// The launched process.
+pub const FIRST: Pid = Pid(0);
 
 // Its thread.
 const THREAD: Tid = Tid(1);

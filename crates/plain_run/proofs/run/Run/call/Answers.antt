@@ -1,6 +1,5 @@
 use Rattle.std.proofs.Common.{sym, subst}
 use Rattle.std.proofs.lemmas.Result.{on_ok_weaker}
-use Rattle.run_types.specs.declared.history.Act.TheVariants as act
 use Rattle.run_model.specs.Legal.{Legal}
 use Rattle.plain_run.specs.Run.{IsBetween}
 use Rattle.plain_run.specs.declared.run.Run.{Run}
