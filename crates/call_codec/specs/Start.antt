@@ -1,5 +1,5 @@
 -- What a program starts with: its segments, a stack, a start block, and its first registers.
-use Rattle.std.specs.Prelude.{◌≡◌, ◌≤◌, ℕ, ◌+◌, ◌-◌, true, false, List, [], ◌∷◌, ◌++◌, length}
+use Rattle.std.specs.Prelude.{◌≡◌, ◌≤◌, ℕ, ◌+◌, ◌-◌, true, false, List, [], ◌∷◌, ◌++◌, length, replicate}
 use Rattle.std.specs.Int.{w64, to_le_bytes}
 use Rattle.std.specs.FinMap.{empty}
 use Rattle.std.specs.List.{All}
@@ -43,6 +43,10 @@ vector_entries elf argdata_length pid tid =
 abbrev pub vector_of : List (ℕ × ℕ) → List ℕ
 vector_of [] = []
 vector_of (entry ∷ entries) = entry_bytes entry ++ vector_of entries
+
+-- the canary of a start, 64 bytes, which are zero
+abbrev pub canary : List ℕ
+canary = replicate 64 0
 
 -- the start block: the vector, the canary, and the argument data
 abbrev pub block_bytes : Elf → List ℕ → List ℕ → ℕ → ℕ → List ℕ
