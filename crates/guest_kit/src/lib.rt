@@ -19,5 +19,3 @@ mod arguments;
 mod calls;
 mod machine;
 mod memory;
-#[cfg(test)]
-mod tests;

@@ -1,6 +1,6 @@
 //! Each guest's code, as GNU binutils for RISC-V (2.40) give it: `riscv64-linux-gnu-as -march=rv64ima`, with `.+N` where a
 //! guest's text has a distance `N`.
-use crate::*;
+use guest_kit::*;
 use rv_asm::assemble;
 use std::alloc::{AllocError, Global};
 use std::test::Fail;
@@ -113,39 +113,44 @@ fn hexadecimal(alloc: Global, bytes: &[u8]) -> Result<String, AllocError> {
     Ok(digits)
 }
 
-// A guest's code, as digits. `None` where its text is faulty.
-fn code_of(alloc: Global, text: &str) -> Result<Option<String>, AllocError> {
-    match assemble(alloc, text) {
-        Ok(bytes) => Ok(Some(hexadecimal(alloc, bytes.as_slice())?)),
-        Err(_) => Ok(None),
-    }
+// Whether a guest's code has these digits. `None` where its text is faulty.
+fn has_code(alloc: Global, text: &str, code: &str) -> Result<Option<bool>, AllocError> {
+    let Ok(bytes) = assemble(alloc, text) else {
+        return Ok(None);
+    };
+    Ok(Some(hexadecimal(alloc, bytes.as_slice())?.as_str() == code))
 }
 
 #[test]
 fn guests_assemble(rt: HostRuntime) -> Result<(), Fail> {
     for &(text, code) in GUESTS {
-        let digits = code_of(rt.alloc(), text)?;
-        assert_eq!(rt; digits.as_deref(), Some(code), "{text}");
+        assert_eq!(rt; has_code(rt.alloc(), text, code)?, Some(true), "{text}");
     }
     Ok(())
 }
 
+// The code of a guest that exits with 7.
+const EXIT: &str = "130570009308700273000000";
+
+// The code of a guest that calls with those arguments.
+const CALL: &str =
+    "370901001309890a033509008335890003360901833689010337090283378902930810027300000093087002\
+                    73000000f0debc9a78563412010000000000000006000000000000000500000000000000ffffffffffffffff\
+                    0000000000000000";
+
+// Whether those guests' code is theirs.
+fn written(alloc: Global) -> Result<[Option<bool>; 2], AllocError> {
+    let exits = exit_with(alloc, 7)?;
+    let arguments = [0x1234_5678_9abc_def0, 1, 6, 5, u64::MAX, 0];
+    let calls = call_with(alloc, 33, arguments)?;
+    Ok([
+        has_code(alloc, &exits, EXIT)?,
+        has_code(alloc, &calls, CALL)?,
+    ])
+}
+
 #[test]
 fn written_guests_assemble(rt: HostRuntime) -> Result<(), Fail> {
-    let exits = exit_with(rt.alloc(), 7)?;
-    let arguments = [0x1234_5678_9abc_def0, 1, 6, 5, u64::MAX, 0];
-    let calls = call_with(rt.alloc(), 33, arguments)?;
-    for (text, code) in [
-        (&exits, "130570009308700273000000"),
-        (
-            &calls,
-            "370901001309890a033509008335890003360901833689010337090283378902930810027300000093087002\
-             73000000f0debc9a78563412010000000000000006000000000000000500000000000000ffffffffffffffff\
-             0000000000000000",
-        ),
-    ] {
-        let digits = code_of(rt.alloc(), text)?;
-        assert_eq!(rt; digits.as_deref(), Some(code), "{text}");
-    }
+    assert_eq!(rt; written(rt.alloc())?, [Some(true); 2]);
     Ok(())
 }

@@ -1,7 +1,13 @@
-//! Atomic instructions by example.
-use super::*;
+//! Atomic instructions. The words are an assembler's, and the numbers follow from the manual's rules. Each reads a1,
+//! writes a2, and has its address in a0.
+use crate::turns::{A3, CODE, DATA, do_turn, do_word, memory_of, registers};
+use abi_base::{Regs, Signal};
+use guest_memory::{GuestMemory, MemFault};
+use rv_interp::{Outcome, TurnEnd};
+use std::alloc::Global;
+use std::test::Fail;
 
-/// What is in memory and in a1, and the low word in memory, sign-extended.
+// What is in memory and in a1, and the low word in memory, sign-extended.
 const OPERANDS: [(u64, u64, u64); 5] = [
     (
         0x123_4567_8000_0000,
@@ -14,7 +20,7 @@ const OPERANDS: [(u64, u64, u64); 5] = [
     (0xabcd_ef01_7fff_ffff, 0x1234_5678_8000_0000, 0x7fff_ffff),
 ];
 
-/// Atomic instructions on words, and what each leaves in memory for each of the operands.
+// Atomic instructions on words, and what each leaves in memory for each of the operands.
 const WORD_ATOMICS: &[(u32, [u64; 5])] = &[
     // amoswap.w
     (
@@ -117,7 +123,7 @@ const WORD_ATOMICS: &[(u32, [u64; 5])] = &[
     ),
 ];
 
-/// The same on double words.
+// The same on double words.
 const DOUBLE_ATOMICS: &[(u32, [u64; 5])] = &[
     // amoswap.d
     (
@@ -214,59 +220,54 @@ const DOUBLE_ATOMICS: &[(u32, [u64; 5])] = &[
     ),
 ];
 
-/// Does an atomic instruction where this number is in memory, and reads what is there afterwards.
+// Where the number is.
+const AT: u64 = 0x20108;
+
+// Does an atomic instruction on this number. How it ended, the registers afterwards, and what is in memory.
 fn exchange(
     memory: &mut GuestMemory,
     word: u32,
     number: u64,
-    regs: &mut Regs,
-) -> Result<(Outcome, u64), MemFault> {
-    let at = regs.get(A0);
-    memory.write_bytes(at, &number.to_le_bytes())?;
-    let outcome = do_word(memory, word, regs)?;
-    Ok((outcome, memory.load(at, 8)?))
+    a1: u64,
+) -> Result<(Outcome, Regs, u64), MemFault> {
+    memory.write_bytes(AT, &number.to_le_bytes())?;
+    let (outcome, regs) = do_word(memory, word, [AT, a1, 7])?;
+    Ok((outcome, regs, memory.load(AT, 8)?))
 }
 
 #[test]
-fn memory_is_exchanged(rt: HostRuntime) -> Result<(), Fail> {
+fn words_are_exchanged(rt: HostRuntime) -> Result<(), Fail> {
     let mut memory = memory_of(rt.alloc(), &[])?;
-    let at = 0x20108;
-    for (k, (number, a1, low_word)) in OPERANDS.into_iter().enumerate() {
-        for &(word, after) in WORD_ATOMICS {
-            let mut regs = registers(CODE, at, a1, 7);
-            let found = exchange(&mut memory, word, number, &mut regs)?;
-            assert_eq!(rt;
-                found,
-                (Outcome::Done, after[k]),
-                "{word:x} of {number:x}, {a1:x}"
-            );
-            assert_eq!(rt;
-                regs,
-                registers(CODE + 4, at, a1, low_word),
-                "{word:x} of {number:x}, {a1:x}"
-            );
-        }
-        for &(word, after) in DOUBLE_ATOMICS {
-            let mut regs = registers(CODE, at, a1, 7);
-            let found = exchange(&mut memory, word, number, &mut regs)?;
-            assert_eq!(rt;
-                found,
-                (Outcome::Done, after[k]),
-                "{word:x} of {number:x}, {a1:x}"
-            );
-            assert_eq!(rt;
-                regs,
-                registers(CODE + 4, at, a1, number),
-                "{word:x} of {number:x}, {a1:x}"
-            );
+    for &(word, after) in WORD_ATOMICS {
+        for (&(number, a1, low_word), left) in OPERANDS.iter().zip(after) {
+            let found = exchange(&mut memory, word, number, a1);
+            let want = (Outcome::Done, registers(CODE + 4, [AT, a1, low_word]), left);
+            assert_eq!(rt; found, Ok(want), "{word:x} of {number:x}, {a1:x}");
         }
     }
     Ok(())
 }
 
-/// A program with 0x20100 in a0, and what is in memory there and in a2 and a3 afterwards. Before, there is
-/// 0x0123_4567_89ab_cdef in memory, 0xfedc_ba98_7654_3210 in a1, 9 in a2 and a3, and 0x20108 in a5.
-#[derive(Clone, Copy)]
+#[test]
+fn double_words_are_exchanged(rt: HostRuntime) -> Result<(), Fail> {
+    let mut memory = memory_of(rt.alloc(), &[])?;
+    for &(word, after) in DOUBLE_ATOMICS {
+        for (&(number, a1, _), left) in OPERANDS.iter().zip(after) {
+            let found = exchange(&mut memory, word, number, a1);
+            let want = (Outcome::Done, registers(CODE + 4, [AT, a1, number]), left);
+            assert_eq!(rt; found, Ok(want), "{word:x} of {number:x}, {a1:x}");
+        }
+    }
+    Ok(())
+}
+
+// What is in a1 before conditional stores.
+const A1: u64 = 0xfedc_ba98_7654_3210;
+
+const A5: u32 = 15;
+
+// A program with 0x20100 in a0, and what is in memory there and in a2 and a3 afterwards. Before, there is
+// 0x0123_4567_89ab_cdef in memory, 0xfedc_ba98_7654_3210 in a1, 9 in a2 and a3, and 0x20108 in a5.
 struct ConditionalStore {
     words: [u32; 4],
     memory: u64,
@@ -361,34 +362,85 @@ const CONDITIONAL_STORES: &[ConditionalStore] = &[
     },
 ];
 
+// Does a turn of a program. How it ended, and what is in memory and in a2 and a3.
+fn store_conditionally(alloc: Global, words: &[u32]) -> Result<(TurnEnd, [u64; 3]), MemFault> {
+    let at = 0x20100;
+    let number: u64 = 0x123_4567_89ab_cdef;
+    let mut memory = memory_of(alloc, words)?;
+    memory.write_bytes(at, &number.to_le_bytes())?;
+    let mut regs = registers(CODE, [at, A1, 9]);
+    regs.set(A3, 9);
+    regs.set(A5, at + 8);
+    let (end, [_, a2, a3]) = do_turn(&mut memory, &mut regs);
+    Ok((end, [memory.load(at, 8)?, a2, a3]))
+}
+
 #[test]
 fn stores_are_conditional(rt: HostRuntime) -> Result<(), Fail> {
-    let number: u64 = 0x123_4567_89ab_cdef;
-    let (at, a1) = (0x20100, 0xfedc_ba98_7654_3210);
     for row in CONDITIONAL_STORES {
         let words = row.words;
-        let mut memory = memory_of(rt.alloc(), &words)?;
-        memory.write_bytes(at, &number.to_le_bytes())?;
-        let mut regs = registers(CODE, at, a1, 9);
-        regs.set(A3, 9);
-        regs.set(A5, at + 8);
-        assert_eq!(rt; turn(&mut regs, &mut memory), TurnEnd::Ecall, "{words:?}");
-        assert_eq!(rt; memory.load(at, 8), Ok(row.memory), "{words:?}");
-        assert_eq!(rt; (regs.get(A2), regs.get(A3)), (row.a2, row.a3), "{words:?}");
+        let want = (TurnEnd::Ecall, [row.memory, row.a2, row.a3]);
+        assert_eq!(rt;
+            store_conditionally(rt.alloc(), &words),
+            Ok(want),
+            "{words:?}"
+        );
     }
+    Ok(())
+}
+
+// A program with this number in a0 and a2, how its first turn ends and what it leaves in a2, the pc being 0x10004; and how
+// a second one ends that begins at the third word, and the pc, a2 and a3 then.
+struct TwoTurns {
+    words: [u32; 4],
+    a0: u64,
+    a2: u64,
+    end: TurnEnd,
+    a2_after: u64,
+    second: (TurnEnd, [u64; 3]),
+}
+
+const TURNS: &[TwoTurns] = &[
     // The reservation ends with the turn: lr.w zero, (a0); ecall; sc.w a3, a1, (a0); ecall
-    let mut memory = memory_of(rt.alloc(), &[0x1005_202f, 0x73, 0x18b5_26af, 0x73])?;
-    let mut regs = registers(CODE, at, a1, 0);
-    assert_eq!(rt; turn(&mut regs, &mut memory), TurnEnd::Ecall);
-    assert_eq!(rt; regs, registers(CODE + 4, at, a1, 0));
+    TwoTurns {
+        words: [0x1005_202f, 0x73, 0x18b5_26af, 0x73],
+        a0: 0x20100,
+        a2: 0,
+        end: TurnEnd::Ecall,
+        a2_after: 0,
+        second: (TurnEnd::Ecall, [CODE + 12, 0, 1]),
+    },
+    // A page that may only be read can be reserved: lr.w a2, (a0); sc.w a3, a1, (a0); ecall
+    TwoTurns {
+        words: [0x1005_262f, 0x18b5_26af, 0x73, 0x73],
+        a0: DATA + 0x2000,
+        a2: 9,
+        end: TurnEnd::Trap(Signal::Segv),
+        a2_after: 0,
+        second: (TurnEnd::Ecall, [CODE + 8, 0, 0]),
+    },
+];
+
+// How two turns end, with the registers after the first and the pc, a2 and a3 after the second.
+fn do_turns(
+    alloc: Global,
+    row: &TwoTurns,
+) -> Result<(TurnEnd, Regs, (TurnEnd, [u64; 3])), MemFault> {
+    let mut memory = memory_of(alloc, &row.words)?;
+    let mut regs = registers(CODE, [row.a0, A1, row.a2]);
+    let (end, _) = do_turn(&mut memory, &mut regs);
+    let first = regs;
     regs.set_pc(CODE + 8);
-    assert_eq!(rt; turn(&mut regs, &mut memory), TurnEnd::Ecall);
-    assert_eq!(rt; regs.get(A3), 1);
-    // A page that may only be read can be reserved: lr.w a2, (a0); sc.w a3, a1, (a0)
-    let mut memory = memory_of(rt.alloc(), &[0x1005_262f, 0x18b5_26af])?;
-    let mut regs = registers(CODE, DATA + 0x2000, a1, 9);
-    let end = turn(&mut regs, &mut memory);
-    assert_eq!(rt; end, TurnEnd::Trap(Signal::Segv));
-    assert_eq!(rt; regs, registers(CODE + 4, DATA + 0x2000, a1, 0));
+    Ok((end, first, do_turn(&mut memory, &mut regs)))
+}
+
+#[test]
+fn reservations_live_inside_a_turn(rt: HostRuntime) -> Result<(), Fail> {
+    for row in TURNS {
+        let words = row.words;
+        let first = registers(CODE + 4, [row.a0, A1, row.a2_after]);
+        let want = (row.end, first, row.second);
+        assert_eq!(rt; do_turns(rt.alloc(), row), Ok(want), "{words:?}");
+    }
     Ok(())
 }

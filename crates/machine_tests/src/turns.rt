@@ -1,12 +1,10 @@
-//! Instructions and turns by example. The words are an assembler's, and the numbers follow from the manual's rules.
-//! Where an instruction's registers aren't named, it reads a0 and a1 and writes a2, and its address is in a0.
-use crate::{Outcome, Reservation, TurnEnd, step, turn};
+//! Instructions and turns. The words are an assembler's, and the numbers follow from the manual's rules. Where an
+//! instruction's registers aren't named, it reads a0 and a1 and writes a2, and its address is in a0.
 use abi_base::{Prot, Regs, Signal};
 use guest_memory::{GuestMemory, MemFault};
+use rv_interp::{Outcome, Reservation, TurnEnd, step, turn};
 use std::alloc::Global;
 use std::test::Fail;
-
-mod atomics;
 
 const READ: Prot = Prot {
     read: true,
@@ -38,14 +36,14 @@ const ALL: Prot = Prot {
     ..READ_WRITE
 };
 
-/// A page of code. No page comes after it.
-const CODE: u64 = 0x10000;
+// A page of code. No page comes after it.
+pub const CODE: u64 = 0x10000;
 
-/// Two pages that may be read and written, then one that may be read, one that may be written and two that may be
-/// executed. No page comes after them.
-const DATA: u64 = 0x20000;
+// Two pages that may be read and written, then one that may be read, one that may be written and two that may be
+// executed. No page comes after them.
+pub const DATA: u64 = 0x20000;
 
-/// A page of the same code that may be read and written too.
+// A page of the same code that may be read and written too.
 const WRITABLE_CODE: u64 = 0x30000;
 
 const A0: u32 = 10;
@@ -54,33 +52,48 @@ const A1: u32 = 11;
 
 const A2: u32 = 12;
 
-const A3: u32 = 13;
+pub const A3: u32 = 13;
 
 const A4: u32 = 14;
 
-const A5: u32 = 15;
-
-/// A memory of those pages, the code of which begins with these words.
-fn memory_of(alloc: Global, words: &[u32]) -> Result<GuestMemory, MemFault> {
-    let mut memory = GuestMemory::new(alloc);
+// Maps those pages.
+fn map_pages(memory: &mut GuestMemory, alloc: Global) -> Result<(), MemFault> {
     memory.map(alloc, CODE, 1, READ_WRITE)?;
     memory.map(alloc, DATA, 6, READ_WRITE)?;
-    memory.map(alloc, WRITABLE_CODE, 1, ALL)?;
-    let mut offset: u64 = 0;
-    for word in words {
-        memory.write_bytes(CODE.wrapping_add(offset), &word.to_le_bytes())?;
-        memory.write_bytes(WRITABLE_CODE.wrapping_add(offset), &word.to_le_bytes())?;
-        offset = offset.wrapping_add(4);
-    }
+    memory.map(alloc, WRITABLE_CODE, 1, ALL)
+}
+
+// Gives those pages their rights.
+fn protect_pages(memory: &mut GuestMemory) -> Result<(), MemFault> {
     memory.protect(CODE, 1, READ_EXEC)?;
     memory.protect(DATA + 0x2000, 1, READ)?;
     memory.protect(DATA + 0x3000, 1, WRITE)?;
-    memory.protect(DATA + 0x4000, 2, EXEC)?;
+    memory.protect(DATA + 0x4000, 2, EXEC)
+}
+
+// Writes the code.
+fn write_code(memory: &mut GuestMemory, words: &[u32]) -> Result<(), MemFault> {
+    let mut offset: u64 = 0;
+    for word in words {
+        let bytes = word.to_le_bytes();
+        memory.write_bytes(CODE.wrapping_add(offset), &bytes)?;
+        memory.write_bytes(WRITABLE_CODE.wrapping_add(offset), &bytes)?;
+        offset = offset.wrapping_add(4);
+    }
+    Ok(())
+}
+
+// A memory of those pages, the code of which begins with these words.
+pub fn memory_of(alloc: Global, words: &[u32]) -> Result<GuestMemory, MemFault> {
+    let mut memory = GuestMemory::new(alloc);
+    map_pages(&mut memory, alloc)?;
+    write_code(&mut memory, words)?;
+    protect_pages(&mut memory)?;
     Ok(memory)
 }
 
-/// Registers with this pc and these numbers in a0, a1 and a2.
-fn registers(pc: u64, a0: u64, a1: u64, a2: u64) -> Regs {
+// Registers with this pc and these numbers in a0, a1 and a2.
+pub fn registers(pc: u64, [a0, a1, a2]: [u64; 3]) -> Regs {
     let mut regs = Regs::new(pc);
     regs.set(A0, a0);
     regs.set(A1, a1);
@@ -88,15 +101,26 @@ fn registers(pc: u64, a0: u64, a1: u64, a2: u64) -> Regs {
     regs
 }
 
-/// Puts this word at the beginning of the code and does one instruction.
-fn do_word(memory: &mut GuestMemory, word: u32, regs: &mut Regs) -> Result<Outcome, MemFault> {
+// Puts this word at the beginning of the code, where it is done with these numbers in a0, a1 and a2. How it ended, and the
+// registers afterwards.
+pub fn do_word(
+    memory: &mut GuestMemory,
+    word: u32,
+    a: [u64; 3],
+) -> Result<(Outcome, Regs), MemFault> {
     memory.protect(CODE, 1, READ_WRITE)?;
     memory.write_bytes(CODE, &word.to_le_bytes())?;
     memory.protect(CODE, 1, READ_EXEC)?;
-    Ok(step(regs, memory, &mut Reservation::none()))
+    Ok(do_one(memory, registers(CODE, a)))
 }
 
-/// Words, a0, a1, and what a2 has afterwards, which had 0.
+// Does one instruction with these registers.
+fn do_one(memory: &mut GuestMemory, mut regs: Regs) -> (Outcome, Regs) {
+    let outcome = step(&mut regs, memory, &mut Reservation::none());
+    (outcome, regs)
+}
+
+// Words, a0, a1, and what a2 has afterwards, which had 0.
 const COMPUTATIONS: &[(u32, u64, u64, u64)] = &[
     (0x02b5_4633, 5, 0, u64::MAX), // div
     (0x02b5_6633, 5, 0, 5), // rem
@@ -145,22 +169,17 @@ const COMPUTATIONS: &[(u32, u64, u64, u64)] = &[
 fn numbers_are_computed(rt: HostRuntime) -> Result<(), Fail> {
     let mut memory = memory_of(rt.alloc(), &[])?;
     for &(word, a0, a1, a2) in COMPUTATIONS {
-        let mut regs = registers(CODE, a0, a1, 0);
-        let outcome = do_word(&mut memory, word, &mut regs)?;
-        assert_eq!(rt; outcome, Outcome::Done, "{word:x} of {a0:x}, {a1:x}");
-        assert_eq!(rt;
-            regs,
-            registers(CODE + 4, a0, a1, a2),
-            "{word:x} of {a0:x}, {a1:x}"
-        );
+        let found = do_word(&mut memory, word, [a0, a1, 0]);
+        let want = (Outcome::Done, registers(CODE + 4, [a0, a1, a2]));
+        assert_eq!(rt; found, Ok(want), "{word:x} of {a0:x}, {a1:x}");
     }
     Ok(())
 }
 
-/// What is loaded from 0x20100 on, and from 0x20ffa on in two pages.
+// What is loaded from 0x20100 on, and from 0x20ffa on in two pages.
 const BYTES: [u8; 12] = [1, 0xf2, 3, 0xf4, 5, 0xf6, 7, 0xf8, 9, 10, 11, 12];
 
-/// Words, a0, and what a2 has afterwards, which had 0.
+// Words, a0, and what a2 has afterwards, which had 0.
 const LOADS: &[(u32, u64, u64)] = &[
     (0x0005_0603, 0x20100, 1), // lb
     (0x0005_0603, 0x20101, 0xffff_ffff_ffff_fff2), // lb
@@ -183,7 +202,20 @@ const LOADS: &[(u32, u64, u64)] = &[
     (0x0005_2003, 0x20100, 0), // lw zero, 0(a0)
 ];
 
-/// Words, a0, the address before the first byte that is written, and ten bytes from there on, each of which was 0xee.
+#[test]
+fn numbers_are_loaded(rt: HostRuntime) -> Result<(), Fail> {
+    let mut memory = memory_of(rt.alloc(), &[])?;
+    memory.write_bytes(0x20100, &BYTES)?;
+    memory.write_bytes(0x20ffa, &BYTES)?;
+    for &(word, a0, a2) in LOADS {
+        let found = do_word(&mut memory, word, [a0, 7, 0]);
+        let want = (Outcome::Done, registers(CODE + 4, [a0, 7, a2]));
+        assert_eq!(rt; found, Ok(want), "{word:x} at {a0:x}");
+    }
+    Ok(())
+}
+
+// Words, a0, the address before the first byte that is written, and ten bytes from there on, each of which was 0xee.
 const STORES: &[(u32, u64, u64, [u8; 10])] = &[
     (
         0x00b5_0023,
@@ -241,33 +273,36 @@ const STORES: &[(u32, u64, u64, [u8; 10])] = &[
     ), // sd a1, -8(a0), misaligned
 ];
 
+// The number in a1 that is stored.
+const STORED: u64 = 0x8877_6655_4433_2211;
+
+// Does a store. How it ended, the registers afterwards, and ten bytes from an address on.
+fn do_store(
+    memory: &mut GuestMemory,
+    word: u32,
+    a0: u64,
+    before: u64,
+) -> Result<(Outcome, Regs, [u8; 10]), MemFault> {
+    memory.write_bytes(before, &[0xee; 10])?;
+    let (outcome, regs) = do_word(memory, word, [a0, STORED, 7])?;
+    let mut bytes = [0; 10];
+    memory.read_bytes(before, &mut bytes)?;
+    Ok((outcome, regs, bytes))
+}
+
 #[test]
-fn numbers_are_loaded_and_stored(rt: HostRuntime) -> Result<(), Fail> {
+fn numbers_are_stored(rt: HostRuntime) -> Result<(), Fail> {
     let mut memory = memory_of(rt.alloc(), &[])?;
-    memory.write_bytes(0x20100, &BYTES)?;
-    memory.write_bytes(0x20ffa, &BYTES)?;
-    for &(word, a0, a2) in LOADS {
-        let mut regs = registers(CODE, a0, 7, 0);
-        let outcome = do_word(&mut memory, word, &mut regs)?;
-        assert_eq!(rt; outcome, Outcome::Done, "{word:x} at {a0:x}");
-        assert_eq!(rt; regs, registers(CODE + 4, a0, 7, a2), "{word:x} at {a0:x}");
-    }
-    let a1 = 0x8877_6655_4433_2211;
-    for &(word, a0, before, want) in STORES {
-        memory.write_bytes(before, &[0xee; 10])?;
-        let mut regs = registers(CODE, a0, a1, 7);
-        let outcome = do_word(&mut memory, word, &mut regs)?;
-        assert_eq!(rt; outcome, Outcome::Done, "{word:x} at {a0:x}");
-        assert_eq!(rt; regs, registers(CODE + 4, a0, a1, 7), "{word:x} at {a0:x}");
-        let mut bytes = [0; 10];
-        memory.read_bytes(before, &mut bytes)?;
-        assert_eq!(rt; bytes, want, "{word:x} at {a0:x}");
+    for &(word, a0, before, bytes) in STORES {
+        let found = do_store(&mut memory, word, a0, before);
+        let want = (Outcome::Done, registers(CODE + 4, [a0, STORED, 7]), bytes);
+        assert_eq!(rt; found, Ok(want), "{word:x} at {a0:x}");
     }
     Ok(())
 }
 
-/// Words, a0, a1, and the pc, a0 and a2 afterwards. The pc was 0x10000, and a2 had 7. A target that is no multiple of 4
-/// is a bus error, after which all is as before.
+// Words, a0, a1, and the pc, a0 and a2 afterwards. The pc was 0x10000, and a2 had 7. A target that is no multiple of 4
+// is a bus error, after which all is as before.
 const JUMPS: &[(u32, u64, u64, u64, u64, u64)] = &[
     (0x0080_066f, 0, 0, 0x10008, 0, 0x10004), // jal a2, 8
     (0xffdf_f66f, 0, 0, 0xfffc, 0, 0x10004), // jal a2, -4
@@ -299,24 +334,19 @@ const JUMPS: &[(u32, u64, u64, u64, u64, u64)] = &[
 fn jumps_go_to_multiples_of_four(rt: HostRuntime) -> Result<(), Fail> {
     let mut memory = memory_of(rt.alloc(), &[])?;
     for &(word, a0, a1, pc, a0_after, a2) in JUMPS {
-        let mut regs = registers(CODE, a0, a1, 7);
-        let outcome = do_word(&mut memory, word, &mut regs)?;
-        let want = if pc == CODE {
+        let found = do_word(&mut memory, word, [a0, a1, 7]);
+        let outcome = if pc == CODE {
             Outcome::Trap(Signal::Bus)
         } else {
             Outcome::Done
         };
-        assert_eq!(rt; outcome, want, "{word:x} of {a0:x}, {a1:x}");
-        assert_eq!(rt;
-            regs,
-            registers(pc, a0_after, a1, a2),
-            "{word:x} of {a0:x}, {a1:x}"
-        );
+        let want = (outcome, registers(pc, [a0_after, a1, a2]));
+        assert_eq!(rt; found, Ok(want), "{word:x} of {a0:x}, {a1:x}");
     }
     Ok(())
 }
 
-/// Words, a0, and why they can't be done. The pages are named by what may be done with them.
+// Words, a0, and why they can't be done. The pages are named by what may be done with them.
 const TRAPS: &[(u32, u64, Signal)] = &[
     (0x0010_0073, 0, Signal::Trap), // ebreak
     (0xffff_ffff, 0, Signal::Ill),
@@ -351,7 +381,45 @@ const TRAPS: &[(u32, u64, Signal)] = &[
     (0x00b5_362f, 0xffff_ffff_ffff_fff8, Signal::Segv), // amoadd.d, no page
 ];
 
-/// Addresses, and how the instruction there ends: `addi a2, a2, 1`, where it can be fetched.
+// What is in memory before and after a trap.
+const PLACES: &[(u64, [u8; 8])] = &[
+    (0x20100, [0x11; 8]),
+    (0x21ff8, [0x11; 8]),
+    (0x22000, [0; 8]),
+    (0x10008, [0; 8]),
+];
+
+fn is_unchanged(memory: &GuestMemory) -> Result<bool, MemFault> {
+    for &(at, want) in PLACES {
+        let mut bytes = [9; 8];
+        memory.read_bytes(at, &mut bytes)?;
+        if bytes != want {
+            return Ok(false);
+        }
+    }
+    Ok(true)
+}
+
+// Does a word with this number in a0. How it ended, the registers afterwards, and whether memory is as it was.
+fn trap(memory: &mut GuestMemory, word: u32, a0: u64) -> Result<(Outcome, Regs, bool), MemFault> {
+    let (outcome, regs) = do_word(memory, word, [a0, 9, 7])?;
+    Ok((outcome, regs, is_unchanged(memory)?))
+}
+
+#[test]
+fn traps_change_nothing(rt: HostRuntime) -> Result<(), Fail> {
+    let mut memory = memory_of(rt.alloc(), &[])?;
+    memory.write_bytes(0x20100, &[0x11; 8])?;
+    memory.write_bytes(0x21ff8, &[0x11; 8])?;
+    for &(word, a0, signal) in TRAPS {
+        let found = trap(&mut memory, word, a0);
+        let want = (Outcome::Trap(signal), registers(CODE, [a0, 9, 7]), true);
+        assert_eq!(rt; found, Ok(want), "{word:x} at {a0:x}");
+    }
+    Ok(())
+}
+
+// Addresses, and how the instruction there ends: `addi a2, a2, 1`, where it can be fetched.
 const FETCHES: &[(u64, Outcome)] = &[
     (0x10000, Outcome::Done), // read and execute
     (0x10ffe, Outcome::Trap(Signal::Segv)), // read and execute, and then no page
@@ -365,53 +433,34 @@ const FETCHES: &[(u64, Outcome)] = &[
     (0xffff_ffff_ffff_fffc, Outcome::Trap(Signal::Segv)), // no page
 ];
 
-#[test]
-fn traps_change_nothing(rt: HostRuntime) -> Result<(), Fail> {
-    let mut memory = memory_of(rt.alloc(), &[])?;
-    let bytes = [0x11; 8];
-    memory.write_bytes(0x20100, &bytes)?;
-    memory.write_bytes(0x21ff8, &bytes)?;
-    for &(word, a0, signal) in TRAPS {
-        let before = registers(CODE, a0, 9, 7);
-        let mut regs = before;
-        let outcome = do_word(&mut memory, word, &mut regs)?;
-        assert_eq!(rt; outcome, Outcome::Trap(signal), "{word:x} at {a0:x}");
-        assert_eq!(rt; regs, before, "{word:x} at {a0:x}");
-        let places = [0x20100, 0x21ff8, 0x22000, 0x10008];
-        for (at, want) in places.iter().zip([bytes, bytes, [0; 8], [0; 8]]) {
-            let mut found = [9; 8];
-            memory.read_bytes(*at, &mut found)?;
-            assert_eq!(rt; found, want, "{word:x} at {a0:x}");
-        }
-    }
-    Ok(())
-}
-
-#[test]
-fn executable_pages_run(rt: HostRuntime) -> Result<(), Fail> {
+// A memory with `addi a2, a2, 1` at each of those addresses where a page may be executed.
+fn memory_of_fetches(alloc: Global) -> Result<GuestMemory, MemFault> {
     let word: u32 = 0x0016_0613;
-    let mut memory = memory_of(rt.alloc(), &[word])?;
+    let mut memory = memory_of(alloc, &[word])?;
     memory.protect(0x24000, 2, WRITE)?;
     memory.write_bytes(0x24000, &word.to_le_bytes())?;
     memory.write_bytes(0x24ffe, &word.to_le_bytes())?;
     memory.protect(0x24000, 2, EXEC)?;
-    for &(pc, want) in FETCHES {
-        let before = registers(pc, 0, 0, 7);
-        let mut regs = before;
-        let outcome = step(&mut regs, &mut memory, &mut Reservation::none());
-        let after = if want == Outcome::Done {
-            registers(pc.wrapping_add(4), 0, 0, 8)
+    Ok(memory)
+}
+
+#[test]
+fn executable_pages_run(rt: HostRuntime) -> Result<(), Fail> {
+    let mut memory = memory_of_fetches(rt.alloc())?;
+    for &(pc, outcome) in FETCHES {
+        let found = do_one(&mut memory, registers(pc, [0, 0, 7]));
+        let after = if outcome == Outcome::Done {
+            registers(pc.wrapping_add(4), [0, 0, 8])
         } else {
-            before
+            registers(pc, [0, 0, 7])
         };
-        assert_eq!(rt; (outcome, regs), (want, after), "at {pc:x}");
+        assert_eq!(rt; found, (outcome, after), "at {pc:x}");
     }
     Ok(())
 }
 
-/// A program, the pc and a4 at the beginning of a turn, how it ends, and the pc, a2 and a3 afterwards. At the beginning
-/// there is 0x30000, where the program may be written, in a0, the word of `addi a2, a2, 16` in a1, and 0 in a2 and a3.
-#[derive(Clone, Copy)]
+// A program, the pc and a4 at the beginning of a turn, how it ends, and the pc, a2 and a3 afterwards. At the beginning
+// there is 0x30000, where the program may be written, in a0, the word of `addi a2, a2, 16` in a1, and 0 in a2 and a3.
 struct Program {
     words: [u32; 5],
     start: u64,
@@ -535,22 +584,32 @@ const PROGRAMS: &[Program] = &[
     },
 ];
 
+// Does a turn. How it ended, and the pc, a2 and a3 afterwards.
+pub fn do_turn(memory: &mut GuestMemory, regs: &mut Regs) -> (TurnEnd, [u64; 3]) {
+    let end = turn(regs, memory);
+    (end, [regs.pc(), regs.get(A2), regs.get(A3)])
+}
+
+// Does a turn of a program.
+fn run(alloc: Global, program: &Program) -> Result<(TurnEnd, [u64; 3]), MemFault> {
+    let mut memory = memory_of(alloc, &program.words)?;
+    let mut regs = registers(program.start, [WRITABLE_CODE, 0x0106_0613, 0]);
+    regs.set(A4, program.a4);
+    Ok(do_turn(&mut memory, &mut regs))
+}
+
 #[test]
 fn turns_end(rt: HostRuntime) -> Result<(), Fail> {
-    for row in PROGRAMS {
-        let words = row.words;
-        let mut memory = memory_of(rt.alloc(), &words)?;
-        let mut regs = registers(row.start, WRITABLE_CODE, 0x0106_0613, 0);
-        regs.set(A4, row.a4);
-        let end = turn(&mut regs, &mut memory);
-        assert_eq!(rt; (end, regs.pc()), (row.end, row.pc), "{words:?}");
-        assert_eq!(rt; (regs.get(A2), regs.get(A3)), (row.a2, row.a3), "{words:?}");
+    for program in PROGRAMS {
+        let words = program.words;
+        let want = (program.end, [program.pc, program.a2, program.a3]);
+        assert_eq!(rt; run(rt.alloc(), program), Ok(want), "{words:?}");
     }
     Ok(())
 }
 
-#[test]
-fn instructions_are_those_in_memory(rt: HostRuntime) -> Result<(), Fail> {
+// A memory with two pieces of code.
+fn memory_with_far_code(alloc: Global) -> Result<GuestMemory, MemFault> {
     // Instructions 1024 bytes apart in turn: addi a2, a2, 1; jal zero, 1020
     let mut words = [0; 260];
     words[0] = 0x0016_0613;
@@ -560,17 +619,30 @@ fn instructions_are_those_in_memory(rt: HostRuntime) -> Result<(), Fail> {
     words[257] = 0xfff7_0713;
     words[258] = 0xbe07_1ce3;
     words[259] = 0x73;
-    let mut memory = memory_of(rt.alloc(), &words)?;
-    let mut regs = registers(CODE, 0, 0, 0);
+    memory_of(alloc, &words)
+}
+
+// A turn of that code, three times over, and one where between two turns the host has written the page: addi a2, a2, 16;
+// ecall.
+fn two_turns(alloc: Global) -> Result<[(TurnEnd, [u64; 3]); 2], MemFault> {
+    let mut memory = memory_with_far_code(alloc)?;
+    let mut regs = registers(CODE, [0, 0, 0]);
     regs.set(A4, 3);
-    assert_eq!(rt; turn(&mut regs, &mut memory), TurnEnd::Ecall);
-    assert_eq!(rt; (regs.pc(), regs.get(A2)), (CODE + 0x40c, 51));
-    // Between two turns the host writes the page: addi a2, a2, 16; ecall
+    let first = do_turn(&mut memory, &mut regs);
     memory.protect(CODE, 1, READ_WRITE)?;
     memory.write_bytes(CODE, &[0x13, 0x06, 0x06, 0x01, 0x73, 0, 0, 0])?;
     memory.protect(CODE, 1, READ_EXEC)?;
     regs.set_pc(CODE);
-    assert_eq!(rt; turn(&mut regs, &mut memory), TurnEnd::Ecall);
-    assert_eq!(rt; (regs.pc(), regs.get(A2)), (CODE + 4, 67));
+    let second = do_turn(&mut memory, &mut regs);
+    Ok([first, second])
+}
+
+#[test]
+fn instructions_are_those_in_memory(rt: HostRuntime) -> Result<(), Fail> {
+    let want = [
+        (TurnEnd::Ecall, [CODE + 0x40c, 51, 0]),
+        (TurnEnd::Ecall, [CODE + 4, 67, 0]),
+    ];
+    assert_eq!(rt; two_turns(rt.alloc()), Ok(want));
     Ok(())
 }

@@ -1,7 +1,8 @@
-use super::*;
-use std::test::*;
+//! What words are decoded to, and what operations on registers give.
+use rv_code::{Instr, Op, alu, decode};
+use std::test::Fail;
 
-/// Operands of which each operation is tried.
+// Operands of which each operation is tried.
 const OPERANDS: [(u64, u64); 6] = [
     (7, 3),
     (0xffff_ffff_ffff_fff9, 3),
@@ -11,7 +12,7 @@ const OPERANDS: [(u64, u64); 6] = [
     (0x1234_5678_9abc_def0, 0xfedc_ba98_7654_3f21),
 ];
 
-/// What each operation gives for those operands, computed by the manual's rules in exact integers of another language.
+// What each operation gives for those operands, computed by the manual's rules in exact integers of another language.
 const RESULTS: &[(Op, [u64; 6])] = &[
     (
         Op::Add,
@@ -381,7 +382,7 @@ const RESULTS: &[(Op, [u64; 6])] = &[
     ),
 ];
 
-/// Words that the GNU assembler gives, with the operation, the registers rd, rs1 and rs2, and the immediate.
+// Words that the GNU assembler gives, with the operation, the registers rd, rs1 and rs2, and the immediate.
 const WORDS: &[(u32, Op, [u32; 3], i64)] = &[
     (0x8000_05b7, Op::Lui, [11, 0, 0], -2147483648), // lui a1, 0x80000
     (0x1234_5f97, Op::Auipc, [31, 0, 0], 305418240), // auipc x31, 0x12345
@@ -474,7 +475,7 @@ const WORDS: &[(u32, Op, [u32; 3], i64)] = &[
     (0x0010_0073, Op::Ebreak, [0, 0, 0], 0), // ebreak
 ];
 
-/// Words that are no instruction here.
+// Words that are no instruction here.
 const NO_INSTRUCTIONS: &[u32] = &[
     0x0000_0000, // all zeros
     0xffff_ffff, // all ones
