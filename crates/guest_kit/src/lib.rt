@@ -21,5 +21,3 @@ mod calls;
 mod hello_file;
 mod machine;
 mod memory;
-#[cfg(test)]
-mod tests;

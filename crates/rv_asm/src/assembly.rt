@@ -1,13 +1,13 @@
 //! A text, assembled.
 ghost use Rattle.std.specs.Prelude.{◌≡◌, ◌+◌, [], None, Some, map, IfOk, IfErr, OnOk};
 ghost use Rattle.rv_asm.specs.Lines.{labels_of, fault_from, first_fault, AreBytesFrom, Assembles, IsFaultOf};
-ghost use Rattle.rv_asm.specs.Names.{rows};
-ghost use Rattle.rv_asm.specs.Text.{lines_of};
+ghost use Rattle.rv_syntax.specs.Names.{rows};
+ghost use Rattle.rv_syntax.specs.Text.{lines_of};
 
-use crate::names::Label;
 use crate::place::Place;
 use crate::statement::piece;
 use lists::Bytes;
+use rv_syntax::Label;
 use std::alloc::{AllocError, Global};
 
 /// Why a text gave no bytes.

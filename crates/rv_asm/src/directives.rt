@@ -5,11 +5,8 @@ ghost use Rattle.rv_asm.specs.Directives.{byte_of, word_of, dword_of, zeros_of, 
 ghost use Rattle.rv_asm.specs.Sizes.{size_of_form};
 ghost use Rattle.rv_asm.specs.Pieces.{PieceIs, piece_bytes};
 
-use crate::form::Form;
-use crate::numbers::number_within;
-use crate::operands::unsigned;
 use crate::piece::Piece;
-use crate::text::split_at;
+use rv_syntax::{Form, number_within, split_at, unsigned};
 
 /// `.byte N`
 #[tactic(auto, unfolding(crate::specs::Directives::byte_of))]

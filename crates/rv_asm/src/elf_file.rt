@@ -7,9 +7,6 @@ ghost use Rattle.rv_asm.specs.ElfFile.{HasHeaders, IsProgram, one_segment, with_
 use lists::Bytes;
 use std::alloc::{AllocError, Global};
 
-#[cfg(test)]
-mod tests;
-
 /// e_ident: the magic number, 64 bits, the lowest byte first, version 1, no particular system, and padding.
 const IDENTITY: [u8; 16] = [0x7f, b'E', b'L', b'F', 2, 1, 1, 0, 0, 0, 0, 0, 0, 0, 0, 0];
 

@@ -1,18 +1,17 @@
 //! The parts of a line, how many bytes it takes, and what it stands for.
 ghost use Rattle.std.specs.Prelude.{◌≡◌, IsTrue, IfSome, option_map, length};
-ghost use Rattle.rv_asm.specs.Forms.{is_fit, is_directive};
+ghost use Rattle.rv_syntax.specs.Forms.{is_fit, is_directive};
 ghost use Rattle.rv_asm.specs.Lines.{bare_of, labelled_of, label_of, content_of, operation_of, size_of_content, size_of, item_at, item_of, is_defined, line_item};
-ghost use Rattle.rv_asm.specs.Names.{rows};
+ghost use Rattle.rv_syntax.specs.Names.{rows};
 ghost use Rattle.rv_asm.specs.Pieces.{PieceIs, piece_bytes};
 ghost use Rattle.rv_asm.specs.Sizes.{size_of_form};
 
 use crate::directives::{directive, quoted, zeros};
-use crate::form::Form;
 use crate::instructions::code;
-use crate::mnemonics::form;
-use crate::names::{Label, is_name, lookup};
 use crate::piece::Piece;
-use crate::text::{has_control, split_at, trim, without_comment};
+use rv_syntax::{
+    Form, Label, form_of, has_control, is_name, lookup, split_at, trim, without_comment,
+};
 
 /// The parts of a line.
 #[derive(Clone, Copy)]
@@ -94,7 +93,7 @@ pub fn size(content: &[u8]) -> usize
     ensures { result ≡ size_of_content content.now }
 {
     let (mnemonic, operands) = operation(content);
-    match form(mnemonic) {
+    match form_of(mnemonic) {
         Some(form) => size_of_form(form, operands),
         None => 0,
     }
@@ -141,7 +140,7 @@ fn piece_of<'a>(labels: &[Label<'_>], here: u64, content: &'a [u8]) -> Option<Pi
         return Some(Piece::Empty);
     }
     let (mnemonic, operands) = operation(content);
-    let form = form(mnemonic)?;
+    let form = form_of(mnemonic)?;
     piece_at(labels, here, form, operands)
 }
 
