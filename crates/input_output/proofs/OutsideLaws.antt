@@ -1,8 +1,7 @@
 -- Laws of faults and of bytes written, for what reads or writes more than once.
-use Rattle.std.proofs.Common.{◌≡◌, ◌+◌, ◌≤◌, ◌∙◌, ℕ, List, [], ◌++◌, length, take, ap, arith, sym, refl, inl, inr, append_assoc, append-nil}
+use Rattle.std.proofs.Common.{◌≡◌, ◌+◌, ◌≤◌, ◌∙◌, ℕ, List, ◌++◌, length, take, ap, arith, sym, refl, inl, inr, append_assoc}
 use Rattle.std.specs.Prelude.{Option, None, Some}
 use Rattle.std.proofs.Math.Seq.{take-append-add}
-use Rattle.std.proofs.lemmas.Bool.{cases_lt}
 use Rattle.input_output.specs.Source.{Rose}
 use Rattle.input_output.specs.Sink.{grown, GrewByPrefix}
 

@@ -1,22 +1,20 @@
 -- What follows for a step's answer and state from the laws of the kernel's model.
-use Rattle.std.proofs.Common.{◌≡◌, ◌≢◌, ◌⊎◌, inl, inr, ℕ, Some, sym, ap, subst, ◌∙◌}
+use Rattle.std.proofs.Common.{◌≡◌, ◌≢◌, ◌⊎◌, inl, inr, ℕ, Some, ap, subst, ◌∙◌}
 use Rattle.std.specs.FinMap.{get}
 use Rattle.abi_types.specs.declared.call.Answer.{Answer}
 use Rattle.abi_types.specs.declared.call.Answer.TheVariants as answer
 use Rattle.abi_types.specs.declared.call.Call.{Call}
 use Rattle.abi_types.specs.declared.call.Reply.{Reply}
-use Rattle.abi_types.specs.declared.descriptor.Denial.{Denial}
 use Rattle.abi_types.specs.declared.descriptor.Descriptor.{Descriptor}
 use Rattle.abi_base.specs.declared.errno.Errno.TheVariants.{Success, Nomem}
 use Rattle.abi_types.specs.declared.needed.Needed.{Needed}
-use Rattle.kernel_model.specs.Laws.{HasAll, IsFirstLack, IsOfFirstLack}
+use Rattle.kernel_model.specs.Laws.{HasAll, IsFirstLack}
 use Rattle.kernel_model.specs.Need.{need, missing}
 use Rattle.kernel_model.specs.Reply.{refused, denied}
 use Rattle.kernel_model.specs.State.{State, Table}
-use Rattle.kernel_model.specs.Step.{tick, step_reply, IsStep}
+use Rattle.kernel_model.specs.Step.{tick, IsStep}
 use Rattle.kernel_model.specs.Valid.{IsValid}
 use Rattle.kernel_model.proofs.Refusals.{first_lack_is_named, error_keeps}
-use Rattle.kernel_model.proofs.Tests.{none_is_no}
 
 -- where each needed descriptor is there, the first that lacks a right is named
 pub step_denied : (S T : State) (p : ℕ) (call : Call) (given : Answer) (table : Table) (row : Needed) (d : Descriptor) → IsStep S p call given T

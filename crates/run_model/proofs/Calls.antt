@@ -3,7 +3,7 @@
 --     threads_stay, only_own_status, clock_moves      what a step leaves of threads, statuses and the clock
 --     ended_by      a process that is ended is not live
 --     end_only_own_status, end_clock_moves      what the end of a process leaves of statuses and the clock
-use Rattle.std.proofs.Common.{◌≡◌, ◌≢◌, ◌⊎◌, inl, inr, ℕ, ◌+◌, Bool, true, false, cond, List, [], ◌∷◌, ◌++◌, Option, Some, None, IsSome, refl, sym, ap, subst, ◌∙◌}
+use Rattle.std.proofs.Common.{◌≡◌, ◌≢◌, ◌⊎◌, inl, inr, ℕ, ◌+◌, Bool, true, false, cond, List, [], ◌∷◌, ◌++◌, Option, Some, None, refl, sym, ap, subst, ◌∙◌}
 use Rattle.std.specs.FinMap.{get}
 use Rattle.abi_types.specs.declared.call.Answer.{Answer}
 use Rattle.abi_types.specs.declared.call.Call.{Call}
@@ -14,21 +14,18 @@ use Rattle.abi_types.specs.declared.descriptor.Descriptor.{Descriptor}
 use Rattle.abi_base.specs.declared.errno.Errno.{Errno}
 use Rattle.abi_base.specs.declared.errno.Errno.TheVariants.{Success, Badf, Nomem, Notcapable}
 use Rattle.abi_types.specs.declared.open_kind.OpenKind.{OpenKind}
-use Rattle.abi_types.specs.declared.place.Place.{Place}
-use Rattle.abi_types.specs.declared.place.Place.TheVariants as place
-use Rattle.abi_types.specs.declared.place.Place.TheVariants.{At}
 use Rattle.abi_types.specs.declared.open_kind.OpenKind.TheVariants.{Terminal}
 use Rattle.abi_types.specs.declared.status.Status.{Status}
 use Rattle.abi_types.specs.declared.status.Status.TheVariants.{Live, Exit}
 use Rattle.abi_base.specs.Registers.{Registers}
-use Rattle.kernel_model.specs.Cases.{Outcome, answers, placed, write_term, write_open, fd_write, end_updates, case_of}
+use Rattle.kernel_model.specs.Cases.{Outcome, write_term, write_open, fd_write, end_updates, case_of}
 use Rattle.kernel_model.specs.Need.{need, some_absent, first_lack, denied_by, refusal}
 use Rattle.kernel_model.specs.Reply.{refused}
 use Rattle.kernel_model.specs.State.{State, Table, Update, set_table, set_threads, set_status, set_term, put_one, put_all}
 use Rattle.kernel_model.specs.Step.{tick, unless, act_on, outcome, step_reply, step_state, IsStep, end_state}
 use Rattle.kernel_model.specs.View.{View, whole}
 use Rattle.kernel_model.proofs.Carried.{Carries, Answers, case_errno}
-use Rattle.kernel_model.proofs.Sights.{outcome_reads, outcome_of_table}
+use Rattle.kernel_model.proofs.Sights.{outcome_reads}
 use Rattle.number_map.specs.Maps.{get-insert-same, get-insert-other}
 use Rattle.guest_memory.specs.Page.{Pages}
 use Rattle.call_codec.specs.Args.{args_of}

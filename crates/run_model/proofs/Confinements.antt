@@ -5,7 +5,6 @@ use Rattle.abi_types.specs.declared.call.Answer.{Answer}
 use Rattle.abi_types.specs.declared.call.Answer.TheVariants as answer
 use Rattle.abi_types.specs.declared.call.Call.{Call}
 use Rattle.abi_types.specs.declared.call.Reply.{Reply}
-use Rattle.abi_types.specs.declared.descriptor.Denial.{Denial}
 use Rattle.abi_types.specs.declared.descriptor.Descriptor.{Descriptor}
 use Rattle.abi_base.specs.declared.errno.Errno.TheVariants.{Nomem, Notcapable}
 use Rattle.abi_types.specs.declared.needed.Needed.{Needed}
@@ -16,7 +15,7 @@ use Rattle.run_types.specs.declared.history.Act.TheVariants as act
 use Rattle.run_types.specs.declared.history.Entry.{Entry}
 use Rattle.run_types.specs.declared.launch.Launch.{Launch}
 use Rattle.kernel_model.specs.Cases.{Outcome}
-use Rattle.kernel_model.specs.Laws.{HasSameSight, HasAll, IsFirstLack, IsOfFirstLack, IsNotDeniedEarly}
+use Rattle.kernel_model.specs.Laws.{HasSameSight, HasAll, IsFirstLack, IsNotDeniedEarly}
 use Rattle.kernel_model.specs.Need.{need, missing}
 use Rattle.kernel_model.specs.Reply.{refused}
 use Rattle.abi_base.specs.Grants.{AreGrants}
@@ -25,7 +24,6 @@ use Rattle.kernel_model.specs.Step.{tick, step_reply, step_state, IsStep}
 use Rattle.kernel_model.specs.Valid.{IsValid}
 use Rattle.kernel_model.proofs.Decisions.{sight_decides}
 use Rattle.kernel_model.proofs.Refusals.{first_lack_is_named, notcapable_is_denied, error_keeps, same_reply, step_denial}
-use Rattle.kernel_model.proofs.Tests.{none_is_no}
 use Rattle.kernel_model.proofs.Touches as touches
 use Rattle.run_model.specs.Confined.{MayAnswer, IsDenied, CallIsConfined, ActIsConfined, EntryIsConfined, IsConfined}
 use Rattle.run_model.specs.Legal.{FitsAct, Fits, Legal}

@@ -5,7 +5,6 @@
 --     first_guest_is, first_state, first_registers_are, first_threads, first_thread      the start
 use Rattle.std.proofs.Common.{◌≡◌, ℕ, List, [], ◌∷◌, ◌++◌, Some, refl, ap}
 use Rattle.std.specs.FinMap.{empty, get, insert}
-use Rattle.abi_types.specs.declared.status.Status.TheVariants.{Live}
 use Rattle.abi_types.specs.declared.thread.Thread.TheVariants.{Runnable}
 use Rattle.abi_base.specs.Registers.{Registers}
 use Rattle.run_types.specs.declared.history.Entry.{Entry}
