@@ -10,11 +10,11 @@ ghost use Rattle.call_codec.specs.Bounded.{IsBounded};
 
 use crate::launch_text::plan_text;
 use crate::lines::Refusal;
-use abi_types::Bytes;
 use elf_image::{ElfFault, read_elf};
 use input_output::{ReadFault, Source, read_whole};
 use launch_plan::Planned;
 use launch_words::LaunchWords;
+use lists::Bytes;
 use run_types::Launch;
 use std::alloc::{AllocError, Global};
 
