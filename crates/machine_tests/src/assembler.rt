@@ -270,6 +270,11 @@ fn has_bytes(alloc: Global, text: &str, bytes: &[u8]) -> Result<bool, AsmFault> 
     Ok(assemble(alloc, text)?.as_slice() == bytes)
 }
 
+// Whether a text's bytes are this word.
+fn is_word(alloc: Global, text: &str, word: u32) -> Result<bool, AsmFault> {
+    has_bytes(alloc, text, &word.to_le_bytes())
+}
+
 // Whether a text's bytes begin with these words.
 fn begins_with(alloc: Global, text: &str, words: &[u32]) -> Result<bool, AsmFault> {
     let bytes = assemble(alloc, text)?;
@@ -286,11 +291,7 @@ fn begins_with(alloc: Global, text: &str, words: &[u32]) -> Result<bool, AsmFaul
 #[test]
 fn lines(rt: HostRuntime) -> Result<(), Fail> {
     for &(text, word) in LINES {
-        assert_eq!(rt;
-            has_bytes(rt.alloc(), text, &word.to_le_bytes()),
-            Ok(true),
-            "{text}"
-        );
+        assert_eq!(rt; is_word(rt.alloc(), text, word), Ok(true), "{text}");
     }
     Ok(())
 }

@@ -235,29 +235,30 @@ fn exchange(
     Ok((outcome, regs, memory.load(AT, 8)?))
 }
 
-#[test]
-fn words_are_exchanged(rt: HostRuntime) -> Result<(), Fail> {
-    let mut memory = memory_of(rt.alloc(), &[])?;
-    for &(word, after) in WORD_ATOMICS {
+// The first row of a table, of atomics on words or on double words, whose instruction does something else.
+fn other_exchange(
+    alloc: Global,
+    atomics: &[(u32, [u64; 5])],
+    are_words: bool,
+) -> Result<Option<usize>, MemFault> {
+    let mut memory = memory_of(alloc, &[])?;
+    for (i, &(word, after)) in atomics.iter().enumerate() {
         for (&(number, a1, low_word), left) in OPERANDS.iter().zip(after) {
-            let found = exchange(&mut memory, word, number, a1);
-            let want = (Outcome::Done, registers(CODE + 4, [AT, a1, low_word]), left);
-            assert_eq!(rt; found, Ok(want), "{word:x} of {number:x}, {a1:x}");
+            let a2 = if are_words { low_word } else { number };
+            let want = (Outcome::Done, registers(CODE + 4, [AT, a1, a2]), left);
+            if exchange(&mut memory, word, number, a1)? != want {
+                return Ok(Some(i));
+            }
         }
     }
-    Ok(())
+    Ok(None)
 }
 
 #[test]
-fn double_words_are_exchanged(rt: HostRuntime) -> Result<(), Fail> {
-    let mut memory = memory_of(rt.alloc(), &[])?;
-    for &(word, after) in DOUBLE_ATOMICS {
-        for (&(number, a1, _), left) in OPERANDS.iter().zip(after) {
-            let found = exchange(&mut memory, word, number, a1);
-            let want = (Outcome::Done, registers(CODE + 4, [AT, a1, number]), left);
-            assert_eq!(rt; found, Ok(want), "{word:x} of {number:x}, {a1:x}");
-        }
-    }
+fn memory_is_exchanged(rt: HostRuntime) -> Result<(), Fail> {
+    let words = other_exchange(rt.alloc(), WORD_ATOMICS, true)?;
+    let double_words = other_exchange(rt.alloc(), DOUBLE_ATOMICS, false)?;
+    assert_eq!(rt; [words, double_words], [None; 2]);
     Ok(())
 }
 
@@ -375,18 +376,15 @@ fn store_conditionally(alloc: Global, words: &[u32]) -> Result<(TurnEnd, [u64; 3
     Ok((end, [memory.load(at, 8)?, a2, a3]))
 }
 
-#[test]
-fn stores_are_conditional(rt: HostRuntime) -> Result<(), Fail> {
-    for row in CONDITIONAL_STORES {
-        let words = row.words;
+// The first program that does something else.
+fn other_conditional_store(alloc: Global) -> Result<Option<usize>, MemFault> {
+    for (i, row) in CONDITIONAL_STORES.iter().enumerate() {
         let want = (TurnEnd::Ecall, [row.memory, row.a2, row.a3]);
-        assert_eq!(rt;
-            store_conditionally(rt.alloc(), &words),
-            Ok(want),
-            "{words:?}"
-        );
+        if store_conditionally(alloc, &row.words)? != want {
+            return Ok(Some(i));
+        }
     }
-    Ok(())
+    Ok(None)
 }
 
 // A program with this number in a0 and a2, how its first turn ends and what it leaves in a2, the pc being 0x10004; and how
@@ -434,13 +432,21 @@ fn do_turns(
     Ok((end, first, do_turn(&mut memory, &mut regs)))
 }
 
-#[test]
-fn reservations_live_inside_a_turn(rt: HostRuntime) -> Result<(), Fail> {
-    for row in TURNS {
-        let words = row.words;
+// The first program that does something else.
+fn other_reservation(alloc: Global) -> Result<Option<usize>, MemFault> {
+    for (i, row) in TURNS.iter().enumerate() {
         let first = registers(CODE + 4, [row.a0, A1, row.a2_after]);
-        let want = (row.end, first, row.second);
-        assert_eq!(rt; do_turns(rt.alloc(), row), Ok(want), "{words:?}");
+        if do_turns(alloc, row)? != (row.end, first, row.second) {
+            return Ok(Some(i));
+        }
     }
+    Ok(None)
+}
+
+#[test]
+fn stores_are_conditional(rt: HostRuntime) -> Result<(), Fail> {
+    let stores = other_conditional_store(rt.alloc())?;
+    let reservations = other_reservation(rt.alloc())?;
+    assert_eq!(rt; [stores, reservations], [None; 2]);
     Ok(())
 }

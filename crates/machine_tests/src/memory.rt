@@ -1,15 +1,8 @@
 //! Bytes, numbers and pages of a memory.
-use abi_base::Prot;
+use abi_base::{GUEST_BEGIN, GUEST_END, PAGE_LIMIT, PAGE_SIZE, Prot};
 use guest_memory::{Access, GuestMemory, MemFault};
 use std::alloc::{AllocError, Global};
 use std::test::Fail;
-
-const PAGE: u64 = 4096;
-
-// The guest's part of the address space.
-const BEGIN: u64 = 0x10000;
-
-const END: u64 = 0x40_0000_0000;
 
 const NONE: Prot = Prot {
     read: false,
@@ -72,7 +65,11 @@ const NONE_SUCH: Answer = Err(MemFault::NoMemory);
 const OUTSIDE: Answer = Err(MemFault::NotMapped(1));
 
 fn map(memory: &mut GuestMemory, alloc: Global, at: u64, pages: u32, prot: Prot) -> Answer {
-    if at % PAGE != 0 || at < BEGIN || at >= END || PAGE * u64::from(pages) > END - at {
+    if at % PAGE_SIZE != 0
+        || at < GUEST_BEGIN
+        || at >= GUEST_END
+        || PAGE_SIZE * u64::from(pages) > GUEST_END - at
+    {
         return OUTSIDE;
     }
     memory.map(alloc, at, pages, prot)?;
@@ -80,11 +77,15 @@ fn map(memory: &mut GuestMemory, alloc: Global, at: u64, pages: u32, prot: Prot)
 }
 
 fn map_fixed(memory: &mut GuestMemory, alloc: Global, at: u64, pages: u32, prot: Prot) -> Answer {
-    if at % PAGE != 0 || at < BEGIN || at >= END || PAGE * u64::from(pages) > END - at {
+    if at % PAGE_SIZE != 0
+        || at < GUEST_BEGIN
+        || at >= GUEST_END
+        || PAGE_SIZE * u64::from(pages) > GUEST_END - at
+    {
         return OUTSIDE;
     }
     let staying = memory.len() as u64 - memory.mapped_within(at, pages);
-    if staying + u64::from(pages) > 65_536 {
+    if staying + u64::from(pages) > PAGE_LIMIT {
         return OUTSIDE;
     }
     match memory.map_fixed(alloc, at, pages, prot) {
@@ -94,7 +95,7 @@ fn map_fixed(memory: &mut GuestMemory, alloc: Global, at: u64, pages: u32, prot:
 }
 
 fn protect(memory: &mut GuestMemory, at: u64, pages: u32, prot: Prot) -> Answer {
-    if at % PAGE != 0 || at >= END {
+    if at % PAGE_SIZE != 0 || at >= GUEST_END {
         return OUTSIDE;
     }
     memory.protect(at, pages, prot)?;
@@ -102,7 +103,7 @@ fn protect(memory: &mut GuestMemory, at: u64, pages: u32, prot: Prot) -> Answer 
 }
 
 fn unmap(memory: &mut GuestMemory, at: u64, pages: u32) -> Answer {
-    if at % PAGE != 0 || at >= END {
+    if at % PAGE_SIZE != 0 || at >= GUEST_END {
         return OUTSIDE;
     }
     memory.unmap(at, pages);
@@ -110,14 +111,14 @@ fn unmap(memory: &mut GuestMemory, at: u64, pages: u32) -> Answer {
 }
 
 fn within(memory: &GuestMemory, at: u64, pages: u32) -> Answer {
-    if at % PAGE != 0 || at >= END {
+    if at % PAGE_SIZE != 0 || at >= GUEST_END {
         return OUTSIDE;
     }
     Ok(memory.mapped_within(at, pages))
 }
 
 fn mapped(memory: &GuestMemory, at: u64, pages: u64) -> Answer {
-    if at % PAGE != 0 || pages > 0x10_0000_0000_0000 {
+    if at % PAGE_SIZE != 0 || pages > 0x10_0000_0000_0000 {
         return OUTSIDE;
     }
     memory.check_mapped(at, pages)?;
@@ -418,7 +419,7 @@ const MAP_NAMES_ITS_FAULT: Acts = &[
 ];
 
 // There are at most 65,536 pages.
-const PAGE_LIMIT: Acts = &[
+const AT_THE_LIMIT: Acts = &[
     (Act::Map(0x10000, 65_537, READ), Err(MemFault::PageLimit)),
     (Act::Map(0x10000, 65_536, READ), DONE),
     (Act::Map(0x2000_0000, 1, READ), Err(MemFault::PageLimit)),
@@ -522,7 +523,6 @@ const ALL: &[(&str, Acts)] = &[
     ("lowest gap is found", LOWEST_GAP_IS_FOUND),
     ("gaps between pages", GAPS_BETWEEN_PAGES),
     ("map names its fault", MAP_NAMES_ITS_FAULT),
-    ("page limit", PAGE_LIMIT),
     (
         "unmap passes over absent pages",
         UNMAP_PASSES_OVER_ABSENT_PAGES,
@@ -545,6 +545,15 @@ fn acts_are_answered(rt: HostRuntime) -> Result<(), Fail> {
         let other = first_other(&mut memory, rt.alloc(), acts);
         assert_eq!(rt; other, None, "{name}");
     }
+    Ok(())
+}
+
+// The pages of this one take long.
+#[test]
+fn page_limit(rt: HostRuntime) -> Result<(), Fail> {
+    let mut memory = GuestMemory::new(rt.alloc());
+    let other = first_other(&mut memory, rt.alloc(), AT_THE_LIMIT);
+    assert_eq!(rt; other, None);
     Ok(())
 }
 

@@ -36,11 +36,11 @@ const ALL: Prot = Prot {
     ..READ_WRITE
 };
 
-// A page of code. No page comes after it.
+/// A page of code. No page comes after it.
 pub const CODE: u64 = 0x10000;
 
-// Two pages that may be read and written, then one that may be read, one that may be written and two that may be
-// executed. No page comes after them.
+/// Two pages that may be read and written, then one that may be read, one that may be written and two that may be
+/// executed. No page comes after them.
 pub const DATA: u64 = 0x20000;
 
 // A page of the same code that may be read and written too.
@@ -52,6 +52,7 @@ const A1: u32 = 11;
 
 const A2: u32 = 12;
 
+/// The number of a3.
 pub const A3: u32 = 13;
 
 const A4: u32 = 14;
@@ -83,7 +84,7 @@ fn write_code(memory: &mut GuestMemory, words: &[u32]) -> Result<(), MemFault> {
     Ok(())
 }
 
-// A memory of those pages, the code of which begins with these words.
+/// A memory of those pages, the code of which begins with these words.
 pub fn memory_of(alloc: Global, words: &[u32]) -> Result<GuestMemory, MemFault> {
     let mut memory = GuestMemory::new(alloc);
     map_pages(&mut memory, alloc)?;
@@ -92,7 +93,7 @@ pub fn memory_of(alloc: Global, words: &[u32]) -> Result<GuestMemory, MemFault> 
     Ok(memory)
 }
 
-// Registers with this pc and these numbers in a0, a1 and a2.
+/// Registers with this pc and these numbers in a0, a1 and a2.
 pub fn registers(pc: u64, [a0, a1, a2]: [u64; 3]) -> Regs {
     let mut regs = Regs::new(pc);
     regs.set(A0, a0);
@@ -101,8 +102,8 @@ pub fn registers(pc: u64, [a0, a1, a2]: [u64; 3]) -> Regs {
     regs
 }
 
-// Puts this word at the beginning of the code, where it is done with these numbers in a0, a1 and a2. How it ended, and the
-// registers afterwards.
+/// Puts this word at the beginning of the code, where it is done with these numbers in a0, a1 and a2. How it ended, and the
+/// registers afterwards.
 pub fn do_word(
     memory: &mut GuestMemory,
     word: u32,
@@ -165,15 +166,17 @@ const COMPUTATIONS: &[(u32, u64, u64, u64)] = &[
     (0x0000_100f, 7, 7, 0), // fence.i
 ];
 
-#[test]
-fn numbers_are_computed(rt: HostRuntime) -> Result<(), Fail> {
-    let mut memory = memory_of(rt.alloc(), &[])?;
-    for &(word, a0, a1, a2) in COMPUTATIONS {
-        let found = do_word(&mut memory, word, [a0, a1, 0]);
+// Each of these functions tells the first row whose instruction does something else.
+
+fn other_computation(alloc: Global) -> Result<Option<usize>, MemFault> {
+    let mut memory = memory_of(alloc, &[])?;
+    for (i, &(word, a0, a1, a2)) in COMPUTATIONS.iter().enumerate() {
         let want = (Outcome::Done, registers(CODE + 4, [a0, a1, a2]));
-        assert_eq!(rt; found, Ok(want), "{word:x} of {a0:x}, {a1:x}");
+        if do_word(&mut memory, word, [a0, a1, 0])? != want {
+            return Ok(Some(i));
+        }
     }
-    Ok(())
+    Ok(None)
 }
 
 // What is loaded from 0x20100 on, and from 0x20ffa on in two pages.
@@ -202,17 +205,17 @@ const LOADS: &[(u32, u64, u64)] = &[
     (0x0005_2003, 0x20100, 0), // lw zero, 0(a0)
 ];
 
-#[test]
-fn numbers_are_loaded(rt: HostRuntime) -> Result<(), Fail> {
-    let mut memory = memory_of(rt.alloc(), &[])?;
+fn other_load(alloc: Global) -> Result<Option<usize>, MemFault> {
+    let mut memory = memory_of(alloc, &[])?;
     memory.write_bytes(0x20100, &BYTES)?;
     memory.write_bytes(0x20ffa, &BYTES)?;
-    for &(word, a0, a2) in LOADS {
-        let found = do_word(&mut memory, word, [a0, 7, 0]);
+    for (i, &(word, a0, a2)) in LOADS.iter().enumerate() {
         let want = (Outcome::Done, registers(CODE + 4, [a0, 7, a2]));
-        assert_eq!(rt; found, Ok(want), "{word:x} at {a0:x}");
+        if do_word(&mut memory, word, [a0, 7, 0])? != want {
+            return Ok(Some(i));
+        }
     }
-    Ok(())
+    Ok(None)
 }
 
 // Words, a0, the address before the first byte that is written, and ten bytes from there on, each of which was 0xee.
@@ -290,15 +293,15 @@ fn do_store(
     Ok((outcome, regs, bytes))
 }
 
-#[test]
-fn numbers_are_stored(rt: HostRuntime) -> Result<(), Fail> {
-    let mut memory = memory_of(rt.alloc(), &[])?;
-    for &(word, a0, before, bytes) in STORES {
-        let found = do_store(&mut memory, word, a0, before);
+fn other_store(alloc: Global) -> Result<Option<usize>, MemFault> {
+    let mut memory = memory_of(alloc, &[])?;
+    for (i, &(word, a0, before, bytes)) in STORES.iter().enumerate() {
         let want = (Outcome::Done, registers(CODE + 4, [a0, STORED, 7]), bytes);
-        assert_eq!(rt; found, Ok(want), "{word:x} at {a0:x}");
+        if do_store(&mut memory, word, a0, before)? != want {
+            return Ok(Some(i));
+        }
     }
-    Ok(())
+    Ok(None)
 }
 
 // Words, a0, a1, and the pc, a0 and a2 afterwards. The pc was 0x10000, and a2 had 7. A target that is no multiple of 4
@@ -330,20 +333,20 @@ const JUMPS: &[(u32, u64, u64, u64, u64, u64)] = &[
     (0x00b5_5463, 5, 5, 0x10008, 5, 7), // bge a0, a1, 8
 ];
 
-#[test]
-fn jumps_go_to_multiples_of_four(rt: HostRuntime) -> Result<(), Fail> {
-    let mut memory = memory_of(rt.alloc(), &[])?;
-    for &(word, a0, a1, pc, a0_after, a2) in JUMPS {
-        let found = do_word(&mut memory, word, [a0, a1, 7]);
+fn other_jump(alloc: Global) -> Result<Option<usize>, MemFault> {
+    let mut memory = memory_of(alloc, &[])?;
+    for (i, &(word, a0, a1, pc, a0_after, a2)) in JUMPS.iter().enumerate() {
         let outcome = if pc == CODE {
             Outcome::Trap(Signal::Bus)
         } else {
             Outcome::Done
         };
         let want = (outcome, registers(pc, [a0_after, a1, a2]));
-        assert_eq!(rt; found, Ok(want), "{word:x} of {a0:x}, {a1:x}");
+        if do_word(&mut memory, word, [a0, a1, 7])? != want {
+            return Ok(Some(i));
+        }
     }
-    Ok(())
+    Ok(None)
 }
 
 // Words, a0, and why they can't be done. The pages are named by what may be done with them.
@@ -406,17 +409,17 @@ fn trap(memory: &mut GuestMemory, word: u32, a0: u64) -> Result<(Outcome, Regs, 
     Ok((outcome, regs, is_unchanged(memory)?))
 }
 
-#[test]
-fn traps_change_nothing(rt: HostRuntime) -> Result<(), Fail> {
-    let mut memory = memory_of(rt.alloc(), &[])?;
+fn other_trap(alloc: Global) -> Result<Option<usize>, MemFault> {
+    let mut memory = memory_of(alloc, &[])?;
     memory.write_bytes(0x20100, &[0x11; 8])?;
     memory.write_bytes(0x21ff8, &[0x11; 8])?;
-    for &(word, a0, signal) in TRAPS {
-        let found = trap(&mut memory, word, a0);
+    for (i, &(word, a0, signal)) in TRAPS.iter().enumerate() {
         let want = (Outcome::Trap(signal), registers(CODE, [a0, 9, 7]), true);
-        assert_eq!(rt; found, Ok(want), "{word:x} at {a0:x}");
+        if trap(&mut memory, word, a0)? != want {
+            return Ok(Some(i));
+        }
     }
-    Ok(())
+    Ok(None)
 }
 
 // Addresses, and how the instruction there ends: `addi a2, a2, 1`, where it can be fetched.
@@ -433,29 +436,44 @@ const FETCHES: &[(u64, Outcome)] = &[
     (0xffff_ffff_ffff_fffc, Outcome::Trap(Signal::Segv)), // no page
 ];
 
-// A memory with `addi a2, a2, 1` at each of those addresses where a page may be executed.
-fn memory_of_fetches(alloc: Global) -> Result<GuestMemory, MemFault> {
-    let word: u32 = 0x0016_0613;
-    let mut memory = memory_of(alloc, &[word])?;
+const ADDITION: u32 = 0x0016_0613;
+
+// Writes `addi a2, a2, 1` to those of these addresses that are on pages that may only be executed.
+fn write_additions(memory: &mut GuestMemory) -> Result<(), MemFault> {
     memory.protect(0x24000, 2, WRITE)?;
-    memory.write_bytes(0x24000, &word.to_le_bytes())?;
-    memory.write_bytes(0x24ffe, &word.to_le_bytes())?;
-    memory.protect(0x24000, 2, EXEC)?;
-    Ok(memory)
+    memory.write_bytes(0x24000, &ADDITION.to_le_bytes())?;
+    memory.write_bytes(0x24ffe, &ADDITION.to_le_bytes())?;
+    memory.protect(0x24000, 2, EXEC)
 }
 
-#[test]
-fn executable_pages_run(rt: HostRuntime) -> Result<(), Fail> {
-    let mut memory = memory_of_fetches(rt.alloc())?;
-    for &(pc, outcome) in FETCHES {
-        let found = do_one(&mut memory, registers(pc, [0, 0, 7]));
+fn other_fetch(alloc: Global) -> Result<Option<usize>, MemFault> {
+    let mut memory = memory_of(alloc, &[ADDITION])?;
+    write_additions(&mut memory)?;
+    for (i, &(pc, outcome)) in FETCHES.iter().enumerate() {
         let after = if outcome == Outcome::Done {
             registers(pc.wrapping_add(4), [0, 0, 8])
         } else {
             registers(pc, [0, 0, 7])
         };
-        assert_eq!(rt; found, (outcome, after), "at {pc:x}");
+        if do_one(&mut memory, registers(pc, [0, 0, 7])) != (outcome, after) {
+            return Ok(Some(i));
+        }
     }
+    Ok(None)
+}
+
+#[test]
+fn instructions(rt: HostRuntime) -> Result<(), Fail> {
+    let alloc = rt.alloc();
+    let others = [
+        other_computation(alloc)?,
+        other_load(alloc)?,
+        other_store(alloc)?,
+        other_jump(alloc)?,
+        other_trap(alloc)?,
+        other_fetch(alloc)?,
+    ];
+    assert_eq!(rt; others, [None; 6]);
     Ok(())
 }
 
@@ -584,7 +602,7 @@ const PROGRAMS: &[Program] = &[
     },
 ];
 
-// Does a turn. How it ended, and the pc, a2 and a3 afterwards.
+/// Does a turn. How it ended, and the pc, a2 and a3 afterwards.
 pub fn do_turn(memory: &mut GuestMemory, regs: &mut Regs) -> (TurnEnd, [u64; 3]) {
     let end = turn(regs, memory);
     (end, [regs.pc(), regs.get(A2), regs.get(A3)])
@@ -598,13 +616,20 @@ fn run(alloc: Global, program: &Program) -> Result<(TurnEnd, [u64; 3]), MemFault
     Ok(do_turn(&mut memory, &mut regs))
 }
 
+// The first program whose turn ends otherwise.
+fn other_turn(alloc: Global) -> Result<Option<usize>, MemFault> {
+    for (i, program) in PROGRAMS.iter().enumerate() {
+        let want = (program.end, [program.pc, program.a2, program.a3]);
+        if run(alloc, program)? != want {
+            return Ok(Some(i));
+        }
+    }
+    Ok(None)
+}
+
 #[test]
 fn turns_end(rt: HostRuntime) -> Result<(), Fail> {
-    for program in PROGRAMS {
-        let words = program.words;
-        let want = (program.end, [program.pc, program.a2, program.a3]);
-        assert_eq!(rt; run(rt.alloc(), program), Ok(want), "{words:?}");
-    }
+    assert_eq!(rt; other_turn(rt.alloc())?, None);
     Ok(())
 }
 

@@ -22,14 +22,14 @@ pub struct Statement<'a> {
     pub content: &'a [u8],
 }
 
-/// The line without its comment and its outer spaces.
+// The line without its comment and its outer spaces.
 fn bare(line: &[u8]) -> &[u8]
     ensures { result.now ≡ bare_of line.now }
 {
     trim(without_comment(line))
 }
 
-/// The label that a line begins with, and what stands behind its colon.
+// The label that a line begins with, and what stands behind its colon.
 #[tactic(auto, unfolding(crate::specs::Lines::labelled_of))]
 fn labelled(bare: &[u8]) -> Option<(&[u8], &[u8])>
     ensures { option_map (λ parts. (parts.0.now, parts.1.now)) result ≡ labelled_of bare.now }
@@ -62,7 +62,7 @@ impl<'a> Statement<'a> {
     }
 }
 
-/// The mnemonic, and the operands behind the first space.
+// The mnemonic, and the operands behind the first space.
 fn operation(content: &[u8]) -> (&[u8], &[u8])
     ensures { (result.0.now, result.1.now) ≡ operation_of content.now }
 {
@@ -72,7 +72,7 @@ fn operation(content: &[u8]) -> (&[u8], &[u8])
     }
 }
 
-/// How many bytes a form with these operands takes.
+// How many bytes a form with these operands takes.
 fn size_of_form(form: Form, operands: &[u8]) -> usize
     ensures { result ≡ size_of_form form operands.now }
 {
@@ -99,7 +99,7 @@ pub fn size(content: &[u8]) -> usize
     }
 }
 
-/// Whether a form is a directive, which may be placed anywhere.
+// Whether a form is a directive, which may be placed anywhere.
 fn is_directive(form: Form) -> bool
     ensures { result ≡ is_directive form }
 {
@@ -109,7 +109,7 @@ fn is_directive(form: Form) -> bool
     }
 }
 
-/// The piece of a form at this address.
+// The piece of a form at this address.
 #[tactic(auto, unfolding(crate::specs::Lines::item_at))]
 fn piece_at<'a>(
     labels: &[Label<'_>],
@@ -130,7 +130,7 @@ fn piece_at<'a>(
     }
 }
 
-/// The piece of a content at this address.
+// The piece of a content at this address.
 #[tactic(auto, unfolding(crate::specs::Lines::item_of, crate::specs::Lines::size_of_content))]
 fn piece_of<'a>(labels: &[Label<'_>], here: u64, content: &'a [u8]) -> Option<Piece<'a>>
     ensures exact { PieceIs result (item_of (rows labels.now) here content.now) }
@@ -144,7 +144,7 @@ fn piece_of<'a>(labels: &[Label<'_>], here: u64, content: &'a [u8]) -> Option<Pi
     piece_at(labels, here, form, operands)
 }
 
-/// Whether a label is among these.
+// Whether a label is among these.
 fn is_defined(labels: &[Label<'_>], label: Option<&[u8]>) -> bool
     ensures { result ≡ is_defined (rows labels.now) (option_map (λ name. name.now) label.entry) }
 {

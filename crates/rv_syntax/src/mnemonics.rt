@@ -124,7 +124,7 @@ const ORDERS: [Named<'static, Order>; 3] = [
     (b"aqrl", Order::AcquireRelease),
 ];
 
-/// The form of a mnemonic that isn't one of an atomic instruction.
+// The form of a mnemonic that isn't one of an atomic instruction.
 fn plain_form(mnemonic: &[u8]) -> Option<Form>
     ensures exact { result ≡ lookup mnemonics mnemonic.now }
     ensures fit { IfSome result (λ form. IsTrue (is_fit form)) }
@@ -132,7 +132,7 @@ fn plain_form(mnemonic: &[u8]) -> Option<Form>
     lookup(&MNEMONICS, mnemonic)
 }
 
-/// What an atomic operation stands for, with its order.
+// What an atomic operation stands for, with its order.
 fn atomic_form(operation: Op, order: Order) -> Form
     requires { IsTrue (is_reserve operation || is_atomic operation) }
     ensures exact { result ≡ atomic_form order operation }
@@ -144,7 +144,7 @@ fn atomic_form(operation: Op, order: Order) -> Form
     }
 }
 
-/// The form of an atomic instruction on words.
+// The form of an atomic instruction on words.
 fn word_atomic(name: &[u8]) -> Option<Op>
     ensures exact { result ≡ lookup word_atomics name.now }
     ensures atomic { IfSome result (λ op. IsTrue (is_reserve op || is_atomic op)) }
@@ -152,7 +152,7 @@ fn word_atomic(name: &[u8]) -> Option<Op>
     lookup(&WORD_ATOMICS, name)
 }
 
-/// The form of an atomic instruction on double words.
+// The form of an atomic instruction on double words.
 fn double_atomic(name: &[u8]) -> Option<Op>
     ensures exact { result ≡ lookup double_atomics name.now }
     ensures atomic { IfSome result (λ op. IsTrue (is_reserve op || is_atomic op)) }
@@ -160,7 +160,7 @@ fn double_atomic(name: &[u8]) -> Option<Op>
     lookup(&DOUBLE_ATOMICS, name)
 }
 
-/// The form of an atomic instruction, by its name, its width and its order.
+// The form of an atomic instruction, by its name, its width and its order.
 #[tactic(auto, unfolding(crate::specs::Mnemonics::atomic_at))]
 fn atomic_at(name: &[u8], width: &[u8], order: Order) -> Option<Form>
     ensures exact { result ≡ atomic_at name.now width.now order }
@@ -176,7 +176,7 @@ fn atomic_at(name: &[u8], width: &[u8], order: Order) -> Option<Form>
     Some(atomic_form(operation, order))
 }
 
-/// The form of an atomic instruction's mnemonic.
+// The form of an atomic instruction's mnemonic.
 #[tactic(auto, unfolding(crate::specs::Mnemonics::atomic_of))]
 fn atomic(mnemonic: &[u8]) -> Option<Form>
     ensures exact { result ≡ atomic_of mnemonic.now }

@@ -21,21 +21,21 @@ pub fn lookup<T: Copy>(table: &[Named<'_, T>], name: &[u8]) -> Option<T>
     None
 }
 
-/// Whether a name may begin with this byte.
+// Whether a name may begin with this byte.
 fn is_name_start(b: u8) -> bool
     ensures { result ≡ is_name_start b }
 {
     b.is_ascii_alphabetic() || b == b'_'
 }
 
-/// Whether a name may go on with this byte.
+// Whether a name may go on with this byte.
 fn is_name_byte(b: u8) -> bool
     ensures { result ≡ is_name_byte b }
 {
     b.is_ascii_alphanumeric() || b == b'_'
 }
 
-/// Whether a name may go on with these bytes.
+// Whether a name may go on with these bytes.
 fn are_name_bytes(text: &[u8]) -> bool
     ensures { result ≡ list_all is_name_byte text.now }
 {

@@ -2,7 +2,7 @@
 ghost use Rattle.std.specs.Prelude.{◌≡◌, ◌<◌, ◌≤ℤ◌, IfSome, pos, neg_ℤ};
 ghost use Rattle.rv_syntax.specs.Numbers.{digit_of, with_digit, digits_behind, digits_of, number_of, number_within};
 
-/// The value of a digit: 0 to 9, a to f and A to F.
+// The value of a digit: 0 to 9, a to f and A to F.
 fn digit(b: u8) -> Option<u8>
     ensures exact { result ≡ digit_of b }
     ensures small { IfSome result (λ value. value < 16) }
@@ -15,8 +15,8 @@ fn digit(b: u8) -> Option<u8>
     }
 }
 
-/// The number that a digit of this value makes behind a number. `None` exactly where it is no digit in this base, or
-/// where the number needs more than 64 bits.
+// The number that a digit of this value makes behind a number. `None` exactly where it is no digit in this base, or
+// where the number needs more than 64 bits.
 fn with_digit(base: u64, n: u64, digit: u8) -> Option<u64>
     requires { base < 17 }
     ensures { result ≡ with_digit base n digit }
@@ -28,7 +28,7 @@ fn with_digit(base: u64, n: u64, digit: u8) -> Option<u64>
     n.checked_mul(base)?.checked_add(digit)
 }
 
-/// The number that digits make behind a number.
+// The number that digits make behind a number.
 fn digits_behind(base: u64, mut n: u64, digits: &[u8]) -> Option<u64>
     requires { base < 17 }
     ensures { result ≡ digits_behind base n digits.now }
@@ -39,7 +39,7 @@ fn digits_behind(base: u64, mut n: u64, digits: &[u8]) -> Option<u64>
     Some(n)
 }
 
-/// The number of one or more digits, of at most 64 bits.
+// The number of one or more digits, of at most 64 bits.
 fn digits_of(base: u64, digits: &[u8]) -> Option<u64>
     requires { base < 17 }
     ensures { result ≡ digits_of base digits.now }

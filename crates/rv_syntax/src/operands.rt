@@ -47,7 +47,7 @@ pub fn unsigned(text: &[u8], high: u32) -> Option<u32>
     Some(n as u32)
 }
 
-/// The register before a closing parenthesis that ends the text.
+// The register before a closing parenthesis that ends the text.
 #[tactic(auto, unfolding(crate::specs::Operands::closed_register_of))]
 fn closed_register(text: &[u8]) -> Option<u32>
     ensures exact { result ≡ closed_register_of text.now }
@@ -85,7 +85,7 @@ pub fn address_register(text: &[u8]) -> Option<u32>
     closed_register(rest)
 }
 
-/// A number from the first bound to the second. `None` exactly for another one.
+// A number from the first bound to the second. `None` exactly for another one.
 fn within(n: i128, low: i64, high: i64) -> Option<i64>
     ensures exact { result ≡ within low high n }
     ensures range { IfSome result (λ n. (low ≤ℤ n) × (n ≤ℤ high)) }
@@ -97,7 +97,7 @@ fn within(n: i128, low: i64, high: i64) -> Option<i64>
     }
 }
 
-/// The distance that a target stands for: that of a label from here, or a number.
+// The distance that a target stands for: that of a label from here, or a number.
 #[tactic(auto, unfolding(crate::specs::Operands::distance_of))]
 fn distance(labels: &[Label<'_>], here: u64, text: &[u8]) -> Option<i128>
     ensures { result ≡ distance_of (rows labels.now) here text.now }

@@ -2,7 +2,7 @@
 ghost use Rattle.std.specs.Prelude.{◌≡◌, ◌==◌, option_map, position, false};
 ghost use Rattle.rv_syntax.specs.Text.{split_at, trim_start, trim_end, trim, without_comment, is_control, has_control};
 
-/// The place of the first such byte.
+// The place of the first such byte.
 fn place_of(text: &[u8], byte: u8) -> Option<usize>
     ensures { result ≡ position (λ b. b == byte) text.now }
 {
@@ -17,7 +17,7 @@ pub fn split_at(text: &[u8], byte: u8) -> Option<(&[u8], &[u8])>
     Some((&text[..i], &text[i + 1..]))
 }
 
-/// The text without the spaces that it begins with.
+// The text without the spaces that it begins with.
 fn trim_start(mut text: &[u8]) -> &[u8]
     ensures { result.now ≡ trim_start text.entry.now }
 {
@@ -27,7 +27,7 @@ fn trim_start(mut text: &[u8]) -> &[u8]
     text
 }
 
-/// The text without the spaces that it ends with.
+// The text without the spaces that it ends with.
 fn trim_end(mut text: &[u8]) -> &[u8]
     ensures { result.now ≡ trim_end text.entry.now }
 {

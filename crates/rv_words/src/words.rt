@@ -13,7 +13,7 @@ use crate::rows::{
 };
 use rv_code::Op;
 
-/// A signed number in two's complement, where `half` is the first number that is too great for it.
+// A signed number in two's complement, where `half` is the first number that is too great for it.
 fn field(value: i64, half: u32) -> u32
     requires half { half ≤ 2 ^ 20 }
     requires low { neg_ℤ (pos half) ≤ℤ value }
@@ -176,7 +176,7 @@ pub fn jump_word(rd: u32, distance: i64) -> u32
     })
 }
 
-/// Bits 26 and 25 of an atomic instruction.
+// Bits 26 and 25 of an atomic instruction.
 fn order_bits(order: Order) -> u32
     ensures exact { result ≡ order_bits order }
     ensures small { result < 4 }
@@ -240,7 +240,7 @@ pub fn plain_word(op: Op) -> u32
     }
 }
 
-/// The multiple of 4096 that is nearest to a distance, divided by 4096.
+// The multiple of 4096 that is nearest to a distance, divided by 4096.
 fn high_part(distance: i64) -> i64
     requires low { negsuc 0x800007ff ≤ℤ distance }
     requires high { distance ≤ℤ pos 0x7ffff7ff }
