@@ -5,7 +5,8 @@ use Rattle.argdata_codec.specs.Writing.{spelling}
 use Rattle.yaml_values.specs.Shape.{Shape}
 use Rattle.launch_plan.specs.declared.fault.PlanFault.{PlanFault}
 use Rattle.launch_plan.specs.declared.fault.PlanFault.TheVariants as faults
-use Rattle.launch_plan.specs.Tagged.{◌>>=◌, tagged, grants_of}
+use Rattle.refusals.specs.Results.{◌>>=◌}
+use Rattle.launch_plan.specs.Tagged.{tagged, grants_of}
 use Rattle.launch_plan.specs.Values.{value_of}
 
 abbrev pub most_descriptors : ℕ

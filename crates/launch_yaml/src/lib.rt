@@ -2,7 +2,8 @@
 #![tactic(auto)]
 
 pub use document::{Doc, YamlFault, parse};
-pub use yaml_values::{Node, NodeList, NodePairs, NodeValue, YamlKind};
+pub use yaml_scalars::YamlKind;
+pub use yaml_values::{Node, NodeList, NodePairs, NodeValue};
 
 mod blocks;
 mod document;
