@@ -52,13 +52,6 @@ goes_on part front rest piece after whole is shorter s =
       same = sym (behind_both front piece (content_with part k.0 after)) ∙ ap (behind front) (sym one) ∙ s.same;
     }
 
-pub closes : (part : List ℕ → Result Part LineFault) (front rest after : List ℕ) (whole : Content) → part rest ≡ Ok (None, after)
-    → Stands part front rest whole → whole ≡ Ok (front, after)
-closes part front rest after whole is s =
-    let k = step part s.fuel rest s.enough in
-    let one : content_with part s.fuel rest ≡ Ok ([], after) = k.2 ∙ rw is refl in
-    sym s.same ∙ ap (behind front) one ∙ ap (λ (bs : List ℕ). Ok (bs, after)) (append-nil front)
-
 fails : (part : List ℕ → Result Part LineFault) (front rest : List ℕ) (whole : Content) (e : LineFault) → part rest ≡ Err e
     → Stands part front rest whole → whole ≡ Err e
 fails part front rest whole e is s =
