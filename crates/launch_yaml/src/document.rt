@@ -48,7 +48,7 @@ pub enum YamlFault {
     NoMemory,
 }
 
-/// So many maps and sequences may stand inside each other.
+// So many maps and sequences may stand inside each other.
 const GREATEST_DEPTH: usize = 64;
 
 // The line begins with this text, and nothing else is in it but perhaps a comment.
