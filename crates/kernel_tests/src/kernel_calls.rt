@@ -11,7 +11,7 @@ type Stand = (u64, Option<Status>, bool, Option<Thread>);
 // A call, its reply, how the process stands after it, and what was written to stdout until then.
 type Row = (Deed, Reply, Stand, &'static str);
 
-// The reply with this error and this first result.
+// The reply of a call that is done and gives no number.
 const DONE: Reply = Reply {
     errno: Errno::Success,
     r1: 0,

@@ -173,20 +173,10 @@ fn history_of(alloc: Global, kernel: &mut Kernel, run: &Run) -> Result<History, 
     Ok(history)
 }
 
-// The report of a kernel and a history.
-fn text_of(
-    alloc: Global,
-    kernel: &Kernel,
-    history: &History,
-    lines: bool,
-) -> Result<Bytes, AllocError> {
-    report(alloc, kernel, history.as_slice(), lines)
-}
-
 fn report_of(alloc: Global, run: &Run) -> Result<Bytes, AllocError> {
     let mut kernel = stdout_kernel(alloc, run.may_write)?;
     let history = history_of(alloc, &mut kernel, run)?;
-    text_of(alloc, &kernel, &history, run.lines)
+    report(alloc, &kernel, history.as_slice(), run.lines)
 }
 
 #[test]
