@@ -16,8 +16,6 @@ mod place;
 mod reading;
 mod refusal;
 mod tag;
-#[cfg(test)]
-mod tests;
 mod turn;
 mod value;
 mod value_list;

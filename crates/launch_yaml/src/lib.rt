@@ -15,5 +15,3 @@ mod lines;
 mod rows;
 mod single;
 mod tagging;
-#[cfg(test)]
-mod tests;
