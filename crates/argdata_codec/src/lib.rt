@@ -16,8 +16,6 @@ mod pair_list;
 mod place;
 mod reading;
 mod tag;
-#[cfg(test)]
-mod tests;
 mod turn;
 mod value;
 mod value_list;

@@ -17,11 +17,6 @@ first_found test (suc n) i below none passes = elim (cases_lt i n) [
       (ap (next_if test i) none ∙ ap (λ b. cond b (Some i) None) passes)
 ]
 
--- a number that doesn't pass leaves none
-pub none_more : (test : ℕ → Bool) (i : ℕ) → first_below test i ≡ None → test i ≡ false → first_below test (i + 1) ≡ None
-none_more test i none fails =
-    ap (first_below test) (add-one i) ∙ ap (next_if test i) none ∙ ap (λ b. cond b (Some i) None) fails
-
 -- where none is found none passes
 passes_not : (b : Bool) (n : ℕ) → cond b (Some n) None ≡ None → b ≡ false
 passes_not true n none = absurd (cc)

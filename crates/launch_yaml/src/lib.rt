@@ -16,5 +16,3 @@ mod lines;
 mod rows;
 mod single;
 mod tagging;
-#[cfg(test)]
-mod tests;
