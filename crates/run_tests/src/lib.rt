@@ -12,4 +12,4 @@ mod memory_calls;
 #[cfg(test)]
 mod programs;
 #[cfg(test)]
-mod refusals;
+mod refused_launches;
