@@ -1,7 +1,6 @@
 -- Each change of a memory keeps its limits.
-use Rattle.std.proofs.Common.{◌≡◌, ℕ, ◌+◌, ◌*◌, ◌<◌, ◌≤◌, Bool, true, false, cond, Option, Some, None, option_map, length, refl, sym, ap, subst, ◌∙◌, arith}
-use Rattle.std.specs.Ordering.{nat_cmp}
-use Rattle.std.specs.FinMap.{get, len, empty, get-empty, len-empty}
+use Rattle.std.proofs.Common.{◌≡◌, ℕ, ◌+◌, ◌*◌, ◌<◌, ◌≤◌, Bool, true, false, cond, Option, Some, None, option_map, length, refl, sym, subst, ◌∙◌, arith}
+use Rattle.std.specs.FinMap.{get, len}
 use Rattle.abi_base.specs.declared.prot.Prot.{Prot}
 use Rattle.guest_memory.specs.Page.{Page, Pages, zero_page, with_prot}
 use Rattle.guest_memory.specs.Ranges.{in_range}

@@ -2,7 +2,7 @@
 -- gives, and what an atomic instruction writes. A register is a number below 2^64; where an operation is signed, it is
 -- looked at in two's complement.
 use Rattle.std.specs.Prelude.{ℕ, ◌+◌, ◌%◌, ◌^◌, ◌==◌, Bool, false, not, cond, nat_lt, ℤ, int_lt, bit_and, bit_or}
-use Rattle.std.specs.Int.{w8, w16, w32, w64, cast_signed, cast_unsigned}
+use Rattle.std.specs.Int.{w8, w16, w32, cast_signed}
 use Rattle.std.specs.Int.Bits.{bit_xor}
 use Rattle.rv_code.specs.declared.instr.Op.{Op}
 use Rattle.rv_code.specs.declared.instr.Op.TheVariants as op
