@@ -1,6 +1,7 @@
 //! Command lines, and what they come to on the first program.
 use crate::calls::{Given, REPORT, answered, check};
 use guest_kit::HELLO_FILE;
+use launch_run::Finished;
 use std::test::Fail;
 
 const WORDS_LINE: &str = "words: refused\n";
@@ -68,23 +69,31 @@ fn takes_command_lines(rt: HostRuntime) -> Result<(), Fail> {
     Ok(())
 }
 
+// The last bytes of the key, the epoch and the turns of the launch that is kept, where its standard input is this.
+fn kept_settings(finished: &Finished, stdin: &[u8]) -> Option<(u8, u8, u64, u64)> {
+    let launch = &finished.kept.as_ref()?.launch;
+    if launch.stdin.as_slice() != stdin {
+        return None;
+    }
+    Some((launch.key[30], launch.key[31], launch.epoch, launch.turns))
+}
+
+// Words that give each setting.
+const SETTINGS: &[&str] = &[
+    "run",
+    "--stdin=input",
+    "--key=000102030405060708090a0b0c0d0e0f101112131415161718191a1b1c1d1eFF",
+    "--epoch=5",
+    "--turns=7",
+    "p",
+];
+
 // The settings of a command line are those of the launch that is kept.
 #[test]
 fn keeps_settings(rt: HostRuntime) -> Result<(), Fail> {
-    let words = [
-        "run",
-        "--stdin=input",
-        "--key=000102030405060708090a0b0c0d0e0f101112131415161718191a1b1c1d1eFF",
-        "--epoch=5",
-        "--turns=7",
-        "p",
-    ];
-    let given = Given::new(&words, &HELLO_FILE, b"!fd stdout\n");
+    let given = Given::new(SETTINGS, &HELLO_FILE, b"!fd stdout\n");
     let (finished, _sink) = answered(rt.alloc(), &given)?;
-    let record = finished.kept.expect(&rt, "a record is kept");
-    let launch = &record.launch;
-    assert_eq!(rt; launch.stdin.as_slice(), b"some input".as_slice());
-    let settings = (launch.key[30], launch.key[31], launch.epoch, launch.turns);
-    assert_eq!(rt; settings, (30, 255, 5, 7));
+    let kept = kept_settings(&finished, b"some input");
+    assert_eq!(rt; kept, Some((30, 255, 5, 7)));
     Ok(())
 }
