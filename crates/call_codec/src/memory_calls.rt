@@ -5,6 +5,7 @@ ghost use Rattle.call_codec.specs.MemoryCalls.{has_bits, has_one, writes_and_exe
 ghost use Rattle.guest_memory.specs.Ranges.{IsPageAddress};
 
 use crate::arguments::low;
+use abi_base::{GUEST_BEGIN, GUEST_END, PAGE_LIMIT, PAGE_SIZE};
 use abi_types::{Call, Errno, Place, Regs};
 use guest_memory::GuestMemory;
 
@@ -22,18 +23,6 @@ pub const MEM_SYNC: u64 = 35;
 
 /// The number of mem_unmap.
 pub const MEM_UNMAP: u64 = 36;
-
-/// How many bytes a page has.
-pub const PAGE: u64 = 4096;
-
-// The address of the first page of the guest's part of the address space.
-const GUESTS_BEGIN: u64 = 0x1_0000;
-
-/// The address after that part.
-pub const GUESTS_END: u64 = 0x40_0000_0000;
-
-// The most pages of a memory.
-const PAGE_LIMIT: u64 = 65_536;
 
 // The bits of a prot that are for a writable page that can be executed.
 const WRITE_AND_EXEC: u32 = 3;
@@ -78,14 +67,14 @@ fn has_one(flags: u32, this: u32, that: u32) -> bool
 fn is_aligned(at: u64) -> bool
     ensures { result ≡ is_aligned at }
 {
-    at % PAGE == 0
+    at % PAGE_SIZE == 0
 }
 
 /// How many pages so many bytes are, rounded up.
 pub fn pages_in(bytes: u64) -> u64
     ensures { result ≡ pages_in bytes }
 {
-    bytes.div_ceil(PAGE)
+    bytes.div_ceil(PAGE_SIZE)
 }
 
 // Whether so many pages from the address on lie in the guest's part of the address space.
@@ -93,7 +82,7 @@ fn is_guests(at: u64, pages: u64) -> bool
     requires { pages ≤ 2 ^ 52 }
     ensures { result ≡ is_guests at pages }
 {
-    at >= GUESTS_BEGIN && at <= GUESTS_END && pages <= (GUESTS_END - at) / PAGE
+    at >= GUEST_BEGIN && at <= GUEST_END && pages <= (GUEST_END - at) / PAGE_SIZE
 }
 
 // SUCCESS where each page of the range is mapped, else FAULT.
@@ -214,7 +203,7 @@ fn map_refusal(at: u64, bytes: u64, prot: u32, flags: u32, offset: u64) -> Optio
 // Where so many pages go at the address that FIXED names, in place of those that are there.
 fn place_at(memory: &GuestMemory, at: u64, pages: u64) -> Place
     requires aligned { IsPageAddress at }
-    requires guests { at + 4096 * pages ≤ 0x4000000000 }
+    requires guests { at + PAGE_SIZE * pages ≤ GUEST_END }
     ensures { result ≡ place_at memory.now at pages }
 {
     let replaced = memory.mapped_within(at, pages as u32);

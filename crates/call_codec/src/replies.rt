@@ -9,7 +9,8 @@ ghost use Rattle.guest_memory.specs.Mapping.{AreThere};
 ghost use Rattle.guest_memory.specs.Ranges.{IsPageAddress};
 
 use crate::arguments::low;
-use crate::memory_calls::{GUESTS_END, PAGE, has_bits, pages_in};
+use crate::memory_calls::{has_bits, pages_in};
+use abi_base::{GUEST_END, PAGE_SIZE};
 use abi_types::{Answer, Call, Errno, Place, Prot, Regs, Reply};
 use guest_memory::GuestMemory;
 use std::alloc::{AllocError, Global};
@@ -124,7 +125,7 @@ fn map(
 // The memory after mem_protect, mem_unmap or a call that changes nothing, by its number.
 fn change(regs: &Regs, memory: &mut GuestMemory, number: u32)
     requires aligned { IsPageAddress (argument regs.now 0) }
-    requires there { number ≡ 34 → AreThere memory.old (argument regs.now 0 / 4096) (pages_in (argument regs.now 1)) }
+    requires there { number ≡ 34 → AreThere memory.old (argument regs.now 0 / PAGE_SIZE) (pages_in (argument regs.now 1)) }
     ensures { memory.new ≡ with_change memory.old regs.now number }
 {
     let at = regs.get(10);
@@ -139,8 +140,8 @@ fn change(regs: &Regs, memory: &mut GuestMemory, number: u32)
 // Gives pages that are there other rights.
 fn protect(memory: &mut GuestMemory, at: u64, pages: u64, prot: Prot)
     requires aligned { IsPageAddress at }
-    requires there { AreThere memory.old (at / 4096) pages }
-    ensures { memory.new ≡ protected memory.old (at / 4096) pages prot }
+    requires there { AreThere memory.old (at / PAGE_SIZE) pages }
+    ensures { memory.new ≡ protected memory.old (at / PAGE_SIZE) pages prot }
 {
     memory.keeps_limits();
     // The pages are there, so that it can't be refused.
@@ -151,11 +152,11 @@ fn protect(memory: &mut GuestMemory, at: u64, pages: u64, prot: Prot)
 fn unmap(memory: &mut GuestMemory, at: u64, pages: u64)
     requires aligned { IsPageAddress at }
     requires few { pages ≤ 2 ^ 52 }
-    ensures { memory.new ≡ without_pages memory.old (at / 4096) pages }
+    ensures { memory.new ≡ without_pages memory.old (at / PAGE_SIZE) pages }
 {
     memory.keeps_limits();
-    if at < GUESTS_END {
-        let count = pages.min((GUESTS_END - at) / PAGE);
+    if at < GUEST_END {
+        let count = pages.min((GUEST_END - at) / PAGE_SIZE);
         memory.unmap(at, count as u32);
     }
 }

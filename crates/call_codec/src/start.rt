@@ -4,6 +4,7 @@ ghost use Rattle.call_codec.specs.Image.{IsPlaced};
 ghost use Rattle.call_codec.specs.Start.{MayStart, block_bytes, block_of, entry_bytes, first_registers, stack, start_pages, vector_of};
 
 use crate::image::{READ_WRITE, load, map_segment};
+use abi_base::PAGE_SIZE;
 use abi_types::{Bytes, Pid, Regs, Tid};
 use elf_image::{Elf, Segment};
 use guest_memory::GuestMemory;
@@ -72,7 +73,7 @@ fn block_bytes(
         (258, START_BLOCK + CANARY),
         (259, 64),
         (260, 1),
-        (6, 4096),
+        (6, PAGE_SIZE),
         (3, elf.phdr),
         (4, elf.phnum),
         (263, u64::from(pid.0)),

@@ -6,6 +6,7 @@ ghost use Rattle.elf_image.specs.Segments.{is_load, may_execute, may_write, star
 
 use crate::fault::ElfFault;
 use crate::program_header::ProgramHeader;
+use abi_base::{GUEST_BEGIN, PAGE_SIZE};
 
 // p_type: a segment to be loaded.
 const LOAD: u32 = 1;
@@ -26,13 +27,13 @@ const COMPRESSED: u32 = 1;
 const FLOAT_ABI: u32 = 6;
 
 // Where the program's part of the address space begins.
-const LOWEST: u128 = 0x10000;
+const LOWEST: u128 = GUEST_BEGIN as u128;
 
 // Where it ends.
 const HIGHEST: u128 = 0x20_0000_0000;
 
 // The size of a page.
-const PAGE: u128 = 4096;
+const PAGE: u128 = PAGE_SIZE as u128;
 
 // How many pages the segments of a program may have.
 const PAGE_LIMIT: u128 = 32768;

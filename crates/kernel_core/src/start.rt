@@ -6,6 +6,7 @@ ghost use Rattle.kernel_core.specs.Start.{granted_objects};
 
 use crate::objects::Objects;
 use crate::table::Table;
+use abi_base::MOST_DESCRIPTORS;
 use abi_types::{Bytes, Descriptor, Grant, GrantTarget, ObjId, OpenKind};
 use number_map::NumMap;
 use std::alloc::{AllocError, Global};
@@ -60,7 +61,7 @@ fn put_grant(
     number: u64,
     grant: &Grant,
 ) -> Result<(), AllocError>
-    requires few { number < 1024 }
+    requires few { number < MOST_DESCRIPTORS }
     requires free { map.get objects.old.kinds (launch_object (5 + number)) ≡ None }
     ensures table { OnOk result (table.new ≡ map.insert table.old number (granted_descriptor number grant.now)) }
     ensures objects { OnOk result (objects.new ≡ record {
@@ -82,7 +83,7 @@ fn put_grant(
 
 /// The table of the granted descriptors, and their opens, each held once.
 pub fn granted(alloc: Global, grants: &[Grant]) -> Result<(Table, Objects), AllocError>
-    requires { length grants.now ≤ 1024 }
+    requires { length grants.now ≤ MOST_DESCRIPTORS }
     ensures { IfOk result (λ made. (made.0 ≡ granted_table grants.now) × (made.1 ≡ granted_objects grants.now)) }
 {
     let mut table = Table::new(alloc);
