@@ -4,3 +4,4 @@ pub mod Images
 pub mod MemoryCalls
 pub mod Puts
 pub mod Starts
+pub mod Listed

@@ -29,7 +29,7 @@ use Rattle.call_codec.specs.declared.arguments.TheConstants.{MOST_IOVECS}
 use Rattle.call_codec.proofs.Calls.{args_hold}
 use Rattle.call_codec.specs.Arguments.{argument, low}
 use Rattle.call_codec.specs.Args.{fd_write_of, fd_write_with, gathered_in, ranges_at, args_of}
-use Rattle.call_codec.specs.MemoryCalls.{has_bits, is_aligned, is_guests, is_sync, pages_in, if_mapped, mem_advise_of, mem_map_of, mem_protect_of, mem_sync_of, mem_unmap_of, map_refusal, protect_refusal, unless_refused, place_at, place_in, place_in_gap, place_of, writes_and_executes, has_one, MayMapAt, MayMapThere}
+use Rattle.call_codec.specs.MemoryCalls.{has_bits, is_aligned, is_guests, is_range, is_sync, pages_in, if_mapped, mem_advise_of, mem_map_of, mem_protect_of, mem_sync_of, mem_unmap_of, map_refusal, protect_refusal, unless_refused, place_at, place_in, place_in_gap, place_of, writes_and_executes, has_one, MayMapAt, MayMapThere}
 
 -- what these registers and this memory are like where they spell the call
 abbrev pub Suits : Pages → Registers → Call → Type 0
@@ -84,7 +84,7 @@ sync_suits m r =
 
 unmap_suits : (m : Pages) (r : Registers) → Suits m r (mem_unmap_of r)
 unmap_suits m r =
-    let some = nat_lt 0 (argument r 1) in
+    let some = is_range (argument r 0) (argument r 1) in
     either_suits m r (is_aligned (argument r 0) && some) (Memory 36 Success) (Refused 36 Inval)
     (λ e. (aligned_is (argument r 0) (first_true (is_aligned (argument r 0)) some e), λ n. cc)) tt
 

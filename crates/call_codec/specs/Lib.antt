@@ -5,3 +5,4 @@ pub mod Put
 pub mod Image
 pub mod Start
 pub mod Bounded
+pub mod Refusals

@@ -1,6 +1,6 @@
 -- The calls that a process makes about its own memory: mem_advise, mem_map, mem_protect, mem_sync and mem_unmap. What
 -- they answer is in the caller's registers and memory alone, and so is what they leave of the memory.
-use Rattle.std.specs.Prelude.{ℕ, ◌≤◌, ◌+◌, ◌-◌, ◌*◌, ◌/◌, ◌%◌, ◌==◌, ◌&&◌, ◌||◌, not, nat_le, nat_lt, Bool, Option, Some, None, if◌then◌else◌}
+use Rattle.std.specs.Prelude.{ℕ, ◌≤◌, ◌+◌, ◌-◌, ◌*◌, ◌/◌, ◌%◌, ◌^◌, ◌==◌, ◌&&◌, ◌||◌, not, nat_le, nat_lt, Bool, Option, Some, None, if◌then◌else◌}
 use Rattle.abi_base.specs.declared.address_space.TheConstants.{GUEST_BEGIN, GUEST_END, PAGE_SIZE}
 use Rattle.std.specs.Int.RustNames.{bit_and}
 use Rattle.std.specs.FinMap.{len}
@@ -90,9 +90,14 @@ mem_sync_of m r =
     then Memory 35 (if_mapped m (argument r 0) (argument r 1))
     else Refused 35 Inval
 
--- mem_unmap: an address and a length, which isn't 0. It passes over pages that aren't there.
+-- some bytes from the address on, none of which stands at 2^64 or behind it
+abbrev pub is_range : ℕ → ℕ → Bool
+is_range a bytes = nat_lt 0 bytes && nat_le (a + bytes) (2 ^ 64)
+
+-- mem_unmap: an address and a length. It passes over pages that aren't there.
 abbrev pub mem_unmap_of : Registers → Call
-mem_unmap_of r = if is_aligned (argument r 0) && nat_lt 0 (argument r 1) then Memory 36 Success else Refused 36 Inval
+mem_unmap_of r =
+    if is_aligned (argument r 0) && is_range (argument r 0) (argument r 1) then Memory 36 Success else Refused 36 Inval
 
 -- ---- mem_map
 

@@ -4,11 +4,13 @@
 
 pub use arguments::args;
 pub use image::load;
+pub use laws::refusals_are_listed;
 pub use replies::put_answer;
 pub use start::start_memory;
 
 mod arguments;
 mod image;
+mod laws;
 mod memory_calls;
 mod replies;
 mod start;

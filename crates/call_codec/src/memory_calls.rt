@@ -1,7 +1,7 @@
 //! The calls that a process makes about its own memory, from registers and memory.
 ghost use Rattle.std.specs.Prelude.{◌≡◌, ◌≤◌, ◌+◌, ◌*◌, ◌^◌};
 ghost use Rattle.call_codec.specs.Arguments.{low};
-ghost use Rattle.call_codec.specs.MemoryCalls.{has_bits, has_one, writes_and_executes, pages_in, is_aligned, is_guests, if_mapped, mem_advise_of, protect_refusal, mem_protect_of, is_sync, mem_sync_of, mem_unmap_of, map_refusal, place_at, place_in_gap, place_of, mem_map_of};
+ghost use Rattle.call_codec.specs.MemoryCalls.{has_bits, has_one, writes_and_executes, pages_in, is_aligned, is_guests, if_mapped, mem_advise_of, protect_refusal, mem_protect_of, is_sync, mem_sync_of, is_range, mem_unmap_of, map_refusal, place_at, place_in_gap, place_of, mem_map_of};
 ghost use Rattle.guest_memory.specs.Ranges.{IsPageAddress};
 
 use crate::arguments::low;
@@ -168,11 +168,19 @@ pub fn mem_sync(regs: &Regs, memory: &GuestMemory) -> Call
     }
 }
 
-/// mem_unmap: an address and a length, which isn't 0.
+// Whether there are some bytes from the address on, none of which stands at 2^64 or behind it.
+fn is_range(at: u64, length: u64) -> bool
+    ensures { result ≡ is_range at length }
+{
+    length > 0 && length - 1 <= u64::MAX - at
+}
+
+/// mem_unmap: an address and a length, of a range that isn't empty and doesn't pass 2^64.
 pub fn mem_unmap(regs: &Regs) -> Call
     ensures { result ≡ mem_unmap_of regs.now }
 {
-    if is_aligned(regs.get(10)) && regs.get(11) > 0 {
+    let at = regs.get(10);
+    if is_aligned(at) && is_range(at, regs.get(11)) {
         Call::Memory {
             number: 36,
             errno: Errno::Success,
