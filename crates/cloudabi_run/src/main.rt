@@ -9,7 +9,7 @@ use launch_run::{Refusal, run_launch};
 use out_sink::OutSink;
 use std::process::ExitCode;
 use std::rt::Env;
-use std::{env, io};
+use std::{env, fs, io};
 
 // The words of the command line. Words that aren't text are refused like words that aren't in the grammar.
 fn command_line(rt: &(impl Env + AllocGlobal)) -> Result<Vec<String>, Refusal<'static>> {
@@ -21,6 +21,9 @@ fn command_line(rt: &(impl Env + AllocGlobal)) -> Result<Vec<String>, Refusal<'s
 }
 
 fn main(rt: HostRuntime) -> ExitCode {
+    // The number of a standard stream that is closed goes to the file that is opened next. A directory can be neither read
+    // nor written, so no file of the launch is taken for standard input, and none for standard output.
+    let _numbers = (fs::open(&rt, "/"), fs::open(&rt, "/"));
     let mut sink = OutSink::new(&rt);
     let status = match command_line(&rt) {
         Ok(words) => {
