@@ -1,6 +1,6 @@
 -- The call that a thread's registers and memory spell as it stands at an ECALL: the call's number is in a7, its
 -- arguments are in a0 and the registers after it (x17, and x10 on: RISC-V ELF psABI, integer register convention).
-use Rattle.std.specs.Prelude.{ℕ, zero, suc, ◌+◌, ◌-◌, ◌%◌, ◌^◌, ◌==◌, min, nat_lt, List, [], ◌∷◌, ◌++◌, slice_index, Result, Ok, Err, if◌then◌else◌}
+use Rattle.std.specs.Prelude.{◌≡◌, ℕ, zero, suc, ◌+◌, ◌-◌, ◌%◌, ◌^◌, ◌==◌, min, nat_lt, List, [], ◌∷◌, ◌++◌, slice_index, Result, Ok, Err, if◌then◌else◌}
 use Rattle.abi_layout.specs.Layout.{number_from}
 use Rattle.abi_types.specs.declared.call.Call.{Call}
 use Rattle.abi_types.specs.declared.call.Call.TheVariants.{FdWrite, ProcExit, Refused}
@@ -70,6 +70,10 @@ call_of m r number =
     else if number == 36 then mem_unmap_of r
     else if number == 39 then ProcExit (low (argument r 0))
     else Refused number Nosys
+
+-- the calls whose arguments are copied from the caller's memory, by number: fd_write. The others take no memory
+abbrev pub IsCopied : ℕ → Type 0
+IsCopied number = number ≡ 16
 
 -- the call that the registers and the memory spell
 unfoldable pub args_of : Pages → Registers → Call

@@ -164,10 +164,15 @@ abbrev pub on_success : {X : Type 0} → Errno → X → X → X
 on_success Success done undone = done
 on_success _ done undone = undone
 
--- the call maps pages: mem_map alone takes memory for its answer
+-- the mapping goes somewhere
+abbrev pub IsSomewhere : Place → Type 0
+IsSomewhere (At a) = Unit {0}
+IsSomewhere (place.Refused errno) = ⊥
+
+-- the call maps pages: only such a mem_map takes memory for its answer
 abbrev pub IsMapping : Call → Type 0
 IsMapping (FdWrite fd bytes) = ⊥
-IsMapping (MemMap place length prot flags fd offset) = Unit {0}
+IsMapping (MemMap place length prot flags fd offset) = IsSomewhere place
 IsMapping (Memory number errno) = ⊥
 IsMapping (ProcExit code) = ⊥
 IsMapping (Refused number errno) = ⊥

@@ -1,8 +1,8 @@
 //! From registers and memory to a call.
-ghost use Rattle.std.specs.Prelude.{◌≡◌, ◌≤◌, IfOk, map, option_map};
+ghost use Rattle.std.specs.Prelude.{◌≡◌, ◌≤◌, IfOk, OnErr, map, option_map, slice_index};
 ghost use Rattle.std.specs.Result.{result_ok};
 ghost use Rattle.call_codec.specs.Arguments.{low};
-ghost use Rattle.call_codec.specs.Args.{args_of, fd_write_of, ranges_at, range_in, range_of, gathered, gathered_in};
+ghost use Rattle.call_codec.specs.Args.{args_of, IsCopied, fd_write_of, ranges_at, range_in, range_of, gathered, gathered_in};
 ghost use Rattle.guest_memory.specs.Bytes.{bytes_at};
 
 use crate::memory_calls::{
@@ -36,7 +36,8 @@ pub fn low(value: u64) -> u32
 /// The call that the registers and the memory spell as a thread stands at an ECALL.
 #[tactic(auto, unfolding(crate::specs::Args::args_of))]
 pub fn args(alloc: Global, regs: &Regs, memory: &GuestMemory) -> Result<Call, AllocError>
-    ensures { IfOk result (λ call. call ≡ args_of memory.now regs.now) }
+    ensures ok { IfOk result (λ call. call ≡ args_of memory.now regs.now) }
+    ensures only { OnErr result (IsCopied (slice_index regs.now.x 17)) }
 {
     match regs.get(17) {
         FD_WRITE => fd_write(alloc, regs, memory),

@@ -2,7 +2,7 @@
 ghost use Rattle.std.specs.Prelude.{◌≡◌, ◌≤◌, ◌/◌, ◌^◌, OnOk, OnErr};
 ghost use Rattle.call_codec.specs.Arguments.{argument};
 ghost use Rattle.call_codec.specs.Args.{args_of};
-ghost use Rattle.call_codec.specs.MemoryCalls.{IsMapping, MayMapThere, memory_with, with_change, with_mapping, pages_in, prot_of};
+ghost use Rattle.call_codec.specs.MemoryCalls.{IsMapping, IsSomewhere, MayMapThere, memory_with, with_change, with_mapping, pages_in, prot_of};
 ghost use Rattle.call_codec.specs.Put.{answered_memory, answered_of, put_of, with_results};
 ghost use Rattle.guest_memory.specs.Changes.{protected, without_pages};
 ghost use Rattle.guest_memory.specs.Mapping.{AreThere};
@@ -114,6 +114,7 @@ fn map(
 ) -> Result<(), AllocError>
     requires { MayMapThere memory.old place pages }
     ensures ok { OnOk result (memory.new ≡ with_mapping memory.old place pages prot) }
+    ensures only { OnErr result (IsSomewhere place) }
     ensures err { OnErr result (memory.new ≡ memory.old) }
 {
     match place {
