@@ -100,10 +100,21 @@ fn planned(alloc: Global, text: &str) -> Option<Result<Planned, PlanFault>> {
     }
 }
 
+// A grant's stream, its rights, and those of descriptors opened through it.
+fn numbers(grant: &Grant) -> (u32, u64, u64) {
+    let GrantTarget::Terminal(which) = grant.target;
+    (which, grant.base.0, grant.inheriting.0)
+}
+
+fn are_same(found: &[Grant], wanted: &[Grant]) -> bool {
+    let mut pairs = found.iter().zip(wanted);
+    found.len() == wanted.len() && pairs.all(|(one, other)| numbers(one) == numbers(other))
+}
+
 fn gives(alloc: Global, text: &str, argdata: &[u8], grants: &[Grant]) -> bool {
     match planned(alloc, text) {
         Some(Ok(planned)) => {
-            planned.argdata.as_slice() == argdata && planned.grants.as_slice() == grants
+            planned.argdata.as_slice() == argdata && are_same(planned.grants.as_slice(), grants)
         }
         _ => false,
     }
