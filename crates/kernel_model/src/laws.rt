@@ -1,6 +1,7 @@
 //! Laws of the kernel's steps. The statements are in `specs/Laws.antt`, and each holds of every state, process and call.
 ghost use Rattle.kernel_model.specs.Laws.{ReadsSight, SightDecides, StepDecided, OthersStay, EndKeeps, ErrorKeeps};
-ghost use Rattle.kernel_model.specs.Laws.{FirstLackIsNamed, DenialIsOfFirstLack, NotcapableIsDenied, StepKeepsValid, EndKeepsValid, StartIsValid};
+ghost use Rattle.kernel_model.specs.Laws.{FirstLackIsNamed, DenialIsOfFirstLack, NotcapableIsDenied, NoMemoryIsExact, AbsentIsBadf, LackIsDenied};
+ghost use Rattle.kernel_model.specs.Laws.{StepKeepsValid, EndKeepsValid, StartIsValid};
 
 /// A call's outcome, which sees only what is in its sight, is what it would be if it saw the whole state.
 pub fn reads_sight()
@@ -41,6 +42,14 @@ pub fn refusal_names_lack()
     ensures named { FirstLackIsNamed }
     ensures only { DenialIsOfFirstLack }
     ensures denied { NotcapableIsDenied }
+{}
+
+/// Want of memory stands in place of no other answer of a call that takes no memory, and of no refusal: an absent
+/// descriptor is `Badf`, and the first lack of rights is denied.
+pub fn refusals_come_first()
+    ensures exact { NoMemoryIsExact }
+    ensures absent { AbsentIsBadf }
+    ensures denied { LackIsDenied }
 {}
 
 /// A step leaves a valid state valid.

@@ -1,13 +1,10 @@
 -- Each entry of a legal history is confined.
-use Rattle.std.proofs.Common.{◌≡◌, ◌≢◌, inl, inr, ℕ, List, ◌∷◌, ◌++◌, Some, IsSome, refl, sym, ap, subst, ◌∙◌}
-use Rattle.std.specs.FinMap.{get}
+use Rattle.std.proofs.Common.{◌≡◌, ◌≢◌, inl, inr, ℕ, List, ◌∷◌, ◌++◌, IsSome, refl, sym, ap, subst, ◌∙◌}
 use Rattle.abi_types.specs.declared.call.Answer.{Answer}
 use Rattle.abi_types.specs.declared.call.Answer.TheVariants as answer
 use Rattle.abi_types.specs.declared.call.Call.{Call}
 use Rattle.abi_types.specs.declared.call.Reply.{Reply}
-use Rattle.abi_types.specs.declared.descriptor.Descriptor.{Descriptor}
 use Rattle.abi_base.specs.declared.errno.Errno.TheVariants.{Nomem, Notcapable}
-use Rattle.abi_types.specs.declared.needed.Needed.{Needed}
 use Rattle.abi_base.specs.declared.signal.Signal.TheVariants.{Xcpu}
 use Rattle.abi_types.specs.declared.status.Status.TheVariants.{Killed}
 use Rattle.run_types.specs.declared.history.Act.{Act}
@@ -15,17 +12,17 @@ use Rattle.run_types.specs.declared.history.Act.TheVariants as act
 use Rattle.run_types.specs.declared.history.Entry.{Entry}
 use Rattle.run_types.specs.declared.launch.Launch.{Launch}
 use Rattle.kernel_model.specs.Cases.{Outcome}
-use Rattle.kernel_model.specs.Laws.{HasSameSight, HasAll, IsFirstLack, IsNotDeniedEarly}
-use Rattle.kernel_model.specs.Need.{need, missing}
+use Rattle.kernel_model.specs.Laws.{HasSameSight, IsNotDeniedEarly}
+use Rattle.kernel_model.specs.Need.{refusal_of}
 use Rattle.kernel_model.specs.Reply.{refused}
 use Rattle.abi_base.specs.Grants.{AreGrants}
-use Rattle.kernel_model.specs.State.{State, Table}
+use Rattle.kernel_model.specs.State.{State}
 use Rattle.kernel_model.specs.Step.{tick, step_reply, step_state, IsStep}
 use Rattle.kernel_model.specs.Valid.{IsValid}
 use Rattle.kernel_model.proofs.Decisions.{sight_decides}
-use Rattle.kernel_model.proofs.Refusals.{first_lack_is_named, notcapable_is_denied, error_keeps, same_reply, step_denial}
+use Rattle.kernel_model.proofs.Refusals.{lack_is_denied, notcapable_is_denied, error_keeps, same_reply, step_denial}
 use Rattle.kernel_model.proofs.Touches as touches
-use Rattle.run_model.specs.Confined.{MayAnswer, IsDenied, CallIsConfined, ActIsConfined, EntryIsConfined, IsConfined}
+use Rattle.run_model.specs.Confined.{MayAnswer, CallIsConfined, ActIsConfined, EntryIsConfined, IsConfined}
 use Rattle.run_model.specs.Legal.{FitsAct, Fits, Legal}
 use Rattle.run_model.specs.World.{World, Guest, guest_of, registers_of, called_state, turned_guest_by, turned, acted, world}
 use Rattle.run_model.proofs.Spelled.{args_not_denied}
@@ -35,13 +32,8 @@ use Rattle.run_model.proofs.Worlds.{world_is_valid}
 call_answers : (S : State) (p : ℕ) (call : Call) (given : Answer) (T U : State) → IsStep S p call given T → HasSameSight S U p call → MayAnswer U p call given
 call_answers S p call given T U (inl done) same =
     (step_state U p call, inl (done.0 ∙ ap (λ (o : Outcome). answer.Reply o.reply) (sight_decides S U p call same), refl))
-call_answers S p call given T U (inr lacking) same = (tick U, inr (lacking.0, lacking.1, refl))
-
-call_denied : (S : State) (p : ℕ) (call : Call) (given : Answer) (T : State) (table : Table) (row : Needed) (d : Descriptor) → IsStep S p call given T
-    → get S.tables p ≡ Some table → HasAll table (need call) → IsFirstLack table (need call) row d → IsDenied call given (missing d row)
-call_denied S p call given T table row d (inl done) own all first =
-    inl (done.0 ∙ ap answer.Reply (first_lack_is_named S p call table row d own all first))
-call_denied S p call given T table row d (inr lacking) own all first = inr (lacking.0, lacking.1)
+call_answers S p call given T U (inr lacking) same =
+    (tick U, inr ((lacking.0.0, ap (refusal_of call) (sym same.1.1.0.0) ∙ lacking.0.1), lacking.1, refl))
 
 nomem_is_other : Nomem ≢ Notcapable
 nomem_is_other e = cc
@@ -61,7 +53,7 @@ call_confined S p call given T valid plain step = record {
   answers = λ U same. call_answers S p call given T U step same;
   sets = λ U same. sight_decides S U p call same;
   changes = λ part outside. touches.others_stay S p call given T part step outside;
-  lacking = λ table row d own all first. call_denied S p call given T table row d step own all first;
+  lacking = λ table row d own all first. lack_is_denied S p call given T table row d step own all first;
   only = λ reply denial is denies. step_denial S p call given T reply denial step is denies;
   named = λ reply is lacks. call_named S p call given T reply plain step is lacks;
   error = λ reply is other. error_keeps S p call reply T (subst (λ a. IsStep S p call a T) is step) valid other;
