@@ -38,7 +38,7 @@ present_all : (table : Table) (rows : List Needed) → HasAll table rows → som
 present_all table [] h = refl
 present_all table (row ∷ rows) h = ap (λ b. not b || some_absent table rows) h.0 ∙ present_all table rows h.1
 
-all_present : (table : Table) (rows : List Needed) → some_absent table rows ≡ false → HasAll table rows
+pub all_present : (table : Table) (rows : List Needed) → some_absent table rows ≡ false → HasAll table rows
 all_present table [] h = tt
 all_present table (row ∷ rows) h =
     let both = either_false (not (contains_key table row.fd)) (some_absent table rows) h in

@@ -1,5 +1,5 @@
 //! Laws of the kernel's steps. The statements are in `specs/Laws.antt`, and each holds of every state, process and call.
-ghost use Rattle.kernel_model.specs.Laws.{ReadsSight, SightDecides, StepDecided, OthersStay, EndKeeps, ErrorKeeps};
+ghost use Rattle.kernel_model.specs.Laws.{ReadsSight, SightDecides, StepDecided, SightIsReached, TouchIsSeen, OthersStay, EndKeeps, ErrorKeeps};
 ghost use Rattle.kernel_model.specs.Laws.{FirstLackIsNamed, DenialIsOfFirstLack, NotcapableIsDenied, NoMemoryIsExact, AbsentIsBadf, LackIsDenied};
 ghost use Rattle.kernel_model.specs.Laws.{StepKeepsValid, EndKeepsValid, StartIsValid};
 
@@ -17,6 +17,13 @@ pub fn sight_decides()
 /// opens that it sees, each part that it sees has the same value in both states after the step.
 pub fn step_decided()
     ensures { StepDecided }
+{}
+
+/// What a call sees is the clock, what is the process's own and its status, or it is reached through a descriptor that the
+/// call needs and that has all rights which it asks. What a call touches it sees.
+pub fn sight_is_reached()
+    ensures sees { SightIsReached }
+    ensures touches { TouchIsSeen }
 {}
 
 /// After a step each part that the call does not touch and that the release after it does not end has the value it had.
