@@ -16,12 +16,12 @@ use Rattle.run_types.specs.declared.history.Act.{Act}
 use Rattle.run_types.specs.declared.history.Act.TheVariants as act
 use Rattle.run_types.specs.declared.history.Entry.{Entry}
 use Rattle.run_types.specs.declared.launch.Launch.{Launch}
-use Rattle.kernel_model.specs.Laws.{HasSameSight, HasAll, IsFirstLack, IsOfFirstLack}
+use Rattle.kernel_model.specs.Laws.{HasSameSight, EndsAlike, HasAll, IsFirstLack, IsOfFirstLack}
 use Rattle.kernel_model.specs.Need.{need, missing}
 use Rattle.kernel_model.specs.Release.{is_released}
 use Rattle.kernel_model.specs.Reply.{denied}
-use Rattle.kernel_model.specs.State.{State, Table, Part, at_clock, at_proc, at_status, has_part, Agree}
-use Rattle.kernel_model.specs.Step.{tick, outcome, IsStep, IsUntouched, end_unreleased}
+use Rattle.kernel_model.specs.State.{State, Table, Part, at_clock, at_proc, at_status, has_part, Agree, AgreeOn}
+use Rattle.kernel_model.specs.Step.{tick, sight, outcome, unreleased, IsStep, IsUntouched, end_unreleased}
 use Rattle.run_model.specs.World.{World, apply, world}
 
 -- the kernel may give this answer to the call
@@ -29,13 +29,16 @@ abbrev pub MayAnswer : State → ℕ → Call → Answer → Type 0
 MayAnswer S p call given = (T : State) × IsStep S p call given T
 
 -- A call of process p that was answered so is confined, S being the state before it and T the state after it. In each
--- state of which it sees the same, it may be answered so, and it replies and sets the same. Each part that it does not
--- touch and that the release after it does not end has the value it had. Where each needed descriptor is there and some
+-- state of which it sees the same, it may be answered so, and it replies and sets the same; and where the release after
+-- such an answer ends the same of the opens that it sees, each part that it sees has the same value after both. Each part
+-- that it does not touch and that the release after it does not end has the value it had. Where each needed descriptor is there and some
 -- lacks a right, it is denied with exactly what the first of these lacks. It is denied in no other case, and an answer
 -- of NOTCAPABLE says what is missing. An answer with an error changes only the clock.
 pub record CallIsConfined (S : State) (p : ℕ) (call : Call) (given : Answer) (T : State) : Type 0 where
   pub answers : (U : State) → HasSameSight S U p call → MayAnswer U p call given
   pub sets : (U : State) → HasSameSight S U p call → outcome S p call ≡ outcome U p call
+  pub leaves : (U V : State) → HasSameSight S U p call → EndsAlike (unreleased S p call) (unreleased U p call) (sight S p call)
+      → IsStep U p call given V → AgreeOn T V (sight S p call)
   pub changes : (part : Part) → IsUntouched S p call part → Agree T S part
   pub lacking : (table : Table) (row : Needed) (d : Descriptor) → get S.tables p ≡ Some table → HasAll table (need call)
       → IsFirstLack table (need call) row d → given ≡ answer.Reply (denied (missing d row))
