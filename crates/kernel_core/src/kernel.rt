@@ -1,12 +1,12 @@
 //! The kernel's state, and its steps.
-ghost use Rattle.std.specs.Prelude.{◌≡◌, ◌≢◌, ◌⊎◌, ◌∷◌, ◌^◌, ◌<◌, ◌≤◌, ◌↔◌, ℕ, [], Some, None, IsSome, IfOk, OnErr, IsTrue, false, length, unwrap_or};
+ghost use Rattle.std.specs.Prelude.{◌≡◌, ◌≢◌, ◌∷◌, ◌^◌, ◌<◌, ◌≤◌, ◌↔◌, ℕ, [], Some, None, IsSome, IfOk, OnErr, IsTrue, false, length, unwrap_or};
 ghost use Rattle.std.specs.FinMap as map;
 ghost use Rattle.kernel_core.specs.Kernel.{terms_after, thread_of, is_live, any_live};
 ghost use Rattle.kernel_model.specs.Cases.{write_term, write_open, fd_write, end_updates};
 ghost use Rattle.kernel_model.specs.Laws.{HasAll, IsFirstLack, IsOfFirstLack};
 ghost use Rattle.kernel_model.specs.Need.{need, missing};
 ghost use Rattle.kernel_model.specs.Release.{release, is_released};
-ghost use Rattle.kernel_model.specs.Reply.{refused, denied};
+ghost use Rattle.kernel_model.specs.Reply.{denied};
 ghost use Rattle.abi_base.specs.Grants.{AreGrants};
 ghost use Rattle.kernel_model.specs.Start.{start_state};
 ghost use Rattle.kernel_model.specs.State.{put_all, Table, Part, at_clock, at_proc, at_status, has_part, Agree};
@@ -135,7 +135,7 @@ impl Kernel {
         requires { IsSome (map.get self.old.statuses pid) }
         ensures ok { IfOk result (λ reply. (reply ≡ (act (whole self.old) pid call.now).reply)
             × (self.new ≡ release (put_all (act (whole self.old) pid call.now).updates self.old))) }
-        ensures err { OnErr result (MayLackMemory call.now × (self.new ≡ self.old)) }
+        ensures err { OnErr result (MayLackMemory self.old pid call.now × (self.new ≡ self.old)) }
     {
         let Some(table) = self.tables.get(u64::from(pid.0)) else {
             return Ok(refused(Errno::Badf));
@@ -181,7 +181,7 @@ impl Kernel {
         ensures others { (q : Part) → IsUntouched self.old pid call.now q → Agree self.new self.old q }
         ensures denied { (table : Table) (row : Needed) (d : Descriptor) → map.get self.old.tables pid ≡ Some table
             → HasAll table (need call.now) → IsFirstLack table (need call.now) row d
-            → (result ≡ Answer.Reply (denied (missing d row))) ⊎ (result ≡ Answer.Reply (refused Errno.Nomem)) }
+            → result ≡ Answer.Reply (denied (missing d row)) }
         ensures only { (reply : Reply) (denial : Denial) → result ≡ Answer.Reply reply → reply.denial ≡ Some denial
             → IsOfFirstLack self.old pid call.now denial }
         ensures refused { (reply : Reply) → result ≡ Answer.Reply reply → reply.errno ≢ Errno.Success → self.new ≡ tick self.old }

@@ -43,6 +43,10 @@ tick_alike S T (at_status p) h = h
 tick_alike S T (at_open o) h = h
 tick_alike S T (at_term k) h = h
 
+pub ticks_alike : (S T : State) (parts : List Part) → AgreeOn S T parts → AgreeOn (tick S) (tick T) parts
+ticks_alike S T [] h = tt
+ticks_alike S T (part ∷ parts) h = (tick_alike S T part h.0, ticks_alike S T parts h.1)
+
 -- two states that agree on a part, where the same updates are put into both
 unreleased_alike : (S T : State) (p : ℕ) (call : Call) (q : Part) → outcome S p call ≡ outcome T p call → Agree S T q
     → Agree (unreleased S p call) (unreleased T p call) q

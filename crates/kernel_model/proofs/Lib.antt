@@ -1,6 +1,7 @@
 pub mod Carried
 pub mod Decisions
 pub mod Parts
+pub mod Reaches
 pub mod Refusals
 pub mod Sights
 pub mod Tests

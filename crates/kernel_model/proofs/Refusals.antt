@@ -1,5 +1,6 @@
--- Why a call is refused: the denial of the first descriptor that lacks a right, and that an error changes nothing.
-use Rattle.std.proofs.Common.{◌≡◌, ◌≢◌, ℕ, ◌||◌, not, Bool, true, false, cond, T, List, [], ◌∷◌, ◌++◌, Option, Some, None, IsSome, inl, inr, refl, sym, ap, subst, ◌∙◌}
+-- Why a call is refused: the denial of the first descriptor that lacks a right, that want of memory stands in place of no
+-- refusal, and that an error changes nothing.
+use Rattle.std.proofs.Common.{◌≡◌, ◌≢◌, ℕ, ◌||◌, not, Bool, true, false, cond, T, List, [], ◌∷◌, ◌++◌, Option, Some, None, IsSome, is_some, inl, inr, refl, sym, ap, subst, ◌∙◌}
 use Rattle.std.specs.List.{AllByRecursion}
 use Rattle.std.specs.FinMap.{get, contains_key}
 use Rattle.abi_types.specs.declared.call.Answer.{Answer}
@@ -18,18 +19,18 @@ use Rattle.abi_types.specs.declared.needed.Needed.{Needed}
 use Rattle.abi_types.specs.declared.open_kind.OpenKind.{OpenKind}
 use Rattle.abi_types.specs.declared.open_kind.OpenKind.TheVariants.{Terminal}
 use Rattle.kernel_model.specs.Cases.{Outcome, write_term, write_open, fd_write, case_of, answers, placed}
-use Rattle.kernel_model.specs.Laws.{HasAll, IsMet, IsFirstLack, IsOfFirstLack, IsNotDeniedEarly, IsNotDeniedPlace}
-use Rattle.kernel_model.specs.Need.{need, has_needed, missing, some_absent, lack_at, either_lack, first_lack, denied_by, refusal}
+use Rattle.kernel_model.specs.Laws.{HasAll, IsMet, IsFirstLack, IsOfFirstLack, IsNotDeniedEarly, IsNotDeniedPlace, TakesNoMemory, Needs}
+use Rattle.kernel_model.specs.Need.{need, has_needed, missing, some_absent, lack_at, either_lack, first_lack, denied_by, refusal, refusal_of}
 use Rattle.kernel_model.specs.Release.{release}
 use Rattle.kernel_model.specs.Reply.{refused, denied}
 use Rattle.kernel_model.specs.State.{State, Table, put_all}
-use Rattle.kernel_model.specs.Step.{tick, unless, act_on, outcome, step_reply, step_state, IsStep}
+use Rattle.kernel_model.specs.Step.{tick, unless, act_on, outcome, step_reply, step_state, TakesMemory, MayLackMemory, IsStep}
 use Rattle.kernel_model.specs.Valid.{IsValid}
 use Rattle.kernel_model.specs.View.{View, whole}
 use Rattle.kernel_model.proofs.Carried.{PlaceCarries, Carries, Answers, case_errno}
 use Rattle.kernel_model.proofs.Sights.{outcome_reads, outcome_of_table}
 use Rattle.kernel_model.proofs.Valids.{release_valid, tick_valid}
-use Rattle.kernel_model.proofs.Tests.{either_false, none_is_no, not_false, same_some}
+use Rattle.kernel_model.proofs.Tests.{either_false, none_is_no, not_false, or_true, same_some}
 
 -- ---- absent descriptors
 
@@ -37,11 +38,17 @@ present_all : (table : Table) (rows : List Needed) → HasAll table rows → som
 present_all table [] h = refl
 present_all table (row ∷ rows) h = ap (λ b. not b || some_absent table rows) h.0 ∙ present_all table rows h.1
 
-all_present : (table : Table) (rows : List Needed) → some_absent table rows ≡ false → HasAll table rows
+pub all_present : (table : Table) (rows : List Needed) → some_absent table rows ≡ false → HasAll table rows
 all_present table [] h = tt
 all_present table (row ∷ rows) h =
     let both = either_false (not (contains_key table row.fd)) (some_absent table rows) h in
     (not_false (contains_key table row.fd) both.0, all_present table rows both.1)
+
+-- a row whose descriptor is not there
+absent_one : (table : Table) (row : Needed) (before after : List Needed) → get table row.fd ≡ None → some_absent table (before ++ row ∷ after) ≡ true
+absent_one table row [] after h = ap (λ o. not (is_some o) || some_absent table after) h
+absent_one table row (first ∷ before) after h =
+    ap (λ b. not (contains_key table first.fd) || b) (absent_one table row before after h) ∙ or_true (not (contains_key table first.fd))
 
 -- ---- the first that lacks a right
 
@@ -103,13 +110,23 @@ lack_is_first table (row ∷ rows) denial all e =
 
 -- ---- denied calls
 
+-- the refusal where some descriptor lacks a right
+refused_of_lack : (call : Call) (table : Table) (row : Needed) (d : Descriptor) → HasAll table (need call) → IsFirstLack table (need call) row d
+    → refusal table (need call) ≡ Some (denied (missing d row))
+refused_of_lack call table row d all first =
+    ap (λ b. cond b (Some (refused Badf)) (denied_by (first_lack table (need call)))) (present_all table (need call) all)
+    ∙ ap denied_by (first_lack_is table (need call) row d first)
+
+-- a call that is refused for want of a descriptor or of a right replies so
+refused_reply : (S : State) (p : ℕ) (call : Call) (table : Table) (reply : Reply) → get S.tables p ≡ Some table → refusal table (need call) ≡ Some reply
+    → step_reply S p call ≡ reply
+refused_reply S p call table reply own refuses =
+    ap (λ (o : Outcome). o.reply) (outcome_of_table S p call table own ∙ ap (λ r. unless r (case_of (whole (tick S)) p table call)) refuses)
+
 pub first_lack_is_named : (S : State) (p : ℕ) (call : Call) (table : Table) (row : Needed) (d : Descriptor) → get S.tables p ≡ Some table
     → HasAll table (need call) → IsFirstLack table (need call) row d → step_reply S p call ≡ denied (missing d row)
 first_lack_is_named S p call table row d own all first =
-    let refuses : refusal table (need call) ≡ Some (denied (missing d row)) =
-    ap (λ b. cond b (Some (refused Badf)) (denied_by (first_lack table (need call)))) (present_all table (need call) all)
-    ∙ ap denied_by (first_lack_is table (need call) row d first) in
-    ap (λ (o : Outcome). o.reply) (outcome_of_table S p call table own ∙ ap (λ r. unless r (case_of (whole (tick S)) p table call)) refuses)
+    refused_reply S p call table (denied (missing d row)) own (refused_of_lack call table row d all first)
 
 -- ---- no case denies
 
@@ -175,6 +192,44 @@ step_denial S p call given T reply denial (inl done) is denies =
     (ap (λ (r : Reply). r.denial) (same_reply (step_reply S p call) reply (sym done.0 ∙ is)) ∙ denies)
 step_denial S p call given T reply denial (inr lacking) is denies =
     absurd (none_is_no denial (ap (λ (r : Reply). r.denial) (same_reply (refused Nomem) reply (sym lacking.1 ∙ is)) ∙ denies))
+
+-- ---- want of memory
+
+-- a call that is refused may not lack memory
+refused_first : (S : State) (p : ℕ) (call : Call) (table : Table) (reply : Reply) → get S.tables p ≡ Some table → refusal table (need call) ≡ Some reply
+    → MayLackMemory S p call → ⊥
+refused_first S p call table reply own refuses lacks =
+    none_is_no reply (sym lacks.1 ∙ ap (refusal_of call) own ∙ refuses)
+
+-- the answer of a call that is refused is the refusal
+refused_answer : (S : State) (p : ℕ) (call : Call) (given : Answer) (T : State) (table : Table) (reply : Reply) → IsStep S p call given T
+    → get S.tables p ≡ Some table → refusal table (need call) ≡ Some reply → given ≡ answer.Reply reply
+refused_answer S p call given T table reply (inl done) own refuses = done.0 ∙ ap answer.Reply (refused_reply S p call table reply own refuses)
+refused_answer S p call given T table reply (inr lacking) own refuses = absurd (refused_first S p call table reply own refuses lacking.0)
+
+pub lack_is_denied : (S : State) (p : ℕ) (call : Call) (given : Answer) (T : State) (table : Table) (row : Needed) (d : Descriptor) → IsStep S p call given T
+    → get S.tables p ≡ Some table → HasAll table (need call) → IsFirstLack table (need call) row d → given ≡ answer.Reply (denied (missing d row))
+lack_is_denied S p call given T table row d step own all first =
+    refused_answer S p call given T table (denied (missing d row)) step own (refused_of_lack call table row d all first)
+
+pub absent_is_badf : (S : State) (p : ℕ) (call : Call) (given : Answer) (T : State) (table : Table) (row : Needed) → IsStep S p call given T
+    → get S.tables p ≡ Some table → Needs call row → get table row.fd ≡ None → given ≡ answer.Reply (refused Badf)
+absent_is_badf S p call given T table row step own needs absent =
+    refused_answer S p call given T table (refused Badf) step own
+    (ap (λ b. cond b (Some (refused Badf)) (denied_by (first_lack table (need call))))
+    (ap (some_absent table) needs.2 ∙ absent_one table row needs.0 needs.1 absent))
+
+takes_none : (call : Call) → TakesNoMemory call → TakesMemory call → ⊥
+takes_none (FdWrite fd bytes) none takes = none
+takes_none (ProcExit code) none takes = takes
+takes_none (MemMap place length prot flags fd offset) none takes = takes
+takes_none (Memory number errno) none takes = takes
+takes_none (Refused number errno) none takes = takes
+
+pub no_memory_is_exact : (S : State) (p : ℕ) (call : Call) (given : Answer) (T : State) → TakesNoMemory call → IsStep S p call given T
+    → (given ≡ answer.Reply (step_reply S p call)) × (T ≡ step_state S p call)
+no_memory_is_exact S p call given T none (inl done) = done
+no_memory_is_exact S p call given T none (inr lacking) = absurd (takes_none call none lacking.0.0)
 
 -- ---- NOTCAPABLE
 

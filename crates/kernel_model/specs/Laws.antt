@@ -1,5 +1,5 @@
 -- What holds of every step of the kernel: the statements that are the contracts of the functions of src/laws.rt.
-use Rattle.std.specs.Prelude.{◌≡◌, ◌≢◌, ℕ, true, false, List, [], ◌∷◌, ◌++◌, Some, IsSome}
+use Rattle.std.specs.Prelude.{◌≡◌, ◌≢◌, ◌⊎◌, ℕ, true, false, List, [], ◌∷◌, ◌++◌, None, Some, IsSome}
 use Rattle.std.specs.List.{AllByRecursion}
 use Rattle.std.specs.FinMap.{get}
 use Rattle.abi_types.specs.declared.call.Answer.{Answer}
@@ -9,7 +9,7 @@ use Rattle.abi_types.specs.declared.call.Call.TheVariants.{FdWrite, MemMap, Memo
 use Rattle.abi_types.specs.declared.call.Reply.{Reply}
 use Rattle.abi_types.specs.declared.descriptor.Denial.{Denial}
 use Rattle.abi_types.specs.declared.descriptor.Descriptor.{Descriptor}
-use Rattle.abi_base.specs.declared.errno.Errno.TheVariants.{Success, Notcapable}
+use Rattle.abi_base.specs.declared.errno.Errno.TheVariants.{Success, Badf, Notcapable}
 use Rattle.abi_base.specs.declared.grant.Grant.{Grant}
 use Rattle.abi_types.specs.declared.needed.Needed.{Needed}
 use Rattle.abi_types.specs.declared.place.Place.{Place}
@@ -18,11 +18,11 @@ use Rattle.abi_types.specs.declared.place.Place.TheVariants.{At}
 use Rattle.abi_types.specs.declared.status.Status.{Status}
 use Rattle.kernel_model.specs.Need.{need, has_needed, missing}
 use Rattle.kernel_model.specs.Release.{is_ending, is_released}
-use Rattle.kernel_model.specs.Reply.{denied}
+use Rattle.kernel_model.specs.Reply.{refused, denied}
 use Rattle.abi_base.specs.Grants.{AreGrants}
 use Rattle.kernel_model.specs.Start.{start_state}
 use Rattle.kernel_model.specs.State.{State, Table, Part, at_clock, at_proc, at_status, at_open, has_part, Agree, AgreeOn}
-use Rattle.kernel_model.specs.Step.{tick, sight, act, outcome, unreleased, step_reply, step_state, IsStep, IsUntouched, end_unreleased, end_state}
+use Rattle.kernel_model.specs.Step.{tick, behind, sight, touch, act, outcome, unreleased, step_reply, step_state, IsStep, IsUntouched, end_unreleased, end_state}
 use Rattle.kernel_model.specs.Valid.{IsValid}
 use Rattle.kernel_model.specs.View.{whole}
 
@@ -53,7 +53,37 @@ StepDecided =
     → (step_reply S p call ≡ step_reply T p call)
     × (EndsAlike (unreleased S p call) (unreleased T p call) (sight S p call) → AgreeOn (step_state S p call) (step_state T p call) (sight S p call))
 
+-- the table has the descriptor that the row names, with all rights that the row asks
+abbrev pub IsMet : Table → Needed → Type 0
+IsMet table row = (d : Descriptor) × (get table row.fd ≡ Some d) × (has_needed d row ≡ true)
+
+-- the part is the open of a descriptor that a row names and that has all rights which the row asks, or stands behind it
+pub record IsReached (S : State) (table : Table) (rows : List Needed) (q : Part) : Type 0 where
+  pub before : List Needed
+  pub row : Needed
+  pub after : List Needed
+  pub splits : rows ≡ before ++ row ∷ after
+  pub d : Descriptor
+  pub there : get table row.fd ≡ Some d
+  pub has : has_needed d row ≡ true
+  pub part : has_part (at_open d.id ∷ behind (get S.opens d.id)) q ≡ true
+
+-- each row of the call's needs is met by its process's table, and the part is reached so
+abbrev pub IsReachedBy : State → ℕ → Call → Part → Type 0
+IsReachedBy S p call q = (table : Table) × (get S.tables p ≡ Some table) × AllByRecursion (IsMet table) (need call) × IsReached S table (need call) q
+
+-- What a call sees is the clock, what is the process's own and its status, or it is reached through a descriptor that the
+-- call needs, where none is absent and no right is missing.
+abbrev pub SightIsReached : Type 0
+SightIsReached =
+    (S : State) (p : ℕ) (call : Call) (q : Part) → has_part (sight S p call) q ≡ true
+    → (has_part (at_clock ∷ at_proc p ∷ at_status p ∷ []) q ≡ true) ⊎ IsReachedBy S p call q
+
 -- ---- what a call changes
+
+-- What a call touches it sees.
+abbrev pub TouchIsSeen : Type 0
+TouchIsSeen = (S : State) (p : ℕ) (call : Call) (q : Part) → has_part (touch S p call) q ≡ true → has_part (sight S p call) q ≡ true
 
 -- After a step each part that the call does not touch and that the release does not end has the value it had.
 abbrev pub OthersStay : Type 0
@@ -77,10 +107,6 @@ ErrorKeeps =
 -- each needed descriptor is in the table
 abbrev pub HasAll : Table → List Needed → Type 0
 HasAll table rows = AllByRecursion (λ row. IsSome (get table row.fd)) rows
-
--- the table has the descriptor that the row names, with all rights that the row asks
-abbrev pub IsMet : Table → Needed → Type 0
-IsMet table row = (d : Descriptor) × (get table row.fd ≡ Some d) × (has_needed d row ≡ true)
 
 -- the row is the first that is not met: it stands after rows that are met, and its descriptor d lacks a right
 pub record IsFirstLack (table : Table) (rows : List Needed) (row : Needed) (d : Descriptor) : Type 0 where
@@ -127,6 +153,38 @@ IsNotDeniedEarly (Refused number errno) = errno ≢ Notcapable
 -- A call that answers NOTCAPABLE says what is missing.
 abbrev pub NotcapableIsDenied : Type 0
 NotcapableIsDenied = (S : State) (p : ℕ) (call : Call) → IsNotDeniedEarly call → (step_reply S p call).errno ≡ Notcapable → IsSome (step_reply S p call).denial
+
+-- ---- where memory is wanting
+
+-- the calls that take no memory
+abbrev pub TakesNoMemory : Call → Type 0
+TakesNoMemory (FdWrite fd bytes) = ⊥
+TakesNoMemory (ProcExit code) = Unit {0}
+TakesNoMemory (MemMap place length prot flags fd offset) = Unit {0}
+TakesNoMemory (Memory number errno) = Unit {0}
+TakesNoMemory (Refused number errno) = Unit {0}
+
+-- A call that takes no memory answers its reply and leaves its state: want of memory stands in place of neither.
+abbrev pub NoMemoryIsExact : Type 0
+NoMemoryIsExact =
+    (S : State) (p : ℕ) (call : Call) (given : Answer) (T : State) → TakesNoMemory call → IsStep S p call given T
+    → (given ≡ answer.Reply (step_reply S p call)) × (T ≡ step_state S p call)
+
+-- the call needs what the row asks
+abbrev pub Needs : Call → Needed → Type 0
+Needs call row = (before : List Needed) × (after : List Needed) × (need call ≡ before ++ row ∷ after)
+
+-- Where a needed descriptor is absent, the answer is BADF, whether memory is wanting or not.
+abbrev pub AbsentIsBadf : Type 0
+AbsentIsBadf =
+    (S : State) (p : ℕ) (call : Call) (given : Answer) (T : State) (table : Table) (row : Needed) → IsStep S p call given T
+    → get S.tables p ≡ Some table → Needs call row → get table row.fd ≡ None → given ≡ answer.Reply (refused Badf)
+
+-- Where each needed descriptor is there and some lacks a right, the answer is the denial, whether memory is wanting or not.
+abbrev pub LackIsDenied : Type 0
+LackIsDenied =
+    (S : State) (p : ℕ) (call : Call) (given : Answer) (T : State) (table : Table) (row : Needed) (d : Descriptor) → IsStep S p call given T
+    → get S.tables p ≡ Some table → HasAll table (need call) → IsFirstLack table (need call) row d → given ≡ answer.Reply (denied (missing d row))
 
 -- ---- valid states
 

@@ -65,3 +65,8 @@ denied_by (Some denial) = Some (denied denial)
 -- the refusal for want of a descriptor, and where all are there for want of rights
 abbrev pub refusal : Table → List Needed → Option Reply
 refusal table rows = if some_absent table rows then Some (refused Badf) else denied_by (first_lack table rows)
+
+-- the refusal of a call by its process's table; a process without one has no descriptor, and each of its calls is BADF
+abbrev pub refusal_of : Call → Option Table → Option Reply
+refusal_of call None = Some (refused Badf)
+refusal_of call (Some table) = refusal table (need call)

@@ -13,7 +13,7 @@ use Rattle.abi_types.specs.declared.open_kind.OpenKind.{OpenKind}
 use Rattle.abi_types.specs.declared.open_kind.OpenKind.TheVariants.{Terminal}
 use Rattle.abi_types.specs.declared.status.Status.{Status}
 use Rattle.kernel_model.specs.Cases.{Outcome, answers, case_of, end_updates}
-use Rattle.kernel_model.specs.Need.{need, refusal}
+use Rattle.kernel_model.specs.Need.{need, refusal, refusal_of}
 use Rattle.kernel_model.specs.Release.{release, is_released}
 use Rattle.kernel_model.specs.Reply.{refused}
 use Rattle.kernel_model.specs.State.{State, Table, Part, at_clock, at_proc, at_status, at_open, at_term, has_part, put_all}
@@ -96,19 +96,23 @@ step_reply S p call = (outcome S p call).reply
 abbrev pub step_state : State → ℕ → Call → State
 step_state S p call = release (unreleased S p call)
 
--- the calls that may answer want of memory
-abbrev pub MayLackMemory : Call → Type 0
-MayLackMemory (FdWrite fd bytes) = Unit {0}
-MayLackMemory (ProcExit code) = ⊥
-MayLackMemory (MemMap place length prot flags fd offset) = ⊥
-MayLackMemory (Memory number errno) = ⊥
-MayLackMemory (Refused number errno) = ⊥
+-- the calls that take memory
+abbrev pub TakesMemory : Call → Type 0
+TakesMemory (FdWrite fd bytes) = Unit {0}
+TakesMemory (ProcExit code) = ⊥
+TakesMemory (MemMap place length prot flags fd offset) = ⊥
+TakesMemory (Memory number errno) = ⊥
+TakesMemory (Refused number errno) = ⊥
+
+-- a call of process p may answer want of memory: it takes memory, and no descriptor and no right is missing
+abbrev pub MayLackMemory : State → ℕ → Call → Type 0
+MayLackMemory S p call = TakesMemory call × (refusal_of call (get S.tables p) ≡ None)
 
 -- the call answers its reply and leaves its state, or it answers want of memory and only the clock has moved
 abbrev pub IsStep : State → ℕ → Call → Answer → State → Type 0
 IsStep S p call given T =
     ((given ≡ answer.Reply (step_reply S p call)) × (T ≡ step_state S p call))
-    ⊎ (MayLackMemory call × (given ≡ answer.Reply (refused Nomem)) × (T ≡ tick S))
+    ⊎ (MayLackMemory S p call × (given ≡ answer.Reply (refused Nomem)) × (T ≡ tick S))
 
 -- the part is outside what the call touches and what the release after it ends
 abbrev pub IsUntouched : State → ℕ → Call → Part → Type 0

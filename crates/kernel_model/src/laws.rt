@@ -1,6 +1,7 @@
 //! Laws of the kernel's steps. The statements are in `specs/Laws.antt`, and each holds of every state, process and call.
-ghost use Rattle.kernel_model.specs.Laws.{ReadsSight, SightDecides, StepDecided, OthersStay, EndKeeps, ErrorKeeps};
-ghost use Rattle.kernel_model.specs.Laws.{FirstLackIsNamed, DenialIsOfFirstLack, NotcapableIsDenied, StepKeepsValid, EndKeepsValid, StartIsValid};
+ghost use Rattle.kernel_model.specs.Laws.{ReadsSight, SightDecides, StepDecided, SightIsReached, TouchIsSeen, OthersStay, EndKeeps, ErrorKeeps};
+ghost use Rattle.kernel_model.specs.Laws.{FirstLackIsNamed, DenialIsOfFirstLack, NotcapableIsDenied, NoMemoryIsExact, AbsentIsBadf, LackIsDenied};
+ghost use Rattle.kernel_model.specs.Laws.{StepKeepsValid, EndKeepsValid, StartIsValid};
 
 /// A call's outcome, which sees only what is in its sight, is what it would be if it saw the whole state.
 pub fn reads_sight()
@@ -16,6 +17,13 @@ pub fn sight_decides()
 /// opens that it sees, each part that it sees has the same value in both states after the step.
 pub fn step_decided()
     ensures { StepDecided }
+{}
+
+/// What a call sees is the clock, what is the process's own and its status, or it is reached through a descriptor that the
+/// call needs and that has all rights which it asks. What a call touches it sees.
+pub fn sight_is_reached()
+    ensures sees { SightIsReached }
+    ensures touches { TouchIsSeen }
 {}
 
 /// After a step each part that the call does not touch and that the release after it does not end has the value it had.
@@ -41,6 +49,14 @@ pub fn refusal_names_lack()
     ensures named { FirstLackIsNamed }
     ensures only { DenialIsOfFirstLack }
     ensures denied { NotcapableIsDenied }
+{}
+
+/// Want of memory stands in place of no other answer of a call that takes no memory, and of no refusal: an absent
+/// descriptor is `Badf`, and the first lack of rights is denied.
+pub fn refusals_come_first()
+    ensures exact { NoMemoryIsExact }
+    ensures absent { AbsentIsBadf }
+    ensures denied { LackIsDenied }
 {}
 
 /// A step leaves a valid state valid.

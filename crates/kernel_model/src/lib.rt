@@ -6,5 +6,6 @@ pub mod laws;
 
 pub use laws::{
     end_keeps, end_keeps_valid, error_keeps, others_stay, reads_sight, refusal_names_lack,
-    sight_decides, start_is_valid, step_decided, step_keeps_valid,
+    refusals_come_first, sight_decides, sight_is_reached, start_is_valid, step_decided,
+    step_keeps_valid,
 };

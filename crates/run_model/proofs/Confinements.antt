@@ -1,13 +1,11 @@
 -- Each entry of a legal history is confined.
-use Rattle.std.proofs.Common.{◌≡◌, ◌≢◌, inl, inr, ℕ, List, ◌∷◌, ◌++◌, Some, IsSome, refl, sym, ap, subst, ◌∙◌}
-use Rattle.std.specs.FinMap.{get}
+use Rattle.std.proofs.Common.{◌≡◌, ◌≢◌, inl, inr, ℕ, List, ◌∷◌, ◌++◌, IsSome, refl, sym, ap, subst, ◌∙◌}
 use Rattle.abi_types.specs.declared.call.Answer.{Answer}
 use Rattle.abi_types.specs.declared.call.Answer.TheVariants as answer
 use Rattle.abi_types.specs.declared.call.Call.{Call}
+use Rattle.abi_types.specs.declared.call.Call.TheVariants.{FdWrite, MemMap, Memory, ProcExit, Refused}
 use Rattle.abi_types.specs.declared.call.Reply.{Reply}
-use Rattle.abi_types.specs.declared.descriptor.Descriptor.{Descriptor}
 use Rattle.abi_base.specs.declared.errno.Errno.TheVariants.{Nomem, Notcapable}
-use Rattle.abi_types.specs.declared.needed.Needed.{Needed}
 use Rattle.abi_base.specs.declared.signal.Signal.TheVariants.{Xcpu}
 use Rattle.abi_types.specs.declared.status.Status.TheVariants.{Killed}
 use Rattle.run_types.specs.declared.history.Act.{Act}
@@ -15,33 +13,56 @@ use Rattle.run_types.specs.declared.history.Act.TheVariants as act
 use Rattle.run_types.specs.declared.history.Entry.{Entry}
 use Rattle.run_types.specs.declared.launch.Launch.{Launch}
 use Rattle.kernel_model.specs.Cases.{Outcome}
-use Rattle.kernel_model.specs.Laws.{HasSameSight, HasAll, IsFirstLack, IsNotDeniedEarly}
-use Rattle.kernel_model.specs.Need.{need, missing}
+use Rattle.kernel_model.specs.Laws.{HasSameSight, EndsAlike, IsNotDeniedEarly}
+use Rattle.kernel_model.specs.Need.{refusal_of}
 use Rattle.kernel_model.specs.Reply.{refused}
 use Rattle.abi_base.specs.Grants.{AreGrants}
-use Rattle.kernel_model.specs.State.{State, Table}
-use Rattle.kernel_model.specs.Step.{tick, step_reply, step_state, IsStep}
+use Rattle.kernel_model.specs.State.{State, AgreeOn}
+use Rattle.kernel_model.specs.Step.{tick, sight, unreleased, step_reply, step_state, TakesMemory, IsStep}
 use Rattle.kernel_model.specs.Valid.{IsValid}
-use Rattle.kernel_model.proofs.Decisions.{sight_decides}
-use Rattle.kernel_model.proofs.Refusals.{first_lack_is_named, notcapable_is_denied, error_keeps, same_reply, step_denial}
+use Rattle.kernel_model.proofs.Carried.{Carries}
+use Rattle.kernel_model.proofs.Decisions.{sight_decides, step_decided, ticks_alike}
+use Rattle.kernel_model.proofs.Refusals.{lack_is_denied, notcapable_is_denied, error_keeps, same_reply, step_denial}
 use Rattle.kernel_model.proofs.Touches as touches
-use Rattle.run_model.specs.Confined.{MayAnswer, IsDenied, CallIsConfined, ActIsConfined, EntryIsConfined, IsConfined}
+use Rattle.run_model.specs.Confined.{MayAnswer, CallIsConfined, ActIsConfined, EntryIsConfined, IsConfined}
 use Rattle.run_model.specs.Legal.{FitsAct, Fits, Legal}
 use Rattle.run_model.specs.World.{World, Guest, guest_of, registers_of, called_state, turned_guest_by, turned, acted, world}
-use Rattle.run_model.proofs.Spelled.{args_not_denied}
+use Rattle.run_model.proofs.Calls.{reply_no_lack}
+use Rattle.run_model.proofs.Spelled.{IsNoLack, args_not_denied}
 use Rattle.run_model.proofs.Histories.{apply_is, legal_front, legal_next}
 use Rattle.run_model.proofs.Worlds.{world_is_valid}
 
 call_answers : (S : State) (p : ℕ) (call : Call) (given : Answer) (T U : State) → IsStep S p call given T → HasSameSight S U p call → MayAnswer U p call given
 call_answers S p call given T U (inl done) same =
     (step_state U p call, inl (done.0 ∙ ap (λ (o : Outcome). answer.Reply o.reply) (sight_decides S U p call same), refl))
-call_answers S p call given T U (inr lacking) same = (tick U, inr (lacking.0, lacking.1, refl))
+call_answers S p call given T U (inr lacking) same =
+    (tick U, inr ((lacking.0.0, ap (refusal_of call) (sym same.1.1.0.0) ∙ lacking.0.1), lacking.1, refl))
 
-call_denied : (S : State) (p : ℕ) (call : Call) (given : Answer) (T : State) (table : Table) (row : Needed) (d : Descriptor) → IsStep S p call given T
-    → get S.tables p ≡ Some table → HasAll table (need call) → IsFirstLack table (need call) row d → IsDenied call given (missing d row)
-call_denied S p call given T table row d (inl done) own all first =
-    inl (done.0 ∙ ap answer.Reply (first_lack_is_named S p call table row d own all first))
-call_denied S p call given T table row d (inr lacking) own all first = inr (lacking.0, lacking.1)
+-- a call that takes memory carries no error
+takes_carries : (call : Call) → TakesMemory call → Carries IsNoLack call
+takes_carries (FdWrite fd bytes) takes = tt
+takes_carries (ProcExit code) takes = absurd takes
+takes_carries (MemMap place length prot flags fd offset) takes = absurd takes
+takes_carries (Memory number errno) takes = absurd takes
+takes_carries (Refused number errno) takes = absurd takes
+
+-- the reply of a call that takes memory is none of want of memory
+reply_is_other : (S : State) (p : ℕ) (call : Call) (given : Answer) → TakesMemory call → given ≡ answer.Reply (step_reply S p call)
+    → given ≡ answer.Reply (refused Nomem) → ⊥
+reply_is_other S p call given takes done lacking =
+    reply_no_lack S p call (takes_carries call takes)
+    (ap (λ (r : Reply). r.errno) (same_reply (step_reply S p call) (refused Nomem) (sym done ∙ lacking)))
+
+call_leaves : (S : State) (p : ℕ) (call : Call) (given : Answer) (T U V : State) → IsStep S p call given T → HasSameSight S U p call
+    → EndsAlike (unreleased S p call) (unreleased U p call) (sight S p call) → IsStep U p call given V → AgreeOn T V (sight S p call)
+call_leaves S p call given T U V (inl done) same ends (inl again) =
+    subst (λ X. AgreeOn X V (sight S p call)) (sym done.1)
+    (subst (λ X. AgreeOn (step_state S p call) X (sight S p call)) (sym again.1) ((step_decided S U p call same).1 ends))
+call_leaves S p call given T U V (inl done) same ends (inr lacking) = absurd (reply_is_other S p call given lacking.0.0 done.0 lacking.1)
+call_leaves S p call given T U V (inr lacking) same ends (inl again) = absurd (reply_is_other U p call given lacking.0.0 again.0 lacking.1)
+call_leaves S p call given T U V (inr lacking) same ends (inr more) =
+    subst (λ X. AgreeOn X V (sight S p call)) (sym lacking.2)
+    (subst (λ X. AgreeOn (tick S) X (sight S p call)) (sym more.2) (ticks_alike S U (sight S p call) same.1))
 
 nomem_is_other : Nomem ≢ Notcapable
 nomem_is_other e = cc
@@ -60,8 +81,9 @@ pub call_confined : (S : State) (p : ℕ) (call : Call) (given : Answer) (T : St
 call_confined S p call given T valid plain step = record {
   answers = λ U same. call_answers S p call given T U step same;
   sets = λ U same. sight_decides S U p call same;
+  leaves = λ U V same ends again. call_leaves S p call given T U V step same ends again;
   changes = λ part outside. touches.others_stay S p call given T part step outside;
-  lacking = λ table row d own all first. call_denied S p call given T table row d step own all first;
+  lacking = λ table row d own all first. lack_is_denied S p call given T table row d step own all first;
   only = λ reply denial is denies. step_denial S p call given T reply denial step is denies;
   named = λ reply is lacks. call_named S p call given T reply plain step is lacks;
   error = λ reply is other. error_keeps S p call reply T (subst (λ a. IsStep S p call a T) is step) valid other;

@@ -1,5 +1,9 @@
 -- What holds of every legal history: the statements that are the contracts of the functions of src/laws.rt.
 use Rattle.std.specs.Prelude.{◌≡◌, ◌≢◌, ◌⊎◌, ℕ, ◌+◌, ◌*◌, ◌≤◌, List, [], ◌∷◌, ◌++◌, length}
+use Rattle.abi_types.specs.declared.call.Answer.TheVariants as answer
+use Rattle.abi_base.specs.declared.errno.Errno.TheVariants.{Nomem}
+use Rattle.run_types.specs.declared.history.Act.{Act}
+use Rattle.run_types.specs.declared.history.Act.TheVariants as act
 use Rattle.run_types.specs.declared.history.Entry.{Entry}
 use Rattle.run_types.specs.declared.launch.Launch.{Launch}
 use Rattle.abi_base.specs.Grants.{AreGrants}
@@ -24,6 +28,18 @@ abbrev pub EachEntryFits : Type 0
 EachEntryFits =
     (launch : Launch) (front : List Entry) (e : Entry) (rest : List Entry) → Legal launch (front ++ e ∷ rest)
     → Legal launch front × Fits (world launch front) e
+
+-- memory was not wanting where the act was done
+abbrev pub LacksNothing : Act → Type 0
+LacksNothing (act.Call call (answer.Reply reply)) = reply.errno ≢ Nomem
+LacksNothing (act.Trap signal) = Unit {0}
+LacksNothing act.Expire = Unit {0}
+
+-- Where a thread and the turns before it are given, and memory is not wanting, at most one entry may follow.
+abbrev pub EntryIsOne : Type 0
+EntryIsOne =
+    (w : World) (e f : Entry) → Fits w e → Fits w f → e.pid ≡ f.pid → e.tid ≡ f.tid → e.turns ≡ f.turns → LacksNothing e.act → LacksNothing f.act
+    → e ≡ f
 
 -- A legal history of a launch with proper grants is confined.
 abbrev pub LegalIsConfined : Type 0

@@ -1,5 +1,5 @@
 -- Which histories a launch may have.
-use Rattle.std.specs.Prelude.{◌≡◌, ℕ, ◌<◌, ◌==◌, List, [], ◌∷◌, ◌++◌, Some, filter}
+use Rattle.std.specs.Prelude.{◌≡◌, ℕ, ◌<◌, List, [], ◌∷◌, ◌++◌, Some}
 use Rattle.std.specs.FinMap.{get}
 use Rattle.abi_types.specs.declared.status.Status.TheVariants.{Live}
 use Rattle.abi_types.specs.declared.thread.Thread.TheVariants.{Runnable}
@@ -58,7 +58,3 @@ FollowsFrom w (e ∷ es) = Fits w e × FollowsFrom (apply w e) es
 -- the history is one that the launch may have
 unfoldable pub Legal : Launch → List Entry → Type 0
 Legal launch history = FollowsFrom (start_world launch) history
-
--- the entries of one process
-abbrev pub own : List Entry → ℕ → List Entry
-own history p = filter (λ e. e.pid == p) history

@@ -1,5 +1,5 @@
 //! Laws of legal histories. The statements are in `specs/Laws.antt`, and each holds of every launch and history.
-ghost use Rattle.run_model.specs.Laws.{LegalBegins, LegalGoesOn, EachEntryFits, LegalIsConfined, WorldIsValid, ClockCounts};
+ghost use Rattle.run_model.specs.Laws.{LegalBegins, LegalGoesOn, EachEntryFits, EntryIsOne, LegalIsConfined, WorldIsValid, ClockCounts};
 ghost use Rattle.run_model.specs.Laws.{OthersStay, HistoryIsShort, EndedIsFinal, StalledIsFinal, NeverStalled, EndsOrGoesOn, RunsToItsEnd};
 
 /// The empty history is legal, an entry that fits the world of a legal history may follow it, and no other history is
@@ -8,6 +8,12 @@ pub fn legal_goes_on()
     ensures begins { LegalBegins }
     ensures more { LegalGoesOn }
     ensures each { EachEntryFits }
+{}
+
+/// Of two entries that may follow, of the same thread after the same turns, neither answered for want of memory, both are
+/// the same: the same moment, and the same call with the same answer, the same trap, or the end of the turns.
+pub fn entry_is_one()
+    ensures { EntryIsOne }
 {}
 
 /// A legal history of a launch with proper grants is confined (`specs/Confined.antt`).

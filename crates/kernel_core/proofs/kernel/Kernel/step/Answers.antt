@@ -1,7 +1,7 @@
-use Rattle.kernel_model.proofs.Refusals.{step_denial}
+use Rattle.kernel_model.proofs.Refusals.{lack_is_denied, step_denial}
 use Rattle.kernel_model.proofs.Touches.{others_stay}
 use Rattle.kernel_model.proofs.Valids.{step_keeps_valid}
-use Rattle.kernel_core.proofs.Steps.{step_denied, step_refused}
+use Rattle.kernel_core.proofs.Steps.{step_refused}
 use Rattle.kernel_core.proofs.kernel.Kernel.step.Goals as goal
 
 pub returns-clause-valid : goal.returns-clause-valid
@@ -11,7 +11,7 @@ pub returns-clause-others : goal.returns-clause-others
 returns-clause-others c = λ q untouched. others_stay _ _ _ _ _ q c.run.ensures.step untouched
 
 pub returns-clause-denied : goal.returns-clause-denied
-returns-clause-denied c = λ table row d there all first. step_denied _ _ _ _ _ table row d c.run.ensures.step there all first
+returns-clause-denied c = λ table row d there all first. lack_is_denied _ _ _ _ _ table row d c.run.ensures.step there all first
 
 pub returns-clause-only : goal.returns-clause-only
 returns-clause-only c = λ reply denial is denies. step_denial _ _ _ _ _ reply denial c.run.ensures.step is denies
