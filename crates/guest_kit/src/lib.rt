@@ -15,9 +15,11 @@ pub use memory::{
     MAP_OVER, PROTECT_A_HOLE, READ_UNMAPPED, TWO_MAPPINGS, WRITE_THEN_EXECUTE, WRITE_TO_PROTECTED,
     call_with,
 };
+pub use relocation::RELOCATED;
 
 mod arguments;
 mod calls;
 mod hello_file;
 mod machine;
 mod memory;
+mod relocation;

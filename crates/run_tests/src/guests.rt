@@ -19,6 +19,15 @@ pub(crate) fn program_of(alloc: Global, guest: &str) -> Result<Vec<u8>, AllocErr
     Ok(program)
 }
 
+// The same program as a file of the type ET_DYN, which is placed above the addresses that it names.
+pub(crate) fn placed_program_of(alloc: Global, guest: &str) -> Result<Vec<u8>, AllocError> {
+    let mut program = program_of(alloc, guest)?;
+    if program.len() >= 18 {
+        program[16..18].copy_from_slice(&[3, 0]);
+    }
+    Ok(program)
+}
+
 // Looks whether a guest that is given a descriptor ends with this exit status and report; how many entries its history has.
 pub(crate) fn check_guest(
     rt: &impl Abort,

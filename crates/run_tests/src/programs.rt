@@ -1,6 +1,6 @@
 //! Programs, what they write and how they end.
 use crate::calls::{Given, REPORT, WORDS, check};
-use crate::guests::{check_guest, loud_report, program_of, quiet_report};
+use crate::guests::{check_guest, loud_report, placed_program_of, program_of, quiet_report};
 use guest_kit::HELLO_FILE;
 use std::alloc::{AllocError, Global};
 use std::test::Fail;
@@ -115,10 +115,26 @@ const VECTOR: &[(u64, u64)] = &[
     (0, 0),
 ];
 
-// The start block: the vector, the canary and the argument data.
-fn start_block(alloc: Global) -> Result<Vec<u8>, AllocError> {
+// The entries that it finds where the program is placed 0x10000000 above its addresses.
+const PLACED_VECTOR: &[(u64, u64)] = &[
+    (256, 0x3f_0000_0100),
+    (257, 5),
+    (7, 0x1000_0000),
+    (258, 0x3f_0000_00c0),
+    (259, 64),
+    (260, 1),
+    (6, 4096),
+    (3, 0x1001_0040),
+    (4, 1),
+    (263, 0),
+    (261, 1),
+    (0, 0),
+];
+
+// The start block: this vector, the canary and the argument data.
+fn start_block(alloc: Global, vector: &[(u64, u64)]) -> Result<Vec<u8>, AllocError> {
     let mut block = Vec::new(alloc);
-    for &(number, value) in VECTOR {
+    for &(number, value) in vector {
         block.extend_from_slice(&u64::to_le_bytes(number))?;
         block.extend_from_slice(&u64::to_le_bytes(value))?;
     }
@@ -129,7 +145,7 @@ fn start_block(alloc: Global) -> Result<Vec<u8>, AllocError> {
 
 #[test]
 fn shows_what_programs_write(rt: HostRuntime) -> Result<(), Fail> {
-    let block = start_block(rt.alloc())?;
+    let block = start_block(rt.alloc(), VECTOR)?;
     let zeros = vec![in rt.alloc(); 0; 65536]?;
     for (guest, written) in [
         (guest_kit::START_BLOCK, block.as_slice()),
@@ -137,6 +153,25 @@ fn shows_what_programs_write(rt: HostRuntime) -> Result<(), Fail> {
     ] {
         let report = loud_report(rt.alloc(), written)?;
         check_guest(&rt, rt.alloc(), guest, 0, &report)?;
+    }
+    Ok(())
+}
+
+// The report of a program that found its relocated addresses right.
+const RELOCATED_REPORT: &str =
+    "== stdout 7\nplaced\n== stderr 0\n== status exit 0\n== run ended\n== denials 0\n== tree 0\n";
+
+#[test]
+fn places_programs(rt: HostRuntime) -> Result<(), Fail> {
+    let block = start_block(rt.alloc(), PLACED_VECTOR)?;
+    let shown = loud_report(rt.alloc(), &block)?;
+    for (guest, report) in [
+        (guest_kit::START_BLOCK, shown.as_slice()),
+        (guest_kit::RELOCATED, RELOCATED_REPORT.as_bytes()),
+    ] {
+        let program = placed_program_of(rt.alloc(), guest)?;
+        let given = Given::new(WORDS, &program, b"!fd stdout\n");
+        check(&rt, rt.alloc(), &given, 0, report)?;
     }
     Ok(())
 }
