@@ -15,7 +15,7 @@ use Rattle.launch_reading.specs.Lines.{words_line, memory_line, status_of}
 use Rattle.launch_reading.specs.declared.lines.Refusal.{Refusal}
 use Rattle.launch_reading.specs.declared.lines.Refusal.TheVariants.{Words, Input, TooLong, Program, Tree, LaunchText, Memory}
 use Rattle.launch_run.specs.declared.top.RunEnd.{RunEnd}
-use Rattle.launch_run.specs.declared.top.RunEnd.TheVariants.{Reported, Unwritten, NoMemory}
+use Rattle.launch_run.specs.declared.top.RunEnd.TheVariants.{Reported, Unwritten, NotBegun, Lacking}
 use Rattle.launch_run.specs.declared.top.TopEnd.{TopEnd}
 use Rattle.launch_run.specs.declared.top.TopEnd.TheVariants.{Refused, Ran}
 use Rattle.launch_run.specs.TopCall.{Wrote, IsRecordOf, IsRunOf, IsTopEnd, IsToldEnd, IsInputRefused, IsKept, Completes, HasFailed, HasReported, status_number, finished_run, finished_of, IsProgramRefused, IsTreeRefused, IsTextRefused}
@@ -69,8 +69,8 @@ module _ (given : Option Settings) (told : List ℕ → Told) (rose : Type 0) (b
       IfSome (finished_run end).kept (IsKept given (words_spell given told))
   run_kept (Reported r status) o = is_kept given _ o.launch r o.end_told.0 o.spelled o.built o.grants
   run_kept (Unwritten r) o = is_kept given _ o.launch r o.end_told.0 o.spelled o.built o.grants
-  run_kept (NoMemory None) o = tt
-  run_kept (NoMemory (Some r)) o =
+  run_kept NotBegun o = tt
+  run_kept (Lacking r) o =
       where_kept (IsKept given (words_spell given told)) r (length r.history == 0) (is_kept given _ o.launch r o.end_told.0 o.spelled o.built o.grants)
 
   pub top_kept : (end : TopEnd) → IsTopEnd given told rose before after sink_rose end →
@@ -89,7 +89,8 @@ module _ (given : Option Settings) (told : List ℕ → Told) (rose : Type 0) (b
   top_input (Refused Memory) o is = absurd (omega arith)
   top_input (Ran (Reported r status)) o is = absurd (no_ended 66 (omega arith) status is)
   top_input (Ran (Unwritten r)) o is = absurd (omega arith)
-  top_input (Ran (NoMemory r)) o is = absurd (omega arith)
+  top_input (Ran NotBegun) o is = absurd (omega arith)
+  top_input (Ran (Lacking r)) o is = absurd (omega arith)
 
   pub top_program : (end : TopEnd) → IsTopEnd given told rose before after sink_rose end → (finished_of end).status ≡ 67 →
       IsProgramRefused (words_spell given told) (Wrote before after sink_rose)
@@ -102,7 +103,8 @@ module _ (given : Option Settings) (told : List ℕ → Told) (rose : Type 0) (b
   top_program (Refused Memory) o is = absurd (omega arith)
   top_program (Ran (Reported r status)) o is = absurd (no_ended 67 (omega arith) status is)
   top_program (Ran (Unwritten r)) o is = absurd (omega arith)
-  top_program (Ran (NoMemory r)) o is = absurd (omega arith)
+  top_program (Ran NotBegun) o is = absurd (omega arith)
+  top_program (Ran (Lacking r)) o is = absurd (omega arith)
 
   pub top_text : (end : TopEnd) → IsTopEnd given told rose before after sink_rose end → (finished_of end).status ≡ 65 →
       IsTextRefused (words_spell given told) (Wrote before after sink_rose)
@@ -115,7 +117,8 @@ module _ (given : Option Settings) (told : List ℕ → Told) (rose : Type 0) (b
   top_text (Refused Memory) o is = absurd (omega arith)
   top_text (Ran (Reported r status)) o is = absurd (no_ended 65 (omega arith) status is)
   top_text (Ran (Unwritten r)) o is = absurd (omega arith)
-  top_text (Ran (NoMemory r)) o is = absurd (omega arith)
+  top_text (Ran NotBegun) o is = absurd (omega arith)
+  top_text (Ran (Lacking r)) o is = absurd (omega arith)
 
   pub top_tree : (end : TopEnd) → IsTopEnd given told rose before after sink_rose end → (finished_of end).status ≡ 68 →
       IsTreeRefused (words_spell given told) (Wrote before after sink_rose)
@@ -128,7 +131,8 @@ module _ (given : Option Settings) (told : List ℕ → Told) (rose : Type 0) (b
   top_tree (Refused Memory) o is = absurd (omega arith)
   top_tree (Ran (Reported r status)) o is = absurd (no_ended 68 (omega arith) status is)
   top_tree (Ran (Unwritten r)) o is = absurd (omega arith)
-  top_tree (Ran (NoMemory r)) o is = absurd (omega arith)
+  top_tree (Ran NotBegun) o is = absurd (omega arith)
+  top_tree (Ran (Lacking r)) o is = absurd (omega arith)
 
   -- ---- the words
 
@@ -147,7 +151,8 @@ module _ (given : Option Settings) (told : List ℕ → Told) (rose : Type 0) (b
   top_words (Refused Memory) o is = absurd (omega arith)
   top_words (Ran (Reported r status)) o is = absurd (no_ended 2 (omega arith) status is)
   top_words (Ran (Unwritten r)) o is = absurd (omega arith)
-  top_words (Ran (NoMemory r)) o is = absurd (omega arith)
+  top_words (Ran NotBegun) o is = absurd (omega arith)
+  top_words (Ran (Lacking r)) o is = absurd (omega arith)
 
   words_status : (refusal : Refusal) → (refusal ≡ Words) ⊎ (refusal ≡ Memory) → (status_of refusal ≡ 2) ⊎ (status_of refusal ≡ 70)
   words_status refusal (inl is) = inl (ap status_of is)
@@ -178,8 +183,8 @@ module _ (given : Option Settings) (told : List ℕ → Told) (rose : Type 0) (b
   top_memory (Refused Memory) o is = (o.1, tt)
   top_memory (Ran (Reported r status)) o is = absurd (no_ended 70 (omega arith) status is)
   top_memory (Ran (Unwritten r)) o is = absurd (omega arith)
-  top_memory (Ran (NoMemory None)) o is = (o.end_told.1, tt)
-  top_memory (Ran (NoMemory (Some r))) o is = (o.end_told.1, some_entries r (length r.history == 0) refl)
+  top_memory (Ran NotBegun) o is = (o.end_told, tt)
+  top_memory (Ran (Lacking r)) o is = (o.end_told.1, some_entries r (length r.history == 0) refl)
 
   -- ---- a report
 
@@ -195,7 +200,8 @@ module _ (given : Option Settings) (told : List ℕ → Told) (rose : Type 0) (b
   top_ended (Ran (Reported r status)) o is =
       record { ended = o.end_told.1; status_is = ap status_number o.end_told.2; written = o.end_told.3 }
   top_ended (Ran (Unwritten r)) o is = absurd (not_01 69 (omega arith) is)
-  top_ended (Ran (NoMemory r)) o is = absurd (not_01 70 (omega arith) is)
+  top_ended (Ran NotBegun) o is = absurd (not_01 70 (omega arith) is)
+  top_ended (Ran (Lacking r)) o is = absurd (not_01 70 (omega arith) is)
 
   pub top_unwritten : (end : TopEnd) → IsTopEnd given told rose before after sink_rose end → (finished_of end).status ≡ 69 →
       sink_rose × IsSomeAnd (finished_of end).kept (HasFailed (history_with given) before after)
@@ -208,7 +214,8 @@ module _ (given : Option Settings) (told : List ℕ → Told) (rose : Type 0) (b
   top_unwritten (Refused Memory) o is = absurd (omega arith)
   top_unwritten (Ran (Reported r status)) o is = absurd (no_ended 69 (omega arith) status is)
   top_unwritten (Ran (Unwritten r)) o is = (o.end_told.2, record { ended = o.end_told.1; prefix = o.end_told.3 })
-  top_unwritten (Ran (NoMemory r)) o is = absurd (omega arith)
+  top_unwritten (Ran NotBegun) o is = absurd (omega arith)
+  top_unwritten (Ran (Lacking r)) o is = absurd (omega arith)
 
   -- ---- what is spelled is answered
 
@@ -225,7 +232,8 @@ module _ (given : Option Settings) (told : List ℕ → Told) (rose : Type 0) (b
       → ((finished_run end).status ≡ 0) ⊎ ((finished_run end).status ≡ 1) ⊎ ((finished_run end).status ≡ 70)
   calm_end launch (Reported r status) o calm = elim (status_is_small status) [ inl h ↦ inl h | inr h ↦ inr (inl h) ]
   calm_end launch (Unwritten r) o calm = absurd (calm o.2)
-  calm_end launch (NoMemory r) o calm = inr (inr refl)
+  calm_end launch NotBegun o calm = inr (inr refl)
+  calm_end launch (Lacking r) o calm = inr (inr refl)
 
   completes_run : (spelled : Spelled) (launch : Launch) (end : RunEnd) → AnswersSpelled spelled (Ok launch) → IsToldEnd launch (history_with given) before after sink_rose end
       → Completes spelled sink_rose (finished_run end).status

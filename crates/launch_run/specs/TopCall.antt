@@ -1,7 +1,7 @@
 -- What the top call answers and writes. The words are those of its caller; what a source tells of its inputs and what a
 -- sink tells of its bytes are as the traits say (a source or a sink may tell nothing). A count of faults rose in a call
 -- where it is greater afterwards, or stands at its last value.
-use Rattle.std.specs.Prelude.{◌≡◌, ◌⊎◌, ◌==◌, ⊤, ℕ, Bool, List, length, Option, None, Some, Ok, Err, IfSome, Contains, if◌then◌else◌}
+use Rattle.std.specs.Prelude.{◌≡◌, ◌⊎◌, ◌==◌, ⊤, ℕ, Bool, List, length, Option, None, Some, Ok, Err, Contains, if◌then◌else◌}
 use Rattle.std.specs.FinMap.{get}
 use Rattle.input_output.specs.Sink.{grown, GrewByPrefix}
 use Rattle.input_output.specs.Source.{Told}
@@ -25,7 +25,7 @@ use Rattle.launch_reading.specs.declared.lines.Refusal.{Refusal}
 use Rattle.launch_reading.specs.declared.lines.Refusal.TheVariants.{Words, Memory}
 use Rattle.launch_run.specs.declared.top.Finished.{Finished}
 use Rattle.launch_run.specs.declared.top.RunEnd.{RunEnd}
-use Rattle.launch_run.specs.declared.top.RunEnd.TheVariants.{Reported, Unwritten, NoMemory}
+use Rattle.launch_run.specs.declared.top.RunEnd.TheVariants.{Reported, Unwritten, NotBegun, Lacking}
 use Rattle.launch_run.specs.declared.top.TopEnd.{TopEnd}
 use Rattle.launch_run.specs.declared.top.TopEnd.TheVariants.{Refused, Ran}
 
@@ -59,19 +59,22 @@ abbrev pub IsEndOf : Launch → Bool → Option (List ℕ) → Option (List ℕ)
 IsEndOf launch lines before after rose (Reported r status) =
     IsRecordOf launch r × Ended r.launch r.history × (status ≡ get (state_of r).statuses 0) × (after ≡ grown before (record_report lines r))
 IsEndOf launch lines before after rose (Unwritten r) = IsRecordOf launch r × Ended r.launch r.history × rose × GrewByPrefix before after (record_report lines r)
-IsEndOf launch lines before after rose (NoMemory r) = IfSome r (IsRecordOf launch) × (after ≡ before)
+IsEndOf launch lines before after rose NotBegun = after ≡ before
+IsEndOf launch lines before after rose (Lacking r) = IsRecordOf launch r × (after ≡ before)
 
 -- the same once the line that says so was written for want of memory
 abbrev pub IsToldEnd : Launch → Bool → Option (List ℕ) → Option (List ℕ) → Type 0 → RunEnd → Type 0
 IsToldEnd launch lines before after rose (Reported r status) = IsEndOf launch lines before after rose (Reported r status)
 IsToldEnd launch lines before after rose (Unwritten r) = IsEndOf launch lines before after rose (Unwritten r)
-IsToldEnd launch lines before after rose (NoMemory r) = IfSome r (IsRecordOf launch) × Wrote before after rose memory_line
+IsToldEnd launch lines before after rose NotBegun = Wrote before after rose memory_line
+IsToldEnd launch lines before after rose (Lacking r) = IsRecordOf launch r × Wrote before after rose memory_line
 
 -- what is written after a run's end: the line for want of memory, and else nothing
 abbrev pub TellsEnd : Option (List ℕ) → Option (List ℕ) → Type 0 → RunEnd → Type 0
 TellsEnd before after rose (Reported r status) = after ≡ before
 TellsEnd before after rose (Unwritten r) = after ≡ before
-TellsEnd before after rose (NoMemory r) = Wrote before after rose memory_line
+TellsEnd before after rose NotBegun = Wrote before after rose memory_line
+TellsEnd before after rose (Lacking r) = Wrote before after rose memory_line
 
 -- ---- the whole call, for words that give these settings or none, what the source tells of each input, and whether its
 -- count of faults rose
@@ -100,15 +103,15 @@ IsTopEnd given told rose before after sink_rose (Refused refusal) = IsRefusalOf 
 IsTopEnd given told rose before after sink_rose (Ran end) = IsRunOf given told rose before after sink_rose end
 
 -- the record that is kept for want of memory: that of a run which had an entry
-abbrev pub kept_of : Option Record → Option Record
-kept_of None = None
-kept_of (Some r) = if length r.history == 0 then None else Some r
+abbrev pub kept_of : Record → Option Record
+kept_of r = if length r.history == 0 then None else Some r
 
 -- what the call answers for each end
 abbrev pub finished_run : RunEnd → Finished
 finished_run (Reported r status) = record { status = status_number status; kept = Some r }
 finished_run (Unwritten r) = record { status = 69; kept = Some r }
-finished_run (NoMemory r) = record { status = 70; kept = kept_of r }
+finished_run NotBegun = record { status = 70; kept = None }
+finished_run (Lacking r) = record { status = 70; kept = kept_of r }
 
 abbrev pub finished_of : TopEnd → Finished
 finished_of (Refused refusal) = record { status = status_of refusal; kept = None }

@@ -34,8 +34,10 @@ pub enum RunEnd {
     Reported(Record, Option<Status>),
     /// It ended, and the sink failed while its report was written.
     Unwritten(Record),
-    /// Memory was wanting, with what was recorded until then, if the run began.
-    NoMemory(Option<Record>),
+    /// Memory was wanting before the run began.
+    NotBegun,
+    /// Memory was wanting, and this was recorded until then.
+    Lacking(Record),
 }
 
 // The exit status for process 0's status: 0 where it exited with 0, else 1.
@@ -72,14 +74,14 @@ fn run_launched<K: Sink>(alloc: Global, launch: Launch, lines: bool, sink: &mut 
     ensures end { IsEndOf launch lines (K.written sink.old) (K.written sink.new) (Rose (K.faults sink.old) (K.faults sink.new)) result }
 {
     let Ok(mut run) = Run::new(alloc, launch) else {
-        return RunEnd::NoMemory(None);
+        return RunEnd::NotBegun;
     };
     if run.go_on(alloc).is_err() {
-        return RunEnd::NoMemory(Some(run.into_record()));
+        return RunEnd::Lacking(run.into_record());
     }
     match report(alloc, &run.kernel, run.history.as_slice(), lines) {
         Ok(text) => write_report(run, lines, text.as_slice(), sink),
-        Err(_) => RunEnd::NoMemory(Some(run.into_record())),
+        Err(_) => RunEnd::Lacking(run.into_record()),
     }
 }
 
@@ -90,7 +92,7 @@ fn tell_end<K: Sink>(end: &RunEnd, sink: &mut K)
 {
     match end {
         RunEnd::Reported(..) | RunEnd::Unwritten(_) => {}
-        RunEnd::NoMemory(_) => refuse(&Refusal::Memory, sink),
+        RunEnd::NotBegun | RunEnd::Lacking(_) => refuse(&Refusal::Memory, sink),
     }
 }
 
@@ -174,18 +176,13 @@ fn launch_and_run<'a, S: Source, K: Sink>(
 }
 
 // The record of a run that had an entry.
-fn kept_of(kept: Option<Record>) -> Option<Record>
+fn kept_of(kept: Record) -> Option<Record>
     ensures { result ≡ kept_of kept }
 {
-    match kept {
-        None => None,
-        Some(kept) => {
-            if kept.history.len() == 0 {
-                None
-            } else {
-                Some(kept)
-            }
-        }
+    if kept.history.len() == 0 {
+        None
+    } else {
+        Some(kept)
     }
 }
 
@@ -202,7 +199,11 @@ fn finished_run(end: RunEnd) -> Finished
             status: 69,
             kept: Some(record),
         },
-        RunEnd::NoMemory(record) => Finished {
+        RunEnd::NotBegun => Finished {
+            status: 70,
+            kept: None,
+        },
+        RunEnd::Lacking(record) => Finished {
             status: 70,
             kept: kept_of(record),
         },

@@ -19,7 +19,7 @@ use Rattle.guest_memory.specs.Page.{Pages}
 use Rattle.call_codec.specs.declared.arguments.TheConstants.{MOST_IOVECS}
 use Rattle.call_codec.specs.Arguments.{argument, low}
 use Rattle.call_codec.specs.Args.{gathered_in, ranges_at, fd_write_with, fd_write_of, args_of}
-use Rattle.call_codec.specs.MemoryCalls.{is_aligned, is_guests, is_sync, has_bits, has_one, writes_and_executes, pages_in, if_mapped, map_refusal, protect_refusal, unless_refused, place_at, place_in, place_in_gap, place_of, mem_advise_of, mem_map_of, mem_protect_of, mem_sync_of, mem_unmap_of}
+use Rattle.call_codec.specs.MemoryCalls.{is_aligned, is_guests, is_range, is_sync, has_bits, has_one, writes_and_executes, pages_in, if_mapped, map_refusal, protect_refusal, unless_refused, place_at, place_in, place_in_gap, place_of, mem_advise_of, mem_map_of, mem_protect_of, mem_sync_of, mem_unmap_of}
 use Rattle.call_codec.proofs.Calls.{either_call, args_hold}
 
 -- the error is not want of memory
@@ -99,7 +99,7 @@ sync_spelled m r =
 
 unmap_spelled : (r : Registers) → IsSpelledCall (mem_unmap_of r)
 unmap_spelled r =
-    either_call IsSpelledCall (is_aligned (argument r 0) && nat_lt 0 (argument r 1)) (Memory 36 Success) (Refused 36 Inval) success_spelled inval_spelled
+    either_call IsSpelledCall (is_aligned (argument r 0) && is_range (argument r 0) (argument r 1)) (Memory 36 Success) (Refused 36 Inval) success_spelled inval_spelled
 
 protect_spelled : (m : Pages) (r : Registers) → IsSpelledCall (mem_protect_of m r)
 protect_spelled m r =
