@@ -113,6 +113,11 @@ const TEXTS: &[(&str, &[u8])] = &[
         "  # a comment\n\n  addi   a0 ,a0,  1# one\n   \nfence\n",
         &[0x13, 0x5, 0x15, 0x0, 0xf, 0x0, 0xf0, 0xf],
     ),
+    // any text in a comment
+    (
+        "ecall #\t\"é\0\x7f # \r\n#\x1b\n  # \tecall\t\nfence",
+        &[0x73, 0x0, 0x0, 0x0, 0xf, 0x0, 0xf0, 0xf],
+    ),
     // labels before and behind their use, one of them with a register's name
     (
         "a0: beq a0, a1, _end2\njal zero, a0\nhere:\nbne a0, a1, here\n_end2:ecall",
@@ -239,11 +244,13 @@ const FAULTS: &[(&str, u32)] = &[
     ("lr.w.rlaq a0, (a1)", 1),
     ("lr.x a0, (a1)", 1),
     ("lr.w. a0, (a1)", 1),
-    // control characters
+    // control characters outside a comment
     ("\tecall", 1),
     ("addi\ta0, a0, 1", 1),
-    ("ecall # \t", 1),
+    ("ecall\t# x", 1),
     ("ecall\r\n", 1),
+    ("#\t\n\t#", 2),
+    (".ascii \"#\t\"", 1),
     // texts that are none
     (".ascii \"a", 1),
     (".ascii a\"", 1),

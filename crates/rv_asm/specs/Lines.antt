@@ -81,10 +81,10 @@ is_defined labels None = false
 is_defined labels (Some name) = is_some (lookup labels name)
 
 -- What a line stands for, where the first labels are those of the whole text and the second those of the lines before it;
--- nothing, where it is outside the grammar.
+-- nothing, where it is outside the grammar. Its comment may have control characters.
 unfoldable pub line_item : List (List ℕ × ℕ) → List (List ℕ × ℕ) → ℕ → List ℕ → Option Item
 line_item labels before here line =
-    cond (has_control line) None
+    cond (has_control (without_comment false line)) None
     (cond (is_defined before (label_of line)) None
     (item_of labels here (content_of line)))
 

@@ -1,10 +1,10 @@
 //! An assembler for programs of the RISC-V machine: RV64IM with A and Zifencei, and directives for data. It also writes ELF
 //! files of code.
 //!
-//! A text is split into lines at its line feeds. `#` begins a comment outside quotation marks. Spaces at a line's ends are
-//! dropped, and an empty line stands for nothing. A line with a control character is outside the grammar. A line is an
-//! optional label with a colon, and an optional instruction or directive, whose operands stand behind spaces and are
-//! separated by commas, with spaces allowed round them.
+//! A text is split into lines at its line feeds. `#` begins a comment outside quotation marks, and any text may stand in it.
+//! Spaces at a line's ends are dropped, and an empty line stands for nothing. A line with a control character, such as a tab,
+//! outside its comment is outside the grammar. A line is an optional label with a colon, and an optional instruction or
+//! directive, whose operands stand behind spaces and are separated by commas, with spaces allowed round them.
 //!
 //! A label is a letter or `_` followed by letters, digits and `_`, and is defined once. It may have a register's name. A
 //! label of a line that is outside the grammar counts as defined. Registers are `x0` to `x31`, or have the names of the

@@ -166,7 +166,7 @@ pub fn piece<'a>(
     ensures exact { PieceIs result (line_item (rows labels.now) (rows before.now) here line.now) }
     ensures size { IfSome result (λ piece. length (piece_bytes piece) ≡ size_of line.now) }
 {
-    if has_control(line) {
+    if has_control(without_comment(line)) {
         return None;
     }
     let Statement { label, content } = Statement::of(line);
