@@ -11,7 +11,7 @@ use Rattle.run_types.specs.declared.launch.Launch.{Launch}
 use Rattle.abi_base.specs.Grants.{AreGrants}
 use Rattle.abi_base.specs.declared.grant.Grant.{Grant}
 use Rattle.yaml_values.specs.Shape.{Shape}
-use Rattle.launch_yaml.specs.declared.fault.Fault.{Fault}
+use Rattle.launch_rows.specs.declared.fault.Fault.{Fault}
 use Rattle.launch_yaml.specs.Document.{parse_at}
 use Rattle.launch_plan.specs.declared.fault.PlanFault.{PlanFault}
 use Rattle.launch_plan.specs.Plan.{plan_of}

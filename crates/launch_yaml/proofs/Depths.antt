@@ -2,9 +2,9 @@
 use Rattle.std.proofs.Common.{◌≡◌, ℕ, suc, ◌-◌, ◌≤◌, List, Bool, true, false, Result, Ok, ap, sym, ◌∙◌, arith}
 use Rattle.std.specs.Prelude.{if◌then◌else◌}
 use Rattle.yaml_values.specs.Shape.{Shape, Content, sequence, mapping, of_list, of_pairs}
-use Rattle.launch_yaml.specs.declared.fault.Fault.{Fault}
+use Rattle.launch_rows.specs.declared.fault.Fault.{Fault}
 use Rattle.refusals.specs.Results.{◌>>=◌}
-use Rattle.launch_yaml.specs.Rows.{Row, is_dash}
+use Rattle.launch_rows.specs.Rows.{Row, is_dash}
 use Rattle.launch_yaml.specs.Blocks.{items_at, pairs_at, block_at}
 
 pub sequence_is : (depth inside : ℕ) (is_root : Bool) (r : Row) (rs : List Row) (read whole : List Shape) → (1 ≤ depth) × (inside ≡ depth - 1) → is_dash r.content ≡ true

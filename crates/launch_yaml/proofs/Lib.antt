@@ -1,8 +1,4 @@
 pub mod SoundRows
-pub mod FirstFaults
-pub mod KeptRows
-pub mod Pieces
-pub mod Ends
 pub mod Refusals
 pub mod Splits
 pub mod Loops

@@ -6,14 +6,14 @@ use Rattle.std.specs.List.{take_while, prefix_len, list_any}
 use Rattle.yaml_values.specs.Shape.{Shape, Content, node, content_of}
 use Rattle.yaml_values.specs.Keys.{same_key}
 use Rattle.yaml_scalars.specs.declared.kind.YamlKind.TheVariants as kinds
-use Rattle.launch_yaml.specs.declared.fault.Fault.{Fault}
-use Rattle.launch_yaml.specs.declared.line.Line.{Line}
+use Rattle.launch_rows.specs.declared.fault.Fault.{Fault}
+use Rattle.launch_rows.specs.declared.line.Line.{Line}
 use Rattle.refusals.specs.Results.{◌>>=◌}
 use Rattle.refusals.proofs.Steps.{bind_alike}
-use Rattle.launch_yaml.specs.Rows.{Row, at_row, begins_key, behind_key}
+use Rattle.launch_rows.specs.Rows.{Row, at_row, begins_key, behind_key}
 use Rattle.launch_yaml.specs.Entries.{Entry, after_while, belongs, entries_after, never, is_key_awaiting, map_entries, sequence_entries}
 use Rattle.launch_yaml.specs.Blocks.{Block, items_of, pairs_of, pair_of, key_of, new_key_of, key_at, no_entry, wrong_key, value_of_entry}
-use Rattle.launch_yaml.specs.Views.{row, rows, lines_from}
+use Rattle.launch_rows.specs.Views.{row, rows, lines_from}
 
 -- what was read before, and what is still read
 abbrev pub with_front : {A : Type 0} → List A → Result (List A) Fault → Result (List A) Fault

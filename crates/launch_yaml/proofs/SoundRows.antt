@@ -16,14 +16,14 @@ use Rattle.yaml_values.specs.Views.{shape_of}
 use Rattle.launch_yaml.specs.declared.document.Doc.{Doc}
 use Rattle.launch_yaml.specs.declared.document.YamlFault.{YamlFault}
 use Rattle.launch_yaml.specs.Parsing.{Parses}
-use Rattle.launch_yaml.specs.declared.fault.Fault.{Fault}
+use Rattle.launch_rows.specs.declared.fault.Fault.{Fault}
 use Rattle.refusals.specs.Results.{◌>>=◌}
 use Rattle.refusals.proofs.Steps.{on_both, on_bind, on_any}
-use Rattle.launch_yaml.specs.Faults.{unless, beside}
-use Rattle.launch_yaml.specs.Rows.{Row, rows_from, is_dash, begins_key, behind_key, at_row, in_row, from, is_start, is_directive}
+use Rattle.launch_rows.specs.Faults.{unless, beside}
+use Rattle.launch_rows.specs.Rows.{Row, rows_from, is_dash, begins_key, behind_key, at_row, in_row, from, is_start, is_directive}
 use Rattle.launch_yaml.specs.Entries.{Entry, map_entries, sequence_entries, after_while}
 use Rattle.launch_yaml.specs.Blocks.{Tagging, untagged, tagged, in_base64, mode_of, node_of, absent, unless_binary, second_tag, text_behind, rows_behind, alone, in_one_line, tag_place, wrong_in, behind_one_tag, Block, begins_block, tagged_rows, on_following, behind_tag, tagging_at, in_line, node_with, below, no_entry, behind_dash, item_of, items_of, key_of, value_of, after_gap_of, wrong_key, new_key, new_key_of, key_at, value_of_entry, pair_of, pairs_of, too_deep, deepest, items_at, pairs_at, block_at, node_at}
-use Rattle.launch_yaml.specs.Lines.{lines, plain_fault}
+use Rattle.launch_rows.specs.Lines.{lines, plain_fault}
 use Rattle.launch_yaml.specs.Document.{end_at, after_document, is_right_of, root_of, no_marker, body_of, after_directive, document_of, parse_at}
 
 -- ---- results

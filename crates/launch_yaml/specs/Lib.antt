@@ -1,9 +1,5 @@
-pub mod Faults
-pub mod Lines
-pub mod Rows
 pub mod Entries
 pub mod Blocks
 pub mod Document
-pub mod Views
 pub mod Parsing
 pub mod TaggingViews

@@ -5,19 +5,20 @@ ghost use Rattle.yaml_values.specs.Documents.{IsDocument};
 ghost use Rattle.yaml_values.specs.Shape.{Shape, node, null};
 ghost use Rattle.yaml_scalars.specs.Spaces.{after_gap};
 ghost use Rattle.yaml_values.specs.Views.{shape_of};
-ghost use Rattle.launch_yaml.specs.declared.fault.Fault.{Fault};
-ghost use Rattle.launch_yaml.specs.Faults.{unless, beside};
-ghost use Rattle.launch_yaml.specs.Rows.{is_alone, is_start, is_stop, is_directive};
+ghost use Rattle.launch_rows.specs.declared.fault.Fault.{Fault};
+ghost use Rattle.launch_rows.specs.Faults.{unless, beside};
+ghost use Rattle.launch_rows.specs.Rows.{is_alone, is_start, is_stop, is_directive};
 ghost use Rattle.launch_yaml.specs.Entries.{after_while};
 ghost use Rattle.refusals.specs.Results.{Gives};
-ghost use Rattle.launch_yaml.specs.Views.{row, rows, IsWithin, AllWithin};
+ghost use Rattle.launch_rows.specs.Views.{row, rows, IsWithin, AllWithin};
 ghost use Rattle.launch_yaml.specs.Document.{is_marker, no_marker, is_right_of, end_at, after_document, root_of, body_of, after_directive, document_of, parse_at};
 ghost use Rattle.launch_yaml.specs.Parsing.{Parses};
 
-use crate::fault::Fault;
-use crate::faults::first_of;
-use crate::line::{Line, content};
-use crate::{blocks, lines};
+use crate::blocks;
+use launch_rows::fault::Fault;
+use launch_rows::faults::first_of;
+use launch_rows::line::{Line, content};
+use launch_rows::lines;
 use refusals::Refusal;
 use std::alloc::Global;
 use thiserror::Error;
@@ -247,7 +248,7 @@ fn beside(fault: Option<Fault>, read: Result<Node, Refusal<Fault>>) -> Result<Do
     })
 }
 
-#[tactic(auto, unfolding(crate::specs::Document::parse_at, crate::specs::Lines::lines))]
+#[tactic(auto, unfolding(crate::specs::Document::parse_at, launch_rows::specs::Lines::lines))]
 fn read(alloc: Global, text: &[u8]) -> Result<Doc, YamlFault>
     ensures { Parses result (parse_at text.now) }
 {

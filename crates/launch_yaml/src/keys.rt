@@ -7,13 +7,13 @@ ghost use Rattle.yaml_values.specs.Keys.{same_key};
 ghost use Rattle.yaml_values.specs.KeySets.{IsScalarKey};
 ghost use Rattle.launch_yaml.specs.Blocks.{kind_of_no_entry, wrong_key, key_of, new_key_of, key_at, deepest};
 ghost use Rattle.refusals.specs.Results.{Gives, Refuses};
-ghost use Rattle.launch_yaml.specs.Views.{row, IsWithin};
+ghost use Rattle.launch_rows.specs.Views.{row, IsWithin};
 
-use crate::fault::Fault;
-use crate::faults::first_of;
-use crate::line::{Line, at_line, content};
-use crate::rows;
 use crate::single::refusal_in;
+use launch_rows::fault::Fault;
+use launch_rows::faults::first_of;
+use launch_rows::line::{Line, at_line, content};
+use launch_rows::rows;
 use refusals::Refusal;
 use std::alloc::Global;
 use yaml_scalars::{YamlKind, plain};

@@ -1,4 +1,4 @@
-//! Launch files: the YAML in which they are written, read as a document.
+//! Launch files: the YAML in which they are written, read as a document. Their lines are of the crate `launch_rows`.
 #![tactic(auto)]
 
 pub use document::{Doc, YamlFault, parse};
@@ -8,11 +8,6 @@ pub use yaml_values::{Node, NodeList, NodePairs, NodeValue};
 mod blocks;
 mod document;
 mod entries;
-mod fault;
-mod faults;
 mod keys;
-mod line;
-mod lines;
-mod rows;
 mod single;
 mod tagging;

@@ -6,7 +6,7 @@ ghost use Rattle.launch_yaml.specs.Blocks.{mode_of, node_of, absent, binary_plac
 ghost use Rattle.refusals.specs.Results.{Gives};
 ghost use Rattle.launch_yaml.specs.TaggingViews.{tagging_view};
 
-use crate::fault::Fault;
+use launch_rows::fault::Fault;
 use lists::Text;
 use refusals::Refusal;
 use yaml_values::{Mode, Node, NodeValue};

@@ -3,13 +3,13 @@ use Rattle.std.proofs.Common.{ℕ, List, ◌++◌, map, Result, Ok, ap, sym, sub
 use Rattle.std.proofs.lemmas.Result.{err_from_is_err_and}
 use Rattle.yaml_values.specs.Shape.{Shape, Content, content_of}
 use Rattle.yaml_values.specs.Views.{shape_of, content_of_value, pair_of as pair_view}
-use Rattle.launch_yaml.specs.declared.fault.Fault.{Fault}
-use Rattle.launch_yaml.specs.declared.line.Line.{Line}
+use Rattle.launch_rows.specs.declared.fault.Fault.{Fault}
+use Rattle.launch_rows.specs.declared.line.Line.{Line}
 use Rattle.launch_yaml.specs.Entries.{Entry, sequence_entries, map_entries}
-use Rattle.launch_yaml.specs.Rows.{is_dash, behind_key, awaits_value}
-use Rattle.launch_yaml.specs.Views.{row, rows, AllWithin}
+use Rattle.launch_rows.specs.Rows.{is_dash, behind_key, awaits_value}
+use Rattle.launch_rows.specs.Views.{row, rows, AllWithin}
 use Rattle.launch_yaml.specs.Blocks.{item_of, items_of, pair_of, pairs_of, block_at, node_at}
-use Rattle.launch_yaml.proofs.Ends.{dash_end}
+use Rattle.launch_rows.proofs.Ends.{dash_end}
 use Rattle.launch_yaml.proofs.Depths.{sequence_is, mapping_is}
 use Rattle.refusals.proofs.Steps.{refused, map_push}
 use Rattle.launch_yaml.proofs.Loops.{OneMore, with_front, items_go_on, items_fail, items_done, pairs_go_on, pairs_fail, pairs_done, pair_goes_by_keys, pair_is, key_fails, value_fails}

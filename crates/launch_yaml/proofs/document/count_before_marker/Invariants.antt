@@ -1,7 +1,7 @@
 use Rattle.std.proofs.Common.{◌≡◌, length, ◌+◌}
 use Rattle.std.specs.List.{prefix_len}
 use Rattle.launch_yaml.specs.Document.{no_marker}
-use Rattle.launch_yaml.specs.Views.{rows, AllWithin}
+use Rattle.launch_rows.specs.Views.{rows, AllWithin}
 use Rattle.launch_yaml.proofs.document.count_before_marker.Given as goal
 
 abbrev pub invariant-loop-rest : goal.invariant-loop-rest

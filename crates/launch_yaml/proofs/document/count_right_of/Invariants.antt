@@ -1,7 +1,7 @@
 use Rattle.std.proofs.Common.{◌≡◌, length, ◌+◌}
 use Rattle.std.specs.List.{prefix_len}
 use Rattle.launch_yaml.specs.Document.{is_right_of}
-use Rattle.launch_yaml.specs.Views.{row, rows}
+use Rattle.launch_rows.specs.Views.{row, rows}
 use Rattle.launch_yaml.proofs.document.count_right_of.Given as goal
 
 abbrev pub invariant-loop-rest : goal.invariant-loop-rest

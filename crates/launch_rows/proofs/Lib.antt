@@ -1,0 +1,4 @@
+pub mod FirstFaults
+pub mod KeptRows
+pub mod Pieces
+pub mod Ends
