@@ -4,6 +4,7 @@ use Rattle.std.specs.List.{AllByRecursion}
 use Rattle.abi_base.specs.declared.grant.Grant.{Grant}
 use Rattle.abi_base.specs.declared.grant.GrantTarget.{GrantTarget}
 use Rattle.abi_base.specs.declared.grant.GrantTarget.TheVariants.{Terminal}
+use Rattle.abi_base.specs.declared.limits.TheConstants.{MOST_DESCRIPTORS}
 use Rattle.abi_base.specs.Rights.{has_all}
 
 -- all rights that a descriptor of a standard stream may have: stdin is read, stdout and stderr are written
@@ -32,4 +33,4 @@ IsGrant grant = IsTarget grant.target × HasRightsOfTarget grant grant.target
 
 -- at most as many grants as a table has numbers, each of what is there
 abbrev pub AreGrants : List Grant → Type 0
-AreGrants grants = (length grants ≤ 1024) × AllByRecursion IsGrant grants
+AreGrants grants = (length grants ≤ MOST_DESCRIPTORS) × AllByRecursion IsGrant grants

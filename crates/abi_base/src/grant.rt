@@ -5,14 +5,14 @@ use lists::{Items, TryClone};
 use std::alloc::AllocError;
 
 /// What a granted descriptor stands for.
-#[derive(Clone, Copy, Debug, PartialEq, Eq)]
+#[derive(Clone, Copy)]
 pub enum GrantTarget {
     /// A standard stream: 0 is stdin, 1 is stdout, 2 is stderr.
     Terminal(u32),
 }
 
 /// A descriptor of the launched process.
-#[derive(Clone, Copy, Debug, PartialEq, Eq)]
+#[derive(Clone, Copy)]
 pub struct Grant {
     pub target: GrantTarget,
     pub base: Rights,

@@ -4,7 +4,7 @@ use std::alloc::AllocError;
 use std::marker::Model;
 
 /// A process's number. The launched process has number 0.
-#[derive(Clone, Copy, Debug, PartialEq, Eq, PartialOrd, Ord, Hash)]
+#[derive(Clone, Copy)]
 pub struct Pid(pub u32);
 
 impl Model for Pid {
@@ -18,7 +18,7 @@ impl Model for Pid {
 }
 
 /// A thread's number in its process. The first thread has number 1.
-#[derive(Clone, Copy, Debug, PartialEq, Eq, PartialOrd, Ord, Hash)]
+#[derive(Clone, Copy)]
 pub struct Tid(pub u32);
 
 impl Model for Tid {
@@ -32,7 +32,7 @@ impl Model for Tid {
 }
 
 /// The number of an object that a descriptor may name: the creator's process number times 2^32, and its count.
-#[derive(Clone, Copy, Debug, PartialEq, Eq, PartialOrd, Ord, Hash)]
+#[derive(Clone, Copy)]
 pub struct ObjId(pub u64);
 
 impl Model for ObjId {

@@ -4,17 +4,21 @@
 //! CloudABI gives the names. The numbers are this project's profile, in docs/ABI.md.
 #![tactic(auto)]
 
+pub use address_space::{GUEST_BEGIN, GUEST_END, PAGE_LIMIT, PAGE_SIZE};
 pub use errno::Errno;
 pub use grant::{Grant, GrantList, GrantTarget};
 pub use ids::{ObjId, Pid, Tid, TidList};
+pub use limits::{MOST_ARGDATA, MOST_DESCRIPTORS};
 pub use prot::Prot;
 pub use regs::Regs;
 pub use rights::Rights;
 pub use signal::Signal;
 
+mod address_space;
 mod errno;
 mod grant;
 mod ids;
+mod limits;
 mod prot;
 mod regs;
 mod rights;

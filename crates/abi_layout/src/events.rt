@@ -13,14 +13,14 @@ use abi_structures::{Event, EventType, Subscription, What};
 
 // ---- events
 
-/// Whether an event of this kind is that bytes may be read or written.
+// Whether an event of this kind is that bytes may be read or written.
 fn is_transfer(kind: u8) -> bool
     ensures { result ≡ specs.is_transfer kind }
 {
     kind == EventType::FdRead.number() || kind == EventType::FdWrite.number()
 }
 
-/// Whether an event of this kind is that a process ended.
+// Whether an event of this kind is that a process ended.
 fn is_end(kind: u8) -> bool
     ensures { result ≡ specs.is_end kind }
 {
@@ -58,7 +58,7 @@ pub fn read_event(bytes: &[u8; 32]) -> Event
     }
 }
 
-/// Writes the fields that stand after an event's kind.
+// Writes the fields that stand after an event's kind.
 fn put_outcome(bytes: &mut [u8], event: &Event)
     requires { 32 ≤ length bytes.old }
     ensures written { bytes.new ≡ layout.written (outcome_fields event.now.kind) (outcome_values event.now) bytes.old }
@@ -87,7 +87,7 @@ pub fn write_event(event: &Event) -> [u8; 32]
 
 // ---- subscriptions
 
-/// Reads what a subscription of a type waits for. The words of locks and condition variables are 0.
+// Reads what a subscription of a type waits for. The words of locks and condition variables are 0.
 fn read_what(event_type: EventType, bytes: &[u8]) -> What
     requires { 56 ≤ length bytes.now }
     ensures kind { type_of result ≡ event_type }
@@ -144,7 +144,7 @@ pub fn read_subscription(bytes: &[u8; 56]) -> Option<Subscription>
     }
 }
 
-/// Writes the fields that stand after a subscription's kind.
+// Writes the fields that stand after a subscription's kind.
 fn put_what(bytes: &mut [u8], what: &What)
     requires { 56 ≤ length bytes.old }
     ensures written { bytes.new ≡ layout.written (what_fields what.now) (what_values what.now) bytes.old }

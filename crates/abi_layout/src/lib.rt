@@ -13,5 +13,3 @@ mod events;
 mod fields;
 pub mod laws;
 mod structures;
-#[cfg(test)]
-mod tests;

@@ -3,7 +3,7 @@ ghost use Rattle.std.specs.Prelude.{◌≡◌, MatchOption};
 ghost use Rattle.abi_structures.specs.Events.{IsOfNoType, number_of, type_of};
 
 /// The type of an event, with this profile's numbers (docs/ABI.md).
-#[derive(Clone, Copy, Debug, PartialEq, Eq)]
+#[derive(Clone, Copy)]
 pub enum EventType {
     Clock = 1,
     Condvar = 2,
@@ -16,7 +16,7 @@ pub enum EventType {
 
 /// What one subscription waits for. A lock or a condition variable has its address, the word that was read there, and
 /// its scope.
-#[derive(Clone, Copy, Debug, PartialEq, Eq)]
+#[derive(Clone, Copy, PartialEq, Eq)]
 pub enum What {
     /// A time of a clock.
     Clock {
@@ -61,14 +61,14 @@ pub enum What {
 }
 
 /// One thing that a thread waits for, and the number that its event gives back.
-#[derive(Clone, Copy, Debug, PartialEq, Eq)]
+#[derive(Clone, Copy, PartialEq, Eq)]
 pub struct Subscription {
     pub userdata: u64,
     pub what: What,
 }
 
 /// What happened to one subscription. A field that its kind lacks is 0.
-#[derive(Clone, Copy, Debug, PartialEq, Eq)]
+#[derive(Clone, Copy, PartialEq, Eq)]
 pub struct Event {
     pub userdata: u64,
     pub error: u16,

@@ -2,7 +2,7 @@
 use abi_base::Rights;
 
 /// What a descriptor is and may do.
-#[derive(Clone, Copy, Debug, PartialEq, Eq)]
+#[derive(Clone, Copy, PartialEq, Eq)]
 pub struct FdStat {
     pub kind: u8,
     pub flags: u16,
@@ -11,7 +11,7 @@ pub struct FdStat {
 }
 
 /// What a file is: its device, number, type, links and size, and the times of its last access, modification and change.
-#[derive(Clone, Copy, Debug, PartialEq, Eq)]
+#[derive(Clone, Copy, PartialEq, Eq)]
 pub struct FileStat {
     pub dev: u64,
     pub ino: u64,
@@ -24,7 +24,7 @@ pub struct FileStat {
 }
 
 /// A range of a program's memory that is read or written.
-#[derive(Clone, Copy, Debug, PartialEq, Eq)]
+#[derive(Clone, Copy, PartialEq, Eq)]
 pub struct Iovec {
     pub address: u64,
     pub length: u64,
@@ -32,7 +32,7 @@ pub struct Iovec {
 
 /// The head of a directory's entry: the cookie of the next one, the file's number, the length of the name that follows,
 /// and the file's type.
-#[derive(Clone, Copy, Debug, PartialEq, Eq)]
+#[derive(Clone, Copy, PartialEq, Eq)]
 pub struct Dirent {
     pub next: u64,
     pub ino: u64,
@@ -41,7 +41,7 @@ pub struct Dirent {
 }
 
 /// How a thread begins: where, with which stack, and with which argument.
-#[derive(Clone, Copy, Debug, PartialEq, Eq)]
+#[derive(Clone, Copy, PartialEq, Eq)]
 pub struct ThreadAttr {
     pub entry: u64,
     pub stack: u64,
@@ -51,7 +51,7 @@ pub struct ThreadAttr {
 
 /// Where a message that is received goes: the addresses of the buffers' table and of the descriptors' table, and how
 /// many each has.
-#[derive(Clone, Copy, Debug, PartialEq, Eq)]
+#[derive(Clone, Copy, PartialEq, Eq)]
 pub struct RecvIn {
     pub iovs: u64,
     pub iovs_count: u64,
@@ -61,7 +61,7 @@ pub struct RecvIn {
 }
 
 /// How many bytes and descriptors were received.
-#[derive(Clone, Copy, Debug, PartialEq, Eq)]
+#[derive(Clone, Copy, PartialEq, Eq)]
 pub struct RecvOut {
     pub datalen: u64,
     pub fdslen: u64,
@@ -69,7 +69,7 @@ pub struct RecvOut {
 }
 
 /// What is sent: the addresses of the buffers' table and of the descriptors' table, and how many each has.
-#[derive(Clone, Copy, Debug, PartialEq, Eq)]
+#[derive(Clone, Copy, PartialEq, Eq)]
 pub struct SendIn {
     pub iovs: u64,
     pub iovs_count: u64,
@@ -79,7 +79,7 @@ pub struct SendIn {
 }
 
 /// How many bytes were sent.
-#[derive(Clone, Copy, Debug, PartialEq, Eq)]
+#[derive(Clone, Copy, PartialEq, Eq)]
 pub struct SendOut {
     pub datalen: u64,
 }

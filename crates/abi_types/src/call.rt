@@ -6,7 +6,7 @@ use lists::{Bytes, TryClone};
 use std::alloc::AllocError;
 
 /// A call, as the registers and the memory of its thread spell it (docs/ABI.md has the numbers).
-#[derive(Debug, Drop)]
+#[derive(Drop)]
 pub enum Call {
     /// Writes the bytes, at most 65,536, to the descriptor.
     FdWrite {
@@ -48,7 +48,7 @@ pub struct Reply {
 }
 
 /// What the kernel answers to a call at once.
-#[derive(Clone, Copy, Debug, PartialEq, Eq)]
+#[derive(Clone, Copy)]
 pub enum Answer {
     /// The call is done, with this reply.
     Reply(Reply),

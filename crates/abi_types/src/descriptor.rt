@@ -3,7 +3,7 @@ use abi_base::{ObjId, Rights};
 
 /// What a number of a process's table stands for: an open, the rights that it has there, and those that a descriptor
 /// opened through it may have.
-#[derive(Clone, Copy, Debug, PartialEq, Eq)]
+#[derive(Clone, Copy)]
 pub struct Descriptor {
     pub id: ObjId,
     pub base: Rights,

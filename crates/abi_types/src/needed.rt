@@ -3,7 +3,7 @@ use abi_base::Rights;
 
 /// The rights that a call needs of the descriptor `fd`: base rights, and rights that it asks of the inheriting ones.
 /// A descriptor that need only be there has no right in either.
-#[derive(Clone, Copy, Debug, Default, PartialEq, Eq)]
+#[derive(Clone, Copy, Default)]
 pub struct Needed {
     pub fd: u32,
     pub base: Rights,

@@ -2,7 +2,7 @@
 use abi_base::Errno;
 
 /// Where a mapping goes, as the caller's memory gives it.
-#[derive(Clone, Copy, Debug, PartialEq, Eq)]
+#[derive(Clone, Copy)]
 pub enum Place {
     /// At this page's address.
     At(u64),

@@ -91,10 +91,6 @@ width_least (suc fewer) (pos zero) h = omega arith
 width_least (suc fewer) (pos (suc n)) h = omega (arith, further_least fewer (suc n) h)
 width_least (suc fewer) (negsuc n) h = omega (arith, further_least fewer n h)
 
-pub width_small : (i : ℤ) → SFits w128 i → width_of i ≤ 16
-width_small (pos n) h = width_least 16 (pos n) (omega (arith, h.sfits))
-width_small (negsuc n) h = width_least 16 (negsuc n) (omega (arith, h.sfits))
-
 pub width_in_range : (i : ℤ) → IsInRange i → width_of i ≤ 9
 width_in_range (pos n) h = width_least 9 (pos n) (omega (arith, h))
 width_in_range (negsuc n) h = width_least 9 (negsuc n) (omega (arith, h))

@@ -1,21 +1,17 @@
 -- Fields that are read one after the other, as a loop does.
-use Rattle.std.proofs.Common.{◌≡◌, ℕ, zero, suc, ◌<◌, ◌≤◌, List, [], ◌∷◌, ◌++◌, length, map, Bool, true, false, eqb, Option, Some, None, refl, sym, ap, subst, ◌∙◌, append_assoc, arith}
+use Rattle.std.proofs.Common.{◌≡◌, ℕ, zero, suc, ◌<◌, ◌≤◌, List, [], ◌∷◌, ◌++◌, length, Bool, true, false, eqb, Option, Some, None, refl, sym, ap, subst, ◌∙◌, append_assoc, arith}
 use Rattle.std.proofs.Math.Dec.{eqb-suc-zero}
-use Rattle.std.proofs.lemmas.List.{append-nil, map-append}
-use Rattle.argdata_codec.specs.declared.refusal.Refusal.{Refusal}
-use Rattle.argdata_codec.specs.declared.refusal.Refusal.TheVariants.{Memory, Malformed}
+use Rattle.std.proofs.lemmas.List.{append-nil}
 use Rattle.argdata_codec.specs.Shape.{Shape}
-use Rattle.argdata_codec.specs.Reading.{◌>>=◌, Refuses, field_at, entry_at, items_with, items_of, pairs_with, pairs_of}
-use Rattle.argdata_codec.proofs.Fields.{some_is, field_shorter}
+use Rattle.refusals.specs.Options.{◌>>=◌}
+use Rattle.refusals.proofs.OptionSteps.{bind_some, bind_alike}
+use Rattle.argdata_codec.specs.Reading.{field_at, entry_at, items_with, items_of, pairs_with, pairs_of}
+use Rattle.refusals.proofs.Chosen.{some_is}
+use Rattle.argdata_codec.proofs.Fields.{field_shorter}
 
 -- what was read before, and what is still read
 abbrev pub with_front : {A : Type 0} → List A → Option (List A) → Option (List A)
 with_front front read = read >>= λ xs. Some (front ++ xs)
-
--- a step that did not fail
-pub bind_some : {A B : Type 0} (r : Option A) (f : A → Option B) (y : B) → (r >>= f) ≡ Some y → (x : A) × (r ≡ Some x) × (f x ≡ Some y)
-bind_some (Some x) f y e = (x, refl, e)
-bind_some None f y e = absurd cc
 
 entry_shorter : (value : List ℕ → Option Shape) (bytes rest : List ℕ) (x : Shape) → entry_at value bytes ≡ Some (x, rest) → length rest < length bytes
 entry_shorter value bytes rest x e =
@@ -24,10 +20,6 @@ entry_shorter value bytes rest x e =
     let same : f.0.1 ≡ rest = ap (λ (p : Shape × List ℕ). p.1) (some_is (v.0, f.0.1) (x, rest) v.2) in
     let short = field_shorter bytes f.0.0 f.0.1 f.1 in
     subst (λ (r : List ℕ). length r < length bytes) same short
-
-bind_alike : {A B : Type 0} (r : Option A) (f g : A → Option B) → ((x : A) → r ≡ Some x → f x ≡ g x) → (r >>= f) ≡ (r >>= g)
-bind_alike None f g h = refl
-bind_alike (Some x) f g h = h x refl
 
 -- any fuel that is enough gives the same items
 items_alike : (value : List ℕ → Option Shape) (m n : ℕ) (bytes : List ℕ) → length bytes ≤ m → length bytes ≤ n → items_with value m bytes ≡ items_with value n bytes
@@ -123,12 +115,6 @@ pub pairs_done : (value : List ℕ → Option Shape) (front : List (Shape × Sha
 pairs_done value front bytes total empty so_far =
     sym so_far ∙ ap (λ (bs : List ℕ). with_front front (pairs_of value bs)) empty ∙ ap (with_front front) (pairs_end value) ∙ ap (λ (ps : List (Shape × Shape)). Some ps) (append-nil front)
 
--- ---- what is refused
-
-pub refused : {Y W : Type 0} (e : Refusal) (read : Option Y) (all : Option W) → (read ≡ None → all ≡ None) → Refuses e read → Refuses e all
-refused Memory read all h r = tt
-refused Malformed read all h r = h r
-
 -- ---- what a test of a length says
 
 pub nonempty : (xs : List ℕ) (b : Bool) → b ≡ eqb (length xs) 0 → b ≡ false → 0 < length xs
@@ -141,6 +127,3 @@ empty (x ∷ xs) b h k = absurd (true_false (sym k ∙ h ∙ eqb-suc-zero (lengt
   where
     true_false : true ≡ false → ⊥
     true_false e = cc
-
-pub map_push : {A B : Type 0} (f : A → B) (new old : List A) (x : A) → new ≡ old ++ x ∷ [] → map f new ≡ map f old ++ f x ∷ []
-map_push f new old x h = ap (map f) h ∙ map-append f old (x ∷ [])

@@ -1,25 +1,10 @@
 -- The value that bytes spell, read from their front.
-use Rattle.std.specs.Prelude.{ℕ, ℤ, pos, negsuc, zero, suc, ◌+◌, ◌-◌, ◌*◌, ◌^◌, ◌≡◌, ◌==◌, ◌&&◌, ◌||◌, if◌then◌else◌, nat_lt, Bool, true, false, List, [], ◌∷◌, length, take, drop, Option, Some, None, option_map, Result, Ok, Err}
+use Rattle.std.specs.Prelude.{ℕ, ℤ, pos, negsuc, zero, suc, ◌+◌, ◌-◌, ◌*◌, ◌^◌, ◌==◌, ◌&&◌, ◌||◌, if◌then◌else◌, nat_lt, Bool, true, false, List, [], ◌∷◌, length, take, drop, Option, Some, None, option_map}
 use Rattle.std.specs.Int.{w32, from_be_bytes}
 use Rattle.std.specs.Str.{is_utf8}
-use Rattle.argdata_codec.specs.declared.refusal.Refusal.{Refusal}
-use Rattle.argdata_codec.specs.declared.refusal.Refusal.TheVariants.{Memory, Malformed}
+use Rattle.refusals.specs.Options.{◌>>=◌}
 use Rattle.argdata_codec.specs.Shape.{Shape, null, binary, boolean, descriptor, integer, mapping, sequence, text, of_list, of_pairs}
 use Rattle.argdata_codec.specs.Writing.{width_of}
-
-infixl 10 ◌>>=◌
-abbrev pub ◌>>=◌ : {A B : Type 0} → Option A → (A → Option B) → Option B
-None >>= f = None
-(Some x) >>= f = f x
-
--- What a function returned, seen by view, is what reading gives, unless memory ran out.
-abbrev pub Refuses : {Y : Type 0} → Refusal → Option Y → Type 0
-Refuses Malformed read = read ≡ None
-Refuses Memory read = Unit {0}
-
-abbrev pub Reads : {X Y : Type 0} → (X → Y) → Result X Refusal → Option Y → Type 0
-Reads view (Ok x) read = read ≡ Some (view x)
-Reads view (Err e) read = Refuses e read
 
 -- The bytes of the field at the front, and the bytes after it. The groups of its length before these bytes are v.
 abbrev pub field_at : ℕ → List ℕ → Option (List ℕ × List ℕ)

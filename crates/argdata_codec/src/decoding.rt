@@ -5,9 +5,10 @@ ghost use Rattle.argdata_codec.specs.Views.{shape_of};
 ghost use Rattle.argdata_codec.specs.Spelling.{IsArgdata, IsLongest};
 ghost use Rattle.argdata_codec.specs.Faults.{Decodes, Names};
 
-use crate::refusal::Refusal;
+use crate::fault::Malformed;
 use crate::value::Value;
 use crate::{place, reading};
+use refusals::Refusal;
 use std::alloc::{AllocError, Global};
 use thiserror::Error;
 
@@ -40,7 +41,7 @@ pub fn decode(alloc: Global, bytes: &[u8]) -> Result<Value, ArgFault>
     match reading::value(alloc, DEPTH, bytes) {
         Ok(value) => Ok(value),
         Err(Refusal::Memory) => Err(ArgFault::NoMemory),
-        Err(Refusal::Malformed) => Err(fault(alloc, bytes)),
+        Err(Refusal::At(Malformed)) => Err(fault(alloc, bytes)),
     }
 }
 

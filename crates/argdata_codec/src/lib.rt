@@ -10,14 +10,12 @@ pub use value_list::ValueList;
 
 mod decoding;
 mod encoding;
+mod fault;
 mod laws;
 mod pair_list;
 mod place;
 mod reading;
-mod refusal;
 mod tag;
-#[cfg(test)]
-mod tests;
 mod turn;
 mod value;
 mod value_list;

@@ -3,9 +3,10 @@ ghost use Rattle.std.specs.Prelude.{◌≡◌, ◌<◌, ◌≤◌, ◌+◌, ◌^
 ghost use Rattle.argdata_codec.specs.Places.{room_after, has_place, may_grow, at_most, exactly, more_than, boolean_place, second_place, integer_place, tail_of, begins_in, text_step, text_place, field_size, length_step, fields_place, container_place, value_place};
 ghost use Rattle.argdata_codec.specs.Reading.{value_at};
 
-use crate::refusal::Refusal;
+use crate::fault::Malformed;
 use crate::turn::{LengthStep, Turn};
 use crate::{reading, tag};
+use refusals::Refusal;
 use std::alloc::{AllocError, Global};
 
 // The room behind so many bytes.
@@ -186,7 +187,7 @@ fn whole_field(
     let size = size as usize;
     match reading::value(alloc, depth, front(bytes, size)) {
         Ok(_) => Ok(Some(size)),
-        Err(Refusal::Malformed) => Ok(None),
+        Err(Refusal::At(Malformed)) => Ok(None),
         Err(Refusal::Memory) => Err(AllocError),
     }
 }

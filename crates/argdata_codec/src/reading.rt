@@ -1,19 +1,21 @@
 //! The value that bytes spell, without the place of a fault.
 ghost use Rattle.std.specs.Prelude.{◌≡◌, ◌<◌, ◌≤◌, ◌^◌, map, length, IfOk};
 ghost use Rattle.argdata_codec.specs.Views.{shape_of, pair_of};
-ghost use Rattle.argdata_codec.specs.Reading.{Reads, field_at, boolean_at, descriptor_at, integer_at, before_zero, text_at, entry_at, items_of, pairs_of, items_at, pairs_at, value_at, number_after, signed, is_in_range};
+ghost use Rattle.refusals.specs.Options.{Reads};
+ghost use Rattle.argdata_codec.specs.Reading.{field_at, boolean_at, descriptor_at, integer_at, before_zero, text_at, entry_at, items_of, pairs_of, items_at, pairs_at, value_at, number_after, signed, is_in_range};
 
 use crate::encoding::width;
+use crate::fault::Malformed;
 use crate::pair_list::PairList;
-use crate::refusal::Refusal;
 use crate::tag;
 use crate::value::Value;
 use crate::value_list::ValueList;
 use lists::{Bytes, Text};
+use refusals::Refusal;
 use std::alloc::Global;
 
 #[cycle(read)]
-pub fn value(alloc: Global, depth: usize, bytes: &[u8]) -> Result<Value, Refusal>
+pub fn value(alloc: Global, depth: usize, bytes: &[u8]) -> Result<Value, Refusal<Malformed>>
     ensures { Reads shape_of result (value_at depth bytes.now) }
 {
     match bytes {
@@ -25,32 +27,36 @@ pub fn value(alloc: Global, depth: usize, bytes: &[u8]) -> Result<Value, Refusal
         [tag::MAP, body @ ..] => Ok(Value::Map(pair_list(alloc, depth, body)?)),
         [tag::SEQ, body @ ..] => Ok(Value::Seq(value_list(alloc, depth, body)?)),
         [tag::STR, body @ ..] => Ok(Value::Str(text(alloc, body)?)),
-        _ => Err(Refusal::Malformed),
+        _ => Err(Refusal::At(Malformed)),
     }
 }
 
 // The pairs of a map that may be of some depth.
 #[cycle(read)]
 #[tactic(auto, unfolding(crate::specs::Reading::pairs_at))]
-fn pair_list(alloc: Global, depth: usize, body: &[u8]) -> Result<PairList, Refusal>
+fn pair_list(alloc: Global, depth: usize, body: &[u8]) -> Result<PairList, Refusal<Malformed>>
     ensures { Reads (λ ps. ps) result (pairs_at depth body.now) }
 {
-    let inside = depth.checked_sub(1).ok_or(Refusal::Malformed)?;
+    let inside = depth.checked_sub(1).ok_or(Refusal::At(Malformed))?;
     Ok(PairList::from_vec(pairs(alloc, inside, body)?))
 }
 
 // The values of a sequence that may be of some depth.
 #[cycle(read)]
 #[tactic(auto, unfolding(crate::specs::Reading::items_at))]
-fn value_list(alloc: Global, depth: usize, body: &[u8]) -> Result<ValueList, Refusal>
+fn value_list(alloc: Global, depth: usize, body: &[u8]) -> Result<ValueList, Refusal<Malformed>>
     ensures { Reads (λ xs. xs) result (items_at depth body.now) }
 {
-    let inside = depth.checked_sub(1).ok_or(Refusal::Malformed)?;
+    let inside = depth.checked_sub(1).ok_or(Refusal::At(Malformed))?;
     Ok(ValueList::from_vec(items(alloc, inside, body)?))
 }
 
 #[cycle(read)]
-fn pairs(alloc: Global, depth: usize, body: &[u8]) -> Result<Vec<(Value, Value)>, Refusal>
+fn pairs(
+    alloc: Global,
+    depth: usize,
+    body: &[u8],
+) -> Result<Vec<(Value, Value)>, Refusal<Malformed>>
     ensures { Reads (λ v. map pair_of v.items) result (pairs_of (value_at depth) body.now) }
 {
     let mut pairs = Vec::new(alloc);
@@ -65,7 +71,7 @@ fn pairs(alloc: Global, depth: usize, body: &[u8]) -> Result<Vec<(Value, Value)>
 }
 
 #[cycle(read)]
-fn items(alloc: Global, depth: usize, body: &[u8]) -> Result<Vec<Value>, Refusal>
+fn items(alloc: Global, depth: usize, body: &[u8]) -> Result<Vec<Value>, Refusal<Malformed>>
     ensures { Reads (λ v. map shape_of v.items) result (items_of (value_at depth) body.now) }
 {
     let mut items = Vec::new(alloc);
@@ -80,7 +86,7 @@ fn items(alloc: Global, depth: usize, body: &[u8]) -> Result<Vec<Value>, Refusal
 
 // The value of the field at the front, and the bytes after it.
 #[cycle(read)]
-fn entry(alloc: Global, depth: usize, bytes: &[u8]) -> Result<(Value, &[u8]), Refusal>
+fn entry(alloc: Global, depth: usize, bytes: &[u8]) -> Result<(Value, &[u8]), Refusal<Malformed>>
     ensures reads { Reads (λ x. (shape_of x.0, x.1.now)) result (entry_at (value_at depth) bytes.now) }
     ensures shorter { IfOk result (λ x. length x.1.now < length bytes.now) }
 {
@@ -89,7 +95,7 @@ fn entry(alloc: Global, depth: usize, bytes: &[u8]) -> Result<(Value, &[u8]), Re
 }
 
 // The bytes of the field at the front, and the bytes after it.
-fn field(bytes: &[u8]) -> Result<(&[u8], &[u8]), Refusal>
+fn field(bytes: &[u8]) -> Result<(&[u8], &[u8]), Refusal<Malformed>>
     ensures reads { Reads (λ x. (x.0.now, x.1.now)) result (field_at 0 bytes.now) }
     ensures shorter { IfOk result (λ x. length x.1.now < length bytes.now) }
 {
@@ -101,51 +107,51 @@ fn field(bytes: &[u8]) -> Result<(&[u8], &[u8]), Refusal>
         if *byte >= 128 {
             let length = sum - 128;
             if length > left {
-                return Err(Refusal::Malformed);
+                return Err(Refusal::At(Malformed));
             }
             return Ok(after.split_at(length as usize));
         }
         if sum == 0 || sum > left {
-            return Err(Refusal::Malformed);
+            return Err(Refusal::At(Malformed));
         }
         groups = sum;
         rest = after;
     }
-    Err(Refusal::Malformed)
+    Err(Refusal::At(Malformed))
 }
 
-fn boolean(body: &[u8]) -> Result<bool, Refusal>
+fn boolean(body: &[u8]) -> Result<bool, Refusal<Malformed>>
     ensures { Reads (λ b. b) result (boolean_at body.now) }
 {
     match body {
         [] => Ok(false),
         [1] => Ok(true),
-        _ => Err(Refusal::Malformed),
+        _ => Err(Refusal::At(Malformed)),
     }
 }
 
-fn descriptor(body: &[u8]) -> Result<u32, Refusal>
+fn descriptor(body: &[u8]) -> Result<u32, Refusal<Malformed>>
     ensures { Reads (λ n. n) result (descriptor_at body.now) }
 {
     match body {
         [a, b, c, d] => Ok(u32::from_be_bytes([*a, *b, *c, *d])),
-        _ => Err(Refusal::Malformed),
+        _ => Err(Refusal::At(Malformed)),
     }
 }
 
 #[tactic(auto, unfolding(crate::specs::Reading::integer_at))]
-fn integer(body: &[u8]) -> Result<i128, Refusal>
+fn integer(body: &[u8]) -> Result<i128, Refusal<Malformed>>
     ensures { Reads (λ i. i) result (integer_at body.now) }
 {
     if body.len() > 9 {
-        return Err(Refusal::Malformed);
+        return Err(Refusal::At(Malformed));
     }
     let (number, top) = number(body);
     let integer = signed_number(top, number);
     if is_argument(integer) && width(integer) == body.len() {
         Ok(integer)
     } else {
-        Err(Refusal::Malformed)
+        Err(Refusal::At(Malformed))
     }
 }
 
@@ -186,27 +192,27 @@ fn is_argument(integer: i128) -> bool
 }
 
 #[tactic(auto, unfolding(crate::specs::Reading::text_at))]
-fn text(alloc: Global, body: &[u8]) -> Result<Text, Refusal>
+fn text(alloc: Global, body: &[u8]) -> Result<Text, Refusal<Malformed>>
     ensures { Reads (λ t. t) result (text_at body.now) }
 {
     let content = content(body)?;
     match str::from_utf8(content) {
         Ok(text) => Ok(Text::from_string(String::from_str(alloc, text)?)),
-        Err(_) => Err(Refusal::Malformed),
+        Err(_) => Err(Refusal::At(Malformed)),
     }
 }
 
 // What stands before the first zero byte, which is to be the last byte.
-fn content(body: &[u8]) -> Result<&[u8], Refusal>
+fn content(body: &[u8]) -> Result<&[u8], Refusal<Malformed>>
     ensures { Reads (λ x. x.now) result (before_zero body.now) }
 {
     for (i, byte) in body.iter().enumerate() {
         if *byte == 0 {
             if i + 1 < body.len() {
-                return Err(Refusal::Malformed);
+                return Err(Refusal::At(Malformed));
             }
             return Ok(&body[..i]);
         }
     }
-    Err(Refusal::Malformed)
+    Err(Refusal::At(Malformed))
 }

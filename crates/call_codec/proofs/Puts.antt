@@ -25,6 +25,7 @@ use Rattle.guest_memory.specs.Page.{Page, Pages}
 use Rattle.guest_memory.specs.Ranges.{IsPageAddress, in_range}
 use Rattle.guest_memory.proofs.Changes.{are_there, gap_of_lowest, protected_is, unmapped_is, without_free, without_none}
 use Rattle.guest_memory.proofs.PageRanges.{first_true, second_true, inside, is_inside, not_both, no_page_unless, none_changed}
+use Rattle.call_codec.specs.declared.arguments.TheConstants.{MOST_IOVECS}
 use Rattle.call_codec.proofs.Calls.{args_hold}
 use Rattle.call_codec.specs.Arguments.{argument, low}
 use Rattle.call_codec.specs.Args.{fd_write_of, fd_write_with, gathered_in, ranges_at, args_of}
@@ -66,7 +67,7 @@ written_suits m r fd (Err fault) = tt
 
 write_suits : (m : Pages) (r : Registers) → Suits m r (fd_write_of m r)
 write_suits m r =
-    either_suits m r (nat_lt 1024 (argument r 2)) (Refused 16 Inval) (fd_write_with (low (argument r 0)) (gathered_in m (ranges_at m (argument r 1) (argument r 2))))
+    either_suits m r (nat_lt MOST_IOVECS (argument r 2)) (Refused 16 Inval) (fd_write_with (low (argument r 0)) (gathered_in m (ranges_at m (argument r 1) (argument r 2))))
     (λ e. tt) (written_suits m r (low (argument r 0)) (gathered_in m (ranges_at m (argument r 1) (argument r 2))))
 
 advise_suits : (m : Pages) (r : Registers) → Suits m r (mem_advise_of m r)

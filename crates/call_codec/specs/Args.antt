@@ -10,6 +10,7 @@ use Rattle.abi_base.specs.Registers.{Registers}
 use Rattle.guest_memory.specs.declared.fault.MemFault.{MemFault}
 use Rattle.guest_memory.specs.Bytes.{bytes_at}
 use Rattle.guest_memory.specs.Page.{Pages}
+use Rattle.call_codec.specs.declared.arguments.TheConstants.{MOST_IOVECS, MOST_TRANSFERRED}
 use Rattle.call_codec.specs.Arguments.{argument, low}
 use Rattle.call_codec.specs.MemoryCalls.{mem_advise_of, mem_map_of, mem_protect_of, mem_sync_of, mem_unmap_of}
 
@@ -44,7 +45,7 @@ gathered m room (range ∷ ranges) =
 
 -- the bytes of an iovec array, of which 65,536 count
 abbrev pub gathered_in : Pages → Result (List Iovec) MemFault → Result (List ℕ) MemFault
-gathered_in m (Ok ranges) = gathered m 65536 ranges
+gathered_in m (Ok ranges) = gathered m MOST_TRANSFERRED ranges
 gathered_in m (Err fault) = Err fault
 
 -- fd_write of these bytes; memory that can't be read is FAULT
@@ -55,7 +56,7 @@ fd_write_with fd (Err fault) = Refused 16 Fault
 -- fd_write: a descriptor, the address of an iovec array, and the array's count, of which over 1024 is INVAL
 abbrev pub fd_write_of : Pages → Registers → Call
 fd_write_of m r =
-    if nat_lt 1024 (argument r 2) then Refused 16 Inval
+    if nat_lt MOST_IOVECS (argument r 2) then Refused 16 Inval
     else fd_write_with (low (argument r 0)) (gathered_in m (ranges_at m (argument r 1) (argument r 2)))
 
 -- the call with this number; a number that no call has is NOSYS

@@ -1,5 +1,6 @@
 -- The memory that segments make.
-use Rattle.std.specs.Prelude.{◌≤◌, ℕ, zero, suc, ◌+◌, ◌*◌, ◌/◌, ◌%◌, List, [], ◌∷◌, ◌++◌, length, replicate, take, drop}
+use Rattle.std.specs.Prelude.{◌≤◌, ℕ, zero, suc, ◌+◌, ◌-◌, ◌*◌, ◌/◌, ◌%◌, List, [], ◌∷◌, ◌++◌, length, replicate, take, drop}
+use Rattle.abi_base.specs.declared.address_space.TheConstants.{GUEST_BEGIN, GUEST_END, PAGE_SIZE}
 use Rattle.std.specs.FinMap.{insert}
 use Rattle.abi_base.specs.declared.prot.Prot.{Prot}
 use Rattle.guest_memory.specs.Page.{Page, Pages}
@@ -7,23 +8,23 @@ use Rattle.elf_image.specs.declared.elf.Segment.{Segment}
 
 -- the number of a segment's first page
 abbrev pub first_page : Segment → ℕ
-first_page segment = segment.at / 4096
+first_page segment = segment.at / PAGE_SIZE
 
 -- how many pages a segment's memory touches
 abbrev pub page_count : Segment → ℕ
-page_count segment = (segment.at % 4096 + segment.length + 4095) / 4096
+page_count segment = (segment.at % PAGE_SIZE + segment.length + (PAGE_SIZE - 1)) / PAGE_SIZE
 
 -- a segment's file bytes, with the zeros before them in their first page
 abbrev pub content : Segment → List ℕ
-content segment = replicate (segment.at % 4096) 0 ++ segment.bytes
+content segment = replicate (segment.at % PAGE_SIZE) 0 ++ segment.bytes
 
 -- a page with bytes from a place in it on, and zeros around them
 abbrev pub page_with : ℕ → List ℕ → Prot → Page
-page_with place bytes prot = record { bytes = take 4096 (replicate place 0 ++ (bytes ++ replicate 4096 0)); prot = prot }
+page_with place bytes prot = record { bytes = take PAGE_SIZE (replicate place 0 ++ (bytes ++ replicate PAGE_SIZE 0)); prot = prot }
 
 -- the page of a segment with this place among its pages: its part of the file bytes, and zeros around them
 abbrev pub page_of : Segment → ℕ → Page
-page_of segment index = record { bytes = take 4096 (drop (4096 * index) (content segment) ++ replicate 4096 0); prot = segment.prot }
+page_of segment index = record { bytes = take PAGE_SIZE (drop (PAGE_SIZE * index) (content segment) ++ replicate PAGE_SIZE 0); prot = segment.prot }
 
 -- the memory with the first of a segment's pages, so many of them
 abbrev pub with_pages : Pages → Segment → ℕ → Pages
@@ -41,6 +42,6 @@ with_segments m (segment ∷ segments) = with_segments (with_segment m segment) 
 
 -- a segment that lies in the guest's part of the address space, with no more bytes of the file than of memory
 pub record IsPlaced (segment : Segment) : Type 0 where
-  pub low : 0x10000 ≤ segment.at
-  pub high : segment.at + segment.length ≤ 0x4000000000
+  pub low : GUEST_BEGIN ≤ segment.at
+  pub high : segment.at + segment.length ≤ GUEST_END
   pub fits : length segment.bytes ≤ segment.length

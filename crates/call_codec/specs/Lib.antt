@@ -4,3 +4,4 @@ pub mod MemoryCalls
 pub mod Put
 pub mod Image
 pub mod Start
+pub mod Bounded

@@ -1,6 +1,7 @@
 -- The calls that a process makes about its own memory: mem_advise, mem_map, mem_protect, mem_sync and mem_unmap. What
 -- they answer is in the caller's registers and memory alone, and so is what they leave of the memory.
-use Rattle.std.specs.Prelude.{ℕ, ◌≤◌, ◌+◌, ◌*◌, ◌/◌, ◌%◌, ◌==◌, ◌&&◌, ◌||◌, not, nat_le, nat_lt, Bool, Option, Some, None, if◌then◌else◌}
+use Rattle.std.specs.Prelude.{ℕ, ◌≤◌, ◌+◌, ◌-◌, ◌*◌, ◌/◌, ◌%◌, ◌==◌, ◌&&◌, ◌||◌, not, nat_le, nat_lt, Bool, Option, Some, None, if◌then◌else◌}
+use Rattle.abi_base.specs.declared.address_space.TheConstants.{GUEST_BEGIN, GUEST_END, PAGE_SIZE}
 use Rattle.std.specs.Int.RustNames.{bit_and}
 use Rattle.std.specs.FinMap.{len}
 use Rattle.abi_types.specs.declared.call.Call.{Call}
@@ -38,21 +39,21 @@ writes_and_executes bits = has_bits bits 3
 
 -- how many pages so many bytes are, rounded up
 abbrev pub pages_in : ℕ → ℕ
-pages_in bytes = (bytes + 4095) / 4096
+pages_in bytes = (bytes + (PAGE_SIZE - 1)) / PAGE_SIZE
 
 -- the address, or the offset, is a page's
 abbrev pub is_aligned : ℕ → Bool
-is_aligned a = a % 4096 == 0
+is_aligned a = a % PAGE_SIZE == 0
 
 -- k pages from the address on lie in the guest's part of the address space
 abbrev pub is_guests : ℕ → ℕ → Bool
-is_guests a k = nat_le 0x10000 a && nat_le (a + 4096 * k) 0x4000000000
+is_guests a k = nat_le GUEST_BEGIN a && nat_le (a + PAGE_SIZE * k) GUEST_END
 
 -- ---- calls about pages that are there
 
 -- SUCCESS where each page of the range is mapped, else FAULT
 abbrev pub if_mapped : Pages → ℕ → ℕ → Errno
-if_mapped m a bytes = if all_there m (a / 4096) (pages_in bytes) then Success else Fault
+if_mapped m a bytes = if all_there m (a / PAGE_SIZE) (pages_in bytes) then Success else Fault
 
 -- mem_advise: an address, a length and an advice from 1 to 6
 abbrev pub mem_advise_of : Pages → Registers → Call
@@ -107,7 +108,7 @@ map_refusal a bytes prot flags offset =
 
 -- FIXED: k pages at the address, in place of those that are there; NOBUFS where that would be too many
 abbrev pub place_at : Pages → ℕ → ℕ → Place
-place_at m a k = if nat_le (len (without_pages m (a / 4096) k) + k) page_limit then At a else place.Refused Nobufs
+place_at m a k = if nat_le (len (without_pages m (a / PAGE_SIZE) k) + k) page_limit then At a else place.Refused Nobufs
 
 abbrev pub place_in : Option ℕ → Place
 place_in (Some a) = At a
@@ -132,9 +133,9 @@ mem_map_of m r =
 -- k pages may be mapped at the address, in place of those that are there
 pub record MayMapAt (m : Pages) (a k : ℕ) : Type 0 where
   pub page : IsPageAddress a
-  pub low : 0x10000 ≤ a
-  pub high : a + 4096 * k ≤ 0x4000000000
-  pub room : len (without_pages m (a / 4096) k) + k ≤ page_limit
+  pub low : GUEST_BEGIN ≤ a
+  pub high : a + PAGE_SIZE * k ≤ GUEST_END
+  pub room : len (without_pages m (a / PAGE_SIZE) k) + k ≤ page_limit
 
 -- the place, if it is one, is where k pages may be mapped
 abbrev pub MayMapThere : Pages → Place → ℕ → Type 0
@@ -143,14 +144,14 @@ MayMapThere m (place.Refused errno) k = Unit {0}
 
 -- a mapping of k pages that went to this place: pages of zeros, in place of what was there
 abbrev pub with_mapping : Pages → Place → ℕ → Prot → Pages
-with_mapping m (At a) k prot = mapped m (a / 4096) k prot
+with_mapping m (At a) k prot = mapped m (a / PAGE_SIZE) k prot
 with_mapping m (place.Refused errno) k prot = m
 
 -- the memory after the call with this number, which succeeded; the others change nothing
 abbrev pub with_change : Pages → Registers → ℕ → Pages
 with_change m r number =
-    if number == 34 then protected m (argument r 0 / 4096) (pages_in (argument r 1)) (prot_of (low (argument r 2)))
-    else if number == 36 then without_pages m (argument r 0 / 4096) (pages_in (argument r 1))
+    if number == 34 then protected m (argument r 0 / PAGE_SIZE) (pages_in (argument r 1)) (prot_of (low (argument r 2)))
+    else if number == 36 then without_pages m (argument r 0 / PAGE_SIZE) (pages_in (argument r 1))
     else m
 
 -- the first on SUCCESS, and else the second

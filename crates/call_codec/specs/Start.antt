@@ -1,8 +1,10 @@
 -- What a program starts with: its segments, a stack, a start block, and its first registers.
-use Rattle.std.specs.Prelude.{◌≡◌, ◌≤◌, ℕ, ◌+◌, ◌-◌, true, false, List, [], ◌∷◌, ◌++◌, length}
+use Rattle.std.specs.Prelude.{◌≡◌, ◌≤◌, ℕ, ◌+◌, ◌-◌, true, false, List, [], ◌∷◌, ◌++◌, length, replicate}
 use Rattle.std.specs.Int.{w64, to_le_bytes}
 use Rattle.std.specs.FinMap.{empty}
 use Rattle.std.specs.List.{All}
+use Rattle.abi_base.specs.declared.address_space.TheConstants.{PAGE_SIZE}
+use Rattle.abi_base.specs.declared.limits.TheConstants.{MOST_ARGDATA}
 use Rattle.abi_base.specs.declared.prot.Prot.{Prot}
 use Rattle.abi_base.specs.Registers.{Registers, start_registers, with_x}
 use Rattle.elf_image.specs.declared.elf.Elf.{Elf}
@@ -37,12 +39,16 @@ entry_bytes entry = to_le_bytes w64 entry.0 ++ to_le_bytes w64 entry.1
 abbrev pub vector_entries : Elf → ℕ → ℕ → ℕ → List (ℕ × ℕ)
 vector_entries elf argdata_length pid tid =
     (256, start_block_at + 0x100) ∷ (257, argdata_length) ∷ (7, elf.base) ∷ (258, start_block_at + 0xc0) ∷ (259, 64) ∷ (260, 1)
-    ∷ (6, 4096) ∷ (3, elf.phdr) ∷ (4, elf.phnum) ∷ (263, pid) ∷ (261, tid) ∷ (0, 0) ∷ []
+    ∷ (6, PAGE_SIZE) ∷ (3, elf.phdr) ∷ (4, elf.phnum) ∷ (263, pid) ∷ (261, tid) ∷ (0, 0) ∷ []
 
 -- the bytes of a vector
 abbrev pub vector_of : List (ℕ × ℕ) → List ℕ
 vector_of [] = []
 vector_of (entry ∷ entries) = entry_bytes entry ++ vector_of entries
+
+-- the canary of a start, 64 bytes, which are zero
+abbrev pub canary : List ℕ
+canary = replicate 64 0
 
 -- the start block: the vector, the canary, and the argument data
 abbrev pub block_bytes : Elf → List ℕ → List ℕ → ℕ → ℕ → List ℕ
@@ -66,5 +72,5 @@ first_registers entry = with_x (with_x (start_registers entry) 2 stack_end) 10 s
 -- an image, argument data and a canary that a program can start with
 pub record MayStart (elf : Elf) (argdata canary : List ℕ) : Type 0 where
   pub placed : All IsPlaced elf.segments
-  pub short : length argdata ≤ 65536
+  pub short : length argdata ≤ MOST_ARGDATA
   pub whole : length canary ≡ 64

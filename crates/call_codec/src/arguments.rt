@@ -14,17 +14,17 @@ use abi_types::{Bytes, Call, Errno, Iovec, Regs};
 use guest_memory::GuestMemory;
 use std::alloc::{AllocError, Global};
 
-/// The number of fd_write.
+// The number of fd_write.
 const FD_WRITE: u64 = 16;
 
-/// The number of proc_exit.
+// The number of proc_exit.
 const PROC_EXIT: u64 = 39;
 
 /// The most iovecs of a call.
-const MOST_IOVECS: u64 = 1024;
+pub const MOST_IOVECS: u64 = 1024;
 
 /// The most bytes of a transfer.
-const TRANSFER: u64 = 65536;
+pub const MOST_TRANSFERRED: u64 = 65536;
 
 /// The low half of a register.
 pub fn low(value: u64) -> u32
@@ -55,7 +55,7 @@ pub fn args(alloc: Global, regs: &Regs, memory: &GuestMemory) -> Result<Call, Al
     }
 }
 
-/// fd_write, by its descriptor, the address of its iovecs and their count.
+// fd_write, by its descriptor, the address of its iovecs and their count.
 fn fd_write(alloc: Global, regs: &Regs, memory: &GuestMemory) -> Result<Call, AllocError>
     ensures { IfOk result (λ call. call ≡ fd_write_of memory.now regs.now) }
 {
@@ -78,14 +78,14 @@ fn fd_write(alloc: Global, regs: &Regs, memory: &GuestMemory) -> Result<Call, Al
     }
 }
 
-/// The bytes of an iovec array, of which 65,536 count. `None` exactly where some of the memory can't be read.
+// The bytes of an iovec array, of which `MOST_TRANSFERRED` count. `None` exactly where some of the memory can't be read.
 fn written(
     alloc: Global,
     memory: &GuestMemory,
     at: u64,
     count: u64,
 ) -> Result<Option<Bytes>, AllocError>
-    requires { count ≤ 1024 }
+    requires { count ≤ MOST_IOVECS }
     ensures { IfOk result (λ bytes. bytes ≡ result_ok (gathered_in memory.now (ranges_at memory.now at count))) }
 {
     match read_ranges(alloc, memory, at, count)? {
@@ -94,7 +94,7 @@ fn written(
     }
 }
 
-/// The range that an iovec names. `None` exactly where it can't be read.
+// The range that an iovec names. `None` exactly where it can't be read.
 fn read_range(memory: &GuestMemory, at: u64) -> Option<Iovec>
     ensures { result ≡ result_ok (range_in (bytes_at memory.now at 16)) }
 {
@@ -103,14 +103,14 @@ fn read_range(memory: &GuestMemory, at: u64) -> Option<Iovec>
     Some(read_iovec(&iovec))
 }
 
-/// The ranges that an array of iovecs names. `None` exactly where some of the array can't be read.
+// The ranges that an array of iovecs names. `None` exactly where some of the array can't be read.
 fn read_ranges(
     alloc: Global,
     memory: &GuestMemory,
     at: u64,
     count: u64,
 ) -> Result<Option<Vec<Iovec>>, AllocError>
-    requires { count ≤ 1024 }
+    requires { count ≤ MOST_IOVECS }
     ensures { IfOk result (λ found. option_map (λ v. v.items) found ≡ result_ok (ranges_at memory.now at count)) }
 {
     let mut ranges = Vec::with_capacity(alloc, count as usize)?;
@@ -125,16 +125,16 @@ fn read_ranges(
     Ok(Some(ranges))
 }
 
-/// The bytes of the ranges, one after another, of which 65,536 count. `None` exactly where some can't be read.
+// The bytes of the ranges, one after another, of which `MOST_TRANSFERRED` count. `None` exactly where some can't be read.
 fn gather(
     alloc: Global,
     memory: &GuestMemory,
     ranges: &[Iovec],
 ) -> Result<Option<Bytes>, AllocError>
-    ensures { IfOk result (λ bytes. bytes ≡ result_ok (gathered memory.now 65536 ranges.now)) }
+    ensures { IfOk result (λ bytes. bytes ≡ result_ok (gathered memory.now MOST_TRANSFERRED ranges.now)) }
 {
     let mut bytes = Bytes::new(alloc);
-    let mut room = TRANSFER;
+    let mut room = MOST_TRANSFERRED;
     for range in ranges {
         let length = range.length.min(room);
         let mut piece = vec![in alloc; 0u8; length as usize]?;

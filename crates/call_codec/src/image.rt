@@ -4,22 +4,20 @@ ghost use Rattle.std.specs.FinMap as map;
 ghost use Rattle.guest_memory.specs.Ranges.{IsPageAddress};
 ghost use Rattle.call_codec.specs.Image.{IsPlaced, page_with, page_of, page_count, with_segment, with_segments};
 
+use abi_base::{GUEST_BEGIN, GUEST_END, PAGE_SIZE};
 use abi_types::Prot;
 use elf_image::Segment;
 use guest_memory::{GuestMemory, MemFault};
 use std::alloc::{AllocError, Global};
 
-/// How many bytes a page has.
-const PAGE: u64 = 4096;
-
-/// The rights of a page while its bytes are put in.
-const FILLING: Prot = Prot {
+/// To be read and written, as a page is while its bytes are put in.
+pub const READ_WRITE: Prot = Prot {
     read: true,
     write: true,
     exec: false,
 };
 
-/// Maps one page with bytes from a place in it on, and zeros around them.
+// Maps one page with bytes from a place in it on, and zeros around them.
 fn map_page(
     alloc: Global,
     memory: &mut GuestMemory,
@@ -29,26 +27,26 @@ fn map_page(
     prot: Prot,
 ) -> Result<(), MemFault>
     requires page { IsPageAddress at }
-    requires low { 0x10000 ≤ at }
-    requires high { at + 4096 ≤ 0x4000000000 }
-    requires place { place < 4096 }
-    requires fits { place + length bytes.now ≤ 4096 }
-    ensures { OnOk result (memory.new ≡ map.insert memory.old (at / 4096) (page_with place bytes.now prot)) }
+    requires low { GUEST_BEGIN ≤ at }
+    requires high { at + PAGE_SIZE ≤ GUEST_END }
+    requires place { place < PAGE_SIZE }
+    requires fits { place + length bytes.now ≤ PAGE_SIZE }
+    ensures { OnOk result (memory.new ≡ map.insert memory.old (at / PAGE_SIZE) (page_with place bytes.now prot)) }
 {
-    memory.map(alloc, at, 1, FILLING)?;
+    memory.map(alloc, at, 1, READ_WRITE)?;
     memory.write_bytes(at + place as u64, bytes)?;
     memory.protect(at, 1, prot)
 }
 
-/// How many pages a segment's memory touches.
+// How many pages a segment's memory touches.
 fn page_count(segment: &Segment) -> u64
     requires { IsPlaced segment.now }
     ensures { result ≡ page_count segment.now }
 {
-    (segment.at % PAGE + segment.length).div_ceil(PAGE)
+    (segment.at % PAGE_SIZE + segment.length).div_ceil(PAGE_SIZE)
 }
 
-/// Maps the page of a segment with this place among its pages.
+// Maps the page of a segment with this place among its pages.
 fn map_segment_page(
     alloc: Global,
     memory: &mut GuestMemory,
@@ -57,18 +55,18 @@ fn map_segment_page(
 ) -> Result<(), MemFault>
     requires placed { IsPlaced segment.now }
     requires within { index < page_count segment.now }
-    ensures { OnOk result (memory.new ≡ map.insert memory.old (segment.now.at / 4096 + index) (page_of segment.now index)) }
+    ensures { OnOk result (memory.new ≡ map.insert memory.old (segment.now.at / PAGE_SIZE + index) (page_of segment.now index)) }
 {
-    let before = (segment.at % PAGE) as usize;
+    let before = (segment.at % PAGE_SIZE) as usize;
     let bytes = segment.bytes.as_slice();
-    let page = (index * PAGE) as usize;
-    let at = segment.at - segment.at % PAGE + index * PAGE;
+    let page = (index * PAGE_SIZE) as usize;
+    let at = segment.at - segment.at % PAGE_SIZE + index * PAGE_SIZE;
     if index == 0 {
-        let end = bytes.len().min(PAGE as usize - before);
+        let end = bytes.len().min(PAGE_SIZE as usize - before);
         map_page(alloc, memory, at, before, &bytes[..end], segment.prot)
     } else {
         let start = bytes.len().min(page - before);
-        let end = bytes.len().min(start + PAGE as usize);
+        let end = bytes.len().min(start + PAGE_SIZE as usize);
         map_page(alloc, memory, at, 0, &bytes[start..end], segment.prot)
     }
 }

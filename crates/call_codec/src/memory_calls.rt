@@ -5,6 +5,7 @@ ghost use Rattle.call_codec.specs.MemoryCalls.{has_bits, has_one, writes_and_exe
 ghost use Rattle.guest_memory.specs.Ranges.{IsPageAddress};
 
 use crate::arguments::low;
+use abi_base::{GUEST_BEGIN, GUEST_END, PAGE_LIMIT, PAGE_SIZE};
 use abi_types::{Call, Errno, Place, Regs};
 use guest_memory::GuestMemory;
 
@@ -23,37 +24,25 @@ pub const MEM_SYNC: u64 = 35;
 /// The number of mem_unmap.
 pub const MEM_UNMAP: u64 = 36;
 
-/// How many bytes a page has.
-pub const PAGE: u64 = 4096;
-
-/// The address of the first page of the guest's part of the address space.
-const GUESTS_BEGIN: u64 = 0x1_0000;
-
-/// The address after that part.
-pub const GUESTS_END: u64 = 0x40_0000_0000;
-
-/// The most pages of a memory.
-const PAGE_LIMIT: u64 = 65_536;
-
-/// The bits of a prot that are for a writable page that can be executed.
+// The bits of a prot that are for a writable page that can be executed.
 const WRITE_AND_EXEC: u32 = 3;
 
-/// The flag of a mapping without a file.
+// The flag of a mapping without a file.
 const ANON: u32 = 1;
 
-/// The flag of a mapping at the address that the call names.
+// The flag of a mapping at the address that the call names.
 const FIXED: u32 = 2;
 
-/// The flag of a mapping that others don't see.
+// The flag of a mapping that others don't see.
 const PRIVATE: u32 = 4;
 
-/// The flag of a mapping that others see.
+// The flag of a mapping that others see.
 const SHARED: u32 = 8;
 
-/// The flag of a write to the file that comes later.
+// The flag of a write to the file that comes later.
 const ASYNC: u32 = 1;
 
-/// The flag of a write to the file that comes first.
+// The flag of a write to the file that comes first.
 const SYNC: u32 = 4;
 
 /// Whether the flags hold each of these bits.
@@ -63,7 +52,7 @@ pub fn has_bits(flags: u32, bits: u32) -> bool
     flags & bits == bits
 }
 
-/// Whether the flags hold the one bit or the other, and not both.
+// Whether the flags hold the one bit or the other, and not both.
 fn has_one(flags: u32, this: u32, that: u32) -> bool
     ensures { result ≡ has_one flags this that }
 {
@@ -74,29 +63,29 @@ fn has_one(flags: u32, this: u32, that: u32) -> bool
     }
 }
 
-/// Whether an address, or an offset, is a page's.
+// Whether an address, or an offset, is a page's.
 fn is_aligned(at: u64) -> bool
     ensures { result ≡ is_aligned at }
 {
-    at % PAGE == 0
+    at % PAGE_SIZE == 0
 }
 
 /// How many pages so many bytes are, rounded up.
 pub fn pages_in(bytes: u64) -> u64
     ensures { result ≡ pages_in bytes }
 {
-    bytes.div_ceil(PAGE)
+    bytes.div_ceil(PAGE_SIZE)
 }
 
-/// Whether so many pages from the address on lie in the guest's part of the address space.
+// Whether so many pages from the address on lie in the guest's part of the address space.
 fn is_guests(at: u64, pages: u64) -> bool
     requires { pages ≤ 2 ^ 52 }
     ensures { result ≡ is_guests at pages }
 {
-    at >= GUESTS_BEGIN && at <= GUESTS_END && pages <= (GUESTS_END - at) / PAGE
+    at >= GUEST_BEGIN && at <= GUEST_END && pages <= (GUEST_END - at) / PAGE_SIZE
 }
 
-/// SUCCESS where each page of the range is mapped, else FAULT.
+// SUCCESS where each page of the range is mapped, else FAULT.
 fn if_mapped(memory: &GuestMemory, at: u64, bytes: u64) -> Errno
     requires { IsPageAddress at }
     ensures { result ≡ if_mapped memory.now at bytes }
@@ -107,7 +96,7 @@ fn if_mapped(memory: &GuestMemory, at: u64, bytes: u64) -> Errno
     }
 }
 
-/// A call that is refused with INVAL.
+// A call that is refused with INVAL.
 fn invalid(number: u64) -> Call
     ensures { result ≡ Call.Refused number Errno.Inval }
 {
@@ -133,7 +122,7 @@ pub fn mem_advise(regs: &Regs, memory: &GuestMemory) -> Call
     }
 }
 
-/// Why mem_protect is refused by its address and its prot.
+// Why mem_protect is refused by its address and its prot.
 fn protect_refusal(at: u64, prot: u32) -> Option<Errno>
     ensures { result ≡ protect_refusal at prot }
 {
@@ -193,7 +182,7 @@ pub fn mem_unmap(regs: &Regs) -> Call
     }
 }
 
-/// Why mem_map is refused by its address, length, prot, flags and offset.
+// Why mem_map is refused by its address, length, prot, flags and offset.
 fn map_refusal(at: u64, bytes: u64, prot: u32, flags: u32, offset: u64) -> Option<Errno>
     ensures { result ≡ map_refusal at bytes prot flags offset }
 {
@@ -211,10 +200,10 @@ fn map_refusal(at: u64, bytes: u64, prot: u32, flags: u32, offset: u64) -> Optio
     }
 }
 
-/// Where so many pages go at the address that FIXED names, in place of those that are there.
+// Where so many pages go at the address that FIXED names, in place of those that are there.
 fn place_at(memory: &GuestMemory, at: u64, pages: u64) -> Place
     requires aligned { IsPageAddress at }
-    requires guests { at + 4096 * pages ≤ 0x4000000000 }
+    requires guests { at + PAGE_SIZE * pages ≤ GUEST_END }
     ensures { result ≡ place_at memory.now at pages }
 {
     let replaced = memory.mapped_within(at, pages as u32);
@@ -225,7 +214,7 @@ fn place_at(memory: &GuestMemory, at: u64, pages: u64) -> Place
     }
 }
 
-/// Where so many pages go: the lowest gap.
+// Where so many pages go: the lowest gap.
 fn place_in_gap(memory: &GuestMemory, pages: u64) -> Place
     requires { pages ≤ 2 ^ 52 }
     ensures { result ≡ place_in_gap memory.now pages }

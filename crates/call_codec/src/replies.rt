@@ -9,7 +9,8 @@ ghost use Rattle.guest_memory.specs.Mapping.{AreThere};
 ghost use Rattle.guest_memory.specs.Ranges.{IsPageAddress};
 
 use crate::arguments::low;
-use crate::memory_calls::{GUESTS_END, PAGE, has_bits, pages_in};
+use crate::memory_calls::{has_bits, pages_in};
+use abi_base::{GUEST_END, PAGE_SIZE};
 use abi_types::{Answer, Call, Errno, Place, Prot, Regs, Reply};
 use guest_memory::GuestMemory;
 use std::alloc::{AllocError, Global};
@@ -41,8 +42,8 @@ pub fn put_answer(
     }
 }
 
-/// The registers after a call's reply: the error in a0, and on success the results in a1 and a2. The pc goes on after
-/// the ECALL.
+// The registers after a call's reply: the error in a0, and on success the results in a1 and a2. The pc goes on after
+// the ECALL.
 fn put_registers(regs: &mut Regs, call: &Call, reply: &Reply)
     ensures { regs.new ≡ put_of regs.old call.now reply.now }
 {
@@ -53,7 +54,7 @@ fn put_registers(regs: &mut Regs, call: &Call, reply: &Reply)
     regs.set_pc(regs.pc().wrapping_add(4));
 }
 
-/// The results of a call that succeeded, in a1 and a2 as far as the call has them.
+// The results of a call that succeeded, in a1 and a2 as far as the call has them.
 fn put_results(regs: &mut Regs, call: &Call, reply: &Reply)
     ensures { regs.new ≡ with_results regs.old call.now reply.now }
 {
@@ -63,7 +64,7 @@ fn put_results(regs: &mut Regs, call: &Call, reply: &Reply)
     }
 }
 
-/// The rights that a prot asks for.
+// The rights that a prot asks for.
 fn prot_of(bits: u32) -> Prot
     ensures { result ≡ prot_of bits }
 {
@@ -74,7 +75,7 @@ fn prot_of(bits: u32) -> Prot
     }
 }
 
-/// The memory after a call that succeeded.
+// The memory after a call that succeeded.
 fn put_memory(
     alloc: Global,
     regs: &Regs,
@@ -103,7 +104,7 @@ fn put_memory(
     }
 }
 
-/// Maps pages of zeros at their place, in place of those that are there.
+// Maps pages of zeros at their place, in place of those that are there.
 fn map(
     alloc: Global,
     memory: &mut GuestMemory,
@@ -121,10 +122,10 @@ fn map(
     }
 }
 
-/// The memory after mem_protect, mem_unmap or a call that changes nothing, by its number.
+// The memory after mem_protect, mem_unmap or a call that changes nothing, by its number.
 fn change(regs: &Regs, memory: &mut GuestMemory, number: u32)
     requires aligned { IsPageAddress (argument regs.now 0) }
-    requires there { number ≡ 34 → AreThere memory.old (argument regs.now 0 / 4096) (pages_in (argument regs.now 1)) }
+    requires there { number ≡ 34 → AreThere memory.old (argument regs.now 0 / PAGE_SIZE) (pages_in (argument regs.now 1)) }
     ensures { memory.new ≡ with_change memory.old regs.now number }
 {
     let at = regs.get(10);
@@ -136,26 +137,26 @@ fn change(regs: &Regs, memory: &mut GuestMemory, number: u32)
     }
 }
 
-/// Gives pages that are there other rights.
+// Gives pages that are there other rights.
 fn protect(memory: &mut GuestMemory, at: u64, pages: u64, prot: Prot)
     requires aligned { IsPageAddress at }
-    requires there { AreThere memory.old (at / 4096) pages }
-    ensures { memory.new ≡ protected memory.old (at / 4096) pages prot }
+    requires there { AreThere memory.old (at / PAGE_SIZE) pages }
+    ensures { memory.new ≡ protected memory.old (at / PAGE_SIZE) pages prot }
 {
     memory.keeps_limits();
     // The pages are there, so that it can't be refused.
     let _ = memory.protect(at, pages as u32, prot);
 }
 
-/// Takes away the pages of the range, as far as they are there. None is past the guest's part of the address space.
+// Takes away the pages of the range, as far as they are there. None is past the guest's part of the address space.
 fn unmap(memory: &mut GuestMemory, at: u64, pages: u64)
     requires aligned { IsPageAddress at }
     requires few { pages ≤ 2 ^ 52 }
-    ensures { memory.new ≡ without_pages memory.old (at / 4096) pages }
+    ensures { memory.new ≡ without_pages memory.old (at / PAGE_SIZE) pages }
 {
     memory.keeps_limits();
-    if at < GUESTS_END {
-        let count = pages.min((GUESTS_END - at) / PAGE);
+    if at < GUEST_END {
+        let count = pages.min((GUEST_END - at) / PAGE_SIZE);
         memory.unmap(at, count as u32);
     }
 }

@@ -3,35 +3,29 @@ ghost use Rattle.std.specs.Prelude.{◌≡◌, ◌++◌, ◌≤◌, length, IfOk
 ghost use Rattle.call_codec.specs.Image.{IsPlaced};
 ghost use Rattle.call_codec.specs.Start.{MayStart, block_bytes, block_of, entry_bytes, first_registers, stack, start_pages, vector_of};
 
-use crate::image::{load, map_segment};
-use abi_types::{Bytes, Pid, Prot, Regs, Tid};
+use crate::image::{READ_WRITE, load, map_segment};
+use abi_base::PAGE_SIZE;
+use abi_types::{Bytes, Pid, Regs, Tid};
 use elf_image::{Elf, Segment};
 use guest_memory::GuestMemory;
 use std::alloc::{AllocError, Global};
 
-/// Where the first thread's stack ends.
+// Where the first thread's stack ends.
 const STACK_END: u64 = 0x3e_fff0_0000;
 
-/// How many bytes the stack has.
+// How many bytes the stack has.
 const STACK_LENGTH: u64 = 0x10_0000;
 
-/// Where the start block is.
+// Where the start block is.
 const START_BLOCK: u64 = 0x3f_0000_0000;
 
-/// Where the canary is in the start block, behind the vector.
+// Where the canary is in the start block, behind the vector.
 const CANARY: u64 = 0xc0;
 
-/// Where the argument data is in the start block, behind the canary.
+// Where the argument data is in the start block, behind the canary.
 const ARGDATA: u64 = 0x100;
 
-/// The rights of the stack and of the start block.
-const READ_WRITE: Prot = Prot {
-    read: true,
-    write: true,
-    exec: false,
-};
-
-/// The first thread's stack.
+// The first thread's stack.
 fn stack(alloc: Global) -> Segment
     ensures { result ≡ stack }
 {
@@ -43,7 +37,7 @@ fn stack(alloc: Global) -> Segment
     }
 }
 
-/// Puts an entry of a vector at the end of bytes: a number and a value, of 8 bytes each.
+// Puts an entry of a vector at the end of bytes: a number and a value, of 8 bytes each.
 fn append_entry(bytes: &mut Bytes, number: u64, value: u64) -> Result<(), AllocError>
     ensures { OnOk result (bytes.new ≡ bytes.old ++ entry_bytes (number, value)) }
 {
@@ -51,7 +45,7 @@ fn append_entry(bytes: &mut Bytes, number: u64, value: u64) -> Result<(), AllocE
     bytes.append(&value.to_le_bytes())
 }
 
-/// Puts the entries of a vector at the end of bytes.
+// Puts the entries of a vector at the end of bytes.
 fn append_entries(bytes: &mut Bytes, entries: &[(u64, u64)]) -> Result<(), AllocError>
     ensures { OnOk result (bytes.new ≡ bytes.old ++ vector_of entries.now) }
 {
@@ -61,7 +55,7 @@ fn append_entries(bytes: &mut Bytes, entries: &[(u64, u64)]) -> Result<(), Alloc
     Ok(())
 }
 
-/// The bytes of the start block: the vector, the canary and the argument data.
+// The bytes of the start block: the vector, the canary and the argument data.
 fn block_bytes(
     alloc: Global,
     elf: &Elf,
@@ -79,7 +73,7 @@ fn block_bytes(
         (258, START_BLOCK + CANARY),
         (259, 64),
         (260, 1),
-        (6, 4096),
+        (6, PAGE_SIZE),
         (3, elf.phdr),
         (4, elf.phnum),
         (263, u64::from(pid.0)),
@@ -93,7 +87,7 @@ fn block_bytes(
     Ok(bytes)
 }
 
-/// The start block with these bytes.
+// The start block with these bytes.
 fn start_block(bytes: Bytes) -> Segment
     ensures { result ≡ block_of bytes }
 {
@@ -105,7 +99,7 @@ fn start_block(bytes: Bytes) -> Segment
     }
 }
 
-/// The first thread's registers: it stands at the entry, with sp at the stack's end and a0 at the start block.
+// The first thread's registers: it stands at the entry, with sp at the stack's end and a0 at the start block.
 fn first_registers(entry: u64) -> Regs
     ensures { result ≡ first_registers entry }
 {

@@ -11,7 +11,7 @@ use std::process::ExitCode;
 use std::rt::Env;
 use std::{env, io};
 
-/// The words of the command line. Words that aren't text are refused like words that aren't in the grammar.
+// The words of the command line. Words that aren't text are refused like words that aren't in the grammar.
 fn command_line(rt: &(impl Env + AllocGlobal)) -> Result<Vec<String>, Refusal<'static>> {
     match env::args(rt) {
         Ok(args) => args.collect(rt.alloc()).map_err(|_| Refusal::Memory),

@@ -1,5 +1,5 @@
 -- The first number that passes a test.
-use Rattle.std.proofs.Common.{◌≡◌, ℕ, zero, suc, ◌+◌, ◌<◌, Bool, true, false, cond, Option, Some, None, refl, ap, subst, ◌∙◌, arith, ◌⊎◌, inl, inr, add-one}
+use Rattle.std.proofs.Common.{◌≡◌, ℕ, zero, suc, ◌<◌, Bool, true, false, cond, Option, Some, None, refl, ap, subst, ◌∙◌, arith, ◌⊎◌, inl, inr}
 use Rattle.std.proofs.lemmas.Bool.{cases_lt}
 use Rattle.elf_image.specs.Checks.{first_below, next_if}
 use Rattle.elf_image.specs.Faults.{IsFirst}
@@ -16,11 +16,6 @@ first_found test (suc n) i below none passes = elim (cases_lt i n) [
       subst (λ (m : ℕ). next_if test m (first_below test m) ≡ Some i) last
       (ap (next_if test i) none ∙ ap (λ b. cond b (Some i) None) passes)
 ]
-
--- a number that doesn't pass leaves none
-pub none_more : (test : ℕ → Bool) (i : ℕ) → first_below test i ≡ None → test i ≡ false → first_below test (i + 1) ≡ None
-none_more test i none fails =
-    ap (first_below test) (add-one i) ∙ ap (next_if test i) none ∙ ap (λ b. cond b (Some i) None) fails
 
 -- where none is found none passes
 passes_not : (b : Bool) (n : ℕ) → cond b (Some n) None ≡ None → b ≡ false

@@ -1,5 +1,6 @@
 -- The checks of a file one after the other, as tests.
 use Rattle.std.specs.Prelude.{◌≡◌, ◌<◌, ◌≤◌, ◌⊎◌, ℕ, zero, suc, ◌+◌, ◌*◌, ◌%◌, ◌==◌, ◌&&◌, ◌||◌, Bool, cond, not, nat_lt, nat_le, List, length, take, slice_index, bit_and, Option, Some, None, Result, Ok, Err}
+use Rattle.abi_base.specs.declared.address_space.TheConstants.{GUEST_BEGIN}
 use Rattle.std.specs.List.{list_any}
 use Rattle.std.specs.Str.{bytes_eq}
 use Rattle.elf_image.specs.Faults.{magic, base_of, entry_of}
@@ -79,7 +80,7 @@ header_fault bytes =
 abbrev pub is_misplaced : ℕ → ℕ → ProgramHeader → Bool
 is_misplaced base size header =
     nat_lt size (header.offset + header.file_size) || nat_lt header.memory_size header.file_size
-    || (may_write header && may_execute header) || nat_lt (start_of base header) 0x10000
+    || (may_write header && may_execute header) || nat_lt (start_of base header) GUEST_BEGIN
     || nat_lt 0x2000000000 (end_of base header)
 
 -- whether the segment of the k-th header can't be loaded

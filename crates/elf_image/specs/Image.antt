@@ -1,5 +1,6 @@
 -- The image of a file.
 use Rattle.std.specs.Prelude.{ℕ, ◌+◌, ◌-◌, ◌&&◌, Bool, nat_le, List, map, take, drop, Option, Some, None, ◌≤◌, length}
+use Rattle.abi_base.specs.declared.address_space.TheConstants.{GUEST_BEGIN}
 use Rattle.std.specs.List.{filter, find}
 use Rattle.elf_image.specs.Faults.{base_of, entry_of}
 use Rattle.elf_image.specs.Fields.{e_phoff, e_phnum, program_headers, program_headers_end}
@@ -48,6 +49,6 @@ image bytes = record {
 
 -- a segment that lies in the program's part of the address space, with no more bytes of the file than of memory
 pub record IsInProgramPart (segment : Segment) : Type 0 where
-  pub low : 0x10000 ≤ segment.at
+  pub low : GUEST_BEGIN ≤ segment.at
   pub high : segment.at + segment.length ≤ 0x2000000000
   pub fits : length segment.bytes ≤ segment.length

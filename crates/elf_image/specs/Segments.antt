@@ -1,5 +1,6 @@
 -- The segments that program headers ask for, where the base is added to each address of the file.
 use Rattle.std.specs.Prelude.{◌≡◌, ℕ, suc, ◌+◌, ◌-◌, ◌/◌, ◌<◌, ◌≤◌, ◌⊎◌, ◌==◌, ◌&&◌, Bool, true, not, nat_lt, List, take, get_or, bit_and}
+use Rattle.abi_base.specs.declared.address_space.TheConstants.{GUEST_BEGIN, PAGE_SIZE}
 use Rattle.std.specs.List.{Any, filter, sum_by}
 use Rattle.elf_image.specs.declared.program_header.ProgramHeader.{ProgramHeader}
 
@@ -39,10 +40,10 @@ IsWithin base header address = (start_of base header ≤ address) × (address < 
 
 -- the number of the page of the segment's first byte, and that of the page behind its last
 abbrev pub first_page : ℕ → ProgramHeader → ℕ
-first_page base header = start_of base header / 4096
+first_page base header = start_of base header / PAGE_SIZE
 
 abbrev pub page_end : ℕ → ProgramHeader → ℕ
-page_end base header = (end_of base header + 4095) / 4096
+page_end base header = (end_of base header + (PAGE_SIZE - 1)) / PAGE_SIZE
 
 -- how many pages the segment has bytes in
 abbrev pub page_count : ℕ → ProgramHeader → ℕ
@@ -55,7 +56,7 @@ page_total base headers = sum_by (page_count base) (filter is_load headers)
 -- some page has a byte of each of the two segments
 abbrev pub SharePage : ℕ → ProgramHeader → ProgramHeader → Type 0
 SharePage base one other =
-    (a b : ℕ) × IsWithin base one a × IsWithin base other b × (a / 4096 ≡ b / 4096)
+    (a b : ℕ) × IsWithin base one a × IsWithin base other b × (a / PAGE_SIZE ≡ b / PAGE_SIZE)
 
 -- what keeps the segment of the k-th header from being loaded from a file of this size: file bytes behind the file's
 -- end, more file bytes than memory, memory that may be both written and executed, memory outside of the program's part
@@ -67,7 +68,7 @@ IsUnloadable base size headers k =
     × ((size < header.offset + header.file_size)
     ⊎ (header.memory_size < header.file_size)
     ⊎ ((may_write header ≡ true) × (may_execute header ≡ true))
-    ⊎ (start_of base header < 0x10000)
+    ⊎ (start_of base header < GUEST_BEGIN)
     ⊎ (0x2000000000 < end_of base header)
     ⊎ (32768 < page_total base (take (suc k) headers)))
 

@@ -1,5 +1,6 @@
 -- What holds of every image, whatever the file was: this is what a loader may rely on.
 use Rattle.std.specs.Prelude.{◌≡◌, ℕ, ◌+◌, ◌-◌, ◌/◌, ◌%◌, ◌<◌, ◌≤◌, true, length}
+use Rattle.abi_base.specs.declared.address_space.TheConstants.{GUEST_BEGIN, PAGE_SIZE}
 use Rattle.std.specs.List.{All, AllPairs, Any, sum_by}
 use Rattle.elf_image.specs.declared.elf.Elf.{Elf}
 use Rattle.elf_image.specs.declared.elf.Segment.{Segment}
@@ -13,17 +14,17 @@ HasAddress segment address = (segment.at ≤ address) × (address < segment.at +
 pub record IsSoundSegment (segment : Segment) : Type 0 where
   pub some : 0 < segment.length
   pub fits : length segment.bytes ≤ segment.length
-  pub low : 0x10000 ≤ segment.at
+  pub low : GUEST_BEGIN ≤ segment.at
   pub high : segment.at + segment.length ≤ 0x2000000000
   pub guarded : segment.prot.write ≡ true → segment.prot.exec ≡ true → ⊥
 
 -- no page has a byte of each of the two segments
 abbrev pub AreApart : Segment → Segment → Type 0
-AreApart one other = (a b : ℕ) → HasAddress one a → HasAddress other b → a / 4096 ≡ b / 4096 → ⊥
+AreApart one other = (a b : ℕ) → HasAddress one a → HasAddress other b → a / PAGE_SIZE ≡ b / PAGE_SIZE → ⊥
 
 -- how many pages the segment has bytes in
 abbrev pub pages_of : Segment → ℕ
-pages_of segment = (segment.at + segment.length + 4095) / 4096 - segment.at / 4096
+pages_of segment = (segment.at + segment.length + (PAGE_SIZE - 1)) / PAGE_SIZE - segment.at / PAGE_SIZE
 
 -- The segments are sound, share no page and have at most 32,768 pages, and the entry is a multiple of 4 in a segment
 -- that may be executed.

@@ -6,31 +6,31 @@ use crate::fault::ElfFault;
 use crate::fields::{half_at, word_at, xword_at};
 use crate::program_header::{HEADER_LIMIT, HEADER_SIZE};
 
-/// The size of an ELF header.
+// The size of an ELF header.
 const FILE_HEADER_SIZE: usize = 64;
 
-/// The first four bytes of every ELF file.
+// The first four bytes of every ELF file.
 const MAGIC: [u8; 4] = [0x7f, b'E', b'L', b'F'];
 
-/// EI_CLASS: 64 bits.
+// EI_CLASS: 64 bits.
 const CLASS_64: u8 = 2;
 
-/// EI_DATA: the lowest byte first.
+// EI_DATA: the lowest byte first.
 const LITTLE_ENDIAN: u8 = 1;
 
-/// EI_VERSION.
+// EI_VERSION.
 const CURRENT_VERSION: u8 = 1;
 
-/// EI_OSABI: no particular system.
+// EI_OSABI: no particular system.
 const SYSTEM_V: u8 = 0;
 
-/// EI_OSABI: CloudABI.
+// EI_OSABI: CloudABI.
 const CLOUDABI: u8 = 17;
 
-/// e_machine: RISC-V.
+// e_machine: RISC-V.
 const RISCV: u16 = 243;
 
-/// e_type: a file that is placed at its own addresses.
+// e_type: a file that is placed at its own addresses.
 const EXECUTABLE: u16 = 2;
 
 /// e_type: a file that may be placed anywhere.

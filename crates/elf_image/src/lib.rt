@@ -15,5 +15,3 @@ mod placing;
 mod program_header;
 mod reading;
 mod segments;
-#[cfg(test)]
-mod tests;

@@ -12,7 +12,7 @@ use abi_base::Prot;
 use lists::Bytes;
 use std::alloc::{AllocError, Global};
 
-/// p_flags: the segment may be read.
+// p_flags: the segment may be read.
 const READ: u32 = 4;
 
 // Whether a segment's memory may be read.

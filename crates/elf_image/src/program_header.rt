@@ -12,7 +12,7 @@ pub(crate) const HEADER_SIZE: usize = 56;
 pub(crate) const HEADER_LIMIT: usize = 64;
 
 /// The fields of a program header that are looked at: p_type, p_flags, p_offset, p_vaddr, p_filesz and p_memsz.
-#[derive(Clone, Copy, Debug, Default, PartialEq, Eq)]
+#[derive(Clone, Copy, Default)]
 pub(crate) struct ProgramHeader {
     pub(crate) kind: u32,
     pub(crate) flags: u32,

@@ -13,7 +13,7 @@ use crate::program_header::{HEADER_SIZE, program_headers_from};
 use crate::segments::check_program;
 use std::alloc::Global;
 
-/// Where a file is placed that may be placed anywhere.
+// Where a file is placed that may be placed anywhere.
 const SHARED_BASE: u64 = 0x1000_0000;
 
 // What is added to each address of a file.

@@ -6,35 +6,36 @@ ghost use Rattle.elf_image.specs.Segments.{is_load, may_execute, may_write, star
 
 use crate::fault::ElfFault;
 use crate::program_header::ProgramHeader;
+use abi_base::{GUEST_BEGIN, PAGE_SIZE};
 
-/// p_type: a segment to be loaded.
+// p_type: a segment to be loaded.
 const LOAD: u32 = 1;
 
-/// p_type: the name of an interpreter.
+// p_type: the name of an interpreter.
 const INTERPRETER: u32 = 3;
 
-/// p_flags: the segment may be executed.
+// p_flags: the segment may be executed.
 const EXECUTE: u32 = 1;
 
-/// p_flags: the segment may be written.
+// p_flags: the segment may be written.
 const WRITE: u32 = 2;
 
-/// e_flags: there may be compressed instructions.
+// e_flags: there may be compressed instructions.
 const COMPRESSED: u32 = 1;
 
-/// e_flags: the floating-point convention of calls.
+// e_flags: the floating-point convention of calls.
 const FLOAT_ABI: u32 = 6;
 
-/// Where the program's part of the address space begins.
-const LOWEST: u128 = 0x10000;
+// Where the program's part of the address space begins.
+const LOWEST: u128 = GUEST_BEGIN as u128;
 
-/// Where it ends.
+// Where it ends.
 const HIGHEST: u128 = 0x20_0000_0000;
 
-/// The size of a page.
-const PAGE: u128 = 4096;
+// The size of a page.
+const PAGE: u128 = PAGE_SIZE as u128;
 
-/// How many pages the segments of a program may have.
+// How many pages the segments of a program may have.
 const PAGE_LIMIT: u128 = 32768;
 
 /// Whether a header is one of a segment to be loaded that takes memory.

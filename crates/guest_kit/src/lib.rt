@@ -6,6 +6,7 @@ pub use calls::{
     BAD_POINTER, HELLO, LONG_WRITE, MANY_RANGES, NO_DESCRIPTOR, PAST_THE_STACK, START_BLOCK,
     TWO_PAGES, UNBUILT_CALLS, exit_with,
 };
+pub use hello_file::HELLO_FILE;
 pub use machine::{
     BREAKPOINT, DIVISION_BY_ZERO, DIVISION_OVERFLOW, ILLEGAL, LOAD_AT_ZERO, MISALIGNED_JUMP,
     MISALIGNED_RESERVE, SPIN, WRITE_TO_CODE,
@@ -17,7 +18,6 @@ pub use memory::{
 
 mod arguments;
 mod calls;
+mod hello_file;
 mod machine;
 mod memory;
-#[cfg(test)]
-mod tests;

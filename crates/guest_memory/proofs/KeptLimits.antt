@@ -1,7 +1,6 @@
 -- Each change of a memory keeps its limits.
-use Rattle.std.proofs.Common.{◌≡◌, ℕ, ◌+◌, ◌*◌, ◌<◌, ◌≤◌, Bool, true, false, cond, Option, Some, None, option_map, length, refl, sym, ap, subst, ◌∙◌, arith}
-use Rattle.std.specs.Ordering.{nat_cmp}
-use Rattle.std.specs.FinMap.{get, len, empty, get-empty, len-empty}
+use Rattle.std.proofs.Common.{◌≡◌, ℕ, ◌+◌, ◌*◌, ◌<◌, ◌≤◌, Bool, true, false, cond, Option, Some, None, option_map, length, refl, sym, subst, ◌∙◌, arith}
+use Rattle.std.specs.FinMap.{get, len}
 use Rattle.abi_base.specs.declared.prot.Prot.{Prot}
 use Rattle.guest_memory.specs.Page.{Page, Pages, zero_page, with_prot}
 use Rattle.guest_memory.specs.Ranges.{in_range}
@@ -26,11 +25,6 @@ keeps m count each = record {
 
 kept : (m : Pages) → KeepsLimits m → (q : ℕ) (p : Page) → get m q ≡ Some p → PageKeeps q p
 kept m k q p e = record { low = k.low q p e; high = k.high q p e; whole = k.whole q p e }
-
-pub keeps_empty : (m : Pages) → m ≡ empty → KeepsLimits m
-keeps_empty m is =
-    let none = ap (λ (x : Pages). len x) is ∙ len-empty nat_cmp Page in
-    keeps m (omega arith) (λ q p e. absurd (cc (ap (λ (x : Pages). get x q) is, get-empty {X = Page} nat_cmp q, e)))
 
 zero_keeps : (n k q : ℕ) (prot : Prot) → 0x10000 ≤ 4096 * n → 4096 * (n + k) ≤ 0x4000000000 → in_range n k q ≡ true
     → PageKeeps q (zero_page prot)

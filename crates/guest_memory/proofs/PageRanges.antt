@@ -106,22 +106,12 @@ nothing_changed f m after n h = same_numbers after m (λ q. h q ∙ sym (none_ch
 
 -- ---- pages of zeros
 
-pub mapped_none : (m : Pages) (n : ℕ) (prot : Prot) → AreMapped m n 0 prot m
-mapped_none m n prot = none_changed (λ _. Some (zero_page prot)) m n
-
 pub mapped_more : (m now : Pages) (n j : ℕ) (prot : Prot) → AreMapped m n j prot now
     → AreMapped m n (j + 1) prot (insert now (n + j) (zero_page prot))
 mapped_more m now n j prot h =
     subst (λ k. AreMapped m n k prot (insert now (n + j) (zero_page prot))) (sym (add-one j))
     (one_more_changed (λ _. Some (zero_page prot)) m now (insert now (n + j) (zero_page prot)) n j h
     (get-insert-same now (n + j) (zero_page prot)) (λ q other. get-insert-other now (n + j) (zero_page prot) q other))
-
--- a part of the pages
-pub mapped_outside : (m now : Pages) (n j k : ℕ) (prot : Prot) → AreMapped m n j prot now → j ≤ k
-    → AreSameOutside m n k now
-mapped_outside m now n j k prot h le q out =
-    changed_outside (λ _. Some (zero_page prot)) m n j now h q
-    (is_outside n j q (λ low high. not_both (in_range n k q) (is_inside n k q low (omega arith)) out))
 
 pub mapped_len : (k : ℕ) (m after : Pages) (n : ℕ) (prot : Prot) → AreFree m n k → AreMapped m n k prot after
     → len after ≡ len m + k
@@ -140,12 +130,6 @@ mapped_len (suc j) m after n prot free h =
     omega arith
 
 -- ---- pages that go
-
-pub unmapped_of : (m now : Pages) (n k : ℕ) → AreSameOutside m n k now → AreFree now n k → AreUnmapped m n k now
-unmapped_of m now n k same free q =
-    elim (in_range n k q) as
-    (λ b. in_range n k q ≡ b → get now q ≡ cond b None (get m q))
-    [ true ↦ λ e. free q e | false ↦ λ e. same q e ] refl
 
 -- pages that were free go again
 pub unmapped_again : (m now after : Pages) (n k : ℕ) → AreFree m n k → AreSameOutside m n k now
@@ -210,19 +194,10 @@ unmapped_len (suc j) m after n h =
 
 -- ---- pages with other rights
 
-pub protected_none : (m : Pages) (n : ℕ) (prot : Prot) → AreProtected m n 0 prot m
-protected_none m n prot = none_changed (option_map (with_prot prot)) m n
-
 -- the next page is as it was
 protected_next : (m now : Pages) (n j : ℕ) (prot : Prot) → AreProtected m n j prot now
     → get now (n + j) ≡ get m (n + j)
 protected_next m now n j prot h = changed_outside (option_map (with_prot prot)) m n j now h (n + j) (end_outside n j)
-
-pub protected_there : (m now : Pages) (n j k : ℕ) (prot : Prot) → AreThere m n k → AreProtected m n j prot now
-    → j < k → IsSome (get now (n + j))
-protected_there m now n j k prot there h less =
-    subst IsSome (sym (protected_next m now n j prot h))
-    (there (n + j) (is_inside n k (n + j) (omega arith) (omega arith)))
 
 pub protected_more : (m now : Pages) (n j : ℕ) (prot : Prot) (p : Page) → AreProtected m n j prot now
     → Some p ≡ get now (n + j)

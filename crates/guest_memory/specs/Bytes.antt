@@ -1,6 +1,7 @@
 -- The bytes of a guest's memory, and what refuses them.
 use Rattle.std.specs.Prelude.{◌≡◌, ◌<◌, ℕ, zero, suc, ◌+◌, ◌/◌, ◌%◌, ◌^◌, if◌then◌else◌, List, [], ◌∷◌, drop, length, slice_index, Option, Some, None, Result, Ok, Err, IsOk, MatchResult}
 use Rattle.std.specs.FinMap.{get}
+use Rattle.abi_base.specs.declared.address_space.TheConstants.{PAGE_SIZE}
 use Rattle.guest_memory.specs.declared.access.Access.{Access}
 use Rattle.guest_memory.specs.declared.access.Access.TheVariants.{Read}
 use Rattle.guest_memory.specs.declared.fault.MemFault.{MemFault}
@@ -11,11 +12,11 @@ use Rattle.guest_memory.specs.Page.{Page, Pages}
 -- the byte at an address a, given the page there, if there is one
 abbrev pub byte_in : Access → ℕ → Option Page → Result ℕ MemFault
 byte_in access a None = Err (NotMapped a)
-byte_in access a (Some p) = if allows p.prot access then Ok (slice_index p.bytes (a % 4096)) else Err (NoRight a)
+byte_in access a (Some p) = if allows p.prot access then Ok (slice_index p.bytes (a % PAGE_SIZE)) else Err (NoRight a)
 
 -- the byte at an address
 abbrev pub byte_at : Access → Pages → ℕ → Result ℕ MemFault
-byte_at access m a = byte_in access a (get m (a / 4096))
+byte_at access m a = byte_in access a (get m (a / PAGE_SIZE))
 
 -- a byte and the bytes after it, or the first fault of the two
 abbrev pub in_front : Result ℕ MemFault → Result (List ℕ) MemFault → Result (List ℕ) MemFault
@@ -51,8 +52,8 @@ BytesAreEach = (access : Access) (m : Pages) (a n : ℕ) → a < 2 ^ 64 → Matc
 -- what is left of a page from an address a in it, given the page, if there is one
 abbrev pub run_in : Access → ℕ → Option Page → Result (List ℕ) MemFault
 run_in access a None = Err (NotMapped a)
-run_in access a (Some p) = if allows p.prot access then Ok (drop (a % 4096) p.bytes) else Err (NoRight a)
+run_in access a (Some p) = if allows p.prot access then Ok (drop (a % PAGE_SIZE) p.bytes) else Err (NoRight a)
 
 -- the bytes from an address to its page's end
 abbrev pub run_at : Access → Pages → ℕ → Result (List ℕ) MemFault
-run_at access m a = run_in access a (get m (a / 4096))
+run_at access m a = run_in access a (get m (a / PAGE_SIZE))

@@ -1,6 +1,7 @@
 -- The changes of a memory's pages and the tests of them as functions: what the relations of Mapping.antt determine.
 use Rattle.std.specs.Prelude.{◌≡◌, ◌↔◌, ℕ, zero, suc, ◌+◌, ◌*◌, Bool, true, ◌&&◌, not, cond, nat_le, Option, Some, None, is_some, is_none, option_map}
 use Rattle.std.specs.FinMap.{get, insert, retain_keys}
+use Rattle.abi_base.specs.declared.address_space.TheConstants.{PAGE_SIZE}
 use Rattle.abi_base.specs.declared.prot.Prot.{Prot}
 use Rattle.guest_memory.specs.Page.{Page, Pages, zero_page, with_prot}
 use Rattle.guest_memory.specs.Ranges.{in_range}
@@ -43,7 +44,7 @@ gap_from m k (suc f) n = cond (nat_le (n + k) 0x3e00000 && none_there m n k) (So
 
 -- the address of the lowest gap of k pages; 0x1e00001 is how many numbers there are from 0x2000000 up to 0x3e00000
 unfoldable pub lowest_gap : Pages → ℕ → Option ℕ
-lowest_gap m k = option_map (λ n. n * 4096) (gap_from m k 0x1e00001 0x2000000)
+lowest_gap m k = option_map (λ n. n * PAGE_SIZE) (gap_from m k 0x1e00001 0x2000000)
 
 -- ---- what the functions have to do with the relations
 

@@ -1,6 +1,7 @@
 -- Which pages a guest's memory has.
 use Rattle.std.specs.Prelude.{◌≡◌, ℕ, ◌+◌, ◌*◌, ◌/◌, ◌<◌, ◌≤◌, true, false, cond, Some, None, IsSome, option_map}
 use Rattle.std.specs.FinMap.{get, len}
+use Rattle.abi_base.specs.declared.address_space.TheConstants.{PAGE_LIMIT, PAGE_SIZE}
 use Rattle.abi_base.specs.declared.prot.Prot.{Prot}
 use Rattle.guest_memory.specs.declared.fault.MemFault.{MemFault}
 use Rattle.guest_memory.specs.declared.fault.MemFault.TheVariants.{NotMapped, NoRight, PageLimit, Overlaps, NoMemory}
@@ -9,7 +10,7 @@ use Rattle.guest_memory.specs.Ranges.{in_range, IsPageAddress, IsFirstPage}
 
 -- the most pages of a memory
 abbrev pub page_limit : ℕ
-page_limit = 65536
+page_limit = PAGE_LIMIT
 
 -- none of the k pages from n on is there
 abbrev pub AreFree : Pages → ℕ → ℕ → Type 0
@@ -38,13 +39,13 @@ AreSameOutside m n k after = (q : ℕ) → in_range n k q ≡ false → get afte
 -- a memory with k pages from n on more can be had
 pub record MayMap (m : Pages) (n k : ℕ) : Type 0 where
   pub free : AreFree m n k
-  pub fits : len m + k ≤ page_limit
+  pub fits : len m + k ≤ PAGE_LIMIT
 
 -- Why k pages from n on aren't mapped: the first of them that is there already; else that there would be too many; and
 -- want of memory only where neither is so.
 abbrev pub MapFails : Pages → ℕ → ℕ → MemFault → Type 0
 MapFails m n k (Overlaps a) = IsFirstPage (λ q. IsSome (get m q)) n k a
-MapFails m n k PageLimit = AreFree m n k × (page_limit < len m + k)
+MapFails m n k PageLimit = AreFree m n k × (PAGE_LIMIT < len m + k)
 MapFails m n k NoMemory = MayMap m n k
 MapFails m n k (NotMapped a) = ⊥
 MapFails m n k (NoRight a) = ⊥
@@ -61,8 +62,8 @@ ProtectFails m n k NoMemory = ⊥
 pub record IsGap (m : Pages) (k a : ℕ) : Type 0 where
   pub place : IsPageAddress a
   pub low : 0x2000000000 ≤ a
-  pub high : a + 4096 * k ≤ 0x3e00000000
-  pub free : AreFree m (a / 4096) k
+  pub high : a + PAGE_SIZE * k ≤ 0x3e00000000
+  pub free : AreFree m (a / PAGE_SIZE) k
 
 -- the lowest gap of k pages
 pub record IsLowestGap (m : Pages) (k a : ℕ) : Type 0 where

@@ -2,6 +2,7 @@ use Rattle.std.specs.Prelude.{ℕ, List, Bool, replicate, refl}
 use Rattle.std.specs.Coded.{Coded, code_by, coded×, coded_bool, coded_list, coded_ℕ}
 use Rattle.std.specs.Ordering.{nat_cmp}
 use Rattle.std.specs.FinMap.{FinMap}
+use Rattle.abi_base.specs.declared.address_space.TheConstants.{PAGE_SIZE}
 use Rattle.abi_base.specs.declared.prot.Prot.{Prot}
 
 -- a page of a guest's memory: its 4096 bytes, and what may be done with them
@@ -15,7 +16,7 @@ Pages = FinMap nat_cmp Page
 
 -- a page of zeros
 abbrev pub zero_page : Prot → Page
-zero_page prot = record { bytes = replicate 4096 0; prot = prot }
+zero_page prot = record { bytes = replicate PAGE_SIZE 0; prot = prot }
 
 -- the same bytes with other rights
 abbrev pub with_prot : Prot → Page → Page

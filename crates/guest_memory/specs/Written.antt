@@ -1,6 +1,7 @@
 -- A guest's memory after bytes of it were written.
 use Rattle.std.specs.Prelude.{◌≡◌, ◌≢◌, ℕ, ◌+◌, ◌/◌, ◌%◌, ◌^◌, ◌<◌, false, List, [], ◌∷◌, length, slice_index, slice_set, Option, Some, None, Result, Ok, Err}
 use Rattle.std.specs.FinMap.{get, insert}
+use Rattle.abi_base.specs.declared.address_space.TheConstants.{PAGE_SIZE}
 use Rattle.guest_memory.specs.declared.access.Access.{Access}
 use Rattle.guest_memory.specs.declared.access.Access.TheVariants.{Write}
 use Rattle.guest_memory.specs.declared.fault.MemFault.{MemFault}
@@ -15,11 +16,11 @@ with_byte p place b = record p { bytes = slice_set p.bytes place b }
 -- the memory with the byte at an address a set, given the page there, if there is one
 abbrev pub set_byte_in : Pages → ℕ → ℕ → Option Page → Pages
 set_byte_in m a b None = m
-set_byte_in m a b (Some p) = insert m (a / 4096) (with_byte p (a % 4096) b)
+set_byte_in m a b (Some p) = insert m (a / PAGE_SIZE) (with_byte p (a % PAGE_SIZE) b)
 
 -- the memory with the byte at an address set
 abbrev pub set_byte : Pages → ℕ → ℕ → Pages
-set_byte m a b = set_byte_in m a b (get m (a / 4096))
+set_byte m a b = set_byte_in m a b (get m (a / PAGE_SIZE))
 
 -- the memory with bytes set from an address on, modulo 2^64
 unfoldable pub set_bytes : Pages → ℕ → List ℕ → Pages

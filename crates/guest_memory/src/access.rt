@@ -5,7 +5,7 @@ ghost use Rattle.guest_memory.specs.Access.{allows};
 use abi_base::Prot;
 
 /// What is done with a byte of memory.
-#[derive(Clone, Copy, Debug, PartialEq, Eq)]
+#[derive(Clone, Copy)]
 pub enum Access {
     Read,
     Write,

@@ -7,8 +7,8 @@ ghost use Rattle.guest_memory.specs.Written.{KeepsUnwritable, set_bytes, write_o
 
 use crate::access::Access;
 use crate::fault::MemFault;
-use crate::mapped_page::PAGE;
 use crate::memory::GuestMemory;
+use abi_base::PAGE_SIZE;
 
 impl GuestMemory {
     /// Whether this may be done with the bytes from an address on, else the first fault. Addresses go modulo 2^64.
@@ -28,9 +28,9 @@ impl GuestMemory {
     #[inline]
     pub(crate) fn run(&self, access: Access, at: u64) -> Result<&[u8], MemFault>
         ensures run { MatchResult result (λ run. run_at access self.now at ≡ Ok run.now) (λ fault. run_at access self.now at ≡ Err fault) }
-        ensures len { IfOk result (λ run. length run.now + at % 4096 ≡ 4096) }
+        ensures len { IfOk result (λ run. length run.now + at % PAGE_SIZE ≡ PAGE_SIZE) }
     {
-        match self.pages.get(at / PAGE) {
+        match self.pages.get(at / PAGE_SIZE) {
             Some(page) => page.run(access, at),
             None => Err(MemFault::NotMapped(at)),
         }
@@ -58,21 +58,21 @@ impl GuestMemory {
         let mut done = 0;
         while done < bytes.len() {
             let to = at.wrapping_add(done as u64);
-            let left = (PAGE - to % PAGE) as usize;
+            let left = (PAGE_SIZE - to % PAGE_SIZE) as usize;
             let part = left.min(bytes.len() - done);
             self.write_in_page(to, &bytes[done..done + part]);
             done += part;
         }
     }
 
-    /// Writes bytes from an address on that lie in one page, which is there.
+    // Writes bytes from an address on that lie in one page, which is there.
     fn write_in_page(&mut self, at: u64, bytes: &[u8])
-        requires there { IsSome (get self.old (at / 4096)) }
-        requires fits { at % 4096 + length bytes.now ≤ 4096 }
+        requires there { IsSome (get self.old (at / PAGE_SIZE)) }
+        requires fits { at % PAGE_SIZE + length bytes.now ≤ PAGE_SIZE }
         ensures { self.new ≡ set_bytes self.old at bytes.now }
     {
-        let place = (at % PAGE) as usize;
-        self.pages.get_mut(at / PAGE).write(place, bytes);
+        let place = (at % PAGE_SIZE) as usize;
+        self.pages.get_mut(at / PAGE_SIZE).write(place, bytes);
     }
 
     /// Fills `out` with the bytes from an address on. Addresses go modulo 2^64. Each byte's page must be there with

@@ -6,9 +6,9 @@ ghost use Rattle.guest_memory.specs.Mapping.{AreThere, AreMapped, AreSameOutside
 ghost use Rattle.guest_memory.specs.Changes.{without_pages};
 ghost use Rattle.guest_memory.specs.Fixed.{without_each};
 
-use crate::mapped_page::{MappedPage, PAGE};
+use crate::mapped_page::MappedPage;
 use crate::memory::GuestMemory;
-use abi_base::Prot;
+use abi_base::{GUEST_BEGIN, GUEST_END, PAGE_LIMIT, PAGE_SIZE, Prot};
 use number_map::NumMap;
 use std::alloc::{AllocError, Global};
 
@@ -23,13 +23,13 @@ impl GuestMemory {
         prot: Prot,
     ) -> Result<(), AllocError>
         requires page { IsPageAddress at }
-        requires low { 0x10000 ≤ at }
-        requires high { at + 4096 * pages ≤ 0x4000000000 }
-        requires room { map.len (without_pages self.old (at / 4096) pages) + pages ≤ 65536 }
-        ensures ok { OnOk result (AreMapped self.old (at / 4096) pages prot self.new) }
+        requires low { GUEST_BEGIN ≤ at }
+        requires high { at + PAGE_SIZE * pages ≤ GUEST_END }
+        requires room { map.len (without_pages self.old (at / PAGE_SIZE) pages) + pages ≤ PAGE_LIMIT }
+        ensures ok { OnOk result (AreMapped self.old (at / PAGE_SIZE) pages prot self.new) }
         ensures err { OnErr result (self.new ≡ self.old) }
     {
-        let first = at / PAGE;
+        let first = at / PAGE_SIZE;
         let count = u64::from(pages);
         fill_pages(&mut self.pages, alloc, first, count, prot)?;
         reset_pages(&mut self.pages, first, count, prot);
@@ -37,7 +37,7 @@ impl GuestMemory {
     }
 }
 
-/// Puts a page at each number of the range that has none. Want of memory changes nothing.
+// Puts a page at each number of the range that has none. Want of memory changes nothing.
 fn fill_pages(
     pages: &mut NumMap<MappedPage>,
     alloc: Global,
@@ -58,8 +58,8 @@ fn fill_pages(
     filled
 }
 
-/// Puts a page of zeros at each number of the range that has none, and the numbers of these pages into a list, which is
-/// empty before. Where memory runs out, some may be there, and the list names them too.
+// Puts a page of zeros at each number of the range that has none, and the numbers of these pages into a list, which is
+// empty before. Where memory runs out, some may be there, and the list names them too.
 fn add_pages_listed(
     pages: &mut NumMap<MappedPage>,
     added: &mut Vec<u64>,
@@ -79,7 +79,7 @@ fn add_pages_listed(
     Ok(())
 }
 
-/// Puts a page of zeros at this number if none is there, and then the number at the end of the list.
+// Puts a page of zeros at this number if none is there, and then the number at the end of the list.
 fn add_page_listed(
     pages: &mut NumMap<MappedPage>,
     added: &mut Vec<u64>,
@@ -100,7 +100,7 @@ fn add_page_listed(
     Ok(())
 }
 
-/// Takes away the pages of these numbers.
+// Takes away the pages of these numbers.
 fn remove_each(pages: &mut NumMap<MappedPage>, numbers: &[u64])
     ensures { pages.new ≡ without_each numbers.now pages.old }
 {
@@ -109,7 +109,7 @@ fn remove_each(pages: &mut NumMap<MappedPage>, numbers: &[u64])
     }
 }
 
-/// Makes each page of the range one of zeros with these rights. Each is there, so no memory is taken.
+// Makes each page of the range one of zeros with these rights. Each is there, so no memory is taken.
 fn reset_pages(pages: &mut NumMap<MappedPage>, first: u64, count: u64, prot: Prot)
     requires fits { first + count < 2 ^ 64 }
     requires there { AreThere pages.old first count }

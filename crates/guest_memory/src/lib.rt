@@ -14,10 +14,6 @@ mod fixed;
 mod laws;
 mod mapped_page;
 mod mapping;
-#[cfg(test)]
-mod mapping_tests;
 mod memory;
 mod page_map;
-#[cfg(test)]
-mod tests;
 mod words;

@@ -6,12 +6,9 @@ ghost use Rattle.guest_memory.specs.Words.{IsWidth, bytes_of};
 
 use crate::access::Access;
 use crate::fault::MemFault;
-use abi_base::Prot;
+use abi_base::{PAGE_SIZE, Prot};
 use std::alloc::{AllocError, Global};
 use std::marker::Model;
-
-/// How many bytes a page has.
-pub const PAGE: u64 = 4096;
 
 /// A page's bytes and rights.
 #[derive(Drop)]
@@ -22,6 +19,7 @@ pub struct MappedPage {
 
 impl Model for MappedPage {
     ghost use Rattle.std.specs.Prelude.{◌≡◌, length};
+    ghost use Rattle.abi_base.specs.declared.address_space.TheConstants.{PAGE_SIZE};
     ghost use Rattle.guest_memory.specs.Page.{Page, page_code};
 
     ghost Value = { Page };
@@ -30,7 +28,7 @@ impl Model for MappedPage {
 
     ghost view = { λ p. record { bytes = p.bytes.items; prot = p.prot } };
 
-    ghost invariant = { λ p. length p.bytes.items ≡ 4096 };
+    ghost invariant = { λ p. length p.bytes.items ≡ PAGE_SIZE };
 }
 
 impl MappedPage {
@@ -38,7 +36,7 @@ impl MappedPage {
     pub fn new(alloc: Global, prot: Prot) -> Result<Self, AllocError>
         ensures { IfOk result (λ page. page ≡ zero_page prot) }
     {
-        let bytes = vec![in alloc; 0; PAGE as usize]?;
+        let bytes = vec![in alloc; 0; PAGE_SIZE as usize]?;
         Ok(MappedPage { bytes, prot })
     }
 
@@ -71,10 +69,10 @@ impl MappedPage {
     #[inline]
     pub fn run(&self, access: Access, at: u64) -> Result<&[u8], MemFault>
         ensures run { MatchResult result (λ run. run_in access at (Some self.now) ≡ Ok run.now) (λ fault. run_in access at (Some self.now) ≡ Err fault) }
-        ensures len { IfOk result (λ run. length run.now + at % 4096 ≡ 4096) }
+        ensures len { IfOk result (λ run. length run.now + at % PAGE_SIZE ≡ PAGE_SIZE) }
     {
         if access.is_allowed_by(&self.prot) {
-            Ok(&self.bytes[(at % PAGE) as usize..])
+            Ok(&self.bytes[(at % PAGE_SIZE) as usize..])
         } else {
             Err(MemFault::NoRight(at))
         }
@@ -82,7 +80,7 @@ impl MappedPage {
 
     /// Writes bytes from a place in the page on, which end in the page.
     pub fn write(&mut self, place: usize, bytes: &[u8])
-        requires { place + length bytes.now ≤ 4096 }
+        requires { place + length bytes.now ≤ PAGE_SIZE }
         ensures { self.new ≡ record self.old { bytes = take place self.old.bytes ++ (bytes.now ++ drop (place + length bytes.now) self.old.bytes) } }
     {
         self.bytes[place..place + bytes.len()].copy_from_slice(bytes);
@@ -92,14 +90,14 @@ impl MappedPage {
     #[inline]
     pub fn store(&mut self, place: usize, n: u32, v: u64)
         requires width { IsWidth n }
-        requires fits { place + n ≤ 4096 }
+        requires fits { place + n ≤ PAGE_SIZE }
         ensures { self.new ≡ record self.old { bytes = take place self.old.bytes ++ (bytes_of n v ++ drop (place + n) self.old.bytes) } }
     {
         put_number(&mut self.bytes[place..place + n as usize], v);
     }
 }
 
-/// Fills a slice with the lowest bytes of a number, the lowest first. It has 1, 2, 4 or 8 of them.
+// Fills a slice with the lowest bytes of a number, the lowest first. It has 1, 2, 4 or 8 of them.
 #[inline]
 fn put_number(part: &mut [u8], v: u64)
     requires { IsWidth (length part.old) }

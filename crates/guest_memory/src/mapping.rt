@@ -6,22 +6,18 @@ ghost use Rattle.guest_memory.specs.Mapping.{AreThere, AreMapped, AreUnmapped, A
 ghost use Rattle.guest_memory.specs.Changes.{without_pages};
 
 use crate::fault::MemFault;
-use crate::mapped_page::PAGE;
 use crate::memory::GuestMemory;
 use crate::page_map::{
     add_pages, count_pages, first_absent, first_page, protect_pages, remove_pages,
 };
-use abi_base::Prot;
+use abi_base::{GUEST_BEGIN, GUEST_END, PAGE_LIMIT, PAGE_SIZE, Prot};
 use std::alloc::Global;
 
-/// The most pages of a memory.
-const PAGE_LIMIT: usize = 65_536;
+// The number of the first page of the part where a mapping without a place of its own may lie.
+const GAPS_BEGIN: u64 = 0x20_0000_0000 / PAGE_SIZE;
 
-/// The number of the first page of the part where a mapping without a place of its own may lie.
-const GAPS_BEGIN: u64 = 0x20_0000_0000 / PAGE;
-
-/// The number of the first page after that part.
-const GAPS_END: u64 = 0x3e_0000_0000 / PAGE;
+// The number of the first page after that part.
+const GAPS_END: u64 = 0x3e_0000_0000 / PAGE_SIZE;
 
 impl GuestMemory {
     /// Maps pages of zeros with these rights from a page's address on, in the guest's part of the address space.
@@ -30,19 +26,19 @@ impl GuestMemory {
     /// nothing.
     pub fn map(&mut self, alloc: Global, at: u64, pages: u32, prot: Prot) -> Result<(), MemFault>
         requires page { IsPageAddress at }
-        requires low { 0x10000 ≤ at }
-        requires high { at + 4096 * pages ≤ 0x4000000000 }
-        ensures may { OnOk result (MayMap self.old (at / 4096) pages) }
-        ensures ok { OnOk result (AreMapped self.old (at / 4096) pages prot self.new) }
-        ensures fault { IfErr result (MapFails self.old (at / 4096) pages) }
+        requires low { GUEST_BEGIN ≤ at }
+        requires high { at + PAGE_SIZE * pages ≤ GUEST_END }
+        ensures may { OnOk result (MayMap self.old (at / PAGE_SIZE) pages) }
+        ensures ok { OnOk result (AreMapped self.old (at / PAGE_SIZE) pages prot self.new) }
+        ensures fault { IfErr result (MapFails self.old (at / PAGE_SIZE) pages) }
         ensures err { OnErr result (self.new ≡ self.old) }
     {
-        let first = at / PAGE;
+        let first = at / PAGE_SIZE;
         let count = u64::from(pages);
         if let Some(taken) = first_page(&self.pages, first, count) {
-            return Err(MemFault::Overlaps(taken * PAGE));
+            return Err(MemFault::Overlaps(taken * PAGE_SIZE));
         }
-        if self.pages.len() + pages as usize > PAGE_LIMIT {
+        if self.pages.len() as u64 + count > PAGE_LIMIT {
             return Err(MemFault::PageLimit);
         }
         if add_pages(&mut self.pages, alloc, first, count, prot).is_err() {
@@ -55,26 +51,26 @@ impl GuestMemory {
     /// Takes away the pages from a page's address on, as far as they are there.
     pub fn unmap(&mut self, at: u64, pages: u32)
         requires page { IsPageAddress at }
-        requires high { at + 4096 * pages ≤ 2 ^ 64 }
-        ensures { AreUnmapped self.old (at / 4096) pages self.new }
+        requires high { at + PAGE_SIZE * pages ≤ 2 ^ 64 }
+        ensures { AreUnmapped self.old (at / PAGE_SIZE) pages self.new }
     {
-        remove_pages(&mut self.pages, at / PAGE, u64::from(pages));
+        remove_pages(&mut self.pages, at / PAGE_SIZE, u64::from(pages));
     }
 
     /// Gives the pages from a page's address on these rights. `NotMapped` names the first that isn't there, and then
     /// nothing is changed.
     pub fn protect(&mut self, at: u64, pages: u32, prot: Prot) -> Result<(), MemFault>
         requires page { IsPageAddress at }
-        requires high { at + 4096 * pages ≤ 2 ^ 64 }
-        ensures there { OnOk result (AreThere self.old (at / 4096) pages) }
-        ensures ok { OnOk result (AreProtected self.old (at / 4096) pages prot self.new) }
-        ensures fault { IfErr result (ProtectFails self.old (at / 4096) pages) }
+        requires high { at + PAGE_SIZE * pages ≤ 2 ^ 64 }
+        ensures there { OnOk result (AreThere self.old (at / PAGE_SIZE) pages) }
+        ensures ok { OnOk result (AreProtected self.old (at / PAGE_SIZE) pages prot self.new) }
+        ensures fault { IfErr result (ProtectFails self.old (at / PAGE_SIZE) pages) }
         ensures err { OnErr result (self.new ≡ self.old) }
     {
-        let first = at / PAGE;
+        let first = at / PAGE_SIZE;
         let count = u64::from(pages);
         if let Some(absent) = first_absent(&self.pages, first, count) {
-            return Err(MemFault::NotMapped(absent * PAGE));
+            return Err(MemFault::NotMapped(absent * PAGE_SIZE));
         }
         protect_pages(&mut self.pages, first, count, prot);
         Ok(())
@@ -91,7 +87,7 @@ impl GuestMemory {
         while first + count <= GAPS_END {
             match first_page(&self.pages, first, count) {
                 Some(number) => first = number + 1,
-                None => return Some(first * PAGE),
+                None => return Some(first * PAGE_SIZE),
             }
         }
         None
@@ -101,11 +97,11 @@ impl GuestMemory {
     pub fn check_mapped(&self, at: u64, pages: u64) -> Result<(), MemFault>
         requires page { IsPageAddress at }
         requires few { pages ≤ 2 ^ 52 }
-        ensures ok { OnOk result (AreThere self.now (at / 4096) pages) }
-        ensures fault { IfErr result (ProtectFails self.now (at / 4096) pages) }
+        ensures ok { OnOk result (AreThere self.now (at / PAGE_SIZE) pages) }
+        ensures fault { IfErr result (ProtectFails self.now (at / PAGE_SIZE) pages) }
     {
-        match first_absent(&self.pages, at / PAGE, pages) {
-            Some(absent) => Err(MemFault::NotMapped(absent * PAGE)),
+        match first_absent(&self.pages, at / PAGE_SIZE, pages) {
+            Some(absent) => Err(MemFault::NotMapped(absent * PAGE_SIZE)),
             None => Ok(()),
         }
     }
@@ -113,7 +109,7 @@ impl GuestMemory {
     /// How many pages the memory has: at most 65,536.
     pub fn len(&self) -> usize
         ensures is { result ≡ map.len self.now }
-        ensures few { result ≤ 65536 }
+        ensures few { result ≤ PAGE_LIMIT }
     {
         self.pages.len()
     }
@@ -121,9 +117,9 @@ impl GuestMemory {
     /// How many of the pages from a page's address on are there.
     pub fn mapped_within(&self, at: u64, pages: u32) -> u64
         requires page { IsPageAddress at }
-        requires high { at + 4096 * pages ≤ 2 ^ 64 }
-        ensures { result + map.len (without_pages self.now (at / 4096) pages) ≡ map.len self.now }
+        requires high { at + PAGE_SIZE * pages ≤ 2 ^ 64 }
+        ensures { result + map.len (without_pages self.now (at / PAGE_SIZE) pages) ≡ map.len self.now }
     {
-        count_pages(&self.pages, at / PAGE, u64::from(pages))
+        count_pages(&self.pages, at / PAGE_SIZE, u64::from(pages))
     }
 }

@@ -7,8 +7,8 @@ ghost use Rattle.guest_memory.specs.Written.{KeepsUnwritable, set_bytes};
 
 use crate::access::Access;
 use crate::fault::MemFault;
-use crate::mapped_page::PAGE;
 use crate::memory::GuestMemory;
+use abi_base::PAGE_SIZE;
 
 impl GuestMemory {
     /// The number of the `n` bytes at an address, little-endian; `n` is 1, 2, 4 or 8. Each byte's page must be there
@@ -47,19 +47,19 @@ impl GuestMemory {
         }
     }
 
-    /// Writes the `n` lowest bytes of a number to an address, from which on they lie in one page, which is there.
+    // Writes the `n` lowest bytes of a number to an address, from which on they lie in one page, which is there.
     #[inline]
     fn store_in_page(&mut self, at: u64, n: u32, v: u64)
         requires width { IsWidth n }
-        requires there { IsSome (get self.old (at / 4096)) }
-        requires fits { at % 4096 + n ≤ 4096 }
+        requires there { IsSome (get self.old (at / PAGE_SIZE)) }
+        requires fits { at % PAGE_SIZE + n ≤ PAGE_SIZE }
         ensures { self.new ≡ set_bytes self.old at (bytes_of n v) }
     {
-        let place = (at % PAGE) as usize;
-        self.pages.get_mut(at / PAGE).store(place, n, v);
+        let place = (at % PAGE_SIZE) as usize;
+        self.pages.get_mut(at / PAGE_SIZE).store(place, n, v);
     }
 
-    /// Writes the `n` lowest bytes of a number, which may lie in two pages.
+    // Writes the `n` lowest bytes of a number, which may lie in two pages.
     #[inline(never)]
     fn store_over_pages(&mut self, at: u64, n: u32, v: u64) -> Result<(), MemFault>
         requires { IsWidth n }
@@ -88,7 +88,7 @@ impl GuestMemory {
         }
     }
 
-    /// The number of bytes that may lie in two pages.
+    // The number of bytes that may lie in two pages.
     #[inline(never)]
     fn load_over_pages(&self, access: Access, at: u64, n: u32) -> Result<u64, MemFault>
         requires { IsWidth n }
@@ -103,7 +103,7 @@ impl GuestMemory {
     }
 }
 
-/// The number of the first `n` bytes.
+// The number of the first `n` bytes.
 #[inline]
 fn number_in_run(run: &[u8], n: u32) -> u64
     requires width { IsWidth n }

@@ -1,8 +1,7 @@
 -- Laws of faults and of bytes written, for what reads or writes more than once.
-use Rattle.std.proofs.Common.{◌≡◌, ◌+◌, ◌≤◌, ◌∙◌, ℕ, List, [], ◌++◌, length, take, ap, arith, sym, refl, inl, inr, append_assoc, append-nil}
+use Rattle.std.proofs.Common.{◌≡◌, ◌+◌, ◌≤◌, ◌∙◌, ℕ, List, ◌++◌, length, take, ap, arith, sym, refl, inl, inr, append_assoc}
 use Rattle.std.specs.Prelude.{Option, None, Some}
 use Rattle.std.proofs.Math.Seq.{take-append-add}
-use Rattle.std.proofs.lemmas.Bool.{cases_lt}
 use Rattle.input_output.specs.Source.{Rose}
 use Rattle.input_output.specs.Sink.{grown, GrewByPrefix}
 
@@ -11,21 +10,10 @@ pub rose_since : (first before after : ℕ) → first ≤ before → Rose before
 rose_since first before after early (inl more) = inl (omega arith)
 rose_since first before after early (inr last) = inr last
 
--- a count that rose in an earlier part of a call rose in the call, for one that never falls
-pub rose_until : (before between after : ℕ) → before ≤ between → between ≤ after → Rose before between → Rose before after
-rose_until before between after early late (inl more) = inl (omega arith)
-rose_until before between after early late (inr full) =
-    elim (cases_lt between after) [ inl rises ↦ inl (omega arith) | inr stays ↦ inr (omega arith) ]
-
 -- bytes after bytes
 pub grown_twice : (before : Option (List ℕ)) (first more : List ℕ) → grown (grown before first) more ≡ grown before (first ++ more)
 grown_twice None first more = refl
 grown_twice (Some bytes) first more = ap Some (append_assoc bytes first more)
-
--- no byte
-pub grown_by_none : (before : Option (List ℕ)) → grown before [] ≡ before
-grown_by_none None = refl
-grown_by_none (Some bytes) = ap Some (append-nil bytes)
 
 -- after a first piece was written whole, a prefix of the second is one of both
 pub grew_later : (before between after : Option (List ℕ)) (first second : List ℕ) → between ≡ grown before first →

@@ -6,7 +6,7 @@ use std::marker::Model;
 
 /// Which calls fail, counted from 0, and how many calls and faults there were. Each count stays at its last value,
 /// 2^64 - 1.
-#[derive(Debug, Drop)]
+#[derive(Drop)]
 pub struct FailingCalls {
     failing: Vec<u64>,
     calls: u64,

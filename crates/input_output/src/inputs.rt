@@ -8,14 +8,14 @@ use std::alloc::{AllocError, Global};
 use std::marker::Model;
 
 /// A name and its bytes.
-#[derive(Debug, Drop)]
+#[derive(Drop)]
 pub struct Input {
     pub name: Bytes,
     pub bytes: Bytes,
 }
 
 /// Names with their bytes, those given last first.
-#[derive(Debug, Drop)]
+#[derive(Drop)]
 pub struct Inputs {
     inputs: Vec<Input>,
 }

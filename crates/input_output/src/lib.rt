@@ -17,6 +17,4 @@ mod sink;
 mod source;
 mod steady_sink;
 mod steady_source;
-#[cfg(test)]
-mod tests;
 mod whole;

@@ -16,7 +16,7 @@ const MOST: usize = 64;
 
 /// An output in memory. It takes at most 64 bytes of a piece. A call that is chosen to fail, or that lacks memory, is
 /// a fault and writes nothing.
-#[derive(Debug, Drop)]
+#[derive(Drop)]
 pub struct MemSink {
     bytes: Bytes,
     counts: FailingCalls,

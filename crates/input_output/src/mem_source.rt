@@ -12,7 +12,7 @@ use std::marker::Model;
 
 /// Inputs in memory. A name that wasn't given is lacking, and reading it is a fault, as is a call that is chosen to
 /// fail.
-#[derive(Debug, Drop)]
+#[derive(Drop)]
 pub struct MemSource {
     inputs: Inputs,
     counts: FailingCalls,

@@ -10,7 +10,7 @@ use std::alloc::{AllocError, Global};
 use std::marker::Model;
 
 /// Inputs in memory that are always read. It lacks no name: one that wasn't given has no bytes.
-#[derive(Debug, Drop)]
+#[derive(Drop)]
 pub struct SteadySource {
     inputs: Inputs,
 }

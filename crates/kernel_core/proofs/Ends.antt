@@ -3,10 +3,11 @@ use Rattle.std.proofs.Common.{◌≡◌, ℕ, ◌+◌, ◌≤◌, ◌==◌, Bool
 use Rattle.std.proofs.lemmas.Bool.{eqb-true}
 use Rattle.std.specs.Ordering.{nat_cmp}
 use Rattle.std.specs.FinMap.{FinMap, empty, get, insert, retain_keys}
-use Rattle.number_map.specs.Maps.{number, weight, total, total-empty, total-insert, total_at_least, get-retain}
+use Rattle.number_map.specs.Maps.{number, total, total_at_least, get-retain}
 use Rattle.kernel_core.specs.Objects.{is_held}
 use Rattle.kernel_model.specs.Release.{count_in}
 use Rattle.kernel_model.specs.State.{Table}
+use Rattle.kernel_model.proofs.Valids.{emptied_holders}
 
 -- no process holds an open more often than all do
 pub covered : (tables : FinMap nat_cmp Table) (p : ℕ) (table : Table) → get tables p ≡ Some table → (o : ℕ) → count_in o table ≤ total (count_in o) tables
@@ -18,10 +19,8 @@ pub left_holders : (tables : FinMap nat_cmp Table) (p : ℕ) (table : Table) (be
     → ((o : ℕ) → number (get after o) + count_in o table ≡ number (get before o))
     → (o : ℕ) → number (get after o) ≡ total (count_in o) (insert tables p empty)
 left_holders tables p table before after there counted less o =
-    let emptied = total-insert (count_in o) tables p empty in
-    let own : weight (count_in o) (get tables p) ≡ count_in o table = ap (weight (count_in o)) there in
-    let none : count_in o empty ≡ 0 = total-empty _ in
-    omega (arith, emptied, own, none, counted o, less o)
+    let emptied = emptied_holders tables p o table there in
+    omega (arith, emptied, counted o, less o)
 
 -- tests that answer alike keep the same
 pub retain_same : {X : Type 0} (m : FinMap nat_cmp X) (p q : ℕ → Bool) → ((o : ℕ) → p o ≡ q o) → retain_keys m p ≡ retain_keys m q

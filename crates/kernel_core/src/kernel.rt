@@ -27,7 +27,7 @@ use run_types::Launch;
 use std::alloc::{AllocError, Global};
 use std::marker::Model;
 
-/// How long each call takes, and each end from outside, in nanoseconds.
+// How long each call takes, and each end from outside, in nanoseconds.
 const STEP_TIME: u64 = 1000;
 
 /// The state of the kernel, in contracts a `State` (docs/MODEL.md), which is always valid.
@@ -55,7 +55,7 @@ impl Model for Kernel {
     ghost invariant = { λ k. IsKept (record { clock = k.clock; tables = k.tables; threads = k.threads; statuses = k.statuses; opens = k.objects.kinds; terms = k.terms }) k.objects.counts };
 }
 
-/// Writes the bytes to a standard stream. `Err` changes nothing.
+// Writes the bytes to a standard stream. `Err` changes nothing.
 fn write_term(terms: &mut NumMap<Bytes>, which: u32, bytes: &Bytes) -> Result<Reply, AllocError>
     ensures ok { IfOk result (λ reply. (reply ≡ (write_term bytes.now which (map.get terms.old which)).reply)
         × (terms.new ≡ terms_after (write_term bytes.now which (map.get terms.old which)).updates terms.old)) }
@@ -72,7 +72,7 @@ fn write_term(terms: &mut NumMap<Bytes>, which: u32, bytes: &Bytes) -> Result<Re
     }
 }
 
-/// Whether the status is that of a live process.
+// Whether the status is that of a live process.
 fn is_live(status: &Status) -> bool
     ensures { result ≡ is_live status.now }
 {
@@ -99,7 +99,7 @@ impl Kernel {
         })
     }
 
-    /// Ends a process: it has this status, no descriptor and no thread, and what nothing holds any more ends.
+    // Ends a process: it has this status, no descriptor and no thread, and what nothing holds any more ends.
     fn end_process(&mut self, pid: Pid, status: Status)
         requires { IsSome (map.get self.old.statuses pid) }
         ensures { self.new ≡ release (put_all (end_updates pid status) self.old) }
@@ -111,7 +111,7 @@ impl Kernel {
         self.objects.remove_unheld();
     }
 
-    /// Writes the bytes to what the descriptor stands for. `Err` changes nothing.
+    // Writes the bytes to what the descriptor stands for. `Err` changes nothing.
     fn fd_write(&mut self, pid: Pid, fd: u32, bytes: &Bytes) -> Result<Reply, AllocError>
         ensures ok { IfOk result (λ reply. (table : Table) → map.get self.old.tables pid ≡ Some table →
             (reply ≡ (fd_write (whole self.old) bytes.now (map.get table fd)).reply)
@@ -130,7 +130,7 @@ impl Kernel {
         }
     }
 
-    /// Does a call, but for the clock. `Err` changes nothing.
+    // Does a call, but for the clock. `Err` changes nothing.
     fn act(&mut self, pid: Pid, call: &Call) -> Result<Reply, AllocError>
         requires { IsSome (map.get self.old.statuses pid) }
         ensures ok { IfOk result (λ reply. (reply ≡ (act (whole self.old) pid call.now).reply)
@@ -155,7 +155,7 @@ impl Kernel {
         }
     }
 
-    /// A call, with the clock.
+    // A call, with the clock.
     fn run(&mut self, pid: Pid, call: &Call) -> Answer
         requires live { map.get self.old.statuses pid ≡ Some Status.Live }
         requires early { self.old.clock < 2 ^ 63 }

@@ -9,5 +9,3 @@ mod needs;
 mod objects;
 mod start;
 mod table;
-#[cfg(test)]
-mod tests;

@@ -58,7 +58,7 @@ pub fn need(call: &Call) -> ArrayVec<Needed, 2>
     rows
 }
 
-/// Whether some needed descriptor is absent.
+// Whether some needed descriptor is absent.
 fn some_absent(table: &Table, rows: &[Needed]) -> bool
     ensures { result ≡ some_absent table.now rows.now }
 {
@@ -70,7 +70,7 @@ fn some_absent(table: &Table, rows: &[Needed]) -> bool
     false
 }
 
-/// Exactly the rights that a descriptor lacks of those needed, if it lacks any.
+// Exactly the rights that a descriptor lacks of those needed, if it lacks any.
 fn lack_at(held: &Descriptor, row: &Needed) -> Option<Denial>
     ensures { result ≡ lack_at (Some held.now) row.now }
 {
@@ -86,7 +86,7 @@ fn lack_at(held: &Descriptor, row: &Needed) -> Option<Denial>
     })
 }
 
-/// The denial of the first descriptor that lacks a right.
+// The denial of the first descriptor that lacks a right.
 fn first_lack(table: &Table, rows: &[Needed]) -> Option<Denial>
     ensures { result ≡ first_lack table.now rows.now }
 {

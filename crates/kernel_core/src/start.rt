@@ -6,15 +6,16 @@ ghost use Rattle.kernel_core.specs.Start.{granted_objects};
 
 use crate::objects::Objects;
 use crate::table::Table;
+use abi_base::MOST_DESCRIPTORS;
 use abi_types::{Bytes, Descriptor, Grant, GrantTarget, ObjId, OpenKind};
 use number_map::NumMap;
 use std::alloc::{AllocError, Global};
 
-/// The process number that stands in the numbers of the objects that the launch makes.
+// The process number that stands in the numbers of the objects that the launch makes.
 const LAUNCH_PROCESS: u64 = 0xffff_ffff;
 
-/// The count of the first grant's open among the launch's objects: 1 to 3 are the standard streams, 4 is the root of
-/// the file tree, and from 5 on come the opens of the granted descriptors.
+// The count of the first grant's open among the launch's objects: 1 to 3 are the standard streams, 4 is the root of
+// the file tree, and from 5 on come the opens of the granted descriptors.
 const FIRST_GRANT: u64 = 5;
 
 /// The number of the launch's object with this count.
@@ -44,7 +45,7 @@ pub fn unwritten(alloc: Global) -> Result<NumMap<Bytes>, AllocError>
     Ok(made)
 }
 
-/// What a grant opens.
+// What a grant opens.
 fn open_of(target: GrantTarget) -> OpenKind
     ensures { result ≡ open_of target }
 {
@@ -53,14 +54,14 @@ fn open_of(target: GrantTarget) -> OpenKind
     }
 }
 
-/// Puts a granted descriptor at its number, and its open, which it alone holds.
+// Puts a granted descriptor at its number, and its open, which it alone holds.
 fn put_grant(
     table: &mut Table,
     objects: &mut Objects,
     number: u64,
     grant: &Grant,
 ) -> Result<(), AllocError>
-    requires few { number < 1024 }
+    requires few { number < MOST_DESCRIPTORS }
     requires free { map.get objects.old.kinds (launch_object (5 + number)) ≡ None }
     ensures table { OnOk result (table.new ≡ map.insert table.old number (granted_descriptor number grant.now)) }
     ensures objects { OnOk result (objects.new ≡ record {
@@ -82,7 +83,7 @@ fn put_grant(
 
 /// The table of the granted descriptors, and their opens, each held once.
 pub fn granted(alloc: Global, grants: &[Grant]) -> Result<(Table, Objects), AllocError>
-    requires { length grants.now ≤ 1024 }
+    requires { length grants.now ≤ MOST_DESCRIPTORS }
     ensures { IfOk result (λ made. (made.0 ≡ granted_table grants.now) × (made.1 ≡ granted_objects grants.now)) }
 {
     let mut table = Table::new(alloc);

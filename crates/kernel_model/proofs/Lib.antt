@@ -1,3 +1,4 @@
+pub mod Carried
 pub mod Decisions
 pub mod Parts
 pub mod Refusals

@@ -1,5 +1,5 @@
 -- Parts of states, and what updates leave of them.
-use Rattle.std.proofs.Common.{◌≡◌, ◌≢◌, ℕ, ◌==◌, ◌||◌, Bool, true, false, T, List, [], ◌∷◌, ◌++◌, map, inl, inr, refl, sym, ap, subst, ◌∙◌}
+use Rattle.std.proofs.Common.{◌≡◌, ◌≢◌, ℕ, ◌==◌, true, false, T, List, [], ◌∷◌, map, inl, inr, refl, sym, ap, subst, ◌∙◌}
 use Rattle.std.proofs.lemmas.Bool.Decides.{eqb_tells}
 use Rattle.std.specs.Ordering.{nat_cmp}
 use Rattle.std.specs.FinMap.{FinMap, get, insert}
@@ -13,15 +13,6 @@ use Rattle.kernel_model.proofs.Tests.{not_true, either_false, either_true}
 pub outside_cons : (part : Part) (parts : List Part) (q : Part) → has_part (part ∷ parts) q ≡ false → (same_part part q ≡ false) × (has_part parts q ≡ false)
 outside_cons part parts q h = either_false (same_part part q) (has_part parts q) h
 
-regrouped : (a b c : Bool) → (a || (b || c)) ≡ ((a || b) || c)
-regrouped true b c = refl
-regrouped false b c = refl
-
--- a part is in two lists joined where it is in one of them
-pub has_part-append : (parts more : List Part) (q : Part) → has_part (parts ++ more) q ≡ (has_part parts q || has_part more q)
-has_part-append [] more q = refl
-has_part-append (part ∷ parts) more q = ap (λ b. same_part part q || b) (has_part-append parts more q) ∙ regrouped (same_part part q) (has_part parts q) (has_part more q)
-
 -- ---- the same values
 
 pub agree_self : (S : State) (q : Part) → Agree S S q
@@ -30,13 +21,6 @@ agree_self S (at_proc p) = (refl, refl)
 agree_self S (at_status p) = refl
 agree_self S (at_open o) = refl
 agree_self S (at_term k) = refl
-
-pub agree_turned : (S T : State) (q : Part) → Agree S T q → Agree T S q
-agree_turned S T at_clock h = sym h
-agree_turned S T (at_proc p) h = (sym h.0, sym h.1)
-agree_turned S T (at_status p) h = sym h
-agree_turned S T (at_open o) h = sym h
-agree_turned S T (at_term k) h = sym h
 
 pub agree_through : (S T U : State) (q : Part) → Agree S T q → Agree T U q → Agree S U q
 agree_through S T U at_clock a b = a ∙ b

@@ -2,6 +2,7 @@
 use Rattle.std.proofs.Common.{◌≡◌, ◌≢◌, ℕ, ◌||◌, not, Bool, true, false, cond, T, List, [], ◌∷◌, ◌++◌, Option, Some, None, IsSome, inl, inr, refl, sym, ap, subst, ◌∙◌}
 use Rattle.std.specs.List.{AllByRecursion}
 use Rattle.std.specs.FinMap.{get, contains_key}
+use Rattle.abi_types.specs.declared.call.Answer.{Answer}
 use Rattle.abi_types.specs.declared.call.Answer.TheVariants as answer
 use Rattle.abi_types.specs.declared.call.Call.{Call}
 use Rattle.abi_types.specs.declared.call.Call.TheVariants.{FdWrite, MemMap, Memory, ProcExit, Refused}
@@ -11,7 +12,8 @@ use Rattle.abi_types.specs.declared.place.Place.TheVariants.{At}
 use Rattle.abi_types.specs.declared.call.Reply.{Reply}
 use Rattle.abi_types.specs.declared.descriptor.Denial.{Denial}
 use Rattle.abi_types.specs.declared.descriptor.Descriptor.{Descriptor}
-use Rattle.abi_base.specs.declared.errno.Errno.TheVariants.{Success, Badf, Notcapable}
+use Rattle.abi_base.specs.declared.errno.Errno.{Errno}
+use Rattle.abi_base.specs.declared.errno.Errno.TheVariants.{Success, Badf, Nomem, Notcapable}
 use Rattle.abi_types.specs.declared.needed.Needed.{Needed}
 use Rattle.abi_types.specs.declared.open_kind.OpenKind.{OpenKind}
 use Rattle.abi_types.specs.declared.open_kind.OpenKind.TheVariants.{Terminal}
@@ -24,6 +26,7 @@ use Rattle.kernel_model.specs.State.{State, Table, put_all}
 use Rattle.kernel_model.specs.Step.{tick, unless, act_on, outcome, step_reply, step_state, IsStep}
 use Rattle.kernel_model.specs.Valid.{IsValid}
 use Rattle.kernel_model.specs.View.{View, whole}
+use Rattle.kernel_model.proofs.Carried.{PlaceCarries, Carries, Answers, case_errno}
 use Rattle.kernel_model.proofs.Sights.{outcome_reads, outcome_of_table}
 use Rattle.kernel_model.proofs.Valids.{release_valid, tick_valid}
 use Rattle.kernel_model.proofs.Tests.{either_false, none_is_no, not_false, same_some}
@@ -159,11 +162,21 @@ pub denial_is_of_first_lack : (S : State) (p : ℕ) (call : Call) (denial : Deni
 denial_is_of_first_lack S p call denial h =
     denial_on S p call denial (get S.tables p) refl (sym (ap (λ (o : Outcome). o.reply.denial) (outcome_reads S p call)) ∙ h)
 
--- ---- NOTCAPABLE
+-- ---- the answers of steps
 
--- the reply's error is not NOTCAPABLE
-abbrev IsOtherwise : Outcome → Type 0
-IsOtherwise o = o.reply.errno ≢ Notcapable
+pub same_reply : (a b : Reply) → answer.Reply a ≡ answer.Reply b → a ≡ b
+same_reply a b e = cc
+
+-- a step's answer has a denial only of the first lack
+pub step_denial : (S : State) (p : ℕ) (call : Call) (given : Answer) (T : State) (reply : Reply) (denial : Denial) → IsStep S p call given T
+    → given ≡ answer.Reply reply → reply.denial ≡ Some denial → IsOfFirstLack S p call denial
+step_denial S p call given T reply denial (inl done) is denies =
+    denial_is_of_first_lack S p call denial
+    (ap (λ (r : Reply). r.denial) (same_reply (step_reply S p call) reply (sym done.0 ∙ is)) ∙ denies)
+step_denial S p call given T reply denial (inr lacking) is denies =
+    absurd (none_is_no denial (ap (λ (r : Reply). r.denial) (same_reply (refused Nomem) reply (sym lacking.1 ∙ is)) ∙ denies))
+
+-- ---- NOTCAPABLE
 
 badf_is_other : Badf ≢ Notcapable
 badf_is_other e = cc
@@ -171,30 +184,21 @@ badf_is_other e = cc
 success_is_other : Success ≢ Notcapable
 success_is_other e = cc
 
-term_otherwise : (bytes : List ℕ) (which : ℕ) (written : Option (List ℕ)) → IsOtherwise (write_term bytes which written)
-term_otherwise bytes which None = badf_is_other
-term_otherwise bytes which (Some written) = success_is_other
+abbrev IsOther : Errno → Type 0
+IsOther errno = errno ≢ Notcapable
 
-open_otherwise : (v : View) (bytes : List ℕ) (kind : Option OpenKind) → IsOtherwise (write_open v bytes kind)
-open_otherwise v bytes None = badf_is_other
-open_otherwise v bytes (Some (Terminal which flags)) = term_otherwise bytes which (v.term which)
+place_is_other : (place : Place) → IsNotDeniedPlace place → PlaceCarries IsOther place
+place_is_other (At address) h = tt
+place_is_other (place.Refused errno) h = h
 
-write_otherwise : (v : View) (bytes : List ℕ) (d : Option Descriptor) → IsOtherwise (fd_write v bytes d)
-write_otherwise v bytes None = badf_is_other
-write_otherwise v bytes (Some d) = open_otherwise v bytes (v.opened d.id)
+carried_is_other : (call : Call) → IsNotDeniedEarly call → Carries IsOther call
+carried_is_other (FdWrite fd bytes) h = tt
+carried_is_other (ProcExit code) h = tt
+carried_is_other (MemMap place length prot flags fd offset) h = place_is_other place h
+carried_is_other (Memory number errno) h = h
+carried_is_other (Refused number errno) h = h
 
-placed_otherwise : (place : Place) → IsNotDeniedPlace place → IsOtherwise (answers (placed place))
-placed_otherwise (At address) h = success_is_other
-placed_otherwise (place.Refused errno) h = h
-
-case_otherwise : (v : View) (p : ℕ) (table : Table) (call : Call) → IsNotDeniedEarly call → IsOtherwise (case_of v p table call)
-case_otherwise v p table (FdWrite fd bytes) h = write_otherwise v bytes (get table fd)
-case_otherwise v p table (ProcExit code) h = success_is_other
-case_otherwise v p table (MemMap place length prot flags fd offset) h = placed_otherwise place h
-case_otherwise v p table (Memory number errno) h = h
-case_otherwise v p table (Refused number errno) h = h
-
-notcapable_of : (absent : Bool) (lack : Option Denial) (o : Outcome) → IsOtherwise o
+notcapable_of : (absent : Bool) (lack : Option Denial) (o : Outcome) → Answers IsOther o
     → (unless (cond absent (Some (refused Badf)) (denied_by lack)) o).reply.errno ≡ Notcapable
     → IsSome (unless (cond absent (Some (refused Badf)) (denied_by lack)) o).reply.denial
 notcapable_of true lack o other h = absurd (badf_is_other h)
@@ -205,7 +209,8 @@ notcapable_on : (v : View) (p : ℕ) (call : Call) (t : Option Table) → IsNotD
     → IsSome (act_on v p call t).reply.denial
 notcapable_on v p call None other h = absurd (badf_is_other h)
 notcapable_on v p call (Some table) other h =
-    notcapable_of (some_absent table (need call)) (first_lack table (need call)) (case_of v p table call) (case_otherwise v p table call other) h
+    notcapable_of (some_absent table (need call)) (first_lack table (need call)) (case_of v p table call)
+    (case_errno IsOther (success_is_other, badf_is_other) v p table call (carried_is_other call other)) h
 
 pub notcapable_is_denied : (S : State) (p : ℕ) (call : Call) → IsNotDeniedEarly call → (step_reply S p call).errno ≡ Notcapable
     → IsSome (step_reply S p call).denial
@@ -253,9 +258,6 @@ sets_nothing_at_error S p call =
 pub refused_step : (S : State) (p : ℕ) (call : Call) → IsValid S → (step_reply S p call).errno ≢ Success → step_state S p call ≡ tick S
 refused_step S p call valid h =
     ap (λ us. release (put_all us (tick S))) (sets_nothing_at_error S p call h) ∙ release_valid (tick S) (tick_valid S valid)
-
-same_reply : (a b : Reply) → answer.Reply a ≡ answer.Reply b → a ≡ b
-same_reply a b e = cc
 
 pub error_keeps : (S : State) (p : ℕ) (call : Call) (reply : Reply) (T : State) → IsStep S p call (answer.Reply reply) T → IsValid S
     → reply.errno ≢ Success → T ≡ tick S

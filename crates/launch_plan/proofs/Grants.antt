@@ -9,7 +9,8 @@ use Rattle.yaml_values.specs.Views.{shape_of, pair_of}
 use Rattle.launch_plan.specs.declared.fault.PlanFault.{PlanFault}
 use Rattle.launch_plan.specs.declared.fault.PlanFault.TheVariants as faults
 use Rattle.launch_plan.specs.Answers.{IsFault}
-use Rattle.launch_plan.specs.Tagged.{◌>>=◌, Tagged, tagged, tagged_in_items, tagged_in_pairs, grant_of, grants_of, grants_behind}
+use Rattle.refusals.specs.Results.{◌>>=◌}
+use Rattle.launch_plan.specs.Tagged.{Tagged, tagged, tagged_in_items, tagged_in_pairs, grant_of, grants_of, grants_behind}
 
 step : (before : List Grant) (ts us : List Tagged) (r : Result Grant PlanFault)
     → ((g : Grant) → grants_behind (before ++ g ∷ []) (ts ++ us) ≡ (grants_behind (before ++ g ∷ []) ts >>= λ mid. grants_behind mid us))

@@ -7,7 +7,8 @@ use Rattle.argdata_codec.specs.Writing.{spelling}
 use Rattle.yaml_values.specs.Shape.{Shape}
 use Rattle.launch_plan.specs.declared.fault.PlanFault.{PlanFault}
 use Rattle.launch_plan.specs.declared.fault.PlanFault.TheVariants as faults
-use Rattle.launch_plan.specs.Tagged.{◌>>=◌, tagged, grants_of}
+use Rattle.refusals.specs.Results.{◌>>=◌}
+use Rattle.launch_plan.specs.Tagged.{tagged, grants_of}
 use Rattle.launch_plan.specs.Values.{value_of}
 use Rattle.launch_plan.specs.Plan.{plan_of, unless_large}
 use Rattle.launch_plan.proofs.Streams.{asked_are}

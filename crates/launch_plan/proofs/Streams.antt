@@ -7,7 +7,8 @@ use Rattle.abi_base.specs.declared.grant.Grant.{Grant}
 use Rattle.abi_base.specs.Grants.{IsGrant}
 use Rattle.launch_plan.specs.declared.fault.PlanFault.{PlanFault}
 use Rattle.launch_plan.specs.declared.fault.PlanFault.TheVariants as faults
-use Rattle.launch_plan.specs.Tagged.{◌>>=◌, Tagged, is_text, stream_or_fault, grant_of, grants_of}
+use Rattle.refusals.specs.Results.{◌>>=◌}
+use Rattle.launch_plan.specs.Tagged.{Tagged, is_text, stream_or_fault, grant_of, grants_of}
 
 of_tests : (line : ℕ) (a b c : Bool) → IfOk (stream_or_fault line (if a then Some 0 else if b then Some 1 else if c then Some 2 else None)) IsGrant
 of_tests line true b c = (omega arith, (refl, refl))

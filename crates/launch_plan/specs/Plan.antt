@@ -1,27 +1,23 @@
 -- The plan of a document.
 use Rattle.std.specs.Prelude.{ℕ, if◌then◌else◌, nat_lt, List, length, Result, Ok, Err}
 use Rattle.abi_base.specs.declared.grant.Grant.{Grant}
+use Rattle.abi_base.specs.declared.limits.TheConstants.{MOST_ARGDATA, MOST_DESCRIPTORS}
 use Rattle.argdata_codec.specs.Writing.{spelling}
 use Rattle.yaml_values.specs.Shape.{Shape}
 use Rattle.launch_plan.specs.declared.fault.PlanFault.{PlanFault}
 use Rattle.launch_plan.specs.declared.fault.PlanFault.TheVariants as faults
-use Rattle.launch_plan.specs.Tagged.{◌>>=◌, tagged, grants_of}
+use Rattle.refusals.specs.Results.{◌>>=◌}
+use Rattle.launch_plan.specs.Tagged.{tagged, grants_of}
 use Rattle.launch_plan.specs.Values.{value_of}
-
-abbrev pub most_descriptors : ℕ
-most_descriptors = 1024
-
-abbrev pub most_argdata : ℕ
-most_argdata = 65_536
 
 -- the argument data, unless there is too much of it
 abbrev pub unless_large : List ℕ → List Grant → Result (List ℕ × List Grant) PlanFault
-unless_large argdata grants = if nat_lt most_argdata (length argdata) then Err faults.TooLarge else Ok (argdata, grants)
+unless_large argdata grants = if nat_lt MOST_ARGDATA (length argdata) then Err faults.TooLarge else Ok (argdata, grants)
 
 -- Argument data and descriptors, or the first fault: in document order, then too many descriptors, then too much
 -- argument data.
 unfoldable pub plan_of : Shape → Result (List ℕ × List Grant) PlanFault
 plan_of document =
     grants_of (tagged document) >>= λ grants.
-    if nat_lt most_descriptors (length grants) then Err faults.TooMany
+    if nat_lt MOST_DESCRIPTORS (length grants) then Err faults.TooMany
     else unless_large (spelling (value_of 0 document)) grants

@@ -1,6 +1,7 @@
 -- The nodes of a document that have a tag, and what each asks for.
 use Rattle.std.specs.Prelude.{ℕ, if◌then◌else◌, nat_eq, Bool, false, List, [], ◌∷◌, ◌++◌, codes, Option, Some, None, Result, Ok, Err}
 use lib.Pointwise.{pointwise}
+use Rattle.refusals.specs.Results.{◌>>=◌}
 use Rattle.abi_base.specs.declared.grant.Grant.{Grant}
 use Rattle.abi_base.specs.declared.grant.GrantTarget.TheVariants.{Terminal}
 use Rattle.abi_base.specs.Grants.{stream_rights}
@@ -63,11 +64,6 @@ grant_of t =
     if pointwise nat_eq t.name (codes "fd") then stream_or_fault t.line (stream_of t.value)
     else if pointwise nat_eq t.name (codes "file") then Err (faults.NotBuilt t.line)
     else Err (faults.UnknownTag t.line)
-
-infixl 10 ◌>>=◌
-abbrev pub ◌>>=◌ : {A B : Type 0} → Result A PlanFault → (A → Result B PlanFault) → Result B PlanFault
-(Ok x) >>= f = f x
-(Err e) >>= f = Err e
 
 -- the descriptors that nodes ask for, in their order, or the first fault
 abbrev pub grants_of : List Tagged → Result (List Grant) PlanFault

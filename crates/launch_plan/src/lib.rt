@@ -8,5 +8,3 @@ mod arguments;
 mod fault;
 mod planning;
 mod tagged_nodes;
-#[cfg(test)]
-mod tests;

@@ -11,7 +11,7 @@ ghost use Rattle.launch_plan.specs.Answers.{Adds, Plans};
 use crate::arguments::argument;
 use crate::fault::PlanFault;
 use crate::tagged_nodes::push_grants;
-use abi_base::GrantList;
+use abi_base::{GrantList, MOST_ARGDATA, MOST_DESCRIPTORS};
 use argdata_codec::encode;
 use launch_yaml::{Doc, Node};
 use lists::Bytes;
@@ -20,16 +20,11 @@ use std::alloc::{AllocError, Global};
 /// What a launch gives a program.
 #[derive(Drop)]
 pub struct Planned {
-    /// The argument data, at most 65,536 bytes.
+    /// The argument data, at most `MOST_ARGDATA` bytes.
     pub argdata: Bytes,
-    /// The descriptors in the order of their numbers, at most 1024.
+    /// The descriptors in the order of their numbers, at most `MOST_DESCRIPTORS`.
     pub grants: GrantList,
 }
-
-// A table has so many numbers.
-const MOST_DESCRIPTORS: usize = 1024;
-
-const MOST_ARGDATA: usize = 65_536;
 
 /// The plan that a document is, or its first fault: in the order of the document, then too many descriptors, then too
 /// much argument data.
@@ -39,7 +34,7 @@ pub fn plan(alloc: Global, doc: &Doc) -> Result<Planned, PlanFault>
     ensures plan { Plans result (shape_of doc.now.root) }
     // What a launch may give.
     ensures grants { IfOk result (λ planned. AreGrants planned.grants) }
-    ensures small { IfOk result (λ planned. length planned.argdata ≤ 65_536) }
+    ensures small { IfOk result (λ planned. length planned.argdata ≤ MOST_ARGDATA) }
 {
     let mut grants = GrantList::new(alloc);
     push_grants(&mut grants, &doc.root)?;
@@ -58,7 +53,7 @@ pub fn plan(alloc: Global, doc: &Doc) -> Result<Planned, PlanFault>
 // The argument data of a document, however much it is.
 fn argdata(alloc: Global, root: &Node) -> Result<Bytes, AllocError>
     requires document { IsDocument (shape_of root.now) }
-    requires few { length (tagged (shape_of root.now)) ≤ 1024 }
+    requires few { length (tagged (shape_of root.now)) ≤ MOST_DESCRIPTORS }
     ensures { IfOk result (λ argdata. argdata ≡ spelling (value_of 0 (shape_of root.now))) }
 {
     let mut next = 0;

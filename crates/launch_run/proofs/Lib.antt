@@ -1,11 +1,3 @@
-pub mod LineParts
-pub mod LaunchParts
-pub mod Asked
 pub mod Refusals
-pub mod Runs
-pub mod Entries
-pub mod Begins
 pub mod TopCalls
 pub mod TopClauses
-pub mod Bounds
-pub mod TextPlans

@@ -1,20 +1,14 @@
 -- A refusal of settings or of words, as the top call answers it.
-use Rattle.std.proofs.Common.{◌≢◌, ℕ, List, refl, subst, inl, inr}
-use Rattle.std.specs.Prelude.{Option, None, Some, Err, Contains}
+use Rattle.std.proofs.Common.{◌≢◌, ℕ, List, subst}
+use Rattle.std.specs.Prelude.{Some, Err, Contains}
 use Rattle.input_output.specs.Source.{Told}
 use Rattle.launch_words.specs.Settings.{Settings}
-use Rattle.launch_run.specs.Inputs.{IsNoLaunchOf}
-use Rattle.launch_run.specs.Launch.{Spelled, untold, refuses, spells, words_spell, inputs_spell, settings_inputs, AnswersSpelled, IfInput, IfTooLong, IsOfTexts, IsToldAs}
-use Rattle.launch_run.specs.Lines.{line_of, status_of}
+use Rattle.launch_reading.specs.Inputs.{IsNoLaunchOf}
+use Rattle.launch_reading.specs.Launch.{Spelled, refuses, inputs_spell, settings_inputs, AnswersSpelled, IfInput, IfTooLong, IsOfTexts, IsToldAs}
+use Rattle.launch_reading.specs.Lines.{line_of, status_of}
 use Rattle.launch_run.specs.TopCall.{IsRefusalOf}
-use Rattle.launch_run.specs.declared.lines.Refusal.{Refusal}
-use Rattle.launch_run.specs.declared.lines.Refusal.TheVariants.{Words, Input, TooLong, Program, Tree, LaunchText, Memory}
-
--- want of memory answers anything
-memory_answers : (spelled : Spelled) → AnswersSpelled spelled (Err Memory)
-memory_answers untold = tt
-memory_answers (refuses status line) = inl refl
-memory_answers (spells launch) = inr refl
+use Rattle.launch_reading.specs.declared.lines.Refusal.{Refusal}
+use Rattle.launch_reading.specs.declared.lines.Refusal.TheVariants.{Words, Input, TooLong, Program, Tree, LaunchText, Memory}
 
 -- settings that were read are not refused for their words
 pub not_words : (names : List (List ℕ)) (spelled : Spelled) (rose : Type 0) (r : Refusal) → IsNoLaunchOf names spelled rose r → r ≢ Words
@@ -61,25 +55,3 @@ module _ (settings : Settings) (told : List ℕ → Told) (rose : Type 0) where
     refused = of_text r h;
     complete = complete;
   }
-
--- the words are refused
-pub words_refused : (told : List ℕ → Told) (rose : Type 0) → IsRefusalOf None told rose Words
-words_refused told rose = record {
-  words_refused = λ is. refl;
-  words_answered = λ none. inl refl;
-  input = tt;
-  too_long = tt;
-  refused = λ text. refl;
-  complete = λ calm. inr (refl, refl);
-}
-
--- memory was wanting while the words were read
-pub words_unread : (given : Option Settings) (told : List ℕ → Told) (rose : Type 0) → IsRefusalOf given told rose Memory
-words_unread given told rose = record {
-  words_refused = λ is. absurd (cc);
-  words_answered = λ none. inr refl;
-  input = tt;
-  too_long = tt;
-  refused = λ text. absurd text;
-  complete = λ calm. memory_answers (words_spell given told);
-}

@@ -9,9 +9,9 @@ use Rattle.run_model.specs.Ends.{Ended}
 use Rattle.run_model.specs.Legal.{Legal}
 use Rattle.run_model.specs.World.{World, world}
 use Rattle.run_model.proofs.Ends.{ended_where}
-use Rattle.launch_run.specs.declared.run.Run.{Run}
+use Rattle.plain_run.specs.declared.run.Run.{Run}
 use Rattle.run_report.specs.Report.{report_of}
-use Rattle.launch_run.specs.Run.{IsBetween, IsLive}
+use Rattle.plain_run.specs.Run.{IsBetween, IsLive}
 use Rattle.launch_run.specs.TopCall.{IsRecordOf, state_of, record_report}
 
 -- the record has the run's launch and history

@@ -10,10 +10,10 @@ use Rattle.run_types.specs.declared.launch.Launch.{Launch}
 use Rattle.abi_base.specs.Grants.{AreGrants}
 use Rattle.run_model.proofs.Confinements.{legal_is_confined}
 use Rattle.launch_words.specs.Settings.{Settings}
-use Rattle.launch_run.specs.Launch.{Spelled, untold, refuses, spells, words_spell, inputs_with, history_with, AnswersSpelled, IsToldAs, IsBuiltBy}
-use Rattle.launch_run.specs.Lines.{words_line, memory_line, status_of}
-use Rattle.launch_run.specs.declared.lines.Refusal.{Refusal}
-use Rattle.launch_run.specs.declared.lines.Refusal.TheVariants.{Words, Input, TooLong, Program, Tree, LaunchText, Memory}
+use Rattle.launch_reading.specs.Launch.{Spelled, untold, refuses, spells, words_spell, inputs_with, history_with, AnswersSpelled, IsToldAs, IsBuiltBy}
+use Rattle.launch_reading.specs.Lines.{words_line, memory_line, status_of}
+use Rattle.launch_reading.specs.declared.lines.Refusal.{Refusal}
+use Rattle.launch_reading.specs.declared.lines.Refusal.TheVariants.{Words, Input, TooLong, Program, Tree, LaunchText, Memory}
 use Rattle.launch_run.specs.declared.top.RunEnd.{RunEnd}
 use Rattle.launch_run.specs.declared.top.RunEnd.TheVariants.{Reported, Unwritten, NoMemory}
 use Rattle.launch_run.specs.declared.top.TopEnd.{TopEnd}
@@ -46,6 +46,24 @@ memory_status Tree is = absurd (cc)
 memory_status (LaunchText fault) is = absurd (cc)
 memory_status Memory is = refl
 
+-- the status of an ended run is 0 or 1
+zero_or_one : (none : Bool) → ◌≡◌ {A = ℕ} (if none then 0 else 1) 0 ⊎ ◌≡◌ {A = ℕ} (if none then 0 else 1) 1
+zero_or_one true = inl refl
+zero_or_one false = inr refl
+
+status_is_small : (status : Option Status) → (status_number status ≡ 0) ⊎ (status_number status ≡ 1)
+status_is_small None = inr refl
+status_is_small (Some Live) = inr refl
+status_is_small (Some (Exit code)) = zero_or_one (code == 0)
+status_is_small (Some (Killed signal)) = inr refl
+
+not_01 : (n : ℕ) → 1 < n → (n ≡ 0) ⊎ (n ≡ 1) → ⊥
+not_01 n more (inl is) = omega arith
+not_01 n more (inr is) = omega arith
+
+no_ended : (n : ℕ) → 1 < n → (status : Option Status) → status_number status ≡ n → ⊥
+no_ended n more status is = not_01 n more (subst (λ (m : ℕ). (m ≡ 0) ⊎ (m ≡ 1)) is (status_is_small status))
+
 module _ (given : Option Settings) (told : List ℕ → Told) (rose : Type 0) (before after : Option (List ℕ)) (sink_rose : Type 0) where
   run_kept : (end : RunEnd) → IsRunOf given told rose before after sink_rose end →
       IfSome (finished_run end).kept (IsKept given (words_spell given told))
@@ -60,29 +78,6 @@ module _ (given : Option Settings) (told : List ℕ → Told) (rose : Type 0) (b
   top_kept (Refused refusal) o = tt
   top_kept (Ran end) o = run_kept end o
 
-  -- the status of an ended run is 0 or 1
-  zero_or_one : (none : Bool) → ◌≡◌ {A = ℕ} (if none then 0 else 1) 66 → ⊥
-  zero_or_one true is = omega arith
-  zero_or_one false is = omega arith
-
-  not_67 : (none : Bool) → ◌≡◌ {A = ℕ} (if none then 0 else 1) 67 → ⊥
-  not_67 true is = omega arith
-  not_67 false is = omega arith
-
-  not_70 : (none : Bool) → ◌≡◌ {A = ℕ} (if none then 0 else 1) 70 → ⊥
-  not_70 true is = omega arith
-  not_70 false is = omega arith
-
-  not_69 : (none : Bool) → ◌≡◌ {A = ℕ} (if none then 0 else 1) 69 → ⊥
-  not_69 true is = omega arith
-  not_69 false is = omega arith
-
-  no_input_status : (status : Option Status) → status_number status ≡ 66 → ⊥
-  no_input_status None is = omega arith
-  no_input_status (Some Live) is = omega arith
-  no_input_status (Some (Exit code)) is = zero_or_one (code == 0) is
-  no_input_status (Some (Killed signal)) is = omega arith
-
   pub top_input : (end : TopEnd) → IsTopEnd given told rose before after sink_rose end → (finished_of end).status ≡ 66 →
       IsInputRefused (inputs_with given) (words_spell given told) rose (Wrote before after sink_rose)
   top_input (Refused Words) o is = absurd (omega arith)
@@ -92,15 +87,9 @@ module _ (given : Option Settings) (told : List ℕ → Told) (rose : Type 0) (b
   top_input (Refused Tree) o is = absurd (omega arith)
   top_input (Refused (LaunchText fault)) o is = absurd (omega arith)
   top_input (Refused Memory) o is = absurd (omega arith)
-  top_input (Ran (Reported r status)) o is = absurd (no_input_status status is)
+  top_input (Ran (Reported r status)) o is = absurd (no_ended 66 (omega arith) status is)
   top_input (Ran (Unwritten r)) o is = absurd (omega arith)
   top_input (Ran (NoMemory r)) o is = absurd (omega arith)
-
-  no_program_status : (status : Option Status) → status_number status ≡ 67 → ⊥
-  no_program_status None is = omega arith
-  no_program_status (Some Live) is = omega arith
-  no_program_status (Some (Exit code)) is = not_67 (code == 0) is
-  no_program_status (Some (Killed signal)) is = omega arith
 
   pub top_program : (end : TopEnd) → IsTopEnd given told rose before after sink_rose end → (finished_of end).status ≡ 67 →
       IsProgramRefused (words_spell given told) (Wrote before after sink_rose)
@@ -111,19 +100,9 @@ module _ (given : Option Settings) (told : List ℕ → Told) (rose : Type 0) (b
   top_program (Refused Tree) o is = absurd (omega arith)
   top_program (Refused (LaunchText fault)) o is = absurd (omega arith)
   top_program (Refused Memory) o is = absurd (omega arith)
-  top_program (Ran (Reported r status)) o is = absurd (no_program_status status is)
+  top_program (Ran (Reported r status)) o is = absurd (no_ended 67 (omega arith) status is)
   top_program (Ran (Unwritten r)) o is = absurd (omega arith)
   top_program (Ran (NoMemory r)) o is = absurd (omega arith)
-
-  not_65 : (none : Bool) → ◌≡◌ {A = ℕ} (if none then 0 else 1) 65 → ⊥
-  not_65 true is = omega arith
-  not_65 false is = omega arith
-
-  no_text_status : (status : Option Status) → status_number status ≡ 65 → ⊥
-  no_text_status None is = omega arith
-  no_text_status (Some Live) is = omega arith
-  no_text_status (Some (Exit code)) is = not_65 (code == 0) is
-  no_text_status (Some (Killed signal)) is = omega arith
 
   pub top_text : (end : TopEnd) → IsTopEnd given told rose before after sink_rose end → (finished_of end).status ≡ 65 →
       IsTextRefused (words_spell given told) (Wrote before after sink_rose)
@@ -134,19 +113,9 @@ module _ (given : Option Settings) (told : List ℕ → Told) (rose : Type 0) (b
   top_text (Refused Tree) o is = absurd (omega arith)
   top_text (Refused (LaunchText fault)) o is = (fault, o.0.refused tt, o.1)
   top_text (Refused Memory) o is = absurd (omega arith)
-  top_text (Ran (Reported r status)) o is = absurd (no_text_status status is)
+  top_text (Ran (Reported r status)) o is = absurd (no_ended 65 (omega arith) status is)
   top_text (Ran (Unwritten r)) o is = absurd (omega arith)
   top_text (Ran (NoMemory r)) o is = absurd (omega arith)
-
-  not_68 : (none : Bool) → ◌≡◌ {A = ℕ} (if none then 0 else 1) 68 → ⊥
-  not_68 true is = omega arith
-  not_68 false is = omega arith
-
-  no_tree_status : (status : Option Status) → status_number status ≡ 68 → ⊥
-  no_tree_status None is = omega arith
-  no_tree_status (Some Live) is = omega arith
-  no_tree_status (Some (Exit code)) is = not_68 (code == 0) is
-  no_tree_status (Some (Killed signal)) is = omega arith
 
   pub top_tree : (end : TopEnd) → IsTopEnd given told rose before after sink_rose end → (finished_of end).status ≡ 68 →
       IsTreeRefused (words_spell given told) (Wrote before after sink_rose)
@@ -157,21 +126,11 @@ module _ (given : Option Settings) (told : List ℕ → Told) (rose : Type 0) (b
   top_tree (Refused Tree) o is = (o.0.refused tt, o.1)
   top_tree (Refused (LaunchText fault)) o is = absurd (omega arith)
   top_tree (Refused Memory) o is = absurd (omega arith)
-  top_tree (Ran (Reported r status)) o is = absurd (no_tree_status status is)
+  top_tree (Ran (Reported r status)) o is = absurd (no_ended 68 (omega arith) status is)
   top_tree (Ran (Unwritten r)) o is = absurd (omega arith)
   top_tree (Ran (NoMemory r)) o is = absurd (omega arith)
 
   -- ---- the words
-
-  not_2 : (none : Bool) → ◌≡◌ {A = ℕ} (if none then 0 else 1) 2 → ⊥
-  not_2 true is = omega arith
-  not_2 false is = omega arith
-
-  no_words_status : (status : Option Status) → status_number status ≡ 2 → ⊥
-  no_words_status None is = omega arith
-  no_words_status (Some Live) is = omega arith
-  no_words_status (Some (Exit code)) is = not_2 (code == 0) is
-  no_words_status (Some (Killed signal)) is = omega arith
 
   -- what the status 2 says
   pub record HasRefusedWords : Type 0 where
@@ -186,7 +145,7 @@ module _ (given : Option Settings) (told : List ℕ → Told) (rose : Type 0) (b
   top_words (Refused Tree) o is = absurd (omega arith)
   top_words (Refused (LaunchText fault)) o is = absurd (omega arith)
   top_words (Refused Memory) o is = absurd (omega arith)
-  top_words (Ran (Reported r status)) o is = absurd (no_words_status status is)
+  top_words (Ran (Reported r status)) o is = absurd (no_ended 2 (omega arith) status is)
   top_words (Ran (Unwritten r)) o is = absurd (omega arith)
   top_words (Ran (NoMemory r)) o is = absurd (omega arith)
 
@@ -208,12 +167,6 @@ module _ (given : Option Settings) (told : List ℕ → Told) (rose : Type 0) (b
   some_entries r true e = tt
   some_entries r false e = λ empty. absurd (cc (ap (λ (xs : List Entry). length xs == 0) empty, e))
 
-  no_memory_status : (status : Option Status) → status_number status ≡ 70 → ⊥
-  no_memory_status None is = omega arith
-  no_memory_status (Some Live) is = omega arith
-  no_memory_status (Some (Exit code)) is = not_70 (code == 0) is
-  no_memory_status (Some (Killed signal)) is = omega arith
-
   pub top_memory : (end : TopEnd) → IsTopEnd given told rose before after sink_rose end → (finished_of end).status ≡ 70 →
       Wrote before after sink_rose memory_line × IfSome (finished_of end).kept (λ r. r.history ≢ [])
   top_memory (Refused Words) o is = absurd (omega arith)
@@ -223,16 +176,12 @@ module _ (given : Option Settings) (told : List ℕ → Told) (rose : Type 0) (b
   top_memory (Refused Tree) o is = absurd (omega arith)
   top_memory (Refused (LaunchText fault)) o is = absurd (omega arith)
   top_memory (Refused Memory) o is = (o.1, tt)
-  top_memory (Ran (Reported r status)) o is = absurd (no_memory_status status is)
+  top_memory (Ran (Reported r status)) o is = absurd (no_ended 70 (omega arith) status is)
   top_memory (Ran (Unwritten r)) o is = absurd (omega arith)
   top_memory (Ran (NoMemory None)) o is = (o.end_told.1, tt)
   top_memory (Ran (NoMemory (Some r))) o is = (o.end_told.1, some_entries r (length r.history == 0) refl)
 
   -- ---- a report
-
-  not_01 : (n : ℕ) → 1 < n → (n ≡ 0) ⊎ (n ≡ 1) → ⊥
-  not_01 n more (inl is) = omega arith
-  not_01 n more (inr is) = omega arith
 
   pub top_ended : (end : TopEnd) → IsTopEnd given told rose before after sink_rose end → ((finished_of end).status ≡ 0) ⊎ ((finished_of end).status ≡ 1) →
       IsSomeAnd (finished_of end).kept (HasReported (history_with given) before after (finished_of end).status)
@@ -248,12 +197,6 @@ module _ (given : Option Settings) (told : List ℕ → Told) (rose : Type 0) (b
   top_ended (Ran (Unwritten r)) o is = absurd (not_01 69 (omega arith) is)
   top_ended (Ran (NoMemory r)) o is = absurd (not_01 70 (omega arith) is)
 
-  no_unwritten_status : (status : Option Status) → status_number status ≡ 69 → ⊥
-  no_unwritten_status None is = omega arith
-  no_unwritten_status (Some Live) is = omega arith
-  no_unwritten_status (Some (Exit code)) is = not_69 (code == 0) is
-  no_unwritten_status (Some (Killed signal)) is = omega arith
-
   pub top_unwritten : (end : TopEnd) → IsTopEnd given told rose before after sink_rose end → (finished_of end).status ≡ 69 →
       sink_rose × IsSomeAnd (finished_of end).kept (HasFailed (history_with given) before after)
   top_unwritten (Refused Words) o is = absurd (omega arith)
@@ -263,7 +206,7 @@ module _ (given : Option Settings) (told : List ℕ → Told) (rose : Type 0) (b
   top_unwritten (Refused Tree) o is = absurd (omega arith)
   top_unwritten (Refused (LaunchText fault)) o is = absurd (omega arith)
   top_unwritten (Refused Memory) o is = absurd (omega arith)
-  top_unwritten (Ran (Reported r status)) o is = absurd (no_unwritten_status status is)
+  top_unwritten (Ran (Reported r status)) o is = absurd (no_ended 69 (omega arith) status is)
   top_unwritten (Ran (Unwritten r)) o is = (o.end_told.2, record { ended = o.end_told.1; prefix = o.end_told.3 })
   top_unwritten (Ran (NoMemory r)) o is = absurd (omega arith)
 
@@ -276,16 +219,6 @@ module _ (given : Option Settings) (told : List ℕ → Told) (rose : Type 0) (b
   completes_refused (refuses status line) refusal (inr is) = inl is.0
   completes_refused (spells launch) refusal (inl is) = absurd (cc)
   completes_refused (spells launch) refusal (inr memory) = λ calm. inr (inr (memory_status refusal memory))
-
-  zero_or_one_is : (none : Bool) → ◌≡◌ {A = ℕ} (if none then 0 else 1) 0 ⊎ ◌≡◌ {A = ℕ} (if none then 0 else 1) 1
-  zero_or_one_is true = inl refl
-  zero_or_one_is false = inr refl
-
-  status_is_small : (status : Option Status) → (status_number status ≡ 0) ⊎ (status_number status ≡ 1)
-  status_is_small None = inr refl
-  status_is_small (Some Live) = inr refl
-  status_is_small (Some (Exit code)) = zero_or_one_is (code == 0)
-  status_is_small (Some (Killed signal)) = inr refl
 
   -- how a run may end where the sink's count did not rise
   calm_end : (launch : Launch) (end : RunEnd) → IsToldEnd launch (history_with given) before after sink_rose end → ¬ sink_rose

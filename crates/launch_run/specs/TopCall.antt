@@ -16,13 +16,13 @@ use Rattle.run_model.specs.Ends.{Ended}
 use Rattle.run_model.specs.Legal.{Legal}
 use Rattle.run_model.specs.World.{world}
 use Rattle.launch_words.specs.Settings.{Settings}
-use Rattle.launch_run.specs.Launch.{Spelled, untold, refuses, spells, words_spell, inputs_with, history_with, IsToldAs, IsBuiltBy, IfInput, IfTooLong, IsOfTexts, AnswersSpelled}
+use Rattle.launch_reading.specs.Launch.{Spelled, untold, refuses, spells, words_spell, inputs_with, history_with, IsToldAs, IsBuiltBy, IfInput, IfTooLong, IsOfTexts, AnswersSpelled}
 use Rattle.elf_image.specs.declared.fault.ElfFault.{ElfFault}
-use Rattle.launch_run.specs.Lines.{line_of, status_of, memory_line, input_line, program_line, tree_line, launch_line, too_long_line}
+use Rattle.launch_reading.specs.Lines.{line_of, status_of, memory_line, input_line, program_line, tree_line, launch_line, too_long_line}
 use Rattle.run_report.specs.Report.{report_of}
-use Rattle.launch_run.specs.declared.launch_text.LaunchFault.{LaunchFault}
-use Rattle.launch_run.specs.declared.lines.Refusal.{Refusal}
-use Rattle.launch_run.specs.declared.lines.Refusal.TheVariants.{Words, Memory}
+use Rattle.launch_reading.specs.declared.launch_text.LaunchFault.{LaunchFault}
+use Rattle.launch_reading.specs.declared.lines.Refusal.{Refusal}
+use Rattle.launch_reading.specs.declared.lines.Refusal.TheVariants.{Words, Memory}
 use Rattle.launch_run.specs.declared.top.Finished.{Finished}
 use Rattle.launch_run.specs.declared.top.RunEnd.{RunEnd}
 use Rattle.launch_run.specs.declared.top.RunEnd.TheVariants.{Reported, Unwritten, NoMemory}

@@ -4,24 +4,21 @@ ghost use Rattle.input_output.specs.Source.{Rose};
 ghost use Rattle.launch_words.specs.Settings.{IsWithin, view};
 ghost use Rattle.launch_words.specs.Words.{words_of};
 ghost use Rattle.run_report.specs.Report.{report_of};
-ghost use Rattle.launch_run.specs.Launch.{launch_of, inputs_of, settings_inputs, asks_history};
-ghost use Rattle.launch_run.specs.Lines.{line_of, words_line, memory_line};
-ghost use Rattle.launch_run.specs.Run.{IsBounded, IsBetween, IsLive};
+ghost use Rattle.launch_reading.specs.Launch.{launch_of, inputs_of, settings_inputs, asks_history};
+ghost use Rattle.launch_reading.specs.Lines.{line_of, words_line, memory_line};
+ghost use Rattle.call_codec.specs.Bounded.{IsBounded};
+ghost use Rattle.plain_run.specs.Run.{IsBetween, IsLive};
 ghost use Rattle.launch_run.specs.TopCall.{Wrote, IsEndOf, IsToldEnd, TellsEnd, IsTopEnd, IsTopStatus, IsInputRefused, IsProgramRefused, IsTreeRefused, IsTextRefused, HasReported, HasFailed, IsKept, Completes, status_number, kept_of, finished_run, finished_of};
 ghost use Rattle.launch_run.specs.declared.top.TopEnd.TheVariants.{Refused};
 
-use crate::inputs::read_launch;
-use crate::lines::Refusal;
-use crate::run::Run;
-use abi_types::{Pid, Status};
+use abi_types::Status;
 use input_output::{Sink, Source, write_whole};
+use launch_reading::{Refusal, read_launch};
 use launch_words::{LaunchWords, WordsFault, read_words};
+use plain_run::{FIRST, Run};
 use run_report::report;
 use run_types::{Launch, Record};
 use std::alloc::Global;
-
-/// The launched process.
-const FIRST: Pid = Pid(0);
 
 /// What the top call answers: the exit status, and the record of the run, where one is kept.
 #[derive(Drop)]
@@ -41,7 +38,7 @@ pub enum RunEnd {
     NoMemory(Option<Record>),
 }
 
-/// The exit status for process 0's status: 0 where it exited with 0, else 1.
+// The exit status for process 0's status: 0 where it exited with 0, else 1.
 fn status_number(status: Option<Status>) -> u8
     ensures { result ≡ status_number status }
 {
@@ -51,7 +48,7 @@ fn status_number(status: Option<Status>) -> u8
     }
 }
 
-/// Writes the report of a run that has ended.
+// Writes the report of a run that has ended.
 fn write_report<K: Sink>(run: Run, lines: bool, text: &[u8], sink: &mut K) -> RunEnd
     requires between { IsBetween run }
     requires ended { ¬ IsLive run }
@@ -68,7 +65,7 @@ fn write_report<K: Sink>(run: Run, lines: bool, text: &[u8], sink: &mut K) -> Ru
     }
 }
 
-/// Runs a launch to its end, and writes its report.
+// Runs a launch to its end, and writes its report.
 fn run_launched<K: Sink>(alloc: Global, launch: Launch, lines: bool, sink: &mut K) -> RunEnd
     requires { IsBounded launch }
     ensures faults_never_fall { K.faults sink.old ≤ K.faults sink.new }
@@ -86,7 +83,7 @@ fn run_launched<K: Sink>(alloc: Global, launch: Launch, lines: bool, sink: &mut 
     }
 }
 
-/// Says that memory was wanting, where it was. A fault of the sink changes nothing of the end.
+// Says that memory was wanting, where it was. A fault of the sink changes nothing of the end.
 fn tell_end<K: Sink>(end: &RunEnd, sink: &mut K)
     ensures faults_never_fall { K.faults sink.old ≤ K.faults sink.new }
     ensures told { TellsEnd (K.written sink.old) (K.written sink.new) (Rose (K.faults sink.old) (K.faults sink.new)) end.now }
@@ -97,7 +94,7 @@ fn tell_end<K: Sink>(end: &RunEnd, sink: &mut K)
     }
 }
 
-/// Writes a refusal's line. A fault of the sink changes nothing of the status.
+// Writes a refusal's line. A fault of the sink changes nothing of the status.
 fn refuse<K: Sink>(refusal: &Refusal<'_>, sink: &mut K)
     ensures faults_never_fall { K.faults sink.old ≤ K.faults sink.new }
     ensures wrote { Wrote (K.written sink.old) (K.written sink.new) (Rose (K.faults sink.old) (K.faults sink.new)) (line_of refusal.now) }
@@ -105,7 +102,7 @@ fn refuse<K: Sink>(refusal: &Refusal<'_>, sink: &mut K)
     let _ = refusal.write_line(sink);
 }
 
-/// Runs a launch to its end, and writes its report, or the line for want of memory.
+// Runs a launch to its end, and writes its report, or the line for want of memory.
 fn run_told<K: Sink>(alloc: Global, launch: Launch, lines: bool, sink: &mut K) -> RunEnd
     requires { IsBounded launch }
     ensures faults_never_fall { K.faults sink.old ≤ K.faults sink.new }
@@ -125,7 +122,7 @@ pub enum TopEnd<'a> {
     Ran(RunEnd),
 }
 
-/// A refusal, with its line written.
+// A refusal, with its line written.
 fn refused<'a, K: Sink>(refusal: Refusal<'a>, sink: &mut K) -> TopEnd<'a>
     ensures end { result ≡ Refused refusal.entry }
     ensures faults_never_fall { K.faults sink.old ≤ K.faults sink.new }
@@ -135,7 +132,7 @@ fn refused<'a, K: Sink>(refusal: Refusal<'a>, sink: &mut K) -> TopEnd<'a>
     TopEnd::Refused(refusal)
 }
 
-/// Reads the launch of these settings, runs it, and writes its report, or the line of a refusal.
+// Reads the launch of these settings, runs it, and writes its report, or the line of a refusal.
 fn run_settings<'a, S: Source, K: Sink>(
     alloc: Global,
     settings: &LaunchWords<'a>,
@@ -155,7 +152,7 @@ fn run_settings<'a, S: Source, K: Sink>(
     }
 }
 
-/// Reads the words and their launch, runs it, and writes its report, or the line of a refusal.
+// Reads the words and their launch, runs it, and writes its report, or the line of a refusal.
 fn launch_and_run<'a, S: Source, K: Sink>(
     alloc: Global,
     words: &'a [String],
@@ -176,7 +173,7 @@ fn launch_and_run<'a, S: Source, K: Sink>(
     }
 }
 
-/// The record of a run that had an entry.
+// The record of a run that had an entry.
 fn kept_of(kept: Option<Record>) -> Option<Record>
     ensures { result ≡ kept_of kept }
 {
@@ -192,7 +189,7 @@ fn kept_of(kept: Option<Record>) -> Option<Record>
     }
 }
 
-/// What the call answers for the end of a run.
+// What the call answers for the end of a run.
 fn finished_run(end: RunEnd) -> Finished
     ensures { result ≡ finished_run end }
 {
@@ -212,7 +209,7 @@ fn finished_run(end: RunEnd) -> Finished
     }
 }
 
-/// What the call answers.
+// What the call answers.
 fn finish(end: TopEnd<'_>) -> Finished
     ensures { result ≡ finished_of end.entry }
 {
@@ -273,6 +270,3 @@ pub fn run_launch<S: Source, K: Sink>(
 {
     finish(launch_and_run(alloc, words, source, sink))
 }
-
-#[cfg(test)]
-mod tests;

@@ -24,9 +24,6 @@ rules = map option_rule option_names ++ history_rule ∷ program_rule ∷ []
 abbrev pub shape : Shape
 shape = (built launch_app).top
 
-rules_are : shape.rules ≡ rules
-rules_are = refl
-
 -- the word is the name of an option
 abbrev pub IsName : Word → Type 0
 IsName name = find (λ option. bytes_eq option name) option_names ≡ Some name

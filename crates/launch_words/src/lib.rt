@@ -8,7 +8,5 @@ pub use words::{WordsFault, read_words};
 mod command;
 mod laws;
 mod settings;
-#[cfg(test)]
-mod tests;
 mod values;
 mod words;

@@ -10,7 +10,7 @@ use crate::values::{file_name, key, number_within};
 use clap::ArgMatches;
 
 /// The settings that the words of a run spell.
-#[derive(Clone, Copy, Debug, PartialEq, Eq)]
+#[derive(Clone, Copy, PartialEq)]
 pub struct LaunchWords<'a> {
     /// The name of the program's file; neither empty nor `-`.
     pub program: &'a str,

@@ -3,7 +3,7 @@ use Rattle.std.proofs.Common.{◌≡◌, ℕ, suc, ◌+◌, ◌-◌, ◌==◌, �
 use Rattle.std.proofs.Math.Seq.{drop-append_seam, take-length}
 use Rattle.std.proofs.lemmas.List.{drop-take, drop-drop, length-take-le, length-drop}
 use Rattle.std.specs.Prelude.{if◌then◌else◌}
-use Rattle.yaml_values.specs.Spaces.{after_spaces, unless_comment, after_gap}
+use Rattle.yaml_scalars.specs.Spaces.{after_spaces, unless_comment, after_gap}
 use Rattle.launch_yaml.specs.Views.{IsEndOf}
 
 -- the rest of a part of a text, by its places in the text

@@ -2,9 +2,9 @@
 use Rattle.std.specs.Prelude.{ℕ, suc, ◌≡◌, ◌+◌, ◌<◌, ◌≤◌, true, false, List, [], ◌∷◌, Option, Some, None, refl}
 use Rattle.std.proofs.Common.{sym, ◌∙◌, ap, add-one, arith}
 use Rattle.std.proofs.lemmas.Bool.{le-ltb, lt-ltb, ne_eqb}
-use Rattle.yaml_values.specs.declared.kind.YamlKind.{YamlKind}
-use Rattle.yaml_values.specs.declared.kind.YamlKind.TheVariants as kinds
-use Rattle.yaml_values.specs.Characters.{bad_at}
+use Rattle.yaml_scalars.specs.declared.kind.YamlKind.{YamlKind}
+use Rattle.yaml_scalars.specs.declared.kind.YamlKind.TheVariants as kinds
+use Rattle.yaml_scalars.specs.Characters.{bad_at}
 use Rattle.launch_yaml.specs.declared.fault.Fault.{Fault}
 use Rattle.launch_yaml.specs.Faults.{comes_before, first_of, first_fault}
 use Rattle.launch_yaml.specs.Lines.{tab_at, or_further, first_line, plain_fault_in, plain_faults_from}

@@ -2,7 +2,6 @@ pub mod SoundRows
 pub mod FirstFaults
 pub mod KeptRows
 pub mod Pieces
-pub mod Within
 pub mod Ends
 pub mod Refusals
 pub mod Splits

@@ -1,20 +1,19 @@
 -- Entries that are read one after the other, as a loop does.
-use Rattle.std.proofs.Common.{◌≡◌, ℕ, suc, List, [], ◌∷◌, ◌++◌, drop, map, Bool, true, false, cond, Option, Some, None, Result, Ok, Err, refl, sym, ap, ◌∙◌, append_assoc, ◌+◌, arith}
-use Rattle.std.proofs.lemmas.List.{append-nil, map-append}
+use Rattle.std.proofs.Common.{◌≡◌, ℕ, suc, List, [], ◌∷◌, ◌++◌, drop, Bool, true, false, cond, Option, Some, None, Result, Ok, Err, refl, sym, ap, ◌∙◌, append_assoc, ◌+◌, arith}
+use Rattle.std.proofs.lemmas.List.{append-nil}
 use Rattle.std.specs.Prelude.{◌||◌, not, ◌==◌, if◌then◌else◌, is_some}
 use Rattle.std.specs.List.{take_while, prefix_len, list_any}
 use Rattle.yaml_values.specs.Shape.{Shape, Content, node, content_of}
 use Rattle.yaml_values.specs.Keys.{same_key}
-use Rattle.yaml_values.specs.declared.kind.YamlKind.TheVariants as kinds
+use Rattle.yaml_scalars.specs.declared.kind.YamlKind.TheVariants as kinds
 use Rattle.launch_yaml.specs.declared.fault.Fault.{Fault}
-use Rattle.launch_yaml.specs.declared.fault.Refusal.{Refusal}
-use Rattle.launch_yaml.specs.declared.fault.Refusal.TheVariants.{At, Memory}
 use Rattle.launch_yaml.specs.declared.line.Line.{Line}
-use Rattle.launch_yaml.specs.Faults.{◌>>=◌}
+use Rattle.refusals.specs.Results.{◌>>=◌}
+use Rattle.refusals.proofs.Steps.{bind_alike}
 use Rattle.launch_yaml.specs.Rows.{Row, at_row, begins_key, behind_key}
 use Rattle.launch_yaml.specs.Entries.{Entry, after_while, belongs, entries_after, never, is_key_awaiting, map_entries, sequence_entries}
 use Rattle.launch_yaml.specs.Blocks.{Block, items_of, pairs_of, pair_of, key_of, new_key_of, key_at, no_entry, wrong_key, value_of_entry}
-use Rattle.launch_yaml.specs.Views.{row, rows, lines_from, Refuses}
+use Rattle.launch_yaml.specs.Views.{row, rows, lines_from}
 
 -- what was read before, and what is still read
 abbrev pub with_front : {A : Type 0} → List A → Result (List A) Fault → Result (List A) Fault
@@ -52,10 +51,6 @@ map_more column r rs =
 regroup : {A : Type 0} (front : List A) (x : A) (read : Result (List A) Fault) → with_front front (read >>= λ xs. Ok (x ∷ xs)) ≡ with_front (front ++ x ∷ []) read
 regroup front x (Err e) = refl
 regroup {A = A} front x (Ok xs) = let whole : List A → Result (List A) Fault = λ ys. Ok ys in ap whole (sym (append_assoc front (x ∷ []) xs))
-
-bind_alike : {A B : Type 0} (r : Result A Fault) (f g : A → Result B Fault) → ((x : A) → f x ≡ g x) → (r >>= f) ≡ (r >>= g)
-bind_alike (Err e) f g h = refl
-bind_alike (Ok x) f g h = h x
 
 -- ---- items
 
@@ -237,12 +232,3 @@ pub value_fails : (block : Block) (depth column : ℕ) (is_root : Bool) (keys : 
 value_fails block depth column is_root keys e key f first second =
     ap (λ (read : Result Content Fault). read >>= λ key. value_of_entry block depth e >>= λ v. Ok (node e.first.number None key, v)) first
     ∙ ap (λ (read : Result Shape Fault). read >>= λ v. Ok (node e.first.number None key, v)) second
-
--- ---- what is refused
-
-pub refused : {Y W : Type 0} (e : Refusal) (read : Result Y Fault) (all : Result W Fault) → ((f : Fault) → read ≡ Err f → all ≡ Err f) → Refuses e read → Refuses e all
-refused Memory read all h r = tt
-refused (At f) read all h r = h f r
-
-pub map_push : {A B : Type 0} (f : A → B) (new old : List A) (x : A) → new ≡ old ++ x ∷ [] → map f new ≡ map f old ++ f x ∷ []
-map_push f new old x h = ap (map f) h ∙ map-append f old (x ∷ [])

@@ -2,22 +2,24 @@
 use Rattle.std.proofs.Common.{ℕ, zero, suc, ◌≤◌, ◌==◌, not, Bool, true, false, if◌then◌else◌, List, [], ◌∷◌, drop, codes, Option, Some, None, is_some, Result, Ok, Err, subst, arith}
 use Rattle.std.specs.Prelude.{IfOk}
 use Rattle.std.specs.List.{list_any, take_while}
-use Rattle.yaml_values.specs.declared.kind.YamlKind.TheVariants as kinds
-use Rattle.yaml_values.specs.declared.fault.LineFault.{LineFault}
+use Rattle.yaml_scalars.specs.declared.kind.YamlKind.TheVariants as kinds
+use Rattle.yaml_scalars.specs.declared.fault.LineFault.{LineFault}
 use Rattle.yaml_values.specs.declared.mode.Mode.TheVariants as modes
 use Rattle.yaml_values.specs.Shape.{Shape, Content, node, mapping, sequence, of_list, of_pairs, content_of, depth_of_items, depth_of_pairs}
-use Rattle.yaml_values.specs.Spaces.{begins_with, begins_with_one_of, after_gap}
+use Rattle.yaml_scalars.specs.Spaces.{begins_with, begins_with_one_of, after_gap}
 use Rattle.yaml_values.specs.Resolution.{scalar_value}
 use Rattle.yaml_values.specs.Keys.{same_key}
 use Rattle.yaml_values.specs.Flow.{value_at}
 use Rattle.yaml_values.specs.Documents.{AreSoundItems, AreSoundPairs, IsDocument}
-use Rattle.yaml_values.proofs.SoundValues.{on_both, IsWithin, IsNodeWithin, ValueRead, line_within, scalar_within}
+use Rattle.yaml_values.proofs.SoundValues.{IsWithin, IsNodeWithin, ValueRead, line_within, scalar_within}
 use Rattle.yaml_values.specs.Views.{shape_of}
 use Rattle.launch_yaml.specs.declared.document.Doc.{Doc}
 use Rattle.launch_yaml.specs.declared.document.YamlFault.{YamlFault}
 use Rattle.launch_yaml.specs.Parsing.{Parses}
 use Rattle.launch_yaml.specs.declared.fault.Fault.{Fault}
-use Rattle.launch_yaml.specs.Faults.{◌>>=◌, unless, beside}
+use Rattle.refusals.specs.Results.{◌>>=◌}
+use Rattle.refusals.proofs.Steps.{on_both, on_bind, on_any}
+use Rattle.launch_yaml.specs.Faults.{unless, beside}
 use Rattle.launch_yaml.specs.Rows.{Row, rows_from, is_dash, begins_key, behind_key, at_row, in_row, from, is_start, is_directive}
 use Rattle.launch_yaml.specs.Entries.{Entry, map_entries, sequence_entries, after_while}
 use Rattle.launch_yaml.specs.Blocks.{Tagging, untagged, tagged, in_base64, mode_of, node_of, absent, unless_binary, second_tag, text_behind, rows_behind, alone, in_one_line, tag_place, wrong_in, behind_one_tag, Block, begins_block, tagged_rows, on_following, behind_tag, tagging_at, in_line, node_with, below, no_entry, behind_dash, item_of, items_of, key_of, value_of, after_gap_of, wrong_key, new_key, new_key_of, key_at, value_of_entry, pair_of, pairs_of, too_deep, deepest, items_at, pairs_at, block_at, node_at}
@@ -25,14 +27,6 @@ use Rattle.launch_yaml.specs.Lines.{lines, plain_fault}
 use Rattle.launch_yaml.specs.Document.{end_at, after_document, is_right_of, root_of, no_marker, body_of, after_directive, document_of, parse_at}
 
 -- ---- results
-
-on_bind : {A B : Type 0} (P : A → Type 0) (Q : B → Type 0) (r : Result A Fault) (f : A → Result B Fault) → IfOk r P → ((x : A) → P x → IfOk (f x) Q) → IfOk (r >>= f) Q
-on_bind P Q (Ok x) f h k = k x h
-on_bind P Q (Err e) f h k = tt
-
-on_any : {A B : Type 0} (Q : B → Type 0) (r : Result A Fault) (f : A → Result B Fault) → ((x : A) → IfOk (f x) Q) → IfOk (r >>= f) Q
-on_any Q (Ok x) f k = k x
-on_any Q (Err e) f k = tt
 
 on_unless : {A : Type 0} (P : A → Type 0) (e : Option Fault) (r : Result A Fault) → IfOk r P → IfOk (unless e r) P
 on_unless P None r h = h

@@ -1,19 +1,20 @@
 -- Values that stand on rows.
 use Rattle.std.specs.Prelude.{ℕ, zero, suc, ◌==◌, ◌&&◌, ◌||◌, not, if◌then◌else◌, Bool, false, List, [], ◌∷◌, length, drop, codes, Option, Some, None, is_some, Result, Ok, Err}
-use Rattle.yaml_values.specs.declared.kind.YamlKind.{YamlKind}
-use Rattle.yaml_values.specs.declared.kind.YamlKind.TheVariants as kinds
+use Rattle.yaml_scalars.specs.declared.kind.YamlKind.{YamlKind}
+use Rattle.yaml_scalars.specs.declared.kind.YamlKind.TheVariants as kinds
 use Rattle.yaml_values.specs.declared.mode.Mode.{Mode}
 use Rattle.yaml_values.specs.declared.mode.Mode.TheVariants as modes
 use Rattle.yaml_values.specs.Shape.{Shape, Content, node, null, mapping, sequence, of_list, of_pairs, content_of}
-use Rattle.yaml_values.specs.Spaces.{begins_with, begins_with_one_of, after_gap}
-use Rattle.yaml_values.specs.Plain.{wrong_beginning}
+use Rattle.yaml_scalars.specs.Spaces.{begins_with, begins_with_one_of, after_gap}
+use Rattle.yaml_scalars.specs.Plain.{wrong_beginning}
 use Rattle.yaml_values.specs.Resolution.{scalar_value}
 use Rattle.yaml_values.specs.Tags.{Tag, named, bytes_in_base64, tag_at}
 use Rattle.yaml_values.specs.Keys.{same_key}
 use Rattle.yaml_values.specs.Flow.{value_at}
 use Rattle.std.specs.List.{list_any}
 use Rattle.launch_yaml.specs.declared.fault.Fault.{Fault}
-use Rattle.launch_yaml.specs.Faults.{◌>>=◌, unless, first_of}
+use Rattle.refusals.specs.Results.{◌>>=◌}
+use Rattle.launch_yaml.specs.Faults.{unless, first_of}
 use Rattle.launch_yaml.specs.Rows.{Row, is_dash, begins_key, behind_key, behind_colon, at_row, place_in, in_row, from}
 use Rattle.launch_yaml.specs.Entries.{Entry, map_entries, sequence_entries}
 

@@ -1,10 +1,11 @@
 -- Documents.
 use Rattle.std.specs.Prelude.{ℕ, ◌||◌, not, if◌then◌else◌, nat_le, Bool, true, List, [], ◌∷◌, Option, Some, None, Result, Ok}
 use Rattle.std.specs.List.{take_while}
-use Rattle.yaml_values.specs.declared.kind.YamlKind.TheVariants as kinds
+use Rattle.yaml_scalars.specs.declared.kind.YamlKind.TheVariants as kinds
 use Rattle.yaml_values.specs.Shape.{Shape, node, null}
 use Rattle.launch_yaml.specs.declared.fault.Fault.{Fault}
-use Rattle.launch_yaml.specs.Faults.{◌>>=◌, unless, beside}
+use Rattle.refusals.specs.Results.{◌>>=◌}
+use Rattle.launch_yaml.specs.Faults.{unless, beside}
 use Rattle.launch_yaml.specs.Lines.{lines, plain_fault}
 use Rattle.launch_yaml.specs.Rows.{Row, rows_from, at_row, is_start, is_stop, is_directive}
 use Rattle.launch_yaml.specs.Entries.{after_while}

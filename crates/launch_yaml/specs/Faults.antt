@@ -1,13 +1,8 @@
 -- Faults with their places in a text, and which of them comes first.
 use Rattle.std.specs.Prelude.{ℕ, ◌==◌, ◌&&◌, ◌||◌, if◌then◌else◌, nat_lt, Bool, Option, Some, None, Result, Ok, Err}
-use Rattle.yaml_values.specs.declared.kind.YamlKind.{YamlKind}
-use Rattle.yaml_values.specs.declared.kind.YamlKind.TheVariants as kinds
+use Rattle.yaml_scalars.specs.declared.kind.YamlKind.{YamlKind}
+use Rattle.yaml_scalars.specs.declared.kind.YamlKind.TheVariants as kinds
 use Rattle.launch_yaml.specs.declared.fault.Fault.{Fault}
-
-infixl 10 ◌>>=◌
-abbrev pub ◌>>=◌ : {A B : Type 0} → Result A Fault → (A → Result B Fault) → Result B Fault
-(Ok x) >>= f = f x
-(Err e) >>= f = Err e
 
 -- a value, unless there is a fault
 abbrev pub unless : {A : Type 0} → Option Fault → Result A Fault → Result A Fault

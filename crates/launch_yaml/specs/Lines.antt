@@ -1,9 +1,9 @@
 -- The lines of a text, and the faults that are told from the lines alone.
 use Rattle.std.specs.Prelude.{ℕ, suc, ◌==◌, not, Bool, if◌then◌else◌, nat_eq, List, [], ◌∷◌, drop, Option, Some, None, option_map}
 use Rattle.std.specs.List.{starts_with}
-use Rattle.yaml_values.specs.declared.kind.YamlKind.{YamlKind}
-use Rattle.yaml_values.specs.declared.kind.YamlKind.TheVariants as kinds
-use Rattle.yaml_values.specs.Characters.{bad_at}
+use Rattle.yaml_scalars.specs.declared.kind.YamlKind.{YamlKind}
+use Rattle.yaml_scalars.specs.declared.kind.YamlKind.TheVariants as kinds
+use Rattle.yaml_scalars.specs.Characters.{bad_at}
 use Rattle.launch_yaml.specs.declared.fault.Fault.{Fault}
 use Rattle.launch_yaml.specs.Faults.{first_fault}
 

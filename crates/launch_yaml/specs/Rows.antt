@@ -1,12 +1,12 @@
 -- The lines in which something stands, by their columns.
 use Rattle.std.specs.Prelude.{ℕ, suc, ◌+◌, ◌-◌, ◌==◌, ◌&&◌, ◌||◌, if◌then◌else◌, nat_eq, Bool, true, false, List, [], ◌∷◌, ◌++◌, length, drop, codes, Option, Some, None, Result, Ok, Err}
 use Rattle.std.specs.List.{starts_with}
-use Rattle.yaml_values.specs.declared.kind.YamlKind.{YamlKind}
-use Rattle.yaml_values.specs.declared.fault.LineFault.{LineFault}
-use Rattle.yaml_values.specs.Spaces.{after_gap}
-use Rattle.yaml_values.specs.Plain.{begins_plain, is_space_or_end, is_behind_key, plain_length}
-use Rattle.yaml_values.specs.Quoted.{after_quoted}
-use Rattle.yaml_values.specs.Scalars.{is_quote}
+use Rattle.yaml_scalars.specs.declared.kind.YamlKind.{YamlKind}
+use Rattle.yaml_scalars.specs.declared.fault.LineFault.{LineFault}
+use Rattle.yaml_scalars.specs.Spaces.{after_gap}
+use Rattle.yaml_scalars.specs.Plain.{begins_plain, is_space_or_end, is_behind_key, plain_length}
+use Rattle.yaml_scalars.specs.Quoted.{after_quoted}
+use Rattle.yaml_scalars.specs.Scalars.{is_quote}
 use Rattle.yaml_values.specs.Tags.{name_length}
 use Rattle.launch_yaml.specs.declared.fault.Fault.{Fault}
 

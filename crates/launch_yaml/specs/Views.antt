@@ -1,12 +1,11 @@
 -- Lines of the program as the rows that the definitions speak of, and what it answers.
-use Rattle.std.specs.Prelude.{ℕ, ◌-◌, ◌≡◌, ◌≤◌, List, [], ◌∷◌, Option, Some, None, ◌++◌, length, take, drop, map, Result, Ok, Err}
+use Rattle.std.specs.Prelude.{ℕ, ◌-◌, ◌≡◌, ◌≤◌, List, [], ◌∷◌, Option, Some, None, ◌++◌, length, take, drop, map}
 use Rattle.std.specs.List.{AllByRecursion}
 use Rattle.launch_yaml.specs.declared.line.Line.{Line}
 use Rattle.launch_yaml.specs.declared.fault.Fault.{Fault}
-use Rattle.launch_yaml.specs.declared.fault.Refusal.{Refusal}
-use Rattle.launch_yaml.specs.declared.fault.Refusal.TheVariants.{At, Memory}
-use Rattle.yaml_values.specs.declared.fault.Refusal as in_lines
-use Rattle.yaml_values.specs.declared.fault.Refusal.TheVariants as lines
+use Rattle.refusals.specs.declared.refusal.Refusal.{Refusal}
+use Rattle.refusals.specs.declared.refusal.Refusal.TheVariants.{At, Memory}
+use Rattle.yaml_scalars.specs.declared.fault.LineFault.{LineFault}
 use Rattle.launch_yaml.specs.Rows.{Row, place_in}
 
 abbrev pub row : List ℕ → Line → Row
@@ -31,16 +30,7 @@ abbrev pub lines_from : Option Line → List Line → List Line
 lines_from None ls = []
 lines_from (Some l) ls = l ∷ ls
 
--- What a function returned, seen by view, is what reading gives, unless memory ran out.
-abbrev pub Refuses : {Y : Type 0} → Refusal → Result Y Fault → Type 0
-Refuses (At f) read = read ≡ Err f
-Refuses Memory read = Unit {0}
-
-abbrev pub Gives : {X Y : Type 0} → (X → Y) → Result X Refusal → Result Y Fault → Type 0
-Gives view (Ok x) read = read ≡ Ok (view x)
-Gives view (Err e) read = Refuses e read
-
 -- a refusal of what was read in a row
-abbrev pub refusal_in : Row → in_lines.Refusal → Refusal
-refusal_in r (lines.At e) = At (place_in r e)
-refusal_in r lines.Memory = Memory
+abbrev pub refusal_in : Row → Refusal LineFault → Refusal Fault
+refusal_in r (At e) = At (place_in r e)
+refusal_in r Memory = Memory

@@ -2,20 +2,23 @@
 ghost use Rattle.std.specs.Prelude.{◌≡◌, ◌∷◌, map};
 ghost use Rattle.yaml_values.specs.Shape.{node as shape_node};
 ghost use Rattle.yaml_values.specs.Views.{shape_of, content_of_value, pair_of as pair_view};
-ghost use Rattle.launch_yaml.specs.Views.{row, rows, IsWithin, AllWithin, Gives};
+ghost use Rattle.refusals.specs.Results.{Gives};
+ghost use Rattle.launch_yaml.specs.Views.{row, rows, IsWithin, AllWithin};
 ghost use Rattle.launch_yaml.specs.Entries.{Entry};
 ghost use Rattle.launch_yaml.specs.Blocks.{begins_block, below, value_of_entry, item_of, in_line, on_following, items_at, pairs_at, block_at, node_at};
 ghost use Rattle.launch_yaml.specs.TaggingViews.{tagging_view};
 
-use crate::fault::Refusal;
+use crate::fault::Fault;
 use crate::keys::{deepest, key_at, kind_of_no_entry};
 use crate::line::{Line, at_line, content, from};
 use crate::single::{alone, behind_one_tag, lines_behind, tagging_at};
 use crate::tagging::Tagging;
 use crate::{entries, rows};
+use refusals::Refusal;
 use std::alloc::Global;
+use yaml_scalars::{YamlKind, spaces};
 use yaml_values::keys::KeySet;
-use yaml_values::{Node, NodeList, NodePairs, NodeValue, YamlKind, spaces};
+use yaml_values::{Node, NodeList, NodePairs, NodeValue};
 
 // A map or a sequence begins with a line.
 fn begins_block(text: &[u8], line: Line) -> bool
@@ -47,7 +50,7 @@ pub fn node(
     is_root: bool,
     line: Line,
     others: &[Line],
-) -> Result<Node, Refusal>
+) -> Result<Node, Refusal<Fault>>
     requires { AllWithin text.now (line ∷ others.now) }
     ensures { Gives shape_of result (node_at depth is_root (row text.now line) (rows text.now others.now)) }
 {
@@ -77,7 +80,7 @@ fn in_line(
     line: Line,
     bytes: &[u8],
     others: &[Line],
-) -> Result<Node, Refusal>
+) -> Result<Node, Refusal<Fault>>
     requires { AllWithin text.now (line ∷ others.now) }
     ensures { Gives shape_of result (in_line (block_at depth) depth is_root (row text.now line) bytes.now (rows text.now others.now)) }
 {
@@ -105,7 +108,7 @@ fn on_following(
     tagging: Tagging,
     number: u32,
     others: &[Line],
-) -> Result<Node, Refusal>
+) -> Result<Node, Refusal<Fault>>
     requires { AllWithin text.now others.now }
     ensures { Gives shape_of result (on_following (block_at depth) depth is_root (tagging_view tagging) number (rows text.now others.now)) }
 {
@@ -143,7 +146,7 @@ fn block(
     is_root: bool,
     line: Line,
     others: &[Line],
-) -> Result<NodeValue, Refusal>
+) -> Result<NodeValue, Refusal<Fault>>
     requires { AllWithin text.now (line ∷ others.now) }
     ensures { Gives content_of_value result (block_at depth is_root (row text.now line) (rows text.now others.now)) }
 {
@@ -166,7 +169,7 @@ fn items(
     is_root: bool,
     line: Line,
     others: &[Line],
-) -> Result<Vec<Node>, Refusal>
+) -> Result<Vec<Node>, Refusal<Fault>>
     requires { AllWithin text.now (line ∷ others.now) }
     ensures { Gives (λ v. map shape_of v.items) result (items_at (block_at depth) depth is_root (row text.now line) (rows text.now others.now)) }
 {
@@ -191,7 +194,7 @@ fn item(
     is_root: bool,
     line: Line,
     others: &[Line],
-) -> Result<Node, Refusal>
+) -> Result<Node, Refusal<Fault>>
     requires { AllWithin text.now (line ∷ others.now) }
     ensures { Gives shape_of result (item_of (node_at depth) column is_root (record { first = row text.now line; others = rows text.now others.now })) }
 {
@@ -219,7 +222,7 @@ fn below(
     depth: usize,
     number: u32,
     others: &[Line],
-) -> Result<Node, Refusal>
+) -> Result<Node, Refusal<Fault>>
     requires { AllWithin text.now others.now }
     ensures { Gives shape_of result (below (node_at depth) number (rows text.now others.now)) }
 {
@@ -238,7 +241,7 @@ fn pairs(
     is_root: bool,
     line: Line,
     others: &[Line],
-) -> Result<Vec<(Node, Node)>, Refusal>
+) -> Result<Vec<(Node, Node)>, Refusal<Fault>>
     requires { AllWithin text.now (line ∷ others.now) }
     ensures { Gives (λ v. map pair_view v.items) result (pairs_at (block_at depth) depth is_root (row text.now line) (rows text.now others.now)) }
 {
@@ -265,7 +268,7 @@ fn entry_value(
     depth: usize,
     line: Line,
     others: &[Line],
-) -> Result<Node, Refusal>
+) -> Result<Node, Refusal<Fault>>
     requires { AllWithin text.now (line ∷ others.now) }
     ensures { Gives shape_of result (value_of_entry (block_at depth) depth (record { first = row text.now line; others = rows text.now others.now })) }
 {

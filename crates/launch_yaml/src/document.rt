@@ -3,24 +3,27 @@ ghost use Rattle.std.specs.Prelude.{◌≡◌, ◌≤◌, ◌==◌, ◌&&◌, �
 ghost use Rattle.std.specs.List.{starts_with, take_while, prefix_len};
 ghost use Rattle.yaml_values.specs.Documents.{IsDocument};
 ghost use Rattle.yaml_values.specs.Shape.{Shape, node, null};
-ghost use Rattle.yaml_values.specs.Spaces.{after_gap};
+ghost use Rattle.yaml_scalars.specs.Spaces.{after_gap};
 ghost use Rattle.yaml_values.specs.Views.{shape_of};
 ghost use Rattle.launch_yaml.specs.declared.fault.Fault.{Fault};
 ghost use Rattle.launch_yaml.specs.Faults.{unless, beside};
 ghost use Rattle.launch_yaml.specs.Rows.{is_alone, is_start, is_stop, is_directive};
 ghost use Rattle.launch_yaml.specs.Entries.{after_while};
-ghost use Rattle.launch_yaml.specs.Views.{row, rows, IsWithin, AllWithin, Gives};
+ghost use Rattle.refusals.specs.Results.{Gives};
+ghost use Rattle.launch_yaml.specs.Views.{row, rows, IsWithin, AllWithin};
 ghost use Rattle.launch_yaml.specs.Document.{is_marker, no_marker, is_right_of, end_at, after_document, root_of, body_of, after_directive, document_of, parse_at};
 ghost use Rattle.launch_yaml.specs.Parsing.{Parses};
 
-use crate::fault::{Fault, Refusal};
+use crate::fault::Fault;
 use crate::faults::first_of;
 use crate::line::{Line, content};
 use crate::{blocks, lines};
+use refusals::Refusal;
 use std::alloc::Global;
 use thiserror::Error;
-use yaml_values::spaces::after_gap;
-use yaml_values::{Node, NodeValue, YamlKind};
+use yaml_scalars::YamlKind;
+use yaml_scalars::spaces::after_gap;
+use yaml_values::{Node, NodeValue};
 
 /// A launch file as a document.
 #[derive(Drop)]
@@ -45,7 +48,7 @@ pub enum YamlFault {
     NoMemory,
 }
 
-/// So many maps and sequences may stand inside each other.
+// So many maps and sequences may stand inside each other.
 const GREATEST_DEPTH: usize = 64;
 
 // The line begins with this text, and nothing else is in it but perhaps a comment.
@@ -143,7 +146,7 @@ fn after_document(text: &[u8], lines: &[Line]) -> Option<Fault>
 }
 
 // A node, unless there is a fault.
-fn unless(fault: Option<Fault>, node: Node) -> Result<Node, Refusal>
+fn unless(fault: Option<Fault>, node: Node) -> Result<Node, Refusal<Fault>>
     ensures { Gives shape_of result (unless fault (Ok (shape_of node))) }
 {
     match fault {
@@ -164,7 +167,7 @@ fn nothing() -> Node
 }
 
 // The value of a document. A line left of its first one stands behind it.
-fn root(alloc: Global, text: &[u8], lines: &[Line]) -> Result<Node, Refusal>
+fn root(alloc: Global, text: &[u8], lines: &[Line]) -> Result<Node, Refusal<Fault>>
     requires { AllWithin text.now lines.now }
     ensures { Gives shape_of result (root_of (rows text.now lines.now)) }
 {
@@ -177,7 +180,7 @@ fn root(alloc: Global, text: &[u8], lines: &[Line]) -> Result<Node, Refusal>
 }
 
 // The document whose directive and `---` were read.
-fn body(alloc: Global, text: &[u8], lines: &[Line]) -> Result<Node, Refusal>
+fn body(alloc: Global, text: &[u8], lines: &[Line]) -> Result<Node, Refusal<Fault>>
     requires { AllWithin text.now lines.now }
     ensures { Gives shape_of result (body_of (rows text.now lines.now)) }
 {
@@ -192,7 +195,7 @@ fn after_directive(
     text: &[u8],
     directive: Line,
     lines: &[Line],
-) -> Result<Node, Refusal>
+) -> Result<Node, Refusal<Fault>>
     requires { AllWithin text.now lines.now }
     ensures { Gives shape_of result (after_directive (row text.now directive) (rows text.now lines.now)) }
 {
@@ -207,7 +210,7 @@ fn after_directive(
 }
 
 // The document that these lines are, its directive and its `---` among them.
-fn document(alloc: Global, text: &[u8], lines: &[Line]) -> Result<Node, Refusal>
+fn document(alloc: Global, text: &[u8], lines: &[Line]) -> Result<Node, Refusal<Fault>>
     requires { AllWithin text.now lines.now }
     ensures { Gives shape_of result (document_of (rows text.now lines.now)) }
 {
@@ -224,7 +227,7 @@ fn document(alloc: Global, text: &[u8], lines: &[Line]) -> Result<Node, Refusal>
 }
 
 // What was read, unless there is a fault beside it: then the first one.
-fn beside(fault: Option<Fault>, read: Result<Node, Refusal>) -> Result<Doc, YamlFault>
+fn beside(fault: Option<Fault>, read: Result<Node, Refusal<Fault>>) -> Result<Doc, YamlFault>
     ensures { (y : Result Shape Fault) → Gives shape_of read y → Parses result (beside fault y) }
 {
     let first = match read {

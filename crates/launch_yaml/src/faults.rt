@@ -4,7 +4,7 @@ ghost use Rattle.launch_yaml.specs.Faults.{number_of_kind, comes_before, first_o
 
 use crate::fault::Fault;
 
-/// A fault comes before another: its place does, or at one place its kind has the lower number.
+// A fault comes before another: its place does, or at one place its kind has the lower number.
 fn comes_before(first: Fault, second: Fault) -> bool
     ensures { result ≡ comes_before first second }
 {

@@ -6,16 +6,19 @@ ghost use Rattle.yaml_values.specs.Views.{content_of_value};
 ghost use Rattle.yaml_values.specs.Keys.{same_key};
 ghost use Rattle.yaml_values.specs.KeySets.{IsScalarKey};
 ghost use Rattle.launch_yaml.specs.Blocks.{kind_of_no_entry, wrong_key, key_of, new_key_of, key_at, deepest};
-ghost use Rattle.launch_yaml.specs.Views.{row, IsWithin, Gives, Refuses};
+ghost use Rattle.refusals.specs.Results.{Gives, Refuses};
+ghost use Rattle.launch_yaml.specs.Views.{row, IsWithin};
 
-use crate::fault::Refusal;
+use crate::fault::Fault;
 use crate::faults::first_of;
 use crate::line::{Line, at_line, content};
 use crate::rows;
 use crate::single::refusal_in;
+use refusals::Refusal;
 use std::alloc::Global;
+use yaml_scalars::{YamlKind, plain};
 use yaml_values::keys::KeySet;
-use yaml_values::{Mode, NodeValue, YamlKind, plain, resolution};
+use yaml_values::{Mode, NodeValue, resolution};
 
 /// What is wrong with a line in a block's place that is no entry of it: the root's block has ended.
 pub fn kind_of_no_entry(is_root: bool) -> YamlKind
@@ -39,7 +42,7 @@ fn wrong_key(bytes: &[u8]) -> YamlKind
 }
 
 // The key that a line begins with.
-fn key_of(alloc: Global, text: &[u8], line: Line) -> Result<NodeValue, Refusal>
+fn key_of(alloc: Global, text: &[u8], line: Line) -> Result<NodeValue, Refusal<Fault>>
     requires { IsWithin text.now line }
     ensures reads { Gives content_of_value result (key_of (row text.now line)) }
     ensures scalar { IfOk result (λ key. IsScalarKey (content_of_value key)) }
@@ -51,7 +54,12 @@ fn key_of(alloc: Global, text: &[u8], line: Line) -> Result<NodeValue, Refusal>
 }
 
 // The key that a line begins with, which is put to those that the map has already.
-fn new_key(alloc: Global, text: &[u8], keys: &mut KeySet, line: Line) -> Result<NodeValue, Refusal>
+fn new_key(
+    alloc: Global,
+    text: &[u8],
+    keys: &mut KeySet,
+    line: Line,
+) -> Result<NodeValue, Refusal<Fault>>
     requires { IsWithin text.now line }
     ensures reads { Gives content_of_value result (new_key_of keys.old (row text.now line)) }
     ensures keys { IfOk result (λ key. (k : Content) → list_any (same_key k) keys.new ≡ (same_key k (content_of_value key) || list_any (same_key k) keys.old)) }
@@ -72,7 +80,7 @@ pub fn key_at(
     is_root: bool,
     keys: &mut KeySet,
     line: Line,
-) -> Result<NodeValue, Refusal>
+) -> Result<NodeValue, Refusal<Fault>>
     requires { IsWithin text.now line }
     ensures reads { Gives content_of_value result (key_at column is_root keys.old (row text.now line)) }
     ensures keys { IfOk result (λ key. (k : Content) → list_any (same_key k) keys.new ≡ (same_key k (content_of_value key) || list_any (same_key k) keys.old)) }
@@ -91,7 +99,7 @@ pub fn key_at(
 }
 
 /// Why a map or a sequence too many that begins with a line isn't read.
-pub fn deepest(alloc: Global, text: &[u8], line: Line) -> Refusal
+pub fn deepest(alloc: Global, text: &[u8], line: Line) -> Refusal<Fault>
     requires { IsWithin text.now line }
     ensures { Refuses result (deepest (row text.now line)) }
 {

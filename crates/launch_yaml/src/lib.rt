@@ -2,7 +2,8 @@
 #![tactic(auto)]
 
 pub use document::{Doc, YamlFault, parse};
-pub use yaml_values::{Node, NodeList, NodePairs, NodeValue, YamlKind};
+pub use yaml_scalars::YamlKind;
+pub use yaml_values::{Node, NodeList, NodePairs, NodeValue};
 
 mod blocks;
 mod document;
@@ -15,5 +16,3 @@ mod lines;
 mod rows;
 mod single;
 mod tagging;
-#[cfg(test)]
-mod tests;

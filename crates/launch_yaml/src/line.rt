@@ -4,10 +4,10 @@ ghost use Rattle.launch_yaml.specs.Views.{row, IsWithin, IsEndOf};
 ghost use Rattle.launch_yaml.specs.Rows.{from, place_in};
 
 use crate::fault::Fault;
-use yaml_values::{LineFault, YamlKind};
+use yaml_scalars::{LineFault, YamlKind};
 
 /// A line in which something stands, or the rest of one: where that is in the text.
-#[derive(Clone, Copy, Debug, Drop)]
+#[derive(Clone, Copy, Drop)]
 pub struct Line {
     /// The number of the line, from 1.
     pub number: u32,

@@ -9,8 +9,8 @@ use crate::fault::Fault;
 use crate::faults::first_fault;
 use crate::line::Line;
 use std::alloc::{AllocError, Global};
-use yaml_values::YamlKind;
-use yaml_values::characters::bad_at;
+use yaml_scalars::YamlKind;
+use yaml_scalars::characters::bad_at;
 
 /// The text without U+FEFF at its front.
 pub fn without_mark(text: &[u8]) -> &[u8]

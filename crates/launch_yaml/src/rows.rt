@@ -1,10 +1,10 @@
 //! What a line begins with.
 ghost use Rattle.std.specs.Prelude.{◌≡◌, ◌≤◌, ◌<◌, false, length, drop, option_map, IfSome};
-ghost use Rattle.yaml_values.specs.Quoted.{after_quoted};
+ghost use Rattle.yaml_scalars.specs.Quoted.{after_quoted};
 ghost use Rattle.yaml_values.specs.Tags.{name_length};
 ghost use Rattle.launch_yaml.specs.Rows.{is_dash, behind_colon, behind_quoted, begins_key, behind_key, is_open, awaits_value};
 
-use yaml_values::{plain, quoted, spaces};
+use yaml_scalars::{plain, quoted, spaces};
 
 /// An item of a sequence begins here.
 pub fn is_dash(bytes: &[u8]) -> bool

@@ -5,25 +5,28 @@ ghost use Rattle.yaml_values.specs.Flow.{value_at};
 ghost use Rattle.yaml_values.specs.TagViews.{tag_view};
 ghost use Rattle.launch_yaml.specs.Rows.{in_row};
 ghost use Rattle.launch_yaml.specs.Blocks.{text_behind, rows_behind, alone, behind_one_tag, tagging_of, tagging_at};
-ghost use Rattle.launch_yaml.specs.Views.{row, rows, IsWithin, refusal_in, Gives};
+ghost use Rattle.refusals.specs.Results.{Gives};
+ghost use Rattle.launch_yaml.specs.Views.{row, rows, IsWithin, refusal_in};
 ghost use Rattle.launch_yaml.specs.TaggingViews.{tagging_view};
 
-use crate::fault::{Fault, Refusal};
+use crate::fault::Fault;
 use crate::line::{Line, at_line, place_in};
 use crate::rows;
 use crate::tagging::Tagging;
+use refusals::Refusal;
 use std::alloc::Global;
+use yaml_scalars::{LineFault, YamlKind, spaces};
 use yaml_values::tags::Tag;
-use yaml_values::{LineFault, Mode, Node, NodeValue, YamlKind, flow, spaces, tags};
+use yaml_values::{Mode, Node, NodeValue, flow, tags};
 
 /// A refusal of what was read in a line.
-pub fn refusal_in(text: &[u8], line: Line, refusal: yaml_values::Refusal) -> Refusal
+pub fn refusal_in(text: &[u8], line: Line, refusal: Refusal<LineFault>) -> Refusal<Fault>
     requires { IsWithin text.now line }
     ensures { result ≡ refusal_in (row text.now line) refusal }
 {
     match refusal {
-        yaml_values::Refusal::At(fault) => Refusal::At(place_in(text, line, fault)),
-        yaml_values::Refusal::Memory => Refusal::Memory,
+        Refusal::At(fault) => Refusal::At(place_in(text, line, fault)),
+        Refusal::Memory => Refusal::Memory,
     }
 }
 
@@ -59,7 +62,7 @@ fn value_in<'a>(
     line: Line,
     mode: Mode,
     bytes: &'a [u8],
-) -> Result<(NodeValue, &'a [u8]), Refusal>
+) -> Result<(NodeValue, &'a [u8]), Refusal<Fault>>
     requires { IsWithin text.now line }
     ensures { Gives (λ v. (content_of_value v.0, v.1.now)) result (in_row (row text.now line) (value_at depth line.number mode bytes.now)) }
 {
@@ -78,7 +81,7 @@ pub fn alone(
     line: Line,
     bytes: &[u8],
     behind: Option<Fault>,
-) -> Result<Node, Refusal>
+) -> Result<Node, Refusal<Fault>>
     requires { IsWithin text.now line }
     ensures { Gives shape_of result (alone depth (tagging_view tagging) (row text.now line) bytes.now behind) }
 {
@@ -98,7 +101,7 @@ pub fn behind_one_tag(
     line: Line,
     bytes: &[u8],
     behind: Option<Fault>,
-) -> Result<Node, Refusal>
+) -> Result<Node, Refusal<Fault>>
     requires { IsWithin text.now line }
     ensures { Gives shape_of result (behind_one_tag depth (tagging_view tagging) (row text.now line) bytes.now behind) }
 {
@@ -133,7 +136,7 @@ pub fn tagging_at<'a>(
     text: &[u8],
     line: Line,
     rest: &'a [u8],
-) -> Result<(Tagging, &'a [u8]), Refusal>
+) -> Result<(Tagging, &'a [u8]), Refusal<Fault>>
     requires { IsWithin text.now line }
     ensures { Gives (λ t. (tagging_view t.0, t.1.now)) result (tagging_at (row text.now line) (33 ∷ rest.now)) }
 {

@@ -3,11 +3,12 @@ ghost use Rattle.std.specs.Prelude.{◌≡◌, Err};
 ghost use Rattle.yaml_values.specs.Shape.{Shape};
 ghost use Rattle.yaml_values.specs.Views.{shape_of, content_of_value};
 ghost use Rattle.launch_yaml.specs.Blocks.{mode_of, node_of, absent, binary_place, second_tag};
-ghost use Rattle.launch_yaml.specs.Views.{Gives};
+ghost use Rattle.refusals.specs.Results.{Gives};
 ghost use Rattle.launch_yaml.specs.TaggingViews.{tagging_view};
 
-use crate::fault::{Fault, Refusal};
+use crate::fault::Fault;
 use lists::Text;
+use refusals::Refusal;
 use yaml_values::{Mode, Node, NodeValue};
 
 /// What stands before a value.
@@ -82,7 +83,7 @@ impl Tagging {
     }
 
     /// A node where no value stands.
-    pub fn absent(self, line: u32) -> Result<Node, Refusal>
+    pub fn absent(self, line: u32) -> Result<Node, Refusal<Fault>>
         ensures { Gives shape_of result (absent (tagging_view self) line) }
     {
         match self {

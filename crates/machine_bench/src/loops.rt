@@ -10,7 +10,7 @@ pub fn code_of(name: &str) -> Option<&'static [u32]> {
     }
 }
 
-/// Operations on registers, and a branch that is mostly taken.
+// Operations on registers, and a branch that is mostly taken.
 const REGISTERS: [u32; 13] = [
     0x00b5_0533, // loop: add   a0, a0, a1
     0x00a6_4633, //       xor   a2, a2, a0
@@ -27,7 +27,7 @@ const REGISTERS: [u32; 13] = [
     0xfd1f_f06f, //       j     loop
 ];
 
-/// Goes over the 64 KiB of data, with every second 8 bytes read and written as a double word, the others as a word.
+// Goes over the 64 KiB of data, with every second 8 bytes read and written as a double word, the others as a word.
 const MEMORY: [u32; 11] = [
     0x0002_0437, // start: lui   s0, 0x20
     0x0003_04b7, //        lui   s1, 0x30
@@ -42,7 +42,7 @@ const MEMORY: [u32; 11] = [
     0xfd9f_f06f, //        j     start
 ];
 
-/// Loads, stores, calls, branches that are taken and not, products, quotients and an atomic addition.
+// Loads, stores, calls, branches that are taken and not, products, quotients and an atomic addition.
 const MIXED: [u32; 23] = [
     0x0002_0437, // start:    lui   s0, 0x20
     0x0000_0493, //           li    s1, 0

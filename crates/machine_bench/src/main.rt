@@ -13,13 +13,13 @@ use std::env;
 use std::process::ExitCode;
 use std::rt::Env;
 
-/// Where the code is.
+// Where the code is.
 const CODE: u64 = 0x10000;
 
-/// Where the data is, of which the loops know.
+// Where the data is, of which the loops know.
 const DATA: u64 = 0x20000;
 
-/// How many pages of data there are.
+// How many pages of data there are.
 const DATA_PAGES: u32 = 16;
 
 const READ_WRITE: Prot = Prot {
@@ -34,7 +34,7 @@ const READ_EXEC: Prot = Prot {
     exec: true,
 };
 
-/// Why a loop was not run to its end.
+// Why a loop was not run to its end.
 #[derive(Debug, Drop)]
 enum Failure {
     /// The words are not the name of a loop and a number of turns.
@@ -47,7 +47,7 @@ enum Failure {
     Unwritten,
 }
 
-/// A loop's code, and for how many turns it is run.
+// A loop's code, and for how many turns it is run.
 #[derive(Clone, Copy)]
 struct Task<'a> {
     name: &'a str,
@@ -55,7 +55,7 @@ struct Task<'a> {
     turns: u32,
 }
 
-/// A memory with this code and with data of zeros.
+// A memory with this code and with data of zeros.
 fn memory_of(alloc: Global, code: &[u32]) -> Result<GuestMemory, MemFault> {
     let mut memory = GuestMemory::new(alloc);
     memory.map(alloc, CODE, 1, READ_WRITE)?;
@@ -69,7 +69,7 @@ fn memory_of(alloc: Global, code: &[u32]) -> Result<GuestMemory, MemFault> {
     Ok(memory)
 }
 
-/// Runs a loop for this many turns.
+// Runs a loop for this many turns.
 fn run(alloc: Global, code: &[u32], turns: u32) -> Result<(), Failure> {
     let mut memory = memory_of(alloc, code).map_err(Failure::Memory)?;
     let mut regs = Regs::new(CODE);
@@ -82,7 +82,7 @@ fn run(alloc: Global, code: &[u32], turns: u32) -> Result<(), Failure> {
     Ok(())
 }
 
-/// What the words ask for: a loop by its name, for this many turns. The first word is the program's own name.
+// What the words ask for: a loop by its name, for this many turns. The first word is the program's own name.
 fn read_words(words: &[String]) -> Option<Task<'_>> {
     match words {
         [_, name, turns] => Some(Task {
@@ -94,12 +94,12 @@ fn read_words(words: &[String]) -> Option<Task<'_>> {
     }
 }
 
-/// The words of the command line.
+// The words of the command line.
 fn command_line(rt: &(impl Env + AllocGlobal)) -> Option<Vec<String>> {
     env::args(rt).ok()?.collect(rt.alloc()).ok()
 }
 
-/// Runs the loop that the words name, and prints how many instructions were done.
+// Runs the loop that the words name, and prints how many instructions were done.
 fn run_and_print(rt: &(impl Env + Print + AllocGlobal)) -> Result<(), Failure> {
     let words = command_line(rt).ok_or(Failure::Words)?;
     let task = read_words(&words).ok_or(Failure::Words)?;

@@ -1,9 +1,9 @@
 -- What a call leaves of the kernel's state, and the end of a process from outside.
 --     called_is      a step of a call that registers spell leaves what its answer says
 --     threads_stay, only_own_status, clock_moves      what a step leaves of threads, statuses and the clock
---     exit_ends, exit_not_live, ended_by      a process that exits or is ended is not live
+--     ended_by      a process that is ended is not live
 --     end_only_own_status, end_clock_moves      what the end of a process leaves of statuses and the clock
-use Rattle.std.proofs.Common.{◌≡◌, ◌≢◌, ◌⊎◌, inl, inr, ℕ, ◌+◌, Bool, true, false, cond, List, [], ◌∷◌, ◌++◌, Option, Some, None, IsSome, refl, sym, ap, subst, ◌∙◌}
+use Rattle.std.proofs.Common.{◌≡◌, ◌≢◌, ◌⊎◌, inl, inr, ℕ, ◌+◌, Bool, true, false, cond, List, [], ◌∷◌, ◌++◌, Option, Some, None, refl, sym, ap, subst, ◌∙◌}
 use Rattle.std.specs.FinMap.{get}
 use Rattle.abi_types.specs.declared.call.Answer.{Answer}
 use Rattle.abi_types.specs.declared.call.Call.{Call}
@@ -14,25 +14,23 @@ use Rattle.abi_types.specs.declared.descriptor.Descriptor.{Descriptor}
 use Rattle.abi_base.specs.declared.errno.Errno.{Errno}
 use Rattle.abi_base.specs.declared.errno.Errno.TheVariants.{Success, Badf, Nomem, Notcapable}
 use Rattle.abi_types.specs.declared.open_kind.OpenKind.{OpenKind}
-use Rattle.abi_types.specs.declared.place.Place.{Place}
-use Rattle.abi_types.specs.declared.place.Place.TheVariants as place
-use Rattle.abi_types.specs.declared.place.Place.TheVariants.{At}
 use Rattle.abi_types.specs.declared.open_kind.OpenKind.TheVariants.{Terminal}
 use Rattle.abi_types.specs.declared.status.Status.{Status}
 use Rattle.abi_types.specs.declared.status.Status.TheVariants.{Live, Exit}
 use Rattle.abi_base.specs.Registers.{Registers}
-use Rattle.kernel_model.specs.Cases.{Outcome, answers, placed, write_term, write_open, fd_write, end_updates, case_of}
+use Rattle.kernel_model.specs.Cases.{Outcome, write_term, write_open, fd_write, end_updates, case_of}
 use Rattle.kernel_model.specs.Need.{need, some_absent, first_lack, denied_by, refusal}
 use Rattle.kernel_model.specs.Reply.{refused}
 use Rattle.kernel_model.specs.State.{State, Table, Update, set_table, set_threads, set_status, set_term, put_one, put_all}
 use Rattle.kernel_model.specs.Step.{tick, unless, act_on, outcome, step_reply, step_state, IsStep, end_state}
 use Rattle.kernel_model.specs.View.{View, whole}
-use Rattle.kernel_model.proofs.Sights.{outcome_reads, outcome_of_table}
+use Rattle.kernel_model.proofs.Carried.{Carries, Answers, case_errno}
+use Rattle.kernel_model.proofs.Sights.{outcome_reads}
 use Rattle.number_map.specs.Maps.{get-insert-same, get-insert-other}
 use Rattle.guest_memory.specs.Page.{Pages}
 use Rattle.call_codec.specs.Args.{args_of}
 use Rattle.run_model.specs.World.{by_errno, called_state}
-use Rattle.run_model.proofs.Spelled.{CarriesNoLack, PlaceCarriesNoLack, args_carry}
+use Rattle.run_model.proofs.Spelled.{IsNoLack, args_carry}
 
 -- ---- no reply but the allowed one is want of memory
 
@@ -45,45 +43,19 @@ success_is_no_lack e = cc
 notcapable_is_no_lack : Notcapable ≢ Nomem
 notcapable_is_no_lack e = cc
 
--- the reply is not want of memory
-abbrev IsNoLack : Outcome → Type 0
-IsNoLack o = o.reply.errno ≢ Nomem
-
-term_no_lack : (bytes : List ℕ) (which : ℕ) (written : Option (List ℕ)) → IsNoLack (write_term bytes which written)
-term_no_lack bytes which None = badf_is_no_lack
-term_no_lack bytes which (Some written) = success_is_no_lack
-
-open_no_lack : (v : View) (bytes : List ℕ) (kind : Option OpenKind) → IsNoLack (write_open v bytes kind)
-open_no_lack v bytes None = badf_is_no_lack
-open_no_lack v bytes (Some (Terminal which flags)) = term_no_lack bytes which (v.term which)
-
-write_no_lack : (v : View) (bytes : List ℕ) (d : Option Descriptor) → IsNoLack (fd_write v bytes d)
-write_no_lack v bytes None = badf_is_no_lack
-write_no_lack v bytes (Some d) = open_no_lack v bytes (v.opened d.id)
-
-placed_no_lack : (place : Place) → PlaceCarriesNoLack place → IsNoLack (answers (placed place))
-placed_no_lack (At address) h = success_is_no_lack
-placed_no_lack (place.Refused errno) h = h
-
-case_no_lack : (v : View) (p : ℕ) (table : Table) (call : Call) → CarriesNoLack call → IsNoLack (case_of v p table call)
-case_no_lack v p table (FdWrite fd bytes) h = write_no_lack v bytes (get table fd)
-case_no_lack v p table (MemMap place length prot flags fd offset) h = placed_no_lack place h
-case_no_lack v p table (Memory number errno) h = h
-case_no_lack v p table (ProcExit code) h = success_is_no_lack
-case_no_lack v p table (Refused number errno) h = h
-
-refused_no_lack : (absent : Bool) (lack : Option Denial) (o : Outcome) → IsNoLack o → IsNoLack (unless (cond absent (Some (refused Badf)) (denied_by lack)) o)
+refused_no_lack : (absent : Bool) (lack : Option Denial) (o : Outcome) → Answers IsNoLack o → Answers IsNoLack (unless (cond absent (Some (refused Badf)) (denied_by lack)) o)
 refused_no_lack true lack o h = badf_is_no_lack
 refused_no_lack false None o h = h
 refused_no_lack false (Some denial) o h = notcapable_is_no_lack
 
-act_no_lack : (v : View) (p : ℕ) (call : Call) (t : Option Table) → CarriesNoLack call → IsNoLack (act_on v p call t)
+act_no_lack : (v : View) (p : ℕ) (call : Call) (t : Option Table) → Carries IsNoLack call → Answers IsNoLack (act_on v p call t)
 act_no_lack v p call None h = badf_is_no_lack
 act_no_lack v p call (Some table) h =
-    refused_no_lack (some_absent table (need call)) (first_lack table (need call)) (case_of v p table call) (case_no_lack v p table call h)
+    refused_no_lack (some_absent table (need call)) (first_lack table (need call)) (case_of v p table call)
+    (case_errno IsNoLack (success_is_no_lack, badf_is_no_lack) v p table call h)
 
-pub reply_no_lack : (S : State) (p : ℕ) (call : Call) → CarriesNoLack call → (step_reply S p call).errno ≢ Nomem
-reply_no_lack S p call h = subst IsNoLack (sym (outcome_reads S p call)) (act_no_lack (whole (tick S)) p call (get S.tables p) h)
+pub reply_no_lack : (S : State) (p : ℕ) (call : Call) → Carries IsNoLack call → (step_reply S p call).errno ≢ Nomem
+reply_no_lack S p call h = subst (Answers IsNoLack) (sym (outcome_reads S p call)) (act_no_lack (whole (tick S)) p call (get S.tables p) h)
 
 -- ---- what an answered call leaves
 
@@ -91,7 +63,7 @@ by_other : (errno : Errno) (lacking done : State) → errno ≢ Nomem → by_err
 by_other Nomem lacking done h = absurd (h refl)
 by_other _ lacking done h = refl
 
-called_by : (S : State) (p : ℕ) (call : Call) (given : Answer) (T : State) → CarriesNoLack call → IsStep S p call given T → T ≡ called_state S p call given
+called_by : (S : State) (p : ℕ) (call : Call) (given : Answer) (T : State) → Carries IsNoLack call → IsStep S p call given T → T ≡ called_state S p call given
 called_by S p call given T plain (inl done) =
     done.1
     ∙ sym (by_other (step_reply S p call).errno (tick S) (step_state S p call) (reply_no_lack S p call plain))
@@ -189,28 +161,6 @@ not_live status o other is live = let both : Some status ≡ Some Live = sym is 
 -- a process that is ended is not live
 pub ended_by : (S : State) (p : ℕ) (status : Status) → status ≢ Live → get (end_state S p status).statuses p ≢ Some Live
 ended_by S p status other = not_live status (get (end_state S p status).statuses p) other (end_status S p status)
-
-has_value : {X : Type 0} (o : Option X) → IsSome o → (x : X) × (o ≡ Some x)
-has_value (Some x) h = (x, refl)
-has_value None h = absurd (cc)
-
-exit_status : (S : State) (p code : ℕ) (table : Table) → get S.tables p ≡ Some table → get (step_state S p (ProcExit code)).statuses p ≡ Some (Exit code)
-exit_status S p code table own =
-    ap (λ (o : Outcome). get (put_all o.updates (tick S)).statuses p) (outcome_of_table S p (ProcExit code) table own)
-    ∙ get-insert-same S.statuses p (Exit code)
-
--- a process that exits has the status of its code
-pub exit_ends : (S : State) (p code : ℕ) (given : Answer) (T : State) → IsStep S p (ProcExit code) given T → IsSome (get S.tables p)
-    → get T.statuses p ≡ Some (Exit code)
-exit_ends S p code given T (inl done) there =
-    let own = has_value (get S.tables p) there in
-    ap (λ (U : State). get U.statuses p) done.1 ∙ exit_status S p code own.0 own.1
-exit_ends S p code given T (inr lacking) there = absurd lacking.0
-
--- a process that exits is not live
-pub exit_not_live : (S : State) (p code : ℕ) (given : Answer) (T : State) → IsStep S p (ProcExit code) given T → IsSome (get S.tables p)
-    → get T.statuses p ≢ Some Live
-exit_not_live S p code given T step there live = exit_is_not_live code (sym (exit_ends S p code given T step there) ∙ live)
 
 -- ---- the clock
 

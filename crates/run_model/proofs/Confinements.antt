@@ -5,7 +5,6 @@ use Rattle.abi_types.specs.declared.call.Answer.{Answer}
 use Rattle.abi_types.specs.declared.call.Answer.TheVariants as answer
 use Rattle.abi_types.specs.declared.call.Call.{Call}
 use Rattle.abi_types.specs.declared.call.Reply.{Reply}
-use Rattle.abi_types.specs.declared.descriptor.Denial.{Denial}
 use Rattle.abi_types.specs.declared.descriptor.Descriptor.{Descriptor}
 use Rattle.abi_base.specs.declared.errno.Errno.TheVariants.{Nomem, Notcapable}
 use Rattle.abi_types.specs.declared.needed.Needed.{Needed}
@@ -16,7 +15,7 @@ use Rattle.run_types.specs.declared.history.Act.TheVariants as act
 use Rattle.run_types.specs.declared.history.Entry.{Entry}
 use Rattle.run_types.specs.declared.launch.Launch.{Launch}
 use Rattle.kernel_model.specs.Cases.{Outcome}
-use Rattle.kernel_model.specs.Laws.{HasSameSight, HasAll, IsFirstLack, IsOfFirstLack, IsNotDeniedEarly}
+use Rattle.kernel_model.specs.Laws.{HasSameSight, HasAll, IsFirstLack, IsNotDeniedEarly}
 use Rattle.kernel_model.specs.Need.{need, missing}
 use Rattle.kernel_model.specs.Reply.{refused}
 use Rattle.abi_base.specs.Grants.{AreGrants}
@@ -24,8 +23,7 @@ use Rattle.kernel_model.specs.State.{State, Table}
 use Rattle.kernel_model.specs.Step.{tick, step_reply, step_state, IsStep}
 use Rattle.kernel_model.specs.Valid.{IsValid}
 use Rattle.kernel_model.proofs.Decisions.{sight_decides}
-use Rattle.kernel_model.proofs.Refusals.{first_lack_is_named, denial_is_of_first_lack, notcapable_is_denied, error_keeps}
-use Rattle.kernel_model.proofs.Tests.{none_is_no}
+use Rattle.kernel_model.proofs.Refusals.{first_lack_is_named, notcapable_is_denied, error_keeps, same_reply, step_denial}
 use Rattle.kernel_model.proofs.Touches as touches
 use Rattle.run_model.specs.Confined.{MayAnswer, IsDenied, CallIsConfined, ActIsConfined, EntryIsConfined, IsConfined}
 use Rattle.run_model.specs.Legal.{FitsAct, Fits, Legal}
@@ -44,17 +42,6 @@ call_denied : (S : State) (p : ℕ) (call : Call) (given : Answer) (T : State) (
 call_denied S p call given T table row d (inl done) own all first =
     inl (done.0 ∙ ap answer.Reply (first_lack_is_named S p call table row d own all first))
 call_denied S p call given T table row d (inr lacking) own all first = inr (lacking.0, lacking.1)
-
-same_reply : (a b : Reply) → answer.Reply a ≡ answer.Reply b → a ≡ b
-same_reply a b e = cc
-
-call_denial : (S : State) (p : ℕ) (call : Call) (given : Answer) (T : State) (reply : Reply) (denial : Denial) → IsStep S p call given T
-    → given ≡ answer.Reply reply → reply.denial ≡ Some denial → IsOfFirstLack S p call denial
-call_denial S p call given T reply denial (inl done) is denies =
-    denial_is_of_first_lack S p call denial
-    (ap (λ (r : Reply). r.denial) (same_reply (step_reply S p call) reply (sym done.0 ∙ is)) ∙ denies)
-call_denial S p call given T reply denial (inr lacking) is denies =
-    absurd (none_is_no denial (ap (λ (r : Reply). r.denial) (same_reply (refused Nomem) reply (sym lacking.1 ∙ is)) ∙ denies))
 
 nomem_is_other : Nomem ≢ Notcapable
 nomem_is_other e = cc
@@ -75,7 +62,7 @@ call_confined S p call given T valid plain step = record {
   sets = λ U same. sight_decides S U p call same;
   changes = λ part outside. touches.others_stay S p call given T part step outside;
   lacking = λ table row d own all first. call_denied S p call given T table row d step own all first;
-  only = λ reply denial is denies. call_denial S p call given T reply denial step is denies;
+  only = λ reply denial is denies. step_denial S p call given T reply denial step is denies;
   named = λ reply is lacks. call_named S p call given T reply plain step is lacks;
   error = λ reply is other. error_keeps S p call reply T (subst (λ a. IsStep S p call a T) is step) valid other;
 }

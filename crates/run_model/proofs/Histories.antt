@@ -2,10 +2,9 @@
 --     world_none, world_more      the world of no entry, and of one more
 --     legal_none, legal_more, legal_front, legal_next      legal histories
 --     apply_is, guest_turned, turned_more, whole_more ..      turns and acts
---     first_guest_is, first_state, first_registers_are, first_live, first_threads, first_thread      the start
+--     first_guest_is, first_state, first_registers_are, first_threads, first_thread      the start
 use Rattle.std.proofs.Common.{◌≡◌, ℕ, List, [], ◌∷◌, ◌++◌, Some, refl, ap}
 use Rattle.std.specs.FinMap.{empty, get, insert}
-use Rattle.abi_types.specs.declared.status.Status.TheVariants.{Live}
 use Rattle.abi_types.specs.declared.thread.Thread.TheVariants.{Runnable}
 use Rattle.abi_base.specs.Registers.{Registers}
 use Rattle.run_types.specs.declared.history.Entry.{Entry}
@@ -110,12 +109,7 @@ first_state launch = refl
 pub first_registers_are : (launch : Launch) → registers_of (first_guest launch) 1 ≡ first_registers launch.elf.entry
 first_registers_are launch = ap or_no_registers (get-insert-same empty 1 (first_registers launch.elf.entry))
 
--- process 0 is live
-pub first_live : (launch : Launch) → get (start_world launch).state.statuses 0 ≡ Some Live
-unfolding start_world
-first_live launch = get-insert-same empty 0 Live
-
--- its threads are thread 1 alone, which is runnable
+-- the threads of process 0 are thread 1 alone, which is runnable
 pub first_threads : (launch : Launch) → get (start_world launch).state.threads 0 ≡ Some (insert empty 1 Runnable)
 unfolding start_world
 first_threads launch = get-insert-same empty 0 (insert empty 1 Runnable)

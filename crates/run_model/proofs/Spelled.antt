@@ -11,27 +11,20 @@ use Rattle.abi_types.specs.declared.place.Place.TheVariants as place
 use Rattle.abi_types.specs.declared.place.Place.TheVariants.{At}
 use Rattle.abi_base.specs.Registers.{Registers}
 use Rattle.kernel_model.specs.Laws.{IsNotDeniedEarly}
+use Rattle.kernel_model.proofs.Carried.{PlaceCarries, Carries, carries_weaker}
 use Rattle.guest_memory.specs.declared.fault.MemFault.{MemFault}
 use Rattle.guest_memory.specs.Changes.{all_there, lowest_gap}
 use Rattle.guest_memory.specs.Mapping.{page_limit}
 use Rattle.guest_memory.specs.Page.{Pages}
+use Rattle.call_codec.specs.declared.arguments.TheConstants.{MOST_IOVECS}
 use Rattle.call_codec.specs.Arguments.{argument, low}
 use Rattle.call_codec.specs.Args.{gathered_in, ranges_at, fd_write_with, fd_write_of, args_of}
 use Rattle.call_codec.specs.MemoryCalls.{is_aligned, is_guests, is_sync, has_bits, has_one, writes_and_executes, pages_in, if_mapped, map_refusal, protect_refusal, unless_refused, place_at, place_in, place_in_gap, place_of, mem_advise_of, mem_map_of, mem_protect_of, mem_sync_of, mem_unmap_of}
 use Rattle.call_codec.proofs.Calls.{either_call, args_hold}
 
--- the place is not refused for want of memory
-abbrev pub PlaceCarriesNoLack : Place → Type 0
-PlaceCarriesNoLack (At address) = Unit {0}
-PlaceCarriesNoLack (place.Refused errno) = errno ≢ Nomem
-
--- the call carries no refusal for want of memory
-abbrev pub CarriesNoLack : Call → Type 0
-CarriesNoLack (FdWrite fd bytes) = Unit {0}
-CarriesNoLack (MemMap place length prot flags fd offset) = PlaceCarriesNoLack place
-CarriesNoLack (Memory number errno) = errno ≢ Nomem
-CarriesNoLack (ProcExit code) = Unit {0}
-CarriesNoLack (Refused number errno) = errno ≢ Nomem
+-- the error is not want of memory
+abbrev pub IsNoLack : Errno → Type 0
+IsNoLack errno = errno ≢ Nomem
 
 -- an error of calls that registers spell so that the kernel does not look at them
 abbrev IsSpelled : Errno → Type 0
@@ -42,16 +35,11 @@ IsSpelledIf None = Unit {0}
 IsSpelledIf (Some errno) = IsSpelled errno
 
 abbrev IsSpelledPlace : Place → Type 0
-IsSpelledPlace (At address) = Unit {0}
-IsSpelledPlace (place.Refused errno) = IsSpelled errno
+IsSpelledPlace place = PlaceCarries IsSpelled place
 
 -- the call is not refused, or with one of those
 abbrev IsSpelledCall : Call → Type 0
-IsSpelledCall (FdWrite fd bytes) = Unit {0}
-IsSpelledCall (MemMap place length prot flags fd offset) = IsSpelledPlace place
-IsSpelledCall (Memory number errno) = IsSpelled errno
-IsSpelledCall (ProcExit code) = Unit {0}
-IsSpelledCall (Refused number errno) = IsSpelled errno
+IsSpelledCall call = Carries IsSpelled call
 
 success_spelled : IsSpelled Success
 success_spelled = (λ e. cc, λ e. cc)
@@ -79,7 +67,7 @@ write_spelled fd (Err fault) = fault_spelled
 
 fd_write_spelled : (m : Pages) (r : Registers) → IsSpelledCall (fd_write_of m r)
 fd_write_spelled m r =
-    either_call IsSpelledCall (nat_lt 1024 (argument r 2)) (Refused 16 Inval) (fd_write_with (low (argument r 0)) (gathered_in m (ranges_at m (argument r 1) (argument r 2))))
+    either_call IsSpelledCall (nat_lt MOST_IOVECS (argument r 2)) (Refused 16 Inval) (fd_write_with (low (argument r 0)) (gathered_in m (ranges_at m (argument r 1) (argument r 2))))
     inval_spelled (write_spelled (low (argument r 0)) (gathered_in m (ranges_at m (argument r 1) (argument r 2))))
 
 -- ---- calls about pages that are there
@@ -165,17 +153,6 @@ args_spelled m r = args_hold IsSpelledCall m r (record {
   unknown = λ number. nosys_spelled;
 })
 
-place_carries : (place : Place) → IsSpelledPlace place → PlaceCarriesNoLack place
-place_carries (At address) h = tt
-place_carries (place.Refused errno) h = h.0
-
-spelled_carries : (call : Call) → IsSpelledCall call → CarriesNoLack call
-spelled_carries (FdWrite fd bytes) h = tt
-spelled_carries (MemMap place length prot flags fd offset) h = place_carries place h
-spelled_carries (Memory number errno) h = h.0
-spelled_carries (ProcExit code) h = tt
-spelled_carries (Refused number errno) h = h.0
-
 spelled_not_denied : (call : Call) → IsSpelledCall call → IsNotDeniedEarly call
 spelled_not_denied (FdWrite fd bytes) h = tt
 spelled_not_denied (MemMap (At address) length prot flags fd offset) h = tt
@@ -185,8 +162,8 @@ spelled_not_denied (ProcExit code) h = tt
 spelled_not_denied (Refused number errno) h = h.1
 
 -- no call that registers spell carries a refusal for want of memory
-pub args_carry : (m : Pages) (r : Registers) → CarriesNoLack (args_of m r)
-args_carry m r = spelled_carries (args_of m r) (args_spelled m r)
+pub args_carry : (m : Pages) (r : Registers) → Carries IsNoLack (args_of m r)
+args_carry m r = carries_weaker IsSpelled IsNoLack (λ errno h. h.0) (args_of m r) (args_spelled m r)
 
 -- no call that registers spell is refused beforehand with NOTCAPABLE
 pub args_not_denied : (m : Pages) (r : Registers) → IsNotDeniedEarly (args_of m r)

@@ -1,5 +1,5 @@
 -- A kernel's state together with its processes' memories, registers and turns, and how an entry changes them.
-use Rattle.std.specs.Prelude.{ℕ, ◌-◌, List, [], ◌∷◌, replicate, Option, None, Some}
+use Rattle.std.specs.Prelude.{ℕ, ◌-◌, List, [], ◌∷◌, Option, None, Some}
 use Rattle.std.specs.Ordering.{nat_cmp}
 use Rattle.std.specs.FinMap.{FinMap, empty, get, insert}
 use Rattle.abi_types.specs.declared.call.Answer.{Answer}
@@ -20,7 +20,7 @@ use Rattle.kernel_model.specs.State.{State}
 use Rattle.kernel_model.specs.Step.{tick, step_state, end_state}
 use Rattle.rv_interp.specs.declared.turns.TurnEnd.{TurnEnd}
 use Rattle.rv_interp.specs.Turns.{Turn, turn_of}
-use Rattle.call_codec.specs.Start.{first_registers, start_pages}
+use Rattle.call_codec.specs.Start.{canary, first_registers, start_pages}
 use Rattle.call_codec.specs.Put.{answered_memory, answered_of}
 
 -- a process's memory, the registers of its threads, and the turns that it has left
@@ -35,10 +35,6 @@ pub record World : Type 0 where
   pub guests : FinMap nat_cmp Guest
 
 -- ---- the start
-
--- the canary of a start, 64 bytes, which are zero
-abbrev pub canary : List ℕ
-canary = replicate 64 0
 
 abbrev pub first_guest : Launch → Guest
 first_guest launch = record {

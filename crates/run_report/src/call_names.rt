@@ -6,7 +6,7 @@ ghost use Rattle.run_report.specs.CallNames.{name_of_number, call_name, call_nam
 use abi_types::Call;
 use std::alloc::{AllocError, Global};
 
-/// CloudABI's names of the calls, each at its number (docs/ABI.md).
+// CloudABI's names of the calls, each at its number (docs/ABI.md).
 const CALL_NAMES: &[&str] = &[
     "clock_res_get",
     "clock_time_get",
@@ -59,7 +59,7 @@ const CALL_NAMES: &[&str] = &[
     "thread_yield",
 ];
 
-/// The names of the calls, each at its number.
+// The names of the calls, each at its number.
 #[tactic(auto, unfolding(crate::specs::CallNames::call_names))]
 fn call_names() -> &'static [&'static str]
     ensures { map (λ name. name.now) result.now ≡ call_names }
@@ -67,21 +67,21 @@ fn call_names() -> &'static [&'static str]
     CALL_NAMES
 }
 
-/// The name at this place.
+// The name at this place.
 fn name_at(names: &[&'static str], place: u64) -> Option<&'static str>
     ensures { result ≡ slice_get names.now place }
 {
     names.get(place as usize).copied()
 }
 
-/// The name of the call with this number. `None` exactly from 49 on.
+// The name of the call with this number. `None` exactly from 49 on.
 fn numbered_name(number: u64) -> Option<&'static str>
     ensures { option_map (λ name. name.now) result ≡ slice_get call_names number }
 {
     name_at(call_names(), number)
 }
 
-/// The name of the call with this number, and of a number that no call has the number in decimal.
+// The name of the call with this number, and of a number that no call has the number in decimal.
 fn name_of_number(alloc: Global, number: u64) -> Result<String, AllocError>
     ensures { IfOk result (λ name. string_bytes name ≡ name_of_number number) }
 {

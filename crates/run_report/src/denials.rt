@@ -10,7 +10,7 @@ use bitflags::{Flag, Flags};
 use run_types::{Act, Entry};
 use std::alloc::{AllocError, Global};
 
-/// The names of those flags whose rights are all in the set.
+// The names of those flags whose rights are all in the set.
 fn names_among(
     alloc: Global,
     flags: &[Flag<Rights>],
@@ -26,14 +26,14 @@ fn names_among(
         .collect(alloc)
 }
 
-/// The names of the rights in the set, in rising bit order. A bit that is no right's has no name here.
+// The names of the rights in the set, in rising bit order. A bit that is no right's has no name here.
 fn right_names(alloc: Global, rights: Rights) -> Result<Vec<&'static str>, AllocError>
     ensures { IfOk result (λ found. map (λ name. name.now) found.items ≡ right_names rights.0) }
 {
     names_among(alloc, Rights::flags(), rights)
 }
 
-/// The names with commas between them, or `-` where there is none.
+// The names with commas between them, or `-` where there is none.
 #[tactic(auto, using(crate::proofs::ReportTexts::listing))]
 fn listed(alloc: Global, names: &[&str]) -> Result<String, AllocError>
     ensures { IfOk result (λ text. string_bytes text ≡ listed (map (λ name. name.now) names.now)) }
@@ -45,7 +45,7 @@ fn listed(alloc: Global, names: &[&str]) -> Result<String, AllocError>
     }
 }
 
-/// The names of the rights in the set, in rising bit order, with commas between them, or `-` where there is none.
+// The names of the rights in the set, in rising bit order, with commas between them, or `-` where there is none.
 #[tactic(auto, unfolding(crate::specs::Denials::rights_text))]
 fn rights_text(alloc: Global, rights: Rights) -> Result<String, AllocError>
     ensures { IfOk result (λ text. string_bytes text ≡ rights_text rights.0) }
@@ -54,7 +54,7 @@ fn rights_text(alloc: Global, rights: Rights) -> Result<String, AllocError>
     listed(alloc, &names)
 }
 
-/// The rights that a descriptor lacks.
+// The rights that a descriptor lacks.
 fn missing_text(
     alloc: Global,
     fd: u32,
@@ -68,7 +68,7 @@ fn missing_text(
     format!(in alloc; "fd {fd} base {base} inheriting {inheriting}")
 }
 
-/// Why a call was denied.
+// Why a call was denied.
 fn denial_text(alloc: Global, denial: Denial) -> Result<String, AllocError>
     ensures { IfOk result (λ text. string_bytes text ≡ denial_text denial) }
 {
@@ -89,7 +89,7 @@ pub(crate) fn thread_text(alloc: Global, pid: Pid, tid: Tid) -> Result<String, A
     format!(in alloc; "{:08x}.{}", pid.0, tid.0)
 }
 
-/// The line of a denied call.
+// The line of a denied call.
 #[tactic(auto, unfolding(crate::specs::Denials::denial_line))]
 fn denial_line(
     alloc: Global,
@@ -106,7 +106,7 @@ fn denial_line(
     format!(in alloc; "{thread} {call} {denial}\n")
 }
 
-/// The line of an entry whose call was denied.
+// The line of an entry whose call was denied.
 fn entry_line(alloc: Global, entry: &Entry) -> Result<Option<String>, AllocError>
     ensures { IfOk result (λ line. option_map string_bytes line ≡ entry_line entry.now) }
 {
@@ -123,7 +123,7 @@ fn entry_line(alloc: Global, entry: &Entry) -> Result<Option<String>, AllocError
     }
 }
 
-/// The lines of the denied calls, in the history's order.
+// The lines of the denied calls, in the history's order.
 #[tactic(auto, unfolding(crate::specs::Denials::denial_lines))]
 fn denial_lines(alloc: Global, history: &[Entry]) -> Result<Vec<String>, AllocError>
     ensures { IfOk result (λ lines. map string_bytes lines.items ≡ denial_lines history.now) }
@@ -137,7 +137,7 @@ fn denial_lines(alloc: Global, history: &[Entry]) -> Result<Vec<String>, AllocEr
     Ok(lines)
 }
 
-/// Puts lines at the end, under a line with their number. `Err` may leave a part of it.
+// Puts lines at the end, under a line with their number. `Err` may leave a part of it.
 #[tactic(auto, using(crate::proofs::ReportTexts::counting))]
 fn append_lines(alloc: Global, text: &mut Bytes, lines: &[String]) -> Result<(), AllocError>
     ensures { OnOk result (text.new ≡ text.old ++ counted (map string_bytes lines.now)) }

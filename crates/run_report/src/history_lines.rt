@@ -10,7 +10,7 @@ use abi_types::{Answer, Bytes, Call};
 use run_types::{Act, Entry};
 use std::alloc::{AllocError, Global};
 
-/// A call, its answer, and the two numbers that it gave.
+// A call, its answer, and the two numbers that it gave.
 fn call_text(alloc: Global, call: &Call, answer: &Answer) -> Result<String, AllocError>
     ensures { IfOk result (λ text. string_bytes text ≡ call_text call.now answer.now) }
 {
@@ -20,7 +20,7 @@ fn call_text(alloc: Global, call: &Call, answer: &Answer) -> Result<String, Allo
     format!(in alloc; "call {call} {error} {} {}", reply.r1, reply.r2)
 }
 
-/// What an entry did.
+// What an entry did.
 fn act_text(alloc: Global, act: &Act) -> Result<String, AllocError>
     ensures { IfOk result (λ text. string_bytes text ≡ act_text act.now) }
 {
@@ -31,7 +31,7 @@ fn act_text(alloc: Global, act: &Act) -> Result<String, AllocError>
     }
 }
 
-/// The line of an entry.
+// The line of an entry.
 fn entry_text(alloc: Global, entry: &Entry) -> Result<String, AllocError>
     ensures { IfOk result (λ line. string_bytes line ≡ entry_text entry.now) }
 {
@@ -41,7 +41,7 @@ fn entry_text(alloc: Global, entry: &Entry) -> Result<String, AllocError>
     format!(in alloc; "{} {thread} {turns} {act}\n", entry.moment)
 }
 
-/// Puts the lines of the entries at the end. `Err` may leave a part of them.
+// Puts the lines of the entries at the end. `Err` may leave a part of them.
 fn append_entries(alloc: Global, text: &mut Bytes, history: &[Entry]) -> Result<(), AllocError>
     ensures { OnOk result (text.new ≡ text.old ++ flat_map entry_text history.now) }
 {

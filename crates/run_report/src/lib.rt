@@ -9,5 +9,3 @@ mod denials;
 mod history_lines;
 mod laws;
 mod report_text;
-#[cfg(test)]
-mod tests;

@@ -37,7 +37,7 @@ pub fn report(
     Ok(text)
 }
 
-/// Puts what was written to a standard stream at the end, under a line with its length. `Err` may leave a part of it.
+// Puts what was written to a standard stream at the end, under a line with its length. `Err` may leave a part of it.
 fn append_stream(
     alloc: Global,
     text: &mut Bytes,
@@ -52,7 +52,7 @@ fn append_stream(
     text.append(ending(written))
 }
 
-/// The line feed that ends a last line without one.
+// The line feed that ends a last line without one.
 fn ending(written: &[u8]) -> &'static [u8]
     ensures { result.now ≡ ending written.now }
 {
@@ -62,7 +62,7 @@ fn ending(written: &[u8]) -> &'static [u8]
     }
 }
 
-/// Puts how process 0 stands and whether the run ended at the end. `Err` may leave a part of it.
+// Puts how process 0 stands and whether the run ended at the end. `Err` may leave a part of it.
 fn append_end(alloc: Global, text: &mut Bytes, kernel: &Kernel) -> Result<(), AllocError>
     ensures { OnOk result (text.new ≡ text.old ++ end_text kernel.now) }
 {
@@ -75,7 +75,7 @@ fn append_end(alloc: Global, text: &mut Bytes, kernel: &Kernel) -> Result<(), Al
     text.append(format!(in alloc; "== status {status}\n== run {run}\n")?.as_bytes())
 }
 
-/// How a process stands, in words.
+// How a process stands, in words.
 fn status_text(alloc: Global, status: Option<Status>) -> Result<String, AllocError>
     ensures { IfOk result (λ text. string_bytes text ≡ status_text status) }
 {
@@ -87,7 +87,7 @@ fn status_text(alloc: Global, status: Option<Status>) -> Result<String, AllocErr
     }
 }
 
-/// The end of a process by a signal, in words.
+// The end of a process by a signal, in words.
 fn signal_text(alloc: Global, signal: Signal) -> Result<String, AllocError>
     ensures { IfOk result (λ text. string_bytes text ≡ signal_text signal) }
 {

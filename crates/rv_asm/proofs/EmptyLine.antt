@@ -1,7 +1,7 @@
 -- An empty line takes no bytes.
 use Rattle.std.proofs.Common.{◌≡◌, ℕ, ◌==◌, true, List, [], ◌∷◌, length, refl, eqb-true, arith}
 use Rattle.rv_asm.specs.Lines.{size_of_content}
-use Rattle.rv_asm.specs.Mnemonics.{form_of, atomic_of}
+use Rattle.rv_syntax.specs.Mnemonics.{form_of, atomic_of}
 
 none : 0 ≡ size_of_content []
 unfolding size_of_content form_of atomic_of

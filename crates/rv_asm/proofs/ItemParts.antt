@@ -1,34 +1,7 @@
 -- Two words of `la`.
-use Rattle.std.proofs.Common.{◌≡◌, ℕ, ◌*◌, ◌<◌, ◌≤◌, Bool, true, false, cond, Option, Some, ℤ, pos, ◌-ℤ◌, ◌*ℤ◌, nat_lt, refl, sym, ap, subst, ◌∙◌, arith}
-use Rattle.std.proofs.lemmas.Bool.Decides.{nat_tests}
-use Rattle.std.proofs.lemmas.Int.{ints}
-use Rattle.rv_code.specs.Immediates.{signed_at}
-use Rattle.rv_asm.specs.Items.{Item, Address, ArePairOf, PairIs}
+use Rattle.std.proofs.Common.{◌≡◌, ℕ, Option, Some, ℤ, sym, subst}
+use Rattle.rv_words.specs.Words.{ArePairOf}
+use Rattle.rv_asm.specs.Items.{Item, Address, PairIs}
 
 pub pair_is : (s : Option Item) (rd : ℕ) (d e : ℤ) (words : ℕ × ℕ) → s ≡ Some (Address rd d) → e ≡ d → ArePairOf rd e words.0 words.1 → PairIs (Some words) s
 pair_is s rd d e words is same pair = subst (PairIs (Some words)) (sym is) (subst (λ z. ArePairOf rd z words.0 words.1) same pair)
-
--- a test of numbers, by what it says
-is_below : (a b : ℕ) → a < b → nat_lt a b ≡ true
-is_below a b h = grind (arith, nat_tests)
-
-is_not_below : (a b : ℕ) → b ≤ a → nat_lt a b ≡ false
-is_not_below a b h = grind (arith, nat_tests)
-
-below : (a b : ℕ) → nat_lt a b ≡ true → a < b
-below a b h = grind (arith, nat_tests)
-
-not_below : (a b : ℕ) → nat_lt a b ≡ false → b ≤ a
-not_below a b h = grind (arith, nat_tests)
-
--- a field of 20 bits at its place in 32
-signed_cases : (f : ℕ) (h : ℤ) (b : Bool) → nat_lt f 524288 ≡ b → cond b (pos f) (pos f -ℤ pos (2 * 524288)) ≡ h → signed_at 2147483648 (f * 4096) ≡ pos 4096 *ℤ h
-signed_cases f h true small is =
-    let less : f < 524288 = below f 524288 small in
-    ap (λ b. cond b (pos (f * 4096)) (pos (f * 4096) -ℤ pos (2 * 2147483648))) (is_below (f * 4096) 2147483648 (omega arith)) ∙ omega (arith, ints)
-signed_cases f h false great is =
-    let more : 524288 ≤ f = not_below f 524288 great in
-    ap (λ b. cond b (pos (f * 4096)) (pos (f * 4096) -ℤ pos (2 * 2147483648))) (is_not_below (f * 4096) 2147483648 (omega arith)) ∙ omega (arith, ints)
-
-pub at_place : (f : ℕ) (h : ℤ) → signed_at 524288 f ≡ h → signed_at 2147483648 (f * 4096) ≡ pos 4096 *ℤ h
-at_place f h is = signed_cases f h (nat_lt f 524288) refl is

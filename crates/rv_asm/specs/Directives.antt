@@ -3,12 +3,12 @@
 use Rattle.std.specs.Prelude.{ℕ, ◌==◌, ◌&&◌, ◌||◌, not, Bool, cond, List, length, replicate, Option, None, Some, ℤ, pos, negsuc, unsigned_abs}
 use Rattle.std.specs.Int.{Width, w8, w32, w64, cast_unsigned, to_le_bytes, is_in_range}
 use Rattle.std.specs.List.{list_all}
-use Rattle.rv_asm.specs.declared.form.Form.{Form}
-use Rattle.rv_asm.specs.declared.form.Form.TheVariants.{Byte, Word, Dword, Zero, Ascii}
-use Rattle.rv_asm.specs.Chain.{◌>>=◌}
+use Rattle.rv_syntax.specs.declared.form.Form.{Form}
+use Rattle.rv_syntax.specs.declared.form.Form.TheVariants.{Byte, Word, Dword, Zero, Ascii}
+use Rattle.rv_syntax.specs.Chain.{◌>>=◌}
 use Rattle.rv_asm.specs.Items.{Item, Bytes}
-use Rattle.rv_asm.specs.Numbers.{number_within}
-use Rattle.rv_asm.specs.Text.{split_at}
+use Rattle.rv_syntax.specs.Numbers.{number_within}
+use Rattle.rv_syntax.specs.Text.{split_at}
 
 -- a number from the first bound to the second in so many bits, little-endian, and in two's complement if it is negative
 abbrev pub number_bytes : Width → ℤ → ℤ → List ℕ → Option Item

@@ -2,6 +2,7 @@
 -- file asks for. The names of fields are the gABI's.
 use Rattle.std.specs.Prelude.{◌≡◌, ℕ, ◌+◌, ◌-◌, ◌/◌, ◌%◌, ◌<◌, ◌≤◌, true, false, List, [], ◌∷◌, ◌++◌, length, drop}
 use Rattle.std.specs.Int.{w16, w32, w64, to_le_bytes}
+use Rattle.abi_base.specs.declared.address_space.TheConstants.{GUEST_BEGIN, PAGE_SIZE}
 use Rattle.elf_image.specs.declared.elf.Elf.{Elf}
 use Rattle.elf_image.specs.Fields.{e_type, e_machine, e_entry, e_phoff, e_flags, e_phentsize, e_phnum, program_headers}
 
@@ -13,9 +14,9 @@ use Rattle.elf_image.specs.Fields.{e_type, e_machine, e_entry, e_phoff, e_flags,
 pub record IsProgram (code : List ℕ) (at flags : ℕ) : Type 0 where
   pub some : 0 < length code
   pub aligned : at % 4 ≡ 0
-  pub low : 0x10000 ≤ at
+  pub low : GUEST_BEGIN ≤ at
   pub high : at + length code ≤ 0x2000000000
-  pub pages : (at + length code + 4095) / 4096 - at / 4096 ≤ 32768
+  pub pages : (at + length code + (PAGE_SIZE - 1)) / PAGE_SIZE - at / PAGE_SIZE ≤ 32768
   pub plain : flags % 8 ≡ 0
 
 -- What the headers of a file say: ET_EXEC is 2, RISC-V is 243, and one program header stands behind the header of 64 bytes.

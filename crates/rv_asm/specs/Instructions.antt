@@ -3,15 +3,16 @@ use Rattle.std.specs.Prelude.{ℕ, ◌*◌, ◌^◌, ◌==◌, cond, List, lengt
 use Rattle.rv_code.specs.declared.instr.Op.{Op}
 use Rattle.rv_code.specs.declared.instr.Op.TheVariants.{Jal}
 use Rattle.rv_code.specs.Immediates.{signed_at}
-use Rattle.rv_asm.specs.declared.form.Form.{Form}
-use Rattle.rv_asm.specs.declared.form.Form.TheVariants.{Registers, Immediate, Shift, WordShift, Offset, Store, Upper, Branch, Jump, Reserve, Atomic, Plain, La}
-use Rattle.rv_asm.specs.declared.form.Order.{Order}
-use Rattle.rv_asm.specs.Chain.{◌>>=◌}
-use Rattle.rv_asm.specs.Items.{Item, Instruction, Address, Nothing, Bits, Whole, instr}
-use Rattle.rv_asm.specs.Mnemonics.{order_bits, plain_word}
-use Rattle.rv_asm.specs.Numbers.{number_within}
-use Rattle.rv_asm.specs.Operands.{pair_of, triple_of, memory_of, address_register_of, target_of, label_distance_of}
-use Rattle.rv_asm.specs.Registers.{register_of}
+use Rattle.rv_syntax.specs.declared.form.Form.{Form}
+use Rattle.rv_syntax.specs.declared.form.Form.TheVariants.{Registers, Immediate, Shift, WordShift, Offset, Store, Upper, Branch, Jump, Reserve, Atomic, Plain, La}
+use Rattle.rv_words.specs.declared.order.Order.{Order}
+use Rattle.rv_syntax.specs.Chain.{◌>>=◌}
+use Rattle.rv_words.specs.Words.{instr}
+use Rattle.rv_asm.specs.Items.{Item, Instruction, Address, Nothing, Bits, Whole}
+use Rattle.rv_words.specs.Words.{order_bits, plain_word}
+use Rattle.rv_syntax.specs.Numbers.{number_within}
+use Rattle.rv_syntax.specs.Operands.{pair_of, triple_of, memory_of, address_register_of, target_of, label_distance_of}
+use Rattle.rv_syntax.specs.Registers.{register_of}
 
 -- an instruction of which decoding sees all
 abbrev pub plain : Op → ℕ → ℕ → ℕ → ℤ → Option Item

@@ -1,14 +1,9 @@
 -- What a line stands for, and which bytes are of it.
-use Rattle.std.specs.Prelude.{ℕ, ◌≡◌, ◌<◌, ◌/◌, ◌%◌, ◌^◌, List, ◌++◌, Option, None, Some, ℤ, ◌+ℤ◌}
+use Rattle.std.specs.Prelude.{ℕ, ◌≡◌, ◌<◌, ◌/◌, ◌%◌, ◌^◌, List, ◌++◌, Option, None, Some, ℤ}
 use Rattle.std.specs.Int.{w32, to_le_bytes}
 use Rattle.rv_code.specs.declared.instr.Instr.{Instr}
-use Rattle.rv_code.specs.declared.instr.Op.{Op}
-use Rattle.rv_code.specs.declared.instr.Op.TheVariants.{Auipc, Addi}
 use Rattle.rv_code.specs.Decoding.{decode_of}
-
--- the instruction of an operation, its registers rd, rs1 and rs2, and its immediate
-abbrev pub instr : Op → ℕ → ℕ → ℕ → ℤ → Instr
-instr op rd rs1 rs2 imm = record { op = op; rd = rd; rs1 = rs1; rs2 = rs2; imm = imm }
+use Rattle.rv_words.specs.Words.{ArePairOf}
 
 -- What is asked of a word that decoding doesn't see: nothing; bits 26 and 25, aq and rl, of an atomic instruction; or the
 -- whole word.
@@ -32,13 +27,6 @@ pub data Item : Type 0 where
 -- a word that is decoded to the instruction, and has what is asked of it that decoding does not see
 abbrev pub IsWordOf : Instr → Unseen → ℕ → Type 0
 IsWordOf i unseen word = (word < 2 ^ 32) × (decode_of word ≡ Some i) × HasUnseen unseen word
-
--- two words: AUIPC writes the register, and ADDI adds to it; together they add the distance to AUIPC's address
-abbrev pub ArePairOf : ℕ → ℤ → ℕ → ℕ → Type 0
-ArePairOf rd distance first second =
-    (high : ℤ) × (low : ℤ) × (high +ℤ low ≡ distance)
-    × (first < 2 ^ 32) × (decode_of first ≡ Some (instr Auipc rd 0 0 high))
-    × (second < 2 ^ 32) × (decode_of second ≡ Some (instr Addi rd rd 0 low))
 
 -- the bytes of what a line stands for; those of a word are little-endian
 abbrev pub AreBytesOf : Item → List ℕ → Type 0

@@ -3,16 +3,16 @@
 use Rattle.std.specs.Prelude.{ℕ, ◌≡◌, ◌+◌, ◌%◌, ◌==◌, Bool, false, cond, List, [], ◌∷◌, ◌++◌, length, Option, None, Some, option_map, is_some, is_none}
 use Rattle.rv_asm.specs.declared.assembly.AsmFault.{AsmFault}
 use Rattle.rv_asm.specs.declared.assembly.AsmFault.TheVariants.{Line, NoMemory}
-use Rattle.rv_asm.specs.declared.form.Form.{Form}
-use Rattle.rv_asm.specs.Chain.{◌>>=◌}
+use Rattle.rv_syntax.specs.declared.form.Form.{Form}
+use Rattle.rv_syntax.specs.Chain.{◌>>=◌}
 use Rattle.rv_asm.specs.Directives.{directive_of}
-use Rattle.rv_asm.specs.Forms.{is_directive}
+use Rattle.rv_syntax.specs.Forms.{is_directive}
 use Rattle.rv_asm.specs.Instructions.{code_of}
 use Rattle.rv_asm.specs.Items.{Item, Bytes, AreBytesOf}
-use Rattle.rv_asm.specs.Mnemonics.{form_of}
-use Rattle.rv_asm.specs.Names.{lookup, is_name}
+use Rattle.rv_syntax.specs.Mnemonics.{form_of}
+use Rattle.rv_syntax.specs.Names.{lookup, is_name}
 use Rattle.rv_asm.specs.Sizes.{size_in}
-use Rattle.rv_asm.specs.Text.{lines_of, split_at, trim, without_comment, has_control}
+use Rattle.rv_syntax.specs.Text.{lines_of, split_at, trim, without_comment, has_control}
 
 -- ---- the parts of a line
 

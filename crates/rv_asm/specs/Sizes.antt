@@ -1,7 +1,7 @@
 -- How many bytes a line takes.
 use Rattle.std.specs.Prelude.{ℕ, List, length, Option, None, Some, option_map}
-use Rattle.rv_asm.specs.declared.form.Form.{Form}
-use Rattle.rv_asm.specs.declared.form.Form.TheVariants.{Byte, Word, Dword, Zero, Ascii, La}
+use Rattle.rv_syntax.specs.declared.form.Form.{Form}
+use Rattle.rv_syntax.specs.declared.form.Form.TheVariants.{Byte, Word, Dword, Zero, Ascii, La}
 use Rattle.rv_asm.specs.Directives.{zeros_of, quoted_of}
 
 -- a number, or 0 where there is none

@@ -1,13 +1,13 @@
 //! A text, assembled.
 ghost use Rattle.std.specs.Prelude.{◌≡◌, ◌+◌, [], None, Some, map, IfOk, IfErr, OnOk};
 ghost use Rattle.rv_asm.specs.Lines.{labels_of, fault_from, first_fault, AreBytesFrom, Assembles, IsFaultOf};
-ghost use Rattle.rv_asm.specs.Names.{rows};
-ghost use Rattle.rv_asm.specs.Text.{lines_of};
+ghost use Rattle.rv_syntax.specs.Names.{rows};
+ghost use Rattle.rv_syntax.specs.Text.{lines_of};
 
-use crate::names::Label;
 use crate::place::Place;
 use crate::statement::piece;
 use lists::Bytes;
+use rv_syntax::Label;
 use std::alloc::{AllocError, Global};
 
 /// Why a text gave no bytes.
@@ -30,14 +30,14 @@ impl From<AllocError> for AsmFault {
     }
 }
 
-/// The lines of a text, between its line feeds.
+// The lines of a text, between its line feeds.
 fn lines(alloc: Global, text: &str) -> Result<Vec<&str>, AllocError>
     ensures { IfOk result (λ lines. map (λ line. line.now) lines.items ≡ lines_of text.now) }
 {
     text.split('\n').collect(alloc)
 }
 
-/// The labels of lines, with their addresses.
+// The labels of lines, with their addresses.
 fn labels<'a>(alloc: Global, lines: &[&'a str]) -> Result<Vec<Label<'a>>, AllocError>
     ensures { IfOk result (λ labels. rows labels.items ≡ labels_of (map (λ line. line.now) lines.now)) }
 {
@@ -49,7 +49,7 @@ fn labels<'a>(alloc: Global, lines: &[&'a str]) -> Result<Vec<Label<'a>>, AllocE
     Ok(labels)
 }
 
-/// The fault of the line at this index.
+// The fault of the line at this index.
 fn fault_at(index: usize) -> AsmFault
     ensures { IsFaultOf result (Some (index + 1)) }
 {
@@ -59,7 +59,7 @@ fn fault_at(index: usize) -> AsmFault
     }
 }
 
-/// The bytes of lines, where these are the labels of the text.
+// The bytes of lines, where these are the labels of the text.
 fn emit(alloc: Global, lines: &[&str], labels: &[Label<'_>]) -> Result<Vec<u8>, AsmFault>
     ensures ok { IfOk result (λ out. AreBytesFrom (rows labels.now) [] 0 (map (λ line. line.now) lines.now) out.items) }
     ensures taken { OnOk result (fault_from (rows labels.now) [] 0 1 (map (λ line. line.now) lines.now) ≡ None) }

@@ -5,13 +5,10 @@ ghost use Rattle.rv_asm.specs.Directives.{byte_of, word_of, dword_of, zeros_of, 
 ghost use Rattle.rv_asm.specs.Sizes.{size_of_form};
 ghost use Rattle.rv_asm.specs.Pieces.{PieceIs, piece_bytes};
 
-use crate::form::Form;
-use crate::numbers::number_within;
-use crate::operands::unsigned;
 use crate::piece::Piece;
-use crate::text::split_at;
+use rv_syntax::{Form, number_within, split_at, unsigned};
 
-/// `.byte N`
+// `.byte N`
 #[tactic(auto, unfolding(crate::specs::Directives::byte_of))]
 fn byte(text: &[u8]) -> Option<Piece<'_>>
     ensures exact { PieceIs result (byte_of text.now) }
@@ -21,7 +18,7 @@ fn byte(text: &[u8]) -> Option<Piece<'_>>
     Some(Piece::Byte(if n < 0 { (n + 0x100) as u8 } else { n as u8 }))
 }
 
-/// `.word N`
+// `.word N`
 #[tactic(auto, unfolding(crate::specs::Directives::word_of))]
 fn word(text: &[u8]) -> Option<Piece<'_>>
     ensures exact { PieceIs result (word_of text.now) }
@@ -35,7 +32,7 @@ fn word(text: &[u8]) -> Option<Piece<'_>>
     }))
 }
 
-/// `.dword N`
+// `.dword N`
 #[tactic(auto, unfolding(crate::specs::Directives::dword_of))]
 fn dword(text: &[u8]) -> Option<Piece<'_>>
     ensures exact { PieceIs result (dword_of text.now) }
@@ -57,14 +54,14 @@ pub fn zeros(text: &[u8]) -> Option<u32>
     unsigned(text, 0x1_0000)
 }
 
-/// Whether a text between quotation marks may have this byte.
+// Whether a text between quotation marks may have this byte.
 fn is_printable(b: u8) -> bool
     ensures { result ≡ is_printable b }
 {
     b >= 0x20 && b <= 0x7e && b != b'"' && b != b'\\'
 }
 
-/// Whether a text between quotation marks may have these bytes.
+// Whether a text between quotation marks may have these bytes.
 fn are_printable(text: &[u8]) -> bool
     ensures { result ≡ list_all is_printable text.now }
 {

@@ -7,46 +7,43 @@ ghost use Rattle.rv_asm.specs.ElfFile.{HasHeaders, IsProgram, one_segment, with_
 use lists::Bytes;
 use std::alloc::{AllocError, Global};
 
-#[cfg(test)]
-mod tests;
-
-/// e_ident: the magic number, 64 bits, the lowest byte first, version 1, no particular system, and padding.
+// e_ident: the magic number, 64 bits, the lowest byte first, version 1, no particular system, and padding.
 const IDENTITY: [u8; 16] = [0x7f, b'E', b'L', b'F', 2, 1, 1, 0, 0, 0, 0, 0, 0, 0, 0, 0];
 
-/// e_type: a file that is placed at its own addresses.
+// e_type: a file that is placed at its own addresses.
 const EXECUTABLE: u16 = 2;
 
-/// e_machine: RISC-V.
+// e_machine: RISC-V.
 const RISCV: u16 = 243;
 
-/// e_version.
+// e_version.
 const CURRENT_VERSION: u32 = 1;
 
-/// e_ehsize, and e_phoff too: the program header stands behind the file's header.
+// e_ehsize, and e_phoff too: the program header stands behind the file's header.
 const FILE_HEADER_SIZE: u16 = 64;
 
-/// e_phentsize.
+// e_phentsize.
 const PROGRAM_HEADER_SIZE: u16 = 56;
 
-/// e_phnum.
+// e_phnum.
 const PROGRAM_HEADER_COUNT: u16 = 1;
 
-/// e_shoff, e_shentsize, e_shnum and e_shstrndx: there are no sections.
+// e_shoff, e_shentsize, e_shnum and e_shstrndx: there are no sections.
 const NO_SECTION: u16 = 0;
 
-/// p_type: a segment to be loaded.
+// p_type: a segment to be loaded.
 const LOAD: u32 = 1;
 
-/// p_flags: the segment may be read and executed.
+// p_flags: the segment may be read and executed.
 const READ_EXECUTE: u32 = 5;
 
-/// p_offset: the code stands behind the headers.
+// p_offset: the code stands behind the headers.
 const CODE_OFFSET: u64 = 120;
 
-/// p_align: addresses are those of instructions, and so is the offset.
+// p_align: addresses are those of instructions, and so is the offset.
 const ALIGNMENT: u64 = 4;
 
-/// Puts the last fields of a file's header at the end: the sizes and numbers of headers. `Err` may leave a part of them.
+// Puts the last fields of a file's header at the end: the sizes and numbers of headers. `Err` may leave a part of them.
 fn push_sizes(out: &mut Vec<u8>) -> Result<(), AllocError>
     ensures { OnOk result (out.new.items ≡ with_sizes out.old.items) }
 {
@@ -58,7 +55,7 @@ fn push_sizes(out: &mut Vec<u8>) -> Result<(), AllocError>
     out.extend_from_slice(&NO_SECTION.to_le_bytes())
 }
 
-/// Puts a file's header at the end. `Err` may leave a part of it.
+// Puts a file's header at the end. `Err` may leave a part of it.
 fn push_file_header(out: &mut Vec<u8>, entry: u64, flags: u32) -> Result<(), AllocError>
     ensures { OnOk result (out.new.items ≡ with_file_header out.old.items entry flags) }
 {
@@ -73,7 +70,7 @@ fn push_file_header(out: &mut Vec<u8>, entry: u64, flags: u32) -> Result<(), All
     push_sizes(out)
 }
 
-/// Puts the program header of a segment with so many file bytes at the end. `Err` may leave a part of it.
+// Puts the program header of a segment with so many file bytes at the end. `Err` may leave a part of it.
 fn push_program_header(out: &mut Vec<u8>, address: u64, file_size: u64) -> Result<(), AllocError>
     ensures { OnOk result (out.new.items ≡ with_program_header out.old.items address file_size) }
 {
@@ -90,7 +87,7 @@ fn push_program_header(out: &mut Vec<u8>, address: u64, file_size: u64) -> Resul
     out.extend_from_slice(&ALIGNMENT.to_le_bytes())
 }
 
-/// The bytes of a file.
+// The bytes of a file.
 fn elf_bytes(alloc: Global, code: &[u8], at: u64, flags: u32) -> Result<Vec<u8>, AllocError>
     ensures { IfOk result (λ out. out.items ≡ file_bytes code.now at flags) }
 {

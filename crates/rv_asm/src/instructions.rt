@@ -1,26 +1,24 @@
 //! The word of each form's instruction, by its operands. `None` exactly where the operands are not the form's.
 ghost use Rattle.std.specs.Prelude.{◌≡◌, IsTrue, IfSome, false, length, pos, negsuc};
-ghost use Rattle.rv_asm.specs.Forms.{is_fit};
+ghost use Rattle.rv_syntax.specs.Forms.{is_fit};
 ghost use Rattle.rv_asm.specs.Instructions.{registers_of, immediate_of, offset_of, store_of, upper_of, branch_of, jump_of, reserve_of, atomic_of, plain_of, address_of, instruction_of, code_of};
 ghost use Rattle.rv_asm.specs.Items.{WordIs, PairIs};
-ghost use Rattle.rv_asm.specs.Names.{rows};
+ghost use Rattle.rv_syntax.specs.Names.{rows};
 ghost use Rattle.rv_asm.specs.Sizes.{size_of_form};
-ghost use Rattle.rv_asm.specs.Forms.{is_directive};
+ghost use Rattle.rv_syntax.specs.Forms.{is_directive};
 ghost use Rattle.rv_asm.specs.Pieces.{PieceIs, piece_bytes};
-ghost use Rattle.rv_asm.specs.Ops.{is_register, is_immediate, is_shift, is_word_shift, is_store, is_upper, is_branch, is_atomic, is_reserve, is_plain};
+ghost use Rattle.rv_words.specs.Ops.{is_register, is_immediate, is_shift, is_word_shift, is_store, is_upper, is_branch, is_atomic, is_reserve, is_plain};
 
-use crate::form::{Form, Order};
-use crate::names::Label;
-use crate::operands::{
-    address_register, immediate, label_distance, memory, pair, target, triple, unsigned,
-};
 use crate::piece::Piece;
-use crate::registers::register;
-use crate::words::{
-    address_words, atomic_word, branch_word, immediate_word, jump_word, plain_word, register_word,
-    reserve_word, shift_word, store_word, upper_word, word_shift_word,
-};
 use rv_code::Op;
+use rv_syntax::{
+    Form, Label, address_register, immediate, label_distance, memory, pair, register, target,
+    triple, unsigned,
+};
+use rv_words::{
+    Order, address_words, atomic_word, branch_word, immediate_word, jump_word, plain_word,
+    register_word, reserve_word, shift_word, store_word, upper_word, word_shift_word,
+};
 
 /// `rd, rs1, rs2`
 #[tactic(auto, unfolding(crate::specs::Instructions::registers_of))]

@@ -5,7 +5,7 @@ ghost use Rattle.rv_asm.specs.Pieces.{piece_bytes};
 use std::alloc::AllocError;
 
 /// The bytes of a line. Numbers are little-endian.
-#[derive(Clone, Copy, Debug, PartialEq, Eq)]
+#[derive(Clone, Copy)]
 pub enum Piece<'a> {
     Empty,
     Byte(u8),

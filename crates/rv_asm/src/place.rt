@@ -1,10 +1,10 @@
 //! The way through the lines of a text.
 ghost use Rattle.std.specs.Prelude.{◌≡◌, ◌+◌, [], OnOk};
 ghost use Rattle.rv_asm.specs.Lines.{label_of, size_of, with_label};
-ghost use Rattle.rv_asm.specs.Names.{rows};
+ghost use Rattle.rv_syntax.specs.Names.{rows};
 
-use crate::names::Label;
 use crate::statement::{Statement, size};
+use rv_syntax::Label;
 use std::alloc::{AllocError, Global};
 
 /// A place before a line.

@@ -1,18 +1,17 @@
 //! The parts of a line, how many bytes it takes, and what it stands for.
 ghost use Rattle.std.specs.Prelude.{◌≡◌, IsTrue, IfSome, option_map, length};
-ghost use Rattle.rv_asm.specs.Forms.{is_fit, is_directive};
+ghost use Rattle.rv_syntax.specs.Forms.{is_fit, is_directive};
 ghost use Rattle.rv_asm.specs.Lines.{bare_of, labelled_of, label_of, content_of, operation_of, size_of_content, size_of, item_at, item_of, is_defined, line_item};
-ghost use Rattle.rv_asm.specs.Names.{rows};
+ghost use Rattle.rv_syntax.specs.Names.{rows};
 ghost use Rattle.rv_asm.specs.Pieces.{PieceIs, piece_bytes};
 ghost use Rattle.rv_asm.specs.Sizes.{size_of_form};
 
 use crate::directives::{directive, quoted, zeros};
-use crate::form::Form;
 use crate::instructions::code;
-use crate::mnemonics::form;
-use crate::names::{Label, is_name, lookup};
 use crate::piece::Piece;
-use crate::text::{has_control, split_at, trim, without_comment};
+use rv_syntax::{
+    Form, Label, form_of, has_control, is_name, lookup, split_at, trim, without_comment,
+};
 
 /// The parts of a line.
 #[derive(Clone, Copy)]
@@ -23,14 +22,14 @@ pub struct Statement<'a> {
     pub content: &'a [u8],
 }
 
-/// The line without its comment and its outer spaces.
+// The line without its comment and its outer spaces.
 fn bare(line: &[u8]) -> &[u8]
     ensures { result.now ≡ bare_of line.now }
 {
     trim(without_comment(line))
 }
 
-/// The label that a line begins with, and what stands behind its colon.
+// The label that a line begins with, and what stands behind its colon.
 #[tactic(auto, unfolding(crate::specs::Lines::labelled_of))]
 fn labelled(bare: &[u8]) -> Option<(&[u8], &[u8])>
     ensures { option_map (λ parts. (parts.0.now, parts.1.now)) result ≡ labelled_of bare.now }
@@ -63,7 +62,7 @@ impl<'a> Statement<'a> {
     }
 }
 
-/// The mnemonic, and the operands behind the first space.
+// The mnemonic, and the operands behind the first space.
 fn operation(content: &[u8]) -> (&[u8], &[u8])
     ensures { (result.0.now, result.1.now) ≡ operation_of content.now }
 {
@@ -73,7 +72,7 @@ fn operation(content: &[u8]) -> (&[u8], &[u8])
     }
 }
 
-/// How many bytes a form with these operands takes.
+// How many bytes a form with these operands takes.
 fn size_of_form(form: Form, operands: &[u8]) -> usize
     ensures { result ≡ size_of_form form operands.now }
 {
@@ -94,13 +93,13 @@ pub fn size(content: &[u8]) -> usize
     ensures { result ≡ size_of_content content.now }
 {
     let (mnemonic, operands) = operation(content);
-    match form(mnemonic) {
+    match form_of(mnemonic) {
         Some(form) => size_of_form(form, operands),
         None => 0,
     }
 }
 
-/// Whether a form is a directive, which may be placed anywhere.
+// Whether a form is a directive, which may be placed anywhere.
 fn is_directive(form: Form) -> bool
     ensures { result ≡ is_directive form }
 {
@@ -110,7 +109,7 @@ fn is_directive(form: Form) -> bool
     }
 }
 
-/// The piece of a form at this address.
+// The piece of a form at this address.
 #[tactic(auto, unfolding(crate::specs::Lines::item_at))]
 fn piece_at<'a>(
     labels: &[Label<'_>],
@@ -131,7 +130,7 @@ fn piece_at<'a>(
     }
 }
 
-/// The piece of a content at this address.
+// The piece of a content at this address.
 #[tactic(auto, unfolding(crate::specs::Lines::item_of, crate::specs::Lines::size_of_content))]
 fn piece_of<'a>(labels: &[Label<'_>], here: u64, content: &'a [u8]) -> Option<Piece<'a>>
     ensures exact { PieceIs result (item_of (rows labels.now) here content.now) }
@@ -141,11 +140,11 @@ fn piece_of<'a>(labels: &[Label<'_>], here: u64, content: &'a [u8]) -> Option<Pi
         return Some(Piece::Empty);
     }
     let (mnemonic, operands) = operation(content);
-    let form = form(mnemonic)?;
+    let form = form_of(mnemonic)?;
     piece_at(labels, here, form, operands)
 }
 
-/// Whether a label is among these.
+// Whether a label is among these.
 fn is_defined(labels: &[Label<'_>], label: Option<&[u8]>) -> bool
     ensures { result ≡ is_defined (rows labels.now) (option_map (λ name. name.now) label.entry) }
 {

@@ -4,7 +4,7 @@ ghost use Rattle.rv_code.specs.Rows.{atomic_word_row_of, atomic_double_row_of, w
 
 use crate::instr::Op;
 
-/// Opcode 0x2f with f3 2, on words, but for LR.
+// Opcode 0x2f with f3 2, on words, but for LR.
 fn atomic_word_row(funct5: u32) -> Option<Op>
     ensures { result ≡ atomic_word_row_of funct5 }
 {
@@ -23,7 +23,7 @@ fn atomic_word_row(funct5: u32) -> Option<Op>
     }
 }
 
-/// Opcode 0x2f with f3 3, on double words, but for LR.
+// Opcode 0x2f with f3 3, on double words, but for LR.
 fn atomic_double_row(funct5: u32) -> Option<Op>
     ensures { result ≡ atomic_double_row_of funct5 }
 {
@@ -42,7 +42,7 @@ fn atomic_double_row(funct5: u32) -> Option<Op>
     }
 }
 
-/// Opcode 0x2f with funct3 2, on words. LR names no second register.
+// Opcode 0x2f with funct3 2, on words. LR names no second register.
 fn word_atomic(funct5: u32, rs2: u32) -> Option<Op>
     ensures { result ≡ word_atomic_of funct5 rs2 }
 {
@@ -53,7 +53,7 @@ fn word_atomic(funct5: u32, rs2: u32) -> Option<Op>
     }
 }
 
-/// Opcode 0x2f with funct3 3, on double words. LR names no second register.
+// Opcode 0x2f with funct3 3, on double words. LR names no second register.
 fn double_atomic(funct5: u32, rs2: u32) -> Option<Op>
     ensures { result ≡ double_atomic_of funct5 rs2 }
 {

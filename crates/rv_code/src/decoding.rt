@@ -13,21 +13,21 @@ use crate::rows::{
     system_row, word_immediate_row, word_row, word_shift_row,
 };
 
-/// Bits 14 to 12.
+// Bits 14 to 12.
 fn funct3(word: u32) -> u32
     ensures { result ≡ funct3_of word }
 {
     (word >> 12) % 8
 }
 
-/// Bits 31 to 25.
+// Bits 31 to 25.
 fn funct7(word: u32) -> u32
     ensures { result ≡ funct7_of word }
 {
     word >> 25
 }
 
-/// Opcode 0x13, operations with an immediate.
+// Opcode 0x13, operations with an immediate.
 fn immediate(word: u32) -> Option<Instr>
     ensures exact { result ≡ immediate_of word }
     ensures registers { IfSome result NamesRegisters }
@@ -40,7 +40,7 @@ fn immediate(word: u32) -> Option<Instr>
     }
 }
 
-/// Opcode 0x1b, operations on words with an immediate.
+// Opcode 0x1b, operations on words with an immediate.
 fn word_immediate(word: u32) -> Option<Instr>
     ensures exact { result ≡ word_immediate_of word }
     ensures registers { IfSome result NamesRegisters }

@@ -5,14 +5,14 @@ ghost use Rattle.rv_code.specs.Formats.{rd_of, rs1_of, rs2_of, format_r_of, form
 use crate::immediates::{immediate_b, immediate_i, immediate_j, immediate_s, immediate_u};
 use crate::instr::{Instr, Op};
 
-/// The register that is written: bits 11 to 7.
+// The register that is written: bits 11 to 7.
 fn rd(word: u32) -> u32
     ensures { result ≡ rd_of word }
 {
     (word >> 7) % 32
 }
 
-/// The first register that is read: bits 19 to 15.
+// The first register that is read: bits 19 to 15.
 fn rs1(word: u32) -> u32
     ensures { result ≡ rs1_of word }
 {

@@ -1,7 +1,7 @@
 //! A decoded instruction.
 
 /// What an instruction does, by its name in the manual ("RV32/64G Instruction Set Listings").
-#[derive(Clone, Copy, Debug, PartialEq, Eq)]
+#[derive(Clone, Copy, PartialEq, Eq)]
 pub enum Op {
     Lui,
     Auipc,
@@ -94,7 +94,7 @@ pub enum Op {
 }
 
 /// A decoded instruction. A field that its format lacks is 0.
-#[derive(Clone, Copy, Debug, PartialEq, Eq)]
+#[derive(Clone, Copy, PartialEq, Eq)]
 pub struct Instr {
     pub op: Op,
     /// The register that it writes, below 32.

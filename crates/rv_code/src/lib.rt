@@ -15,6 +15,4 @@ mod instr;
 mod multiplication;
 mod operations;
 mod rows;
-#[cfg(test)]
-mod tests;
 mod words;

@@ -3,7 +3,7 @@ ghost use Rattle.std.specs.Prelude.{◌≡◌, ◌*ℤ◌, FitsSigned};
 ghost use Rattle.std.specs.Int.{w64, w128, int_shr};
 ghost use Rattle.rv_code.specs.Operations.{mulh_of, mulhsu_of, mulhu_of};
 
-/// A product of 128 bits.
+// A product of 128 bits.
 fn times(a: i64, b: i128) -> i128
     requires { FitsSigned w128 (a *ℤ b) }
     ensures { result ≡ a *ℤ b }
@@ -11,7 +11,7 @@ fn times(a: i64, b: i128) -> i128
     i128::from(a) * b
 }
 
-/// The high half of a number of 128 bits.
+// The high half of a number of 128 bits.
 fn high(product: i128) -> i64
     requires { FitsSigned w64 (int_shr product 64) }
     ensures { result ≡ int_shr product 64 }

@@ -7,21 +7,21 @@ use crate::instr::Op;
 use crate::multiplication::{mulh, mulhsu, mulhu};
 use crate::words::{addw, divuw, divw, low, mulw, remuw, remw, sllw, sraw, srlw, subw};
 
-/// SRA and SRAI.
+// SRA and SRAI.
 fn sra(a: u64, b: u64) -> u64
     ensures { result ≡ sra_of a b }
 {
     (a.cast_signed() >> (b % 64)).cast_unsigned()
 }
 
-/// SLT and SLTI.
+// SLT and SLTI.
 fn slt(a: u64, b: u64) -> u64
     ensures { result ≡ slt_of a b }
 {
     u64::from(a.cast_signed() < b.cast_signed())
 }
 
-/// SLTU and SLTIU.
+// SLTU and SLTIU.
 fn sltu(a: u64, b: u64) -> u64
     ensures { result ≡ sltu_of a b }
 {

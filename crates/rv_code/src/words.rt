@@ -10,7 +10,7 @@ pub fn low(a: u64) -> u32
     (a & 0xffff_ffff) as u32
 }
 
-/// A word, sign-extended.
+// A word, sign-extended.
 fn extended(word: u32) -> u64
     ensures { result ≡ extended word }
 {

@@ -2,6 +2,7 @@
 use Rattle.std.specs.Prelude.{◌≡◌, ℕ, ◌%◌, ◌/◌, ◌^◌, ◌<◌, List, false, Some, Ok}
 use Rattle.std.specs.FinMap.{get}
 use Rattle.std.specs.List.{All}
+use Rattle.abi_base.specs.declared.address_space.TheConstants.{PAGE_SIZE}
 use Rattle.guest_memory.specs.Page.{Page, Pages}
 use Rattle.rv_code.specs.declared.instr.Instr.{Instr}
 use Rattle.rv_code.specs.Formats.{NamesRegisters}
@@ -12,7 +13,7 @@ use Rattle.rv_interp.specs.Instructions.{instruction_at}
 pub record IsFixedAt (m : Pages) (pc : ℕ) (i : Instr) : Type 0 where
   pub small : pc < 2 ^ 64
   pub page : Page
-  pub there : get m (pc / 4096) ≡ Some page
+  pub there : get m (pc / PAGE_SIZE) ≡ Some page
   pub unwritable : page.prot.write ≡ false
   pub instruction : instruction_at m pc ≡ Ok i
 

@@ -5,6 +5,7 @@ use Rattle.guest_memory.specs.Page.{Pages}
 use Rattle.rv_interp.specs.declared.execution.Outcome.{Outcome}
 use Rattle.rv_interp.specs.declared.execution.Outcome.TheVariants as outcome
 use Rattle.rv_interp.specs.declared.reservation.Reservation.{Reservation}
+use Rattle.rv_interp.specs.declared.turns.TheConstants.{QUANTUM}
 use Rattle.rv_interp.specs.declared.turns.TurnEnd.{TurnEnd}
 use Rattle.rv_interp.specs.declared.turns.TurnEnd.TheVariants as turn_end
 use Rattle.rv_interp.specs.Machine.{Machine, machine, nothing_held}
@@ -15,9 +16,9 @@ unfoldable pub Does : ℕ → Machine → Machine → Type 0
 Does zero s t = s ≡ t
 Does (suc n) s t = (u : Machine) × (step_of s ≡ record { outcome = outcome.Done; after = u }) × Does n u t
 
--- after fewer than 4096 instructions that were done, one comes with this outcome and changes nothing
+-- after fewer than `QUANTUM` instructions that were done, one comes with this outcome and changes nothing
 abbrev pub StopsAt : Machine → Outcome → Machine → Type 0
-StopsAt s end t = (n : ℕ) × (n < 4096) × Does n s t × (step_of t ≡ record { outcome = end; after = t })
+StopsAt s end t = (n : ℕ) × (n < QUANTUM) × Does n s t × (step_of t ≡ record { outcome = end; after = t })
 
 -- the outcome of an instruction that ends a turn so, if an instruction ends it
 abbrev pub stop_of : TurnEnd → Option Outcome
@@ -27,7 +28,7 @@ stop_of (turn_end.Trap signal) = Some (outcome.Trap signal)
 
 -- a turn that starts so may end so with the thread so
 pub record IsTurn (s : Machine) (end : TurnEnd) (t : Machine) : Type 0 where
-  pub quantum : end ≡ turn_end.Quantum → Does 4096 s t
+  pub quantum : end ≡ turn_end.Quantum → Does QUANTUM s t
   pub stops : (o : Outcome) → stop_of end ≡ Some o → StopsAt s o t
 
 -- a thread at the beginning of a turn: no address is reserved
@@ -66,7 +67,7 @@ without_reservation c = record { end = c.end; regs = c.after.regs; memory = c.af
 
 -- what a turn does
 unfoldable pub turn_of : Pages → Registers → Turn
-turn_of m r = without_reservation (turn_within 4096 (fresh m r))
+turn_of m r = without_reservation (turn_within QUANTUM (fresh m r))
 
 -- `turn_of` is a turn
 abbrev pub TurnOfIsTurn : Type 0

@@ -2,20 +2,14 @@
 -- gives, and what an atomic instruction writes. A register is a number below 2^64; where an operation is signed, it is
 -- looked at in two's complement.
 use Rattle.std.specs.Prelude.{ℕ, ◌+◌, ◌%◌, ◌^◌, ◌==◌, Bool, false, not, cond, nat_lt, ℤ, int_lt, bit_and, bit_or}
-use Rattle.std.specs.Int.{w8, w16, w32, w64, cast_signed, cast_unsigned}
+use Rattle.std.specs.Int.{w8, w16, w32, cast_signed}
 use Rattle.std.specs.Int.Bits.{bit_xor}
 use Rattle.rv_code.specs.declared.instr.Op.{Op}
 use Rattle.rv_code.specs.declared.instr.Op.TheVariants as op
-
-abbrev pub signed : ℕ → ℤ
-signed a = cast_signed w64 a
+use Rattle.rv_code.specs.Operations.{signed, register as bits_of}
 
 abbrev pub signed_word : ℕ → ℤ
 signed_word a = cast_signed w32 a
-
--- the 64 bits of a signed number in two's complement
-abbrev pub bits_of : ℤ → ℕ
-bits_of z = cast_unsigned w64 z
 
 -- whether the branch is taken ("Conditional Branches")
 abbrev pub is_taken : Op → ℕ → ℕ → Bool

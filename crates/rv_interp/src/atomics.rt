@@ -18,7 +18,7 @@ use abi_base::{Regs, Signal};
 use guest_memory::{Access, GuestMemory};
 use rv_code::Instr;
 
-/// Reads a number and writes another in its place, at a multiple of the width.
+// Reads a number and writes another in its place, at a multiple of the width.
 fn exchange(regs: &mut Regs, mem: &mut GuestMemory, instr: &Instr, at: u64) -> Outcome
     requires { NamesRegisters instr.now }
     ensures exact { exchange_of regs.old mem.old instr.now at (load_of mem.old at (width_of instr.now.op)) ≡ record { outcome = result; regs = regs.new; memory = mem.new } }
@@ -72,7 +72,7 @@ pub fn load_reserved(
     done(regs, instr.rd, loaded_value(instr.op, v))
 }
 
-/// Stores where the address and the width are reserved, and else looks whether it might have, at a multiple of the width.
+// Stores where the address and the width are reserved, and else looks whether it might have, at a multiple of the width.
 fn store_reserved(
     regs: &mut Regs,
     mem: &mut GuestMemory,

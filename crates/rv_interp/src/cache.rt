@@ -12,17 +12,17 @@ use abi_base::{Regs, Signal};
 use guest_memory::{Access, GuestMemory};
 use rv_code::{Instr, Op};
 
-/// How many instructions are kept.
+// How many instructions are kept.
 const SLOTS: usize = 256;
 
-/// A decoded instruction, and the address that it is at.
+// A decoded instruction, and the address that it is at.
 #[derive(Clone, Copy)]
 struct Slot {
     pc: u64,
     instr: Instr,
 }
 
-/// No instruction is at an odd address.
+// No instruction is at an odd address.
 const EMPTY: Slot = Slot {
     pc: 1,
     instr: Instr {
@@ -73,7 +73,7 @@ impl Cache {
         }
     }
 
-    /// The instruction at an address, which is kept where its page can't be written.
+    // The instruction at an address, which is kept where its page can't be written.
     #[inline(never)]
     fn decode_at(&mut self, mem: &mut GuestMemory, pc: u64) -> Result<Instr, Signal>
         requires { AreTrue mem.old self.old.slots }

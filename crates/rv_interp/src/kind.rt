@@ -6,7 +6,7 @@ ghost use Rattle.rv_interp.specs.Kinds.{kind_of, width_of};
 use rv_code::Op;
 
 /// What an instruction does, but for its operation.
-#[derive(Clone, Copy, Debug, PartialEq, Eq)]
+#[derive(Clone, Copy)]
 pub enum Kind {
     /// An operation on two registers.
     Registers,

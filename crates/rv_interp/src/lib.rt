@@ -13,7 +13,5 @@ mod jumps;
 mod kind;
 mod loads;
 mod reservation;
-#[cfg(test)]
-mod tests;
 mod turns;
 mod values;

@@ -12,7 +12,7 @@ use abi_base::{Regs, Signal};
 use guest_memory::{GuestMemory, MemFault};
 use rv_code::Instr;
 
-/// Writes what was read to the register.
+// Writes what was read to the register.
 #[inline]
 fn loaded(regs: &mut Regs, instr: &Instr, read: Result<u64, MemFault>) -> Outcome
     requires { NamesRegisters instr.now }

@@ -3,7 +3,7 @@ ghost use Rattle.std.specs.Prelude.{◌≡◌};
 ghost use Rattle.rv_interp.specs.Machine.{nothing_held, holds};
 
 /// The address and the width in bytes of the last LR of a turn, until an SC ends it.
-#[derive(Clone, Copy, Debug, PartialEq, Eq)]
+#[derive(Clone, Copy)]
 pub struct Reservation {
     pub held: Option<(u64, u32)>,
 }

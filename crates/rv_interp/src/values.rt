@@ -20,28 +20,28 @@ pub fn is_taken(op: Op, a: u64, b: u64) -> bool
     }
 }
 
-/// The low byte, sign-extended.
+// The low byte, sign-extended.
 fn extended_byte(v: u64) -> u64
     ensures { result ≡ extended_byte v }
 {
     i64::from(((v % 0x100) as u8).cast_signed()).cast_unsigned()
 }
 
-/// The low half word, sign-extended.
+// The low half word, sign-extended.
 fn extended_half(v: u64) -> u64
     ensures { result ≡ extended_half v }
 {
     i64::from(((v % 0x1_0000) as u16).cast_signed()).cast_unsigned()
 }
 
-/// The low word, sign-extended.
+// The low word, sign-extended.
 fn extended_word(v: u64) -> u64
     ensures { result ≡ extended_word v }
 {
     i64::from(low(v).cast_signed()).cast_unsigned()
 }
 
-/// The low word.
+// The low word.
 fn low(v: u64) -> u32
     ensures { result ≡ v % 2 ^ 32 }
 {
@@ -63,7 +63,7 @@ pub fn loaded_value(op: Op, v: u64) -> u64
     }
 }
 
-/// What an atomic instruction on words writes, where `a` was read and `b` is the second register's low word.
+// What an atomic instruction on words writes, where `a` was read and `b` is the second register's low word.
 fn word_value(op: Op, a: u32, b: u32) -> u32
     ensures { result ≡ word_value op a b }
 {
@@ -82,7 +82,7 @@ fn word_value(op: Op, a: u32, b: u32) -> u32
     }
 }
 
-/// What an atomic instruction on double words writes, where `a` was read and `b` is the second register's number.
+// What an atomic instruction on double words writes, where `a` was read and `b` is the second register's number.
 fn double_value(op: Op, a: u64, b: u64) -> u64
     ensures { result ≡ double_value op a b }
 {

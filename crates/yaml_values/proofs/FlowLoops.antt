@@ -1,13 +1,15 @@
 -- Items and pairs that are read one after the other, as a loop reads them.
-use Rattle.std.proofs.Common.{◌≡◌, ℕ, zero, suc, ◌+◌, ◌-◌, ◌<◌, ◌≤◌, ◌||◌, if◌then◌else◌, Bool, true, false, List, [], ◌∷◌, ◌++◌, length, take, drop, map, slice_index_or, ◌==◌, Result, Ok, Err, refl, sym, ap, subst, ◌∙◌, append_assoc, arith}
+use Rattle.std.proofs.Common.{◌≡◌, ℕ, zero, suc, ◌+◌, ◌-◌, ◌<◌, ◌≤◌, ◌||◌, if◌then◌else◌, Bool, true, false, List, [], ◌∷◌, ◌++◌, length, take, drop, slice_index_or, ◌==◌, Result, Ok, Err, refl, sym, ap, subst, ◌∙◌, append_assoc, arith}
 use Rattle.std.proofs.lemmas.Bool.{eq-eqb}
-use Rattle.std.proofs.lemmas.List.{append-nil, map-append, take_all}
-use Rattle.yaml_values.specs.declared.kind.YamlKind.TheVariants as kinds
-use Rattle.yaml_values.specs.declared.fault.LineFault.{LineFault}
-use Rattle.yaml_values.specs.declared.fault.Refusal.{Refusal}
-use Rattle.yaml_values.specs.declared.fault.Refusal.TheVariants.{At, Memory}
-use Rattle.yaml_values.specs.Results.{◌>>=◌, fault, Refuses, Gives}
-use Rattle.yaml_values.specs.Spaces.{begins_with, after_gap}
+use Rattle.std.proofs.lemmas.List.{append-nil, take_all}
+use Rattle.yaml_scalars.specs.declared.kind.YamlKind.TheVariants as kinds
+use Rattle.yaml_scalars.specs.declared.fault.LineFault.{LineFault}
+use Rattle.refusals.specs.declared.refusal.Refusal.{Refusal}
+use Rattle.refusals.specs.declared.refusal.Refusal.TheVariants.{At, Memory}
+use Rattle.refusals.specs.Results.{◌>>=◌, Refuses, Gives}
+use Rattle.refusals.proofs.Steps.{bind_alike}
+use Rattle.yaml_scalars.specs.Results.{fault}
+use Rattle.yaml_scalars.specs.Spaces.{begins_with, after_gap}
 use Rattle.std.specs.Prelude.{Some, None}
 use Rattle.std.specs.List.{list_any}
 use Rattle.yaml_values.specs.Shape.{Shape, Content, content_of, node}
@@ -34,7 +36,7 @@ pub step_closed : {A : Type 0} (closing : ℕ) (one : List ℕ → Result (A × 
 step_closed {A = A} closing one further bytes front e = rw e (ap (λ (xs : List A). Ok (xs, drop 1 (after_gap bytes))) (append-nil front))
 
 -- a value that is refused
-pub step_refused : {A : Type 0} (closing : ℕ) (one : List ℕ → Result (A × List ℕ) LineFault) (further : A → List ℕ → Result (List A × List ℕ) LineFault) (bytes : List ℕ) (front : List A) (e : Refusal)
+pub step_refused : {A : Type 0} (closing : ℕ) (one : List ℕ → Result (A × List ℕ) LineFault) (further : A → List ℕ → Result (List A × List ℕ) LineFault) (bytes : List ℕ) (front : List A) (e : Refusal LineFault)
     → begins_with closing (after_gap bytes) ≡ false → Refuses e (one (after_gap bytes)) → Refuses e (with_front front (step_with closing one further bytes))
 step_refused closing one further bytes front Memory unclosed h = tt
 step_refused closing one further bytes front (At f) unclosed h = rw (unclosed, h) refl
@@ -45,7 +47,7 @@ step_one : {A : Type 0} (closing : ℕ) (one : List ℕ → Result (A × List �
 step_one closing one further bytes behind x front unclosed h = rw (unclosed, h) refl
 
 -- what stands behind a value is refused
-pub step_wrong : {A : Type 0} (closing : ℕ) (one : List ℕ → Result (A × List ℕ) LineFault) (further : A → List ℕ → Result (List A × List ℕ) LineFault) (bytes behind : List ℕ) (x : A) (front : List A) (e : Refusal)
+pub step_wrong : {A : Type 0} (closing : ℕ) (one : List ℕ → Result (A × List ℕ) LineFault) (further : A → List ℕ → Result (List A × List ℕ) LineFault) (bytes behind : List ℕ) (x : A) (front : List A) (e : Refusal LineFault)
     → begins_with closing (after_gap bytes) ≡ false → one (after_gap bytes) ≡ Ok (x, behind) → Refuses e (separator closing (after_gap behind))
     → Refuses e (with_front front (step_with closing one further bytes))
 step_wrong closing one further bytes behind x front Memory unclosed h wrong = tt
@@ -88,7 +90,7 @@ loop_closed closing one further bytes gone after front total is here so_far =
     sym so_far ∙ step_closed closing one further bytes front (closed_at closing gone bytes true is f.0)
     ∙ ap (λ (rest : List ℕ). Ok (front, rest)) (ap (drop 1) (sym is) ∙ sym f.1)
 
-pub loop_refused : {A : Type 0} (closing : ℕ) (one : List ℕ → Result (A × List ℕ) LineFault) (further : A → List ℕ → Result (List A × List ℕ) LineFault) (bytes gone : List ℕ) (front : List A) (total : Result (List A × List ℕ) LineFault) (e : Refusal)
+pub loop_refused : {A : Type 0} (closing : ℕ) (one : List ℕ → Result (A × List ℕ) LineFault) (further : A → List ℕ → Result (List A × List ℕ) LineFault) (bytes gone : List ℕ) (front : List A) (total : Result (List A × List ℕ) LineFault) (e : Refusal LineFault)
     → gone ≡ after_gap bytes → None ≡ (if begins_with closing gone then Some (drop 1 gone) else None) → Refuses e (one gone)
     → with_front front (step_with closing one further bytes) ≡ total → Refuses e total
 loop_refused {A = A} closing one further bytes gone front total e is none wrong so_far =
@@ -96,7 +98,7 @@ loop_refused {A = A} closing one further bytes gone front total e is none wrong 
     (step_refused closing one further bytes front e (closed_at closing gone bytes false is (lost (begins_with closing gone) (drop 1 gone) none))
     (subst (λ (g : List ℕ). Refuses e (one g)) is wrong))
 
-pub loop_wrong : {A : Type 0} (closing : ℕ) (one : List ℕ → Result (A × List ℕ) LineFault) (further : A → List ℕ → Result (List A × List ℕ) LineFault) (bytes gone behind beyond : List ℕ) (x : A) (front : List A) (total : Result (List A × List ℕ) LineFault) (e : Refusal)
+pub loop_wrong : {A : Type 0} (closing : ℕ) (one : List ℕ → Result (A × List ℕ) LineFault) (further : A → List ℕ → Result (List A × List ℕ) LineFault) (bytes gone behind beyond : List ℕ) (x : A) (front : List A) (total : Result (List A × List ℕ) LineFault) (e : Refusal LineFault)
     → gone ≡ after_gap bytes → None ≡ (if begins_with closing gone then Some (drop 1 gone) else None) → one gone ≡ Ok (x, behind)
     → beyond ≡ after_gap behind → Refuses e (separator closing beyond) → with_front front (step_with closing one further bytes) ≡ total → Refuses e total
 loop_wrong {A = A} closing one further bytes gone behind beyond x front total e is none read next wrong so_far =
@@ -119,9 +121,6 @@ pub loop_more : {A : Type 0} (closing : ℕ) (one : List ℕ → Result (A × Li
 loop_more closing one further bytes gone behind beyond after x front total is none read next more so_far =
     sym (step_more closing one further bytes behind after x front (closed_at closing gone bytes false is (lost (begins_with closing gone) (drop 1 gone) none))
     (moved one (Ok (x, behind)) gone (after_gap bytes) is read) (moved (separator closing) (Ok (true, after)) beyond (after_gap behind) next more)) ∙ so_far
-
-pub map_push : {A B : Type 0} (f : A → B) (new old : List A) (x : A) → new ≡ old ++ x ∷ [] → map f new ≡ map f old ++ f x ∷ []
-map_push f new old x h = ap (map f) h ∙ map-append f old (x ∷ [])
 
 pub front_none : {A : Type 0} (read : Result (List A × List ℕ) LineFault) → with_front [] read ≡ read
 front_none (Ok more) = refl
@@ -175,10 +174,6 @@ pairs_over read line keys front count n bytes over =
 abbrev pub SameKeys : List Content → List Content → Type 0
 SameKeys a b = (k : Content) → list_any (same_key k) a ≡ list_any (same_key k) b
 
-bind_alike : {A B : Type 0} (r : Result A LineFault) (f g : A → Result B LineFault) → ((x : A) → f x ≡ g x) → (r >>= f) ≡ (r >>= g)
-bind_alike (Err e) f g h = refl
-bind_alike (Ok x) f g h = h x
-
 more_alike : {A : Type 0} (f g : List ℕ → Result (List A × List ℕ) LineFault) (x : A) → ((rest : List ℕ) → f rest ≡ g rest) → (s : Bool × List ℕ) → with_more f x s ≡ with_more g x s
 more_alike {A = A} f g x h (true, rest) = ap (λ (r : Result (List A × List ℕ) LineFault). r >>= λ more. Ok (x ∷ more.0, more.1)) (h rest)
 more_alike f g x h (false, rest) = refl
@@ -223,12 +218,12 @@ opened read line first b bs e =
     ap (λ (t : Bool). if t then sequence_with read bs else mapping_with read line bs) e
     ∙ ap (λ (rest : List ℕ). if first then sequence_with read rest else mapping_with read line rest) (sym (whole b bs))
 
-pub at_bracket : {X : Type 0} (view : X → Content × List ℕ) (result : Result X Refusal) (read : List ℕ → Node) (line : ℕ) (bytes : List ℕ) → 1 ≤ length bytes → slice_index_or bytes 0 0 ≡ 91
+pub at_bracket : {X : Type 0} (view : X → Content × List ℕ) (result : Result X (Refusal LineFault)) (read : List ℕ → Node) (line : ℕ) (bytes : List ℕ) → 1 ≤ length bytes → slice_index_or bytes 0 0 ≡ 91
     → Gives view result (sequence_with read (take (length bytes - 1) (drop 1 bytes))) → Gives view result (collection_with read line bytes)
 at_bracket view result read line [] some is h = absurd (omega (arith, some))
 at_bracket view result read line (b ∷ bs) some is h = subst (λ (r : Result (Content × List ℕ) LineFault). Gives view result r) (sym (opened read line true b bs (eq-eqb b 91 is))) h
 
-pub at_brace : {X : Type 0} (view : X → Content × List ℕ) (result : Result X Refusal) (read : List ℕ → Node) (line : ℕ) (bytes : List ℕ) → 1 ≤ length bytes → (slice_index_or bytes 0 0 == 91) ≡ false
+pub at_brace : {X : Type 0} (view : X → Content × List ℕ) (result : Result X (Refusal LineFault)) (read : List ℕ → Node) (line : ℕ) (bytes : List ℕ) → 1 ≤ length bytes → (slice_index_or bytes 0 0 == 91) ≡ false
     → Gives view result (mapping_with read line (take (length bytes - 1) (drop 1 bytes))) → Gives view result (collection_with read line bytes)
 at_brace view result read line [] some is h = absurd (omega (arith, some))
 at_brace view result read line (b ∷ bs) some is h = subst (λ (r : Result (Content × List ℕ) LineFault). Gives view result r) (sym (opened read line false b bs is)) h

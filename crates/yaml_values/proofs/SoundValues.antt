@@ -2,38 +2,24 @@
 use Rattle.std.proofs.Common.{◌≡◌, ℕ, ℤ, zero, suc, ◌≤◌, Bool, true, false, if◌then◌else◌, List, [], ◌∷◌, codes, drop, ◌==◌, ◌||◌, length, Option, Some, None, Result, Ok, Err, refl, arith}
 use Rattle.std.specs.Prelude.{IfOk}
 use Rattle.std.specs.List.{list_any}
-use Rattle.yaml_values.specs.declared.kind.YamlKind.{YamlKind}
-use Rattle.yaml_values.specs.declared.kind.YamlKind.TheVariants as kinds
-use Rattle.yaml_values.specs.declared.fault.LineFault.{LineFault}
+use Rattle.yaml_scalars.specs.declared.kind.YamlKind.{YamlKind}
+use Rattle.yaml_scalars.specs.declared.kind.YamlKind.TheVariants as kinds
+use Rattle.yaml_scalars.specs.declared.fault.LineFault.{LineFault}
 use Rattle.yaml_values.specs.declared.mode.Mode.{Mode}
 use Rattle.yaml_values.specs.declared.mode.Mode.TheVariants as modes
 use Rattle.yaml_values.specs.Shape.{Shape, Content, node, null, boolean, integer, text, mapping, sequence, of_list, of_pairs, content_of, depth_of, depth_of_content, depth_of_items, depth_of_pairs}
-use Rattle.yaml_values.specs.Results.{◌>>=◌, fault, at_place}
-use Rattle.yaml_values.specs.Spaces.{is_one_of, begins_with, begins_with_one_of, after_gap}
-use Rattle.yaml_values.specs.Scalars.{Scalar, scalar_at}
-use Rattle.yaml_values.specs.Numbers.{integer_of, is_float, is_word}
-use Rattle.yaml_values.specs.Resolution.{is_in_range, number_or_text, resolved, decoded, meaning, scalar_value}
+use Rattle.refusals.specs.Results.{◌>>=◌}
+use Rattle.refusals.proofs.Steps.{on_both, on_bind, on_any}
+use Rattle.yaml_scalars.specs.Results.{fault, at_place}
+use Rattle.yaml_scalars.specs.Spaces.{is_one_of, begins_with, begins_with_one_of, after_gap}
+use Rattle.yaml_scalars.specs.Scalars.{Scalar, scalar_at}
+use Rattle.yaml_scalars.specs.Numbers.{integer_of, is_float, is_word, is_in_range}
+use Rattle.yaml_values.specs.Resolution.{number_or_text, resolved, decoded, meaning, scalar_value}
 use Rattle.yaml_values.specs.Tags.{Tag, named, bytes_in_base64, tag_at}
 use Rattle.yaml_values.specs.Keys.{same_key, unless_there}
 use Rattle.yaml_values.specs.Flow.{is_absent, value_with, in_node, tagged_with, node_with, separator, with_more, goes_on, items_with, items_of, key_with, after_colon, keyed_with, pair_with, pairs_with, pairs_of, sequence_with, mapping_with, collection_at, value_at}
-use Rattle.yaml_values.proofs.ScalarSteps.{scalar_text}
+use Rattle.yaml_scalars.proofs.ScalarSteps.{scalar_text}
 use Rattle.yaml_values.specs.Documents.{IsText, IsSound, IsSoundContent, AreSoundItems, AreSoundPairs}
-
--- ---- results, of any kind of fault
-
-pub on_both : {B E : Type 0} (P : B → Type 0) (test : Bool) (r s : Result B E) → IfOk r P → IfOk s P → IfOk (if test then r else s) P
-on_both P true r s h k = h
-on_both P false r s h k = k
-
-pub on_bind : {A B : Type 0} (P : A → Type 0) (Q : B → Type 0) (r : Result A LineFault) (f : A → Result B LineFault)
-    → IfOk r P → ((x : A) → P x → IfOk (f x) Q) → IfOk (r >>= f) Q
-on_bind P Q (Ok x) f h k = k x h
-on_bind P Q (Err e) f h k = tt
-
--- nothing is asked of what comes first
-pub on_any : {A B : Type 0} (Q : B → Type 0) (r : Result A LineFault) (f : A → Result B LineFault) → ((x : A) → IfOk (f x) Q) → IfOk (r >>= f) Q
-on_any Q (Ok x) f k = k x
-on_any Q (Err e) f k = tt
 
 -- ---- scalars
 

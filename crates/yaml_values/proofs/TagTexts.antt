@@ -1,13 +1,14 @@
 -- What a tag's name is, and what may not be in it.
 use Rattle.std.proofs.Common.{◌≡◌, ℕ, suc, ◌+◌, ◌≤◌, Bool, true, false, ◌||◌, if◌then◌else◌, List, length, take, drop, Option, Some, None, Result, Ok, refl, sym, ap, subst, ◌∙◌, arith}
 use Rattle.std.proofs.lemmas.List.{length-drop}
-use Rattle.yaml_values.specs.declared.kind.YamlKind.TheVariants as kinds
-use Rattle.yaml_values.specs.declared.fault.LineFault.{LineFault}
-use Rattle.yaml_values.specs.declared.fault.Refusal.{Refusal}
-use Rattle.yaml_values.specs.declared.fault.Refusal.TheVariants.{At, Memory}
-use Rattle.yaml_values.specs.Results.{◌>>=◌, fault, Refuses}
-use Rattle.yaml_values.specs.Characters.{bad_at}
-use Rattle.yaml_values.specs.Scalars.{unless_bad, front_before}
+use Rattle.yaml_scalars.specs.declared.kind.YamlKind.TheVariants as kinds
+use Rattle.yaml_scalars.specs.declared.fault.LineFault.{LineFault}
+use Rattle.refusals.specs.declared.refusal.Refusal.{Refusal}
+use Rattle.refusals.specs.declared.refusal.Refusal.TheVariants.{At, Memory}
+use Rattle.refusals.specs.Results.{◌>>=◌, Refuses}
+use Rattle.yaml_scalars.specs.Results.{fault}
+use Rattle.yaml_scalars.specs.Characters.{bad_at}
+use Rattle.yaml_scalars.specs.Scalars.{unless_bad, front_before}
 use Rattle.yaml_values.specs.Tags.{Tag, named, bytes_in_base64, name_length, is_name, is_binary, tag_of, tag_at}
 
 -- the tag whose name has so many bytes
@@ -35,7 +36,7 @@ good_alike : {A B : Type 0} (bytes rest : List ℕ) (x z : A) (y : B) (o : Optio
 good_alike bytes rest x z y None e = refl
 good_alike bytes rest x z y (Some n) e = absurd cc
 
-bad_alike : {A B : Type 0} (bytes rest : List ℕ) (x : A) (y : B) (o : Option ℕ) (e : Refusal) → Refuses e (unless_bad bytes rest x o) → Refuses e (unless_bad bytes rest y o)
+bad_alike : {A B : Type 0} (bytes rest : List ℕ) (x : A) (y : B) (o : Option ℕ) (e : Refusal LineFault) → Refuses e (unless_bad bytes rest x o) → Refuses e (unless_bad bytes rest y o)
 bad_alike bytes rest x y o Memory h = tt
 bad_alike bytes rest x y None (At f) h = absurd cc
 bad_alike bytes rest x y (Some n) (At f) h = cc
@@ -85,7 +86,7 @@ tag_found in_flow bytes count z is inside form good =
     ∙ good_alike bytes (drop count bytes) (take count bytes, drop count bytes) z (t, drop count bytes) (bad_at (take count bytes)) good
     ∙ ap (λ (p : List ℕ × List ℕ). Ok (tag_named p.0, p.1)) same
 
-pub tag_bad : (in_flow : Bool) (bytes : List ℕ) (count : ℕ) (e : Refusal) → count ≡ name_length in_flow bytes → count ≤ length bytes
+pub tag_bad : (in_flow : Bool) (bytes : List ℕ) (count : ℕ) (e : Refusal LineFault) → count ≡ name_length in_flow bytes → count ≤ length bytes
     → (is_binary (take count bytes) || is_name (take count bytes)) ≡ true → Refuses e (text_with count bytes) → Refuses e (tag_at in_flow bytes)
 tag_bad in_flow bytes count e is inside form bad =
     let t = tag_named (take count bytes) in

@@ -3,7 +3,7 @@ use Rattle.std.specs.Prelude.{ℕ, ◌<◌, ◌≤◌, List, IsTrue}
 use Rattle.std.specs.List.{AllByRecursion}
 use Rattle.std.specs.Str.{IsUtf8}
 use Rattle.yaml_values.specs.Shape.{Shape, Content, Shapes, Pairs, node, null, boolean, integer, text, binary, mapping, sequence, no_items, item, no_pairs, pair, depth_of}
-use Rattle.yaml_values.specs.Resolution.{is_in_range}
+use Rattle.yaml_scalars.specs.Numbers.{is_in_range}
 
 -- UTF-8 without a zero byte
 abbrev pub IsText : List ℕ → Type 0

@@ -1,13 +1,14 @@
 -- Flow values, and the nodes in them. All of one stands in one line.
 use Rattle.std.specs.Prelude.{ℕ, zero, suc, ◌==◌, ◌&&◌, ◌||◌, if◌then◌else◌, Bool, true, false, List, [], ◌∷◌, length, drop, codes, Option, Some, None, Result, Ok}
-use Rattle.yaml_values.specs.declared.kind.YamlKind.TheVariants as kinds
-use Rattle.yaml_values.specs.declared.fault.LineFault.{LineFault}
+use Rattle.yaml_scalars.specs.declared.kind.YamlKind.TheVariants as kinds
+use Rattle.yaml_scalars.specs.declared.fault.LineFault.{LineFault}
 use Rattle.yaml_values.specs.declared.mode.Mode.{Mode}
 use Rattle.yaml_values.specs.declared.mode.Mode.TheVariants as modes
 use Rattle.yaml_values.specs.Shape.{Shape, Content, content_of, node, null, mapping, sequence, of_list, of_pairs}
-use Rattle.yaml_values.specs.Results.{◌>>=◌, fault}
-use Rattle.yaml_values.specs.Spaces.{is_one_of, begins_with, begins_with_one_of, after_gap}
-use Rattle.yaml_values.specs.Plain.{is_behind_key}
+use Rattle.refusals.specs.Results.{◌>>=◌}
+use Rattle.yaml_scalars.specs.Results.{fault}
+use Rattle.yaml_scalars.specs.Spaces.{is_one_of, begins_with, begins_with_one_of, after_gap}
+use Rattle.yaml_scalars.specs.Plain.{is_behind_key}
 use Rattle.yaml_values.specs.Resolution.{scalar_value}
 use Rattle.yaml_values.specs.Tags.{Tag, named, bytes_in_base64, tag_at}
 use Rattle.yaml_values.specs.Keys.{unless_there}

@@ -2,14 +2,6 @@ pub mod Shape
 pub mod Code
 pub mod Views
 pub mod Sizes
-pub mod Results
-pub mod Characters
-pub mod Spaces
-pub mod Plain
-pub mod Quoted
-pub mod PieceViews
-pub mod Scalars
-pub mod Numbers
 pub mod Resolution
 pub mod Tags
 pub mod TagViews
@@ -18,4 +10,3 @@ pub mod Flow
 pub mod Documents
 pub mod KeySets
 pub mod KeyViews
-pub mod Capped

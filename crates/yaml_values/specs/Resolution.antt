@@ -1,21 +1,17 @@
 -- What a scalar means.
-use Rattle.std.specs.Prelude.{ℕ, ℤ, pos, negsuc, ◌^◌, if◌then◌else◌, nat_lt, Bool, true, false, List, [], ◌∷◌, length, codes, Option, Some, None, Result, Ok, Err}
+use Rattle.std.specs.Prelude.{ℕ, ℤ, if◌then◌else◌, Bool, true, false, List, [], ◌∷◌, length, codes, Option, Some, None, Result, Ok, Err}
 use Rattle.base64.specs.GeneralPurpose.{decode_of}
 use Rattle.base64.specs.Engines.{standard}
-use Rattle.yaml_values.specs.declared.kind.YamlKind.{YamlKind}
-use Rattle.yaml_values.specs.declared.kind.YamlKind.TheVariants as kinds
-use Rattle.yaml_values.specs.declared.fault.LineFault.{LineFault}
+use Rattle.yaml_scalars.specs.declared.kind.YamlKind.{YamlKind}
+use Rattle.yaml_scalars.specs.declared.kind.YamlKind.TheVariants as kinds
+use Rattle.yaml_scalars.specs.declared.fault.LineFault.{LineFault}
 use Rattle.yaml_values.specs.declared.mode.Mode.{Mode}
 use Rattle.yaml_values.specs.declared.mode.Mode.TheVariants as modes
 use Rattle.yaml_values.specs.Shape.{Content, null, boolean, integer, text, binary}
-use Rattle.yaml_values.specs.Results.{◌>>=◌, at_place}
-use Rattle.yaml_values.specs.Scalars.{Scalar, scalar_at}
-use Rattle.yaml_values.specs.Numbers.{is_word, integer_of, is_float}
-
--- from -2^63 to 2^64 - 1
-abbrev pub is_in_range : ℤ → Bool
-is_in_range (pos n) = nat_lt n (2 ^ 64)
-is_in_range (negsuc n) = nat_lt n (2 ^ 63)
+use Rattle.refusals.specs.Results.{◌>>=◌}
+use Rattle.yaml_scalars.specs.Results.{at_place}
+use Rattle.yaml_scalars.specs.Scalars.{Scalar, scalar_at}
+use Rattle.yaml_scalars.specs.Numbers.{is_in_range, is_word, integer_of, is_float}
 
 abbrev pub ranged : ℤ → Result Content YamlKind
 ranged i = if is_in_range i then Ok (integer i) else Err kinds.IntegerRange

@@ -1,12 +1,13 @@
 -- Tags.
 use Rattle.std.specs.Prelude.{ℕ, suc, ◌==◌, ◌&&◌, ◌||◌, not, if◌then◌else◌, nat_eq, Bool, List, [], ◌∷◌, length, take, drop, codes, Result, Ok}
 use lib.Pointwise.{pointwise}
-use Rattle.yaml_values.specs.declared.kind.YamlKind.TheVariants as kinds
-use Rattle.yaml_values.specs.declared.fault.LineFault.{LineFault}
-use Rattle.yaml_values.specs.Results.{◌>>=◌, fault}
-use Rattle.yaml_values.specs.Characters.{bad_at}
-use Rattle.yaml_values.specs.Spaces.{is_one_of}
-use Rattle.yaml_values.specs.Scalars.{unless_bad, front_before}
+use Rattle.yaml_scalars.specs.declared.kind.YamlKind.TheVariants as kinds
+use Rattle.yaml_scalars.specs.declared.fault.LineFault.{LineFault}
+use Rattle.refusals.specs.Results.{◌>>=◌}
+use Rattle.yaml_scalars.specs.Results.{fault}
+use Rattle.yaml_scalars.specs.Characters.{bad_at}
+use Rattle.yaml_scalars.specs.Spaces.{is_one_of}
+use Rattle.yaml_scalars.specs.Scalars.{unless_bad, front_before}
 
 -- a tag: with a name, or `!!binary`
 pub data Tag : Type 0 where

@@ -1,9 +1,9 @@
 //! Flow values.
 ghost use Rattle.std.specs.Prelude.{◌≡◌, ◌<◌, ◌≤◌, ◌||◌, if◌then◌else◌, Some, None, false, IfOk, IfSome, length, drop, map, option_map};
 ghost use Rattle.std.specs.List.{list_any};
-ghost use Rattle.yaml_values.specs.Results.{Gives};
+ghost use Rattle.refusals.specs.Results.{Gives};
 ghost use Rattle.yaml_values.specs.Shape.{Content};
-ghost use Rattle.yaml_values.specs.Spaces.{begins_with};
+ghost use Rattle.yaml_scalars.specs.Spaces.{begins_with};
 ghost use Rattle.yaml_values.specs.Views.{content_of_value, shape_of, pair_of};
 ghost use Rattle.yaml_values.specs.Tags.{named, bytes_in_base64};
 ghost use Rattle.yaml_values.specs.TagViews.{tag_view};
@@ -11,19 +11,19 @@ ghost use Rattle.yaml_values.specs.Keys.{same_key};
 ghost use Rattle.yaml_values.specs.KeySets.{IsScalarKey};
 ghost use Rattle.yaml_values.specs.Flow.{value_with, tagged_with, node_with, separator, items_of, key_with, after_colon, keyed_with, pair_with, pairs_of, sequence_with, mapping_with, collection_with, collection_at, value_at};
 
-use crate::fault::Refusal;
 use crate::keys::KeySet;
-use crate::kind::YamlKind;
 use crate::mode::Mode;
 use crate::node::{Node, NodeValue};
 use crate::node_list::NodeList;
 use crate::node_pairs::NodePairs;
-use crate::plain::is_behind_key;
 use crate::resolution::scalar_value;
-use crate::spaces::after_gap;
 use crate::tags::{Tag, tag_at};
 use lists::Text;
+use refusals::Refusal;
 use std::alloc::Global;
+use yaml_scalars::plain::is_behind_key;
+use yaml_scalars::spaces::after_gap;
+use yaml_scalars::{LineFault, YamlKind};
 
 /// The value at the front of a line's rest in a block: a scalar or a flow value, in which so many maps and sequences may
 /// stand inside each other. Its tag was read.
@@ -33,13 +33,13 @@ pub fn value_at(
     line: u32,
     mode: Mode,
     bytes: &[u8],
-) -> Result<(NodeValue, &[u8]), Refusal>
+) -> Result<(NodeValue, &[u8]), Refusal<LineFault>>
     ensures reads { Gives (λ v. (content_of_value v.0, v.1.now)) result (value_at depth line mode bytes.now) }
     ensures no_longer { IfOk result (λ v. length v.1.now ≤ length bytes.now) }
     ensures shorter { IfOk result (λ v. begins_with 32 bytes.now ≡ false → length v.1.now < length bytes.now) }
 {
     match bytes {
-        [] => Err(Refusal::fault(0, YamlKind::Character)),
+        [] => Err(LineFault::refusal(0, YamlKind::Character)),
         [b'[' | b'{', ..] => collection(alloc, depth, line, bytes),
         _ => scalar_value(alloc, mode, false, bytes),
     }
@@ -52,12 +52,12 @@ fn collection(
     depth: usize,
     line: u32,
     bytes: &[u8],
-) -> Result<(NodeValue, &[u8]), Refusal>
+) -> Result<(NodeValue, &[u8]), Refusal<LineFault>>
     ensures reads { Gives (λ v. (content_of_value v.0, v.1.now)) result (collection_at depth line bytes.now) }
     ensures shorter { IfOk result (λ v. length v.1.now < length bytes.now) }
 {
     if depth == 0 {
-        return Err(Refusal::fault(bytes.len(), YamlKind::Depth));
+        return Err(LineFault::refusal(bytes.len(), YamlKind::Depth));
     }
     sequence_or_map(alloc, depth - 1, line, bytes)
 }
@@ -69,12 +69,12 @@ fn sequence_or_map(
     depth: usize,
     line: u32,
     bytes: &[u8],
-) -> Result<(NodeValue, &[u8]), Refusal>
+) -> Result<(NodeValue, &[u8]), Refusal<LineFault>>
     ensures reads { Gives (λ v. (content_of_value v.0, v.1.now)) result (collection_with (node_with (collection_at depth line) line) line bytes.now) }
     ensures shorter { IfOk result (λ v. length v.1.now < length bytes.now) }
 {
     match bytes {
-        [] => Err(Refusal::fault(0, YamlKind::Flow)),
+        [] => Err(LineFault::refusal(0, YamlKind::Flow)),
         [b'[', rest @ ..] => sequence(alloc, depth, line, rest),
         [_, rest @ ..] => mapping(alloc, depth, line, rest),
     }
@@ -87,7 +87,7 @@ fn sequence(
     depth: usize,
     line: u32,
     bytes: &[u8],
-) -> Result<(NodeValue, &[u8]), Refusal>
+) -> Result<(NodeValue, &[u8]), Refusal<LineFault>>
     ensures reads { Gives (λ v. (content_of_value v.0, v.1.now)) result (sequence_with (node_with (collection_at depth line) line) bytes.now) }
     ensures no_longer { IfOk result (λ v. length v.1.now ≤ length bytes.now) }
 {
@@ -102,7 +102,7 @@ fn mapping(
     depth: usize,
     line: u32,
     bytes: &[u8],
-) -> Result<(NodeValue, &[u8]), Refusal>
+) -> Result<(NodeValue, &[u8]), Refusal<LineFault>>
     ensures reads { Gives (λ v. (content_of_value v.0, v.1.now)) result (mapping_with (node_with (collection_at depth line) line) line bytes.now) }
     ensures no_longer { IfOk result (λ v. length v.1.now ≤ length bytes.now) }
 {
@@ -117,7 +117,7 @@ fn items(
     depth: usize,
     line: u32,
     bytes: &[u8],
-) -> Result<(Vec<Node>, &[u8]), Refusal>
+) -> Result<(Vec<Node>, &[u8]), Refusal<LineFault>>
     ensures reads { Gives (λ v. (map shape_of v.0.items, v.1.now)) result (items_of (node_with (collection_at depth line) line) bytes.now) }
     ensures no_longer { IfOk result (λ v. length v.1.now ≤ length bytes.now) }
 {
@@ -137,17 +137,22 @@ fn items(
         rest = after;
     }
     // Each item takes a byte, so that the line is at its end before the count is.
-    Err(Refusal::fault(0, YamlKind::Flow))
+    Err(LineFault::refusal(0, YamlKind::Flow))
 }
 
 // A node, and what stands behind it.
 #[cycle(flow)]
-fn node(alloc: Global, depth: usize, line: u32, bytes: &[u8]) -> Result<(Node, &[u8]), Refusal>
+fn node(
+    alloc: Global,
+    depth: usize,
+    line: u32,
+    bytes: &[u8],
+) -> Result<(Node, &[u8]), Refusal<LineFault>>
     ensures reads { Gives (λ v. (shape_of v.0, v.1.now)) result (node_with (collection_at depth line) line bytes.now) }
     ensures no_longer { IfOk result (λ v. length v.1.now ≤ length bytes.now) }
 {
     match bytes {
-        [] => Err(Refusal::fault(0, YamlKind::Flow)),
+        [] => Err(LineFault::refusal(0, YamlKind::Flow)),
         [b'!', behind @ ..] => {
             let (tag, after) = tag_at(alloc, true, behind)?;
             tagged(alloc, depth, line, bytes.len(), tag, after_gap(after))
@@ -176,7 +181,7 @@ fn tagged(
     left: usize,
     tag: Tag,
     bytes: &[u8],
-) -> Result<(Node, &[u8]), Refusal>
+) -> Result<(Node, &[u8]), Refusal<LineFault>>
     ensures reads { Gives (λ v. (shape_of v.0, v.1.now)) result (tagged_with (collection_at depth line) line left (tag_view tag) bytes.now) }
     ensures no_longer { IfOk result (λ v. length v.1.now ≤ length bytes.now) }
 {
@@ -194,7 +199,7 @@ fn named(
     line: u32,
     name: Text,
     bytes: &[u8],
-) -> Result<(Node, &[u8]), Refusal>
+) -> Result<(Node, &[u8]), Refusal<LineFault>>
     ensures reads { Gives (λ v. (shape_of v.0, v.1.now)) result (tagged_with (collection_at depth line) line 0 (named name) bytes.now) }
     ensures no_longer { IfOk result (λ v. length v.1.now ≤ length bytes.now) }
 {
@@ -208,7 +213,7 @@ fn named(
             },
             bytes,
         )),
-        [b'!', ..] => Err(Refusal::fault(bytes.len(), YamlKind::Tag)),
+        [b'!', ..] => Err(LineFault::refusal(bytes.len(), YamlKind::Tag)),
         _ => {
             let (value, rest) = value(alloc, depth, line, Mode::Verbatim, bytes)?;
             Ok((Node { line, tag, value }, rest))
@@ -224,12 +229,12 @@ fn base64(
     line: u32,
     left: usize,
     bytes: &[u8],
-) -> Result<(Node, &[u8]), Refusal>
+) -> Result<(Node, &[u8]), Refusal<LineFault>>
     ensures reads { Gives (λ v. (shape_of v.0, v.1.now)) result (tagged_with (collection_at depth line) line left bytes_in_base64 bytes.now) }
     ensures no_longer { IfOk result (λ v. length v.1.now ≤ length bytes.now) }
 {
     match bytes {
-        [] | [b',' | b']' | b'}' | b'[' | b'{' | b'!', ..] => Err(Refusal::fault(
+        [] | [b',' | b']' | b'}' | b'[' | b'{' | b'!', ..] => Err(LineFault::refusal(
             left,
             YamlKind::Tag,
         )),
@@ -255,14 +260,14 @@ fn value(
     line: u32,
     mode: Mode,
     bytes: &[u8],
-) -> Result<(NodeValue, &[u8]), Refusal>
+) -> Result<(NodeValue, &[u8]), Refusal<LineFault>>
     ensures reads { Gives (λ v. (content_of_value v.0, v.1.now)) result (value_with (collection_at depth line) mode bytes.now) }
     ensures no_longer { IfOk result (λ v. length v.1.now ≤ length bytes.now) }
 {
     match bytes {
-        [] => Err(Refusal::fault(0, YamlKind::Flow)),
+        [] => Err(LineFault::refusal(0, YamlKind::Flow)),
         [b'[' | b'{', ..] => collection(alloc, depth, line, bytes),
-        [b',' | b']' | b'}', ..] => Err(Refusal::fault(bytes.len(), YamlKind::Flow)),
+        [b',' | b']' | b'}', ..] => Err(LineFault::refusal(bytes.len(), YamlKind::Flow)),
         _ => scalar_value(alloc, mode, true, bytes),
     }
 }
@@ -280,47 +285,52 @@ fn after_closing(closing: u8, bytes: &[u8]) -> Option<&[u8]>
 
 // Whether a flow value goes on behind what was read, and what stands there: it goes on behind a comma, and doesn't
 // behind the closing character.
-fn separator(closing: u8, bytes: &[u8]) -> Result<(bool, &[u8]), Refusal>
+fn separator(closing: u8, bytes: &[u8]) -> Result<(bool, &[u8]), Refusal<LineFault>>
     ensures reads { Gives (λ s. (s.0, s.1.now)) result (separator closing bytes.now) }
     ensures shorter { IfOk result (λ s. length s.1.now < length bytes.now) }
 {
     match bytes {
-        [] => Err(Refusal::fault(0, YamlKind::Flow)),
+        [] => Err(LineFault::refusal(0, YamlKind::Flow)),
         [b',', rest @ ..] => Ok((true, rest)),
         [byte, rest @ ..] if *byte == closing => Ok((false, rest)),
-        _ => Err(Refusal::fault(bytes.len(), YamlKind::Flow)),
+        _ => Err(LineFault::refusal(bytes.len(), YamlKind::Flow)),
     }
 }
 
 // The key of a pair, and what stands behind it.
-fn key(alloc: Global, bytes: &[u8]) -> Result<(NodeValue, &[u8]), Refusal>
+fn key(alloc: Global, bytes: &[u8]) -> Result<(NodeValue, &[u8]), Refusal<LineFault>>
     ensures reads { Gives (λ v. (content_of_value v.0, v.1.now)) result (key_with bytes.now) }
     ensures no_longer { IfOk result (λ v. length v.1.now ≤ length bytes.now) }
     ensures scalar { IfOk result (λ v. IsScalarKey (content_of_value v.0)) }
 {
     match bytes {
-        [] => Err(Refusal::fault(0, YamlKind::Flow)),
-        [b'[' | b'{' | b'!', ..] => Err(Refusal::fault(bytes.len(), YamlKind::Character)),
-        [b',' | b']' | b'}', ..] => Err(Refusal::fault(bytes.len(), YamlKind::Flow)),
+        [] => Err(LineFault::refusal(0, YamlKind::Flow)),
+        [b'[' | b'{' | b'!', ..] => Err(LineFault::refusal(bytes.len(), YamlKind::Character)),
+        [b',' | b']' | b'}', ..] => Err(LineFault::refusal(bytes.len(), YamlKind::Flow)),
         _ => scalar_value(alloc, Mode::Resolved, true, bytes),
     }
 }
 
 // What stands behind the colon of a key.
-fn after_colon(bytes: &[u8]) -> Result<&[u8], Refusal>
+fn after_colon(bytes: &[u8]) -> Result<&[u8], Refusal<LineFault>>
     ensures reads { Gives (λ r. r.now) result (after_colon bytes.now) }
     ensures shorter { IfOk result (λ r. length r.now < length bytes.now) }
 {
     match bytes {
-        [] => Err(Refusal::fault(0, YamlKind::Flow)),
+        [] => Err(LineFault::refusal(0, YamlKind::Flow)),
         [b':', rest @ ..] if is_behind_key(true, rest) => Ok(rest),
-        _ => Err(Refusal::fault(bytes.len(), YamlKind::Flow)),
+        _ => Err(LineFault::refusal(bytes.len(), YamlKind::Flow)),
     }
 }
 
 // The value of a key.
 #[cycle(flow)]
-fn keyed(alloc: Global, depth: usize, line: u32, bytes: &[u8]) -> Result<(Node, &[u8]), Refusal>
+fn keyed(
+    alloc: Global,
+    depth: usize,
+    line: u32,
+    bytes: &[u8],
+) -> Result<(Node, &[u8]), Refusal<LineFault>>
     ensures reads { Gives (λ v. (shape_of v.0, v.1.now)) result (keyed_with (node_with (collection_at depth line) line) line bytes.now) }
     ensures no_longer { IfOk result (λ v. length v.1.now ≤ length bytes.now) }
 {
@@ -345,7 +355,7 @@ fn pair<'a>(
     line: u32,
     keys: &mut KeySet,
     bytes: &'a [u8],
-) -> Result<((Node, Node), &'a [u8]), Refusal>
+) -> Result<((Node, Node), &'a [u8]), Refusal<LineFault>>
     ensures reads { Gives (λ p. (pair_of p.0, p.1.now)) result (pair_with (node_with (collection_at depth line) line) line keys.old bytes.now) }
     ensures keys { IfOk result (λ p. (k : Content) → list_any (same_key k) keys.new ≡ (same_key k (content_of_value p.0.0.value) || list_any (same_key k) keys.old)) }
     ensures no_longer { IfOk result (λ p. length p.1.now ≤ length bytes.now) }
@@ -353,7 +363,7 @@ fn pair<'a>(
     let (key, behind) = key(alloc, bytes)?;
     let rest = after_colon(after_gap(behind))?;
     if !keys.insert(alloc, &key)? {
-        return Err(Refusal::fault(bytes.len(), YamlKind::DuplicateKey));
+        return Err(LineFault::refusal(bytes.len(), YamlKind::DuplicateKey));
     }
     let (value, after) = keyed(alloc, depth, line, after_gap(rest))?;
     let key = Node {
@@ -371,7 +381,7 @@ fn pairs(
     depth: usize,
     line: u32,
     bytes: &[u8],
-) -> Result<(Vec<(Node, Node)>, &[u8]), Refusal>
+) -> Result<(Vec<(Node, Node)>, &[u8]), Refusal<LineFault>>
     ensures reads { Gives (λ v. (map pair_of v.0.items, v.1.now)) result (pairs_of (node_with (collection_at depth line) line) line bytes.now) }
     ensures no_longer { IfOk result (λ v. length v.1.now ≤ length bytes.now) }
 {
@@ -392,5 +402,5 @@ fn pairs(
         rest = after;
     }
     // Each pair takes a byte, so that the line is at its end before the count is.
-    Err(Refusal::fault(0, YamlKind::Flow))
+    Err(LineFault::refusal(0, YamlKind::Flow))
 }

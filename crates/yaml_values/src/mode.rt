@@ -1,7 +1,7 @@
 //! How a scalar is read.
 
 /// What a scalar's tag makes of it.
-#[derive(Clone, Copy, Debug, Drop, PartialEq, Eq)]
+#[derive(Clone, Copy, Drop)]
 pub enum Mode {
     /// No tag: a plain scalar is what it looks like.
     Resolved,

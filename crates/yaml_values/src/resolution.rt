@@ -3,23 +3,24 @@ ghost use Rattle.std.specs.Prelude.{◌≡◌, ◌<◌, ◌≤◌, IfOk, IsTrue,
 ghost use Rattle.std.specs.Result.{result_map_both};
 ghost use Rattle.base64.specs.GeneralPurpose.{decode_of};
 ghost use Rattle.base64.specs.Engines.{standard};
-ghost use Rattle.yaml_values.specs.Results.{Gives, at_place};
+ghost use Rattle.refusals.specs.Results.{Gives};
+ghost use Rattle.yaml_scalars.specs.Results.{at_place};
 ghost use Rattle.yaml_values.specs.Views.{content_of_value};
-ghost use Rattle.yaml_values.specs.Numbers.{is_word, integer_of};
-ghost use Rattle.yaml_values.specs.Spaces.{begins_with};
+ghost use Rattle.yaml_scalars.specs.Numbers.{is_word, integer_of};
+ghost use Rattle.yaml_scalars.specs.Spaces.{begins_with};
 ghost use Rattle.yaml_values.specs.Resolution.{ranged, number_or_text, resolved, decoded, meaning, scalar_value};
 ghost use Rattle.yaml_values.specs.KeySets.{IsScalarKey, IsScalarOf, is_bytes};
 
-use crate::fault::{LineFault, Refusal};
-use crate::kind::YamlKind;
 use crate::mode::Mode;
 use crate::node::NodeValue;
-use crate::numbers::{integer, is_float};
-use crate::scalars::{Scalar, scalar_at};
 use base64::DecodeAllocError;
 use base64::engine::general_purpose::STANDARD;
 use lists::{Bytes, Text};
+use refusals::Refusal;
 use std::alloc::Global;
+use yaml_scalars::numbers::{integer, is_float};
+use yaml_scalars::scalars::{Scalar, scalar_at};
+use yaml_scalars::{LineFault, YamlKind};
 
 fn is_null(bytes: &[u8]) -> bool
     ensures { result ≡ is_word (codes "~" ∷ codes "null" ∷ codes "Null" ∷ codes "NULL" ∷ []) bytes.now }
@@ -64,7 +65,6 @@ fn float_or_text(content: Text) -> Result<NodeValue, YamlKind>
 }
 
 // What is neither null nor a bool.
-#[tactic(auto, using(crate::proofs::Ranges::by_range))]
 fn number_or_text(content: Text) -> Result<NodeValue, YamlKind>
     ensures means { result_map_both content_of_value (λ kind. kind) result ≡ number_or_text content (integer_of content) }
     ensures scalar { IfOk result (λ v. IsScalarKey (content_of_value v)) }
@@ -94,7 +94,10 @@ fn resolved(content: Text) -> Result<NodeValue, YamlKind>
 }
 
 // What was found out without a place, at a place.
-fn at_place(place: usize, found: Result<NodeValue, YamlKind>) -> Result<NodeValue, Refusal>
+fn at_place(
+    place: usize,
+    found: Result<NodeValue, YamlKind>,
+) -> Result<NodeValue, Refusal<LineFault>>
     ensures gives { Gives content_of_value result (at_place place (result_map_both content_of_value (λ kind. kind) found)) }
     ensures same { IfOk result (λ v. found ≡ Ok v) }
 {
@@ -105,22 +108,24 @@ fn at_place(place: usize, found: Result<NodeValue, YamlKind>) -> Result<NodeValu
 }
 
 // The bytes of a scalar in base64 that stands at the place.
-fn decoded(alloc: Global, place: usize, content: Text) -> Result<NodeValue, Refusal>
+fn decoded(alloc: Global, place: usize, content: Text) -> Result<NodeValue, Refusal<LineFault>>
     ensures gives { Gives content_of_value result (at_place place (decoded (decode_of standard content))) }
     ensures bytes { IfOk result (λ v. IsTrue (is_bytes (content_of_value v))) }
 {
     match STANDARD.decode(alloc, content.as_bytes()) {
         Ok(bytes) => Ok(NodeValue::Binary(Bytes::from_vec(bytes))),
         Err(DecodeAllocError::OutOfMemory) => Err(Refusal::Memory),
-        Err(DecodeAllocError::DecodeError(_)) => Err(Refusal::At(LineFault {
-            left: place,
-            kind: YamlKind::Base64,
-        })),
+        Err(DecodeAllocError::DecodeError(_)) => Err(LineFault::refusal(place, YamlKind::Base64)),
     }
 }
 
 // What a scalar at the place means, as its tag says.
-fn meaning(alloc: Global, place: usize, mode: Mode, scalar: Scalar) -> Result<NodeValue, Refusal>
+fn meaning(
+    alloc: Global,
+    place: usize,
+    mode: Mode,
+    scalar: Scalar,
+) -> Result<NodeValue, Refusal<LineFault>>
     ensures gives { (rest : List ℕ) → Gives content_of_value result (at_place place (meaning mode (record { plain = scalar.is_plain; content = scalar.content; rest = rest }))) }
     ensures scalar { IfOk result (λ v. IsScalarOf mode (content_of_value v)) }
 {
@@ -143,7 +148,7 @@ pub fn scalar_value(
     mode: Mode,
     in_flow: bool,
     bytes: &[u8],
-) -> Result<(NodeValue, &[u8]), Refusal>
+) -> Result<(NodeValue, &[u8]), Refusal<LineFault>>
     ensures reads { Gives (λ v. (content_of_value v.0, v.1.now)) result (scalar_value mode in_flow bytes.now) }
     ensures scalar { IfOk result (λ v. IsScalarOf mode (content_of_value v.0)) }
     ensures no_longer { IfOk result (λ v. length v.1.now ≤ length bytes.now) }

@@ -1,17 +1,17 @@
 //! Tags.
 ghost use Rattle.std.specs.Prelude.{◌≡◌, ◌≤◌, ◌||◌, if◌then◌else◌, IfOk, List, ℕ, length, take, drop};
-ghost use Rattle.yaml_values.specs.Results.{Gives};
-ghost use Rattle.yaml_values.specs.Characters.{bad_at};
-ghost use Rattle.yaml_values.specs.Scalars.{unless_bad};
+ghost use Rattle.refusals.specs.Results.{Gives};
+ghost use Rattle.yaml_scalars.specs.Characters.{bad_at};
+ghost use Rattle.yaml_scalars.specs.Scalars.{unless_bad};
 ghost use Rattle.yaml_values.specs.Tags.{ends_name, name_length, is_name, is_binary, named, bytes_in_base64, tag_at};
 ghost use Rattle.yaml_values.specs.TagViews.{tag_view};
 
-use crate::characters::bad_at;
-use crate::fault::Refusal;
-use crate::kind::YamlKind;
 use lists::Text;
+use refusals::Refusal;
 use std::alloc::{AllocError, Global};
 use std::str;
+use yaml_scalars::characters::bad_at;
+use yaml_scalars::{LineFault, YamlKind};
 
 /// A tag.
 #[derive(Drop)]
@@ -71,13 +71,13 @@ fn is_tag(name: &[u8]) -> bool
 }
 
 // So many bytes at the front as a text, and what stands behind them.
-fn split_text(bytes: &[u8], count: usize) -> Result<(&str, &[u8]), Refusal>
+fn split_text(bytes: &[u8], count: usize) -> Result<(&str, &[u8]), Refusal<LineFault>>
     requires { count ≤ length bytes.now }
     ensures { Gives {Y = List ℕ × List ℕ} (λ t. (t.0.now, t.1.now)) result (unless_bad bytes.now (drop count bytes.now) (take count bytes.now, drop count bytes.now) (bad_at (take count bytes.now))) }
 {
     let (front, rest) = bytes.split_at(count);
     if let Some(place) = bad_at(front) {
-        return Err(Refusal::fault(bytes.len() - place, YamlKind::Character));
+        return Err(LineFault::refusal(bytes.len() - place, YamlKind::Character));
     }
     match str::from_utf8(front) {
         Ok(text) => Ok((text, rest)),
@@ -97,13 +97,17 @@ fn tag_named(alloc: Global, name: &str) -> Result<Tag, AllocError>
 }
 
 /// The tag behind a `!`, and what stands behind it.
-pub fn tag_at(alloc: Global, in_flow: bool, bytes: &[u8]) -> Result<(Tag, &[u8]), Refusal>
+pub fn tag_at(
+    alloc: Global,
+    in_flow: bool,
+    bytes: &[u8],
+) -> Result<(Tag, &[u8]), Refusal<LineFault>>
     ensures reads { Gives (λ t. (tag_view t.0, t.1.now)) result (tag_at in_flow bytes.now) }
     ensures no_longer { IfOk result (λ t. length t.1.now ≤ length bytes.now) }
 {
     let count = name_length(in_flow, bytes);
     if !is_tag(&bytes[..count]) {
-        return Err(Refusal::fault(bytes.len() + 1, YamlKind::Tag));
+        return Err(LineFault::refusal(bytes.len() + 1, YamlKind::Tag));
     }
     let (name, rest) = split_text(bytes, count)?;
     Ok((tag_named(alloc, name)?, rest))

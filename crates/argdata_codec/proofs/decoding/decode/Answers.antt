@@ -1,9 +1,11 @@
 -- What is read is spelled so, and what is spelled so is read.
 use Rattle.std.proofs.Common.{arith, sym, subst, ◌∙◌}
-use Rattle.argdata_codec.specs.declared.refusal.Refusal.{Refusal}
-use Rattle.argdata_codec.specs.Reading.{Refuses, value_at}
+use Rattle.refusals.specs.declared.refusal.Refusal.{Refusal}
+use Rattle.refusals.specs.Options.{Refuses}
+use Rattle.argdata_codec.specs.declared.fault.Malformed.{Malformed}
+use Rattle.argdata_codec.specs.Reading.{value_at}
 use Rattle.argdata_codec.specs.Views.{shape_of}
-use Rattle.argdata_codec.proofs.Fields.{some_is, none_some}
+use Rattle.refusals.proofs.Chosen.{some_is, none_some}
 use Rattle.argdata_codec.proofs.Sound.{value_sound}
 use Rattle.argdata_codec.proofs.Again.{value_again}
 use Rattle.argdata_codec.proofs.Longest.{from_each}
@@ -18,7 +20,7 @@ returns-in-Ok-clause-found c =
 pub returns-in-Ok-clause-only : goal.returns-in-Ok-clause-only
 returns-in-Ok-clause-only c x h = some_is (shape_of c.in-Ok.value) x (sym c.in-Ok.ensures ∙ value_again 64 x h.0 c.args.bytes.now h.1)
 
-pub returns-in-Err-Malformed-clause-only : goal.returns-in-Err-Malformed-clause-only
-returns-in-Err-Malformed-clause-only c x h =
-    let none = subst (λ (e : Refusal). Refuses e (value_at 64 c.args.bytes.now)) c.in-Err-Malformed.field-0-is c.in-Err-Malformed.ensures in
+pub returns-in-Err-At-clause-only : goal.returns-in-Err-At-clause-only
+returns-in-Err-At-clause-only c x h =
+    let none = subst (λ (e : Refusal Malformed). Refuses e (value_at 64 c.args.bytes.now)) c.in-Err-At.field-0-is c.in-Err-At.ensures in
     absurd (none_some x (sym none ∙ value_again 64 x h.0 c.args.bytes.now h.1))

@@ -1,5 +1,6 @@
 use Rattle.std.proofs.Common.{◌≡◌, ◌≤◌, drop}
 use Rattle.std.specs.Result.{result_ok}
+use Rattle.call_codec.specs.declared.arguments.TheConstants.{MOST_TRANSFERRED}
 use Rattle.call_codec.specs.Args.{gathered}
 use Rattle.call_codec.proofs.Gathering.{after_front}
 use Rattle.call_codec.proofs.arguments.gather.Given as goal
@@ -7,6 +8,6 @@ use Rattle.call_codec.proofs.arguments.gather.Given as goal
 -- the bytes so far, and those of the ranges that are left, are all
 abbrev pub invariant-loop-range : goal.invariant-loop-range
 invariant-loop-range l = record {
-  all : after_front l.bytes (result_ok (gathered l.memory l.room (drop l.range-index l.ranges))) ≡ result_ok (gathered l.memory 65536 l.ranges);
-  room : l.room ≤ 65536;
+  all : after_front l.bytes (result_ok (gathered l.memory l.room (drop l.range-index l.ranges))) ≡ result_ok (gathered l.memory MOST_TRANSFERRED l.ranges);
+  room : l.room ≤ MOST_TRANSFERRED;
 }

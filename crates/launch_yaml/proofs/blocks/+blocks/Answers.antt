@@ -11,7 +11,8 @@ use Rattle.launch_yaml.specs.Views.{row, rows, AllWithin}
 use Rattle.launch_yaml.specs.Blocks.{item_of, items_of, pair_of, pairs_of, block_at, node_at}
 use Rattle.launch_yaml.proofs.Ends.{dash_end}
 use Rattle.launch_yaml.proofs.Depths.{sequence_is, mapping_is}
-use Rattle.launch_yaml.proofs.Loops.{OneMore, with_front, items_go_on, items_fail, items_done, pairs_go_on, pairs_fail, pairs_done, pair_goes_by_keys, pair_is, key_fails, value_fails, refused, map_push}
+use Rattle.refusals.proofs.Steps.{refused, map_push}
+use Rattle.launch_yaml.proofs.Loops.{OneMore, with_front, items_go_on, items_fail, items_done, pairs_go_on, pairs_fail, pairs_done, pair_goes_by_keys, pair_is, key_fails, value_fails}
 use Rattle.launch_yaml.proofs.blocks.+blocks.Goals as goal
 
 pub block-returns-in_ok-items : goal.block-returns-in_ok-items

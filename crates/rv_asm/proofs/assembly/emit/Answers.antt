@@ -1,5 +1,5 @@
 use Rattle.std.proofs.Common.{ap, arith}
-use Rattle.rv_asm.specs.Names.{rows}
+use Rattle.rv_syntax.specs.Names.{rows}
 use Rattle.rv_asm.proofs.Assembling.{reached_more, reached_end, reached_taken}
 use Rattle.rv_asm.proofs.assembly.emit.Goals as goal
 

@@ -1,4 +1,4 @@
-use Rattle.rv_asm.specs.Names.{rows}
+use Rattle.rv_syntax.specs.Names.{rows}
 use Rattle.rv_asm.proofs.Assembling.{Reached}
 use Rattle.rv_asm.proofs.assembly.emit.Given as goal
 

@@ -1,6 +1,6 @@
 use Rattle.std.proofs.Common.{◌≡◌, drop, map}
 use Rattle.rv_asm.specs.Lines.{labels_of, labels_after}
-use Rattle.rv_asm.specs.Names.{rows}
+use Rattle.rv_syntax.specs.Names.{rows}
 use Rattle.rv_asm.proofs.assembly.labels.Given as goal
 
 -- the labels are those of the lines that are left, after those so far

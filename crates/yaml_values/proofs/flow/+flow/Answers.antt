@@ -4,11 +4,12 @@ use Rattle.std.proofs.lemmas.Result.{err_from_is_err_and}
 use Rattle.yaml_values.specs.Shape.{Shape, Content, content_of}
 use Rattle.yaml_values.specs.Views.{shape_of, pair_of}
 use Rattle.yaml_values.specs.Flow.{node_with, items_with, pair_with, pairs_with, collection_at}
-use Rattle.yaml_values.proofs.FlowLoops.{loop_closed, loop_refused, loop_wrong, loop_last, loop_more, items_start, items_step, items_over, pairs_start, pairs_step, pairs_over, pairs_alike, with_front, map_push, too_deep, one_deeper, at_bracket, at_brace}
+use Rattle.refusals.proofs.Steps.{map_push}
+use Rattle.yaml_values.proofs.FlowLoops.{loop_closed, loop_refused, loop_wrong, loop_last, loop_more, items_start, items_step, items_over, pairs_start, pairs_step, pairs_over, pairs_alike, with_front, too_deep, one_deeper, at_bracket, at_brace}
 use Rattle.yaml_values.proofs.flow.+flow.Goals as goal
 
 pub collection-returns-then-depth-eq0-clause-reads : goal.collection-returns-then-depth-eq0-clause-reads
-collection-returns-then-depth-eq0-clause-reads t c = rw c.fault.ensures (too_deep c.args.depth c.args.line c.args.bytes.now c.if-depth-eq0.true)
+collection-returns-then-depth-eq0-clause-reads t c = rw c.refusal.ensures (too_deep c.args.depth c.args.line c.args.bytes.now c.if-depth-eq0.true)
 
 pub collection-returns-clause-reads : goal.collection-returns-clause-reads
 collection-returns-clause-reads t c =
@@ -75,7 +76,7 @@ items-returns-then-not-goes_on-clause-reads t c =
 pub items-returns-clause-reads : goal.items-returns-clause-reads
 items-returns-clause-reads t c =
     let read = node_with (collection_at c.args.depth c.args.line) c.args.line in
-    rw c.fault.ensures
+    rw c.refusal.ensures
     (sym c.loop.invariant.0 ∙ items_over read (map shape_of c.loop.list.items) c.loop.counter (length c.args.bytes.now) c.loop.rest.now (omega (arith, c.loop-test.false)))
 
 pub items-loop-preserved : goal.items-loop-preserved
@@ -154,7 +155,7 @@ pairs-returns-then-not-goes_on-clause-reads t c =
 pub pairs-returns-clause-reads : goal.pairs-returns-clause-reads
 pairs-returns-clause-reads t c =
     let read = node_with (collection_at c.args.depth c.args.line) c.args.line in
-    rw c.fault.ensures
+    rw c.refusal.ensures
     (sym c.loop.invariant.0
     ∙ pairs_over read c.args.line c.loop.keys (map pair_of c.loop.list.items) c.loop.counter (length c.args.bytes.now) c.loop.rest.now (omega (arith, c.loop-test.false)))
 

@@ -6,7 +6,7 @@ use Rattle.yaml_values.proofs.tags.tag_at.Goals as goal
 
 pub returns-then-not-is_tag-clause-reads : goal.returns-then-not-is_tag-clause-reads
 returns-then-not-is_tag-clause-reads c =
-    rw c.fault.ensures (tag_refused c.args.in_flow c.args.bytes.now c.name_length-count.result c.name_length-count.ensures.value (sym c.is_tag.ensures ∙ c.if-not-is_tag.true))
+    rw c.refusal.ensures (tag_refused c.args.in_flow c.args.bytes.now c.name_length-count.result c.name_length-count.ensures.value (sym c.is_tag.ensures ∙ c.if-not-is_tag.true))
 
 pub returns-in_err-name-clause-reads : goal.returns-in_err-name-clause-reads
 returns-in_err-name-clause-reads c =

@@ -1,6 +1,7 @@
+use Rattle.kernel_model.proofs.Refusals.{step_denial}
 use Rattle.kernel_model.proofs.Touches.{others_stay}
 use Rattle.kernel_model.proofs.Valids.{step_keeps_valid}
-use Rattle.kernel_core.proofs.Steps.{step_denied, step_only, step_refused}
+use Rattle.kernel_core.proofs.Steps.{step_denied, step_refused}
 use Rattle.kernel_core.proofs.kernel.Kernel.step.Goals as goal
 
 pub returns-clause-valid : goal.returns-clause-valid
@@ -13,7 +14,7 @@ pub returns-clause-denied : goal.returns-clause-denied
 returns-clause-denied c = λ table row d there all first. step_denied _ _ _ _ _ table row d c.run.ensures.step there all first
 
 pub returns-clause-only : goal.returns-clause-only
-returns-clause-only c = λ reply denial is denies. step_only _ _ _ _ _ reply denial c.run.ensures.step is denies
+returns-clause-only c = λ reply denial is denies. step_denial _ _ _ _ _ reply denial c.run.ensures.step is denies
 
 pub returns-clause-refused : goal.returns-clause-refused
 returns-clause-refused c = λ reply is fails. step_refused _ _ _ _ _ reply c.run.ensures.valid c.run.ensures.step is fails

@@ -1,5 +1,4 @@
 use Rattle.std.proofs.Common.{sym, ap, ◌∙◌}
-use Rattle.number_map.specs.Maps.{least_key}
 use Rattle.number_map.proofs.Entries.{least_from, key_of_first}
 use Rattle.number_map.proofs.num_map.NumMap.first_from.Goals as goal
 

@@ -1,0 +1,5 @@
+//! Faults of argument data.
+
+/// The bytes spell no value.
+#[derive(Drop)]
+pub struct Malformed;

@@ -1,0 +1,189 @@
+//! Reports by example.
+use crate::stdout_kernel::{Deed, PID, TID, answer_to, call_of, expire, stdout_kernel};
+use abi_types::{Answer, Bytes, Call, Denial, Errno, Pid, Reply, Rights, Signal, Tid, TidList};
+use kernel_core::Kernel;
+use run_report::report;
+use run_types::{Act, Entry, History};
+use std::alloc::{AllocError, Global};
+use std::test::Fail;
+
+// An entry of another process.
+enum Other {
+    // A call of this number that lacks these rights of descriptor 3.
+    Denied(u64, Rights, Rights),
+    // A trap at this moment, after three turns.
+    Trap(u64),
+    // The end of its turns at this moment, after three turns.
+    Expire(u64),
+}
+
+// A run, and the report that it comes to.
+struct Run {
+    may_write: bool,
+    deeds: &'static [Deed],
+    others: &'static [Other],
+    // Whether the process is ended from outside.
+    expires: bool,
+    // Whether the report has the history's lines.
+    lines: bool,
+    report: &'static str,
+}
+
+const HELLO: Run = Run {
+    may_write: true,
+    deeds: &[Deed::Write(0, "hello\n"), Deed::Exit(0)],
+    others: &[],
+    expires: false,
+    lines: false,
+    report: "== stdout 6\nhello\n== stderr 0\n== status exit 0\n== run ended\n== denials 0\n== tree 0\n",
+};
+
+const DENIED: Run = Run {
+    may_write: true,
+    deeds: &[Deed::Write(0, "hi")],
+    others: &[
+        Other::Denied(37, Rights(0x1000_0042), Rights::FD_TELL),
+        Other::Denied(49, Rights::NONE, Rights::NONE),
+    ],
+    expires: false,
+    lines: false,
+    report: "== stdout 2\nhi\n== stderr 0\n== status live\n== run stalled\n== denials 2\n0abcdef0.12 poll fd 3 base FD_READ,FD_WRITE,POLL_FD_READWRITE inheriting FD_TELL\n0abcdef0.12 49 fd 3 base - inheriting -\n== tree 0\n",
+};
+
+const RUNS: &[Run] = &[
+    HELLO,
+    Run {
+        lines: true,
+        report: "== stdout 6\nhello\n== stderr 0\n== status exit 0\n== run ended\n== denials 0\n== tree 0\n== history 2\n1000 00000000.1 0 call fd_write SUCCESS 6 0\n2000 00000000.1 0 call proc_exit SUCCESS 0 0\n",
+        ..HELLO
+    },
+    Run {
+        may_write: false,
+        deeds: &[Deed::Write(0, "hi"), Deed::Exit(76)],
+        report: "== stdout 0\n== stderr 0\n== status exit 76\n== run ended\n== denials 1\n00000000.1 fd_write fd 0 base FD_WRITE inheriting -\n== tree 0\n",
+        ..HELLO
+    },
+    DENIED,
+    Run {
+        expires: true,
+        report: "== stdout 2\nhi\n== stderr 0\n== status signal 25 XCPU\n== run ended\n== denials 2\n0abcdef0.12 poll fd 3 base FD_READ,FD_WRITE,POLL_FD_READWRITE inheriting FD_TELL\n0abcdef0.12 49 fd 3 base - inheriting -\n== tree 0\n",
+        ..DENIED
+    },
+    Run {
+        may_write: true,
+        deeds: &[],
+        others: &[
+            Other::Denied(50, Rights::FD_READ, Rights::NONE),
+            Other::Trap(4000),
+            Other::Expire(u64::MAX),
+        ],
+        expires: false,
+        lines: true,
+        report: "== stdout 0\n== stderr 0\n== status live\n== run stalled\n== denials 1\n0abcdef0.12 50 fd 3 base FD_READ inheriting -\n== tree 0\n== history 3\n0 0abcdef0.12 0 call 50 NOTCAPABLE 0 0\n4000 01000002.7 3 trap - - 0 0\n18446744073709551615 01000002.7 3 expire - - 0 0\n",
+    },
+];
+
+// Makes a call of the first thread, with its entry. Nothing where that thread can make no call.
+fn make_call(
+    alloc: Global,
+    kernel: &mut Kernel,
+    history: &mut History,
+    deed: &Deed,
+) -> Result<(), AllocError> {
+    let call = call_of(alloc, deed)?;
+    match answer_to(kernel, &call) {
+        None => Ok(()),
+        Some(answer) => history.push(Entry {
+            moment: kernel.moment(),
+            pid: PID,
+            tid: TID,
+            turns: TidList::new(alloc),
+            act: Act::Call { call, answer },
+        }),
+    }
+}
+
+// The entry of a call of this number that was denied.
+fn denied(alloc: Global, number: u64, base: Rights, inheriting: Rights) -> Entry {
+    let reply = Reply {
+        errno: Errno::Notcapable,
+        r1: 0,
+        r2: 0,
+        denial: Some(Denial::Missing {
+            fd: 3,
+            base,
+            inheriting,
+        }),
+    };
+    Entry {
+        moment: 0,
+        pid: Pid(0xabc_def0),
+        tid: Tid(12),
+        turns: TidList::new(alloc),
+        act: Act::Call {
+            call: Call::Refused {
+                number,
+                errno: Errno::Notcapable,
+            },
+            answer: Answer::Reply(reply),
+        },
+    }
+}
+
+// Three turns of a thread.
+fn three_turns(alloc: Global) -> Result<TidList, AllocError> {
+    let mut turns = TidList::new(alloc);
+    for _ in 0..3 {
+        turns.push(Tid(7))?;
+    }
+    Ok(turns)
+}
+
+// The entry of an end, after three turns.
+fn end_after_turns(alloc: Global, moment: u64, act: Act) -> Result<Entry, AllocError> {
+    Ok(Entry {
+        moment,
+        pid: Pid(0x100_0002),
+        tid: Tid(7),
+        turns: three_turns(alloc)?,
+        act,
+    })
+}
+
+fn entry_of(alloc: Global, other: &Other) -> Result<Entry, AllocError> {
+    match other {
+        Other::Denied(number, base, inheriting) => Ok(denied(alloc, *number, *base, *inheriting)),
+        Other::Trap(moment) => end_after_turns(alloc, *moment, Act::Trap(Signal::Segv)),
+        Other::Expire(moment) => end_after_turns(alloc, *moment, Act::Expire),
+    }
+}
+
+// The history of a run, as the kernel goes through it.
+fn history_of(alloc: Global, kernel: &mut Kernel, run: &Run) -> Result<History, AllocError> {
+    let mut history = History::new(alloc);
+    for deed in run.deeds {
+        make_call(alloc, kernel, &mut history, deed)?;
+    }
+    for other in run.others {
+        history.push(entry_of(alloc, other)?)?;
+    }
+    if run.expires {
+        expire(kernel);
+    }
+    Ok(history)
+}
+
+fn report_of(alloc: Global, run: &Run) -> Result<Bytes, AllocError> {
+    let mut kernel = stdout_kernel(alloc, run.may_write)?;
+    let history = history_of(alloc, &mut kernel, run)?;
+    report(alloc, &kernel, history.as_slice(), run.lines)
+}
+
+#[test]
+fn reports(rt: HostRuntime) -> Result<(), Fail> {
+    for run in RUNS {
+        let text = report_of(rt.alloc(), run)?;
+        assert_eq!(rt; text.as_slice(), run.report.as_bytes(), "{}", run.report);
+    }
+    Ok(())
+}

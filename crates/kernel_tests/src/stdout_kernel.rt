@@ -1,0 +1,112 @@
+//! A kernel whose process has one descriptor, of stdout, and calls of its first thread.
+ghost use Rattle.std.specs.Prelude.{◌≡◌, IfOk, IsTrue};
+ghost use Rattle.abi_base.specs.Grants.{AreGrants};
+ghost use Rattle.abi_base.specs.Rights.{has_all};
+
+use abi_types::{
+    Answer, Bytes, Call, Errno, Grant, GrantList, GrantTarget, Pid, Rights, Signal, Status, Thread,
+    Tid,
+};
+use elf_image::{Elf, SegmentList};
+use kernel_core::{Kernel, Launch};
+use std::alloc::{AllocError, Global};
+
+pub const PID: Pid = Pid(0);
+
+pub const TID: Tid = Tid(1);
+
+/// A call of the first thread.
+pub enum Deed {
+    /// fd_write of a text to a descriptor.
+    Write(u32, &'static str),
+    /// proc_exit with this code.
+    Exit(u32),
+    /// A call of this number, which no call has.
+    Unknown(u64),
+}
+
+// The rights that a first program has on stdout, or those of them but the right to write.
+fn stdout_rights(may_write: bool) -> Rights
+    ensures { IsTrue (has_all 0x10080048 result.0) }
+{
+    if may_write {
+        Rights(0x1008_0048)
+    } else {
+        Rights(0x08)
+    }
+}
+
+// The grant of stdout with these rights.
+fn stdout_grants(alloc: Global, base: Rights) -> Result<GrantList, AllocError>
+    requires { IsTrue (has_all 0x10080048 base.0) }
+    ensures { IfOk result AreGrants }
+{
+    let mut grants = GrantList::new(alloc);
+    grants.push(Grant {
+        target: GrantTarget::Terminal(1),
+        base,
+        inheriting: Rights::NONE,
+    })?;
+    Ok(grants)
+}
+
+// A launch of no program with these grants.
+fn launch_with(alloc: Global, grants: GrantList) -> Launch
+    ensures { result.grants ≡ grants }
+{
+    Launch {
+        elf: Elf {
+            base: 0,
+            entry: 0,
+            phdr: 0,
+            phnum: 0,
+            segments: SegmentList::new(alloc),
+        },
+        argdata: Bytes::new(alloc),
+        grants,
+        stdin: Bytes::new(alloc),
+        key: [0; 32],
+        epoch: 0,
+        turns: 1,
+    }
+}
+
+/// A kernel whose process has a descriptor of stdout, and may write to it or not.
+pub fn stdout_kernel(alloc: Global, may_write: bool) -> Result<Kernel, AllocError> {
+    let grants = stdout_grants(alloc, stdout_rights(may_write))?;
+    Kernel::start(alloc, &launch_with(alloc, grants))
+}
+
+/// The call of a deed.
+pub fn call_of(alloc: Global, deed: &Deed) -> Result<Call, AllocError> {
+    match deed {
+        Deed::Write(fd, text) => Ok(Call::FdWrite {
+            fd: *fd,
+            bytes: Bytes::of(alloc, text.as_bytes())?,
+        }),
+        Deed::Exit(code) => Ok(Call::ProcExit { code: *code }),
+        Deed::Unknown(number) => Ok(Call::Refused {
+            number: *number,
+            errno: Errno::Nosys,
+        }),
+    }
+}
+
+/// The answer to a call of the first thread. `None` where that thread can make no call.
+pub fn answer_to(kernel: &mut Kernel, call: &Call) -> Option<Answer> {
+    if !kernel.live(PID) || kernel.moment() > 1_000_000 {
+        return None;
+    }
+    match kernel.thread(PID, TID) {
+        None => None,
+        Some(Thread::Runnable) => Some(kernel.step(PID, TID, call)),
+    }
+}
+
+/// The end of the process from outside, because its turns are used up.
+pub fn expire(kernel: &mut Kernel) {
+    if !kernel.live(PID) || kernel.moment() > 1_000_000 {
+        return;
+    }
+    kernel.end(PID, Status::Killed(Signal::Xcpu));
+}

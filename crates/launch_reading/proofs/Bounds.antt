@@ -1,0 +1,64 @@
+-- A launch that words and inputs spell can be started.
+use Rattle.std.proofs.Common.{◌≡◌, ℕ, List, Result, Ok, Err, refl, sym, subst, arith}
+use Rattle.std.proofs.lemmas.List.Elements.{All-weaker}
+use Rattle.std.specs.List.{All}
+use Rattle.call_codec.specs.Image.{IsPlaced}
+use Rattle.elf_image.specs.Image.{IsInProgramPart}
+use Rattle.elf_image.specs.declared.elf.Elf.{Elf}
+use Rattle.elf_image.specs.declared.elf.Segment.{Segment}
+use Rattle.elf_image.proofs.Placed.{image_placed}
+use Rattle.run_types.specs.declared.launch.Launch.{Launch}
+use Rattle.abi_base.specs.Grants.{AreGrants}
+use Rattle.abi_base.specs.declared.grant.Grant.{Grant}
+use Rattle.yaml_values.specs.Shape.{Shape}
+use Rattle.launch_yaml.specs.declared.fault.Fault.{Fault}
+use Rattle.launch_yaml.specs.Document.{parse_at}
+use Rattle.launch_plan.specs.declared.fault.PlanFault.{PlanFault}
+use Rattle.launch_plan.specs.Plan.{plan_of}
+use Rattle.launch_plan.proofs.Plans.{IsPlan, plan_is}
+use Rattle.launch_words.specs.Settings.{Settings, IsWithin}
+use Rattle.launch_reading.specs.Launch.{IsBuiltLaunch}
+use Rattle.launch_reading.specs.LaunchText.{with_plan, with_document, planned_text}
+use Rattle.call_codec.specs.Bounded.{IsBounded}
+use Rattle.launch_reading.specs.declared.lines.Refusal.{Refusal}
+use Rattle.std.specs.Prelude.{IfOk}
+
+placed : (segment : Segment) → IsInProgramPart segment → IsPlaced segment
+placed segment h = record { low = h.low; high = omega (arith, h.high); fits = h.fits }
+
+-- what a launch text gives is a plan
+same_plan : (p q : List ℕ × List Grant) → with_plan (Ok p) ≡ Ok q → p ≡ q
+same_plan p q e = cc
+
+with_plan_is : (x : Shape) (read : Result (List ℕ × List Grant) PlanFault) (planned : List ℕ × List Grant) → plan_of x ≡ read → with_plan read ≡ Ok planned → IsPlan planned
+with_plan_is x (Ok p) planned is e = subst IsPlan (same_plan p planned e) (plan_is x p is)
+with_plan_is x (Err fault) planned is e = absurd (cc)
+
+with_document_is : (read : Result Shape Fault) (planned : List ℕ × List Grant) → with_document read ≡ Ok planned → IsPlan planned
+with_document_is (Ok x) planned e = with_plan_is x (plan_of x) planned refl e
+with_document_is (Err fault) planned e = absurd (cc)
+
+pub text_plan_is : (text : List ℕ) (planned : List ℕ × List Grant) → planned_text text ≡ Ok planned → IsPlan planned
+unfolding planned_text
+text_plan_is text planned e = with_document_is (parse_at text) planned e
+
+bounded : (settings : Settings) (launch : Launch) → IsWithin settings → IsBuiltLaunch settings launch → AreGrants launch.grants → IsBounded launch
+bounded settings launch within b grants =
+    let image : All IsPlaced launch.elf.segments = subst (λ (e : Elf). All IsPlaced e.segments) (sym b.elf) (All-weaker IsInProgramPart IsPlaced placed _ (image_placed b.program b.sound)) in
+    record {
+      grants = grants;
+      start = record { placed = image; short = omega (arith, (text_plan_is b.text _ b.planned).0); whole = refl };
+      turns = omega (arith, b.turns, within.turns.1);
+    }
+
+-- a launch that words and inputs spell grants what is there
+granted : (settings : Settings) (launch : Launch) → IsBuiltLaunch settings launch → AreGrants launch.grants
+granted settings launch b = (text_plan_is b.text _ b.planned).1
+
+pub all_granted : (settings : Settings) (read : Result Launch Refusal) → IfOk read (IsBuiltLaunch settings) → IfOk read (λ launch. AreGrants launch.grants)
+all_granted settings (Ok launch) b = granted settings launch b
+all_granted settings (Err refusal) b = tt
+
+pub all_bounded : (settings : Settings) (read : Result Launch Refusal) → IsWithin settings → IfOk read (IsBuiltLaunch settings) → IfOk read IsBounded
+all_bounded settings (Ok launch) within b = bounded settings launch within b (granted settings launch b)
+all_bounded settings (Err refusal) within b = tt

@@ -1,0 +1,5 @@
+pub mod LineParts
+pub mod LaunchParts
+pub mod Asked
+pub mod Bounds
+pub mod TextPlans

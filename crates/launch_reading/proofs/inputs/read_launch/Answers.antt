@@ -1,0 +1,33 @@
+use Rattle.input_output.specs.Source.{Rose}
+use Rattle.launch_words.specs.Settings.{view}
+use Rattle.launch_reading.specs.Launch.{inputs_spell, settings_inputs}
+use Rattle.launch_reading.proofs.Bounds.{all_bounded, all_granted}
+use Rattle.launch_reading.proofs.LaunchParts.{answers, built, launch_told, refusal_told}
+use Rattle.launch_reading.proofs.inputs.read_launch.Goals as goal
+
+pub returns-clause-ok : goal.returns-clause-ok
+returns-clause-ok g c =
+    launch_told (view c.args.settings.now) (g.S.Source.told c.args.source.now) c.in_ok-inputs.inputs c.launch_from.result c.in_ok-inputs.ensures.ok c.launch_from.ensures.ok
+
+pub returns-clause-built : goal.returns-clause-built
+returns-clause-built g c = built (view c.args.settings.now) c.in_ok-inputs.inputs c.launch_from.result c.launch_from.ensures.ok
+
+pub returns-clause-grants : goal.returns-clause-grants
+returns-clause-grants g c = all_granted (view c.args.settings.now) c.launch_from.result (built _ c.in_ok-inputs.inputs c.launch_from.result c.launch_from.ensures.ok)
+
+pub returns-clause-bounded : goal.returns-clause-bounded
+returns-clause-bounded g c =
+    all_bounded (view c.args.settings.now) c.launch_from.result c.requires.within (built _ c.in_ok-inputs.inputs c.launch_from.result c.launch_from.ensures.ok)
+
+pub returns-clause-err : goal.returns-clause-err
+returns-clause-err g c =
+    refusal_told (view c.args.settings.now) (g.S.Source.told c.args.source.now) c.in_ok-inputs.inputs _ c.launch_from.result c.in_ok-inputs.ensures.ok c.launch_from.ensures.err
+
+pub returns-clause-complete : goal.returns-clause-complete
+returns-clause-complete g c =
+    let s = view c.args.settings.now in
+    let told = g.S.Source.told c.args.source.now in
+    let rose = Rose (g.S.Source.faults c.args.source.now) (g.S.Source.faults c.read_inputs.new.source) in
+    answers (settings_inputs s) (inputs_spell s told) rose c.launch_from.result
+    (launch_told s told c.in_ok-inputs.inputs c.launch_from.result c.in_ok-inputs.ensures.ok c.launch_from.ensures.ok)
+    (refusal_told s told c.in_ok-inputs.inputs rose c.launch_from.result c.in_ok-inputs.ensures.ok c.launch_from.ensures.err)

@@ -1,0 +1,163 @@
+-- What words and inputs spell: a launch, or the first refusal.
+use Rattle.std.specs.Prelude.{◌≡◌, ◌==◌, ◌++◌, ℕ, ◌⊎◌, ⊤, Bool, false, List, [], ◌∷◌, cond, length, nat_lt, Option, None, Some, Result, Ok, Err}
+use Rattle.std.specs.Option.{option_to_list}
+use Rattle.input_output.specs.Source.{Told, Untold, Lacking, Content}
+use Rattle.input_output.specs.declared.whole.TheConstants.{INPUT_LIMIT}
+use Rattle.elf_image.specs.Checks.{fault_of}
+use Rattle.elf_image.specs.Image.{image}
+use Rattle.elf_image.specs.declared.fault.ElfFault.{ElfFault}
+use Rattle.run_types.specs.declared.launch.Launch.{Launch}
+use Rattle.abi_base.specs.declared.grant.Grant.{Grant}
+use Rattle.launch_words.specs.Settings.{Settings}
+use Rattle.launch_words.specs.Words.{words_of}
+use Rattle.launch_reading.specs.LaunchText.{TextPlan, planned_text}
+use Rattle.launch_reading.specs.Lines.{words_line, input_line, too_long_line, program_line, tree_line, launch_line, line_of, status_of}
+use Rattle.launch_reading.specs.declared.inputs.Inputs.{Inputs}
+use Rattle.launch_reading.specs.declared.lines.Refusal.{Refusal}
+use Rattle.launch_reading.specs.declared.lines.Refusal.TheVariants.{Input, TooLong, Memory}
+
+-- What is spelled: a launch; a refusal with its status and its line; or nothing that could be compared, where the
+-- source does not tell an input.
+pub data Spelled : Type 0 where
+  untold : Spelled
+  refuses : ℕ → List ℕ → Spelled
+  spells : Launch → Spelled
+
+-- the most bytes that an input may have
+abbrev pub input_limit : ℕ
+input_limit = INPUT_LIMIT
+
+-- the launch of these settings and inputs, under what the launch text gives
+abbrev pub launch_with : Settings → Inputs → List ℕ × List Grant → Launch
+launch_with settings inputs planned = record {
+  elf = image inputs.program;
+  argdata = planned.0;
+  grants = planned.1;
+  stdin = inputs.stdin;
+  key = settings.key;
+  epoch = settings.epoch;
+  turns = settings.turns;
+}
+
+abbrev pub spelled_text : Settings → Inputs → TextPlan → Spelled
+spelled_text settings inputs (Ok planned) = spells (launch_with settings inputs planned)
+spelled_text settings inputs (Err fault) = refuses 65 (launch_line fault)
+
+-- no tree document can be read yet, so it must be empty
+abbrev pub spelled_tree : Settings → Inputs → Spelled
+spelled_tree settings inputs = cond (length inputs.tree == 0) (spelled_text settings inputs (planned_text inputs.text)) (refuses 68 tree_line)
+
+-- what the inputs spell, where this is the program's first fault, if it has one
+abbrev pub spelled_at : Settings → Inputs → Option ElfFault → Spelled
+spelled_at settings inputs (Some fault) = refuses 67 (program_line fault)
+spelled_at settings inputs None = spelled_tree settings inputs
+
+-- what the contents of the inputs spell: first the program is looked at, then the tree document, then the launch text
+unfoldable pub spelled_by : Settings → Inputs → Spelled
+spelled_by settings inputs = spelled_at settings inputs (fault_of inputs.program)
+
+-- what an input spells of which this is told, where what its bytes spell is given
+abbrev pub spelled_with : List ℕ → Told → (List ℕ → Spelled) → Spelled
+spelled_with name Untold next = untold
+spelled_with name Lacking next = refuses 66 (input_line name)
+spelled_with name (Content bytes) next = cond (nat_lt input_limit (length bytes)) (refuses 66 (too_long_line name)) (next bytes)
+
+-- the same of an input that may not be asked for, and is empty then
+abbrev pub spelled_optional : Option (List ℕ) → (List ℕ → Told) → (List ℕ → Spelled) → Spelled
+spelled_optional None told next = next []
+spelled_optional (Some name) told next = spelled_with name (told name) next
+
+-- the name of standard input, which has the launch text
+abbrev pub standard_input : List ℕ
+standard_input = 45 ∷ []
+
+-- what the inputs of these settings spell, which are looked at in this order
+abbrev pub inputs_spell : Settings → (List ℕ → Told) → Spelled
+inputs_spell settings told =
+    spelled_optional (Some settings.program) told (λ program.
+    spelled_optional (Some standard_input) told (λ text.
+    spelled_optional settings.tree told (λ tree.
+    spelled_optional settings.stdin told (λ stdin.
+    spelled_by settings (record { program = program; text = text; tree = tree; stdin = stdin })))))
+
+-- what words spell that give these settings, or none
+abbrev pub words_spell : Option Settings → (List ℕ → Told) → Spelled
+words_spell None told = refuses 2 words_line
+words_spell (Some settings) told = inputs_spell settings told
+
+-- What words spell, where this is told of each input: first the words are looked at, then the inputs in their order,
+-- then the program, the tree document and the launch text.
+abbrev pub launch_of : List (List ℕ) → (List ℕ → Told) → Spelled
+launch_of words told = words_spell (words_of words) told
+
+-- the names of the inputs of settings, in their order
+abbrev pub settings_inputs : Settings → List (List ℕ)
+settings_inputs settings = settings.program ∷ standard_input ∷ (option_to_list settings.tree ++ option_to_list settings.stdin)
+
+-- the inputs of words that give these settings, or none
+abbrev pub inputs_with : Option Settings → List (List ℕ)
+inputs_with None = []
+inputs_with (Some settings) = settings_inputs settings
+
+-- the names of the inputs that the words ask for, in their order
+abbrev pub inputs_of : List (List ℕ) → List (List ℕ)
+inputs_of words = inputs_with (words_of words)
+
+-- whether the settings that words give, or none, ask for the history
+abbrev pub history_with : Option Settings → Bool
+history_with None = false
+history_with (Some settings) = settings.history
+
+-- whether the words ask for the history
+abbrev pub asks_history : List (List ℕ) → Bool
+asks_history words = history_with (words_of words)
+
+-- this is what is spelled, where anything is told of it
+abbrev pub IsToldAs : Spelled → Spelled → Type 0
+IsToldAs untold answer = ⊤
+IsToldAs (refuses status line) answer = refuses status line ≡ answer
+IsToldAs (spells launch) answer = spells launch ≡ answer
+
+-- a launch of these settings: the image of a program without fault, what a launch text without fault gives, and the
+-- settings' key, epoch and turns
+pub record IsBuiltLaunch (settings : Settings) (launch : Launch) : Type 0 where
+  pub program : List ℕ
+  pub text : List ℕ
+  pub sound : fault_of program ≡ None
+  pub elf : launch.elf ≡ image program
+  pub planned : planned_text text ≡ Ok (launch.argdata, launch.grants)
+  pub key : launch.key ≡ settings.key
+  pub epoch : launch.epoch ≡ settings.epoch
+  pub turns : launch.turns ≡ settings.turns
+
+-- the same of words that give these settings
+abbrev pub IsBuiltBy : Option Settings → Launch → Type 0
+IsBuiltBy None launch = ⊥
+IsBuiltBy (Some settings) launch = IsBuiltLaunch settings launch
+
+-- the refusal is of an input that could not be read, with such a name
+abbrev pub IfInput : Refusal → (List ℕ → Type 0) → Type 0
+IfInput (Input name) P = P name.now
+IfInput _ P = ⊤
+
+-- the refusal is of an input that is too long, with such a name
+abbrev pub IfTooLong : Refusal → (List ℕ → Type 0) → Type 0
+IfTooLong (TooLong name) P = P name.now
+IfTooLong _ P = ⊤
+
+-- the refusal is of what the words and the inputs spell: it is no fault of reading and no want of memory
+abbrev pub IsOfTexts : Refusal → Type 0
+IsOfTexts (Input name) = ⊥
+IsOfTexts Memory = ⊥
+IsOfTexts _ = ⊤
+
+-- the refusal that is spelled, or want of memory
+abbrev pub IsRefusedAs : ℕ → List ℕ → Result Launch Refusal → Type 0
+IsRefusedAs status line (Ok launch) = ⊥
+IsRefusedAs status line (Err refusal) = (refusal ≡ Memory) ⊎ ((status_of refusal ≡ status) × (line_of refusal ≡ line))
+
+-- What is answered is what is spelled, where anything is told of it, or want of memory.
+abbrev pub AnswersSpelled : Spelled → Result Launch Refusal → Type 0
+AnswersSpelled untold result = ⊤
+AnswersSpelled (refuses status line) result = IsRefusedAs status line result
+AnswersSpelled (spells launch) result = (result ≡ Ok launch) ⊎ (result ≡ Err Memory)

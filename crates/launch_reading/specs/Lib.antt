@@ -1,0 +1,4 @@
+pub mod LaunchText
+pub mod Launch
+pub mod Lines
+pub mod Inputs

@@ -1,0 +1,179 @@
+//! The launch that settings and inputs ask for.
+ghost use Rattle.std.specs.Prelude.{◌≡◌, ◌≤◌, ℕ, List, length, All, IfOk, IfErr, option_map};
+ghost use Rattle.std.specs.Option.{option_to_list};
+ghost use Rattle.input_output.specs.Source.{Rose, IsWhole};
+ghost use Rattle.abi_base.specs.Grants.{AreGrants};
+ghost use Rattle.launch_words.specs.Settings.{IsWithin, view};
+ghost use Rattle.launch_reading.specs.Inputs.{AreRead, IsReadAs, IsUnread, IsUnreadOf, IsNoLaunch, IsNoLaunchOf};
+ghost use Rattle.launch_reading.specs.Launch.{spells, input_limit, spelled_by, inputs_spell, settings_inputs, IsToldAs, IsBuiltLaunch, AnswersSpelled};
+ghost use Rattle.call_codec.specs.Bounded.{IsBounded};
+
+use crate::launch_text::plan_text;
+use crate::lines::Refusal;
+use elf_image::{ElfFault, read_elf};
+use input_output::{ReadFault, Source, read_whole};
+use launch_plan::Planned;
+use launch_words::LaunchWords;
+use lists::Bytes;
+use run_types::Launch;
+use std::alloc::{AllocError, Global};
+
+// The name of standard input, which has the launch text.
+const STANDARD_INPUT: &str = "-";
+
+/// What was read of the inputs of a run.
+#[derive(Drop)]
+pub struct Inputs {
+    /// The program's file.
+    pub program: Bytes,
+    /// The launch text.
+    pub text: Bytes,
+    /// The tree document; empty where none is asked for.
+    pub tree: Bytes,
+    /// What the program reads as standard input; empty where nothing is asked for.
+    pub stdin: Bytes,
+}
+
+impl<'a> From<AllocError> for Refusal<'a> {
+    ghost use Rattle.std.specs.Prelude.{◌≡◌};
+    ghost use Rattle.launch_reading.specs.declared.lines.Refusal.TheVariants.{Memory};
+
+    ghost from_gives = { λ _ refusal. refusal ≡ Memory };
+
+    fn from(_error: AllocError) -> Refusal<'a> {
+        Refusal::Memory
+    }
+}
+
+// Reads the whole input of this name.
+fn read_input<'a, S: Source>(
+    alloc: Global,
+    source: &mut S,
+    name: &'a str,
+) -> Result<Bytes, Refusal<'a>>
+    requires { S.may_read source.old name.now }
+    ensures told_stays { (n : List ℕ) → S.told source.new n ≡ S.told source.old n }
+    ensures may_read_stays { (n : List ℕ) → S.may_read source.old n → S.may_read source.new n }
+    ensures faults_never_fall { S.faults source.old ≤ S.faults source.new }
+    ensures within_limit { IfOk result (λ bytes. length bytes ≤ input_limit) }
+    ensures ok { IfOk result (IsWhole (S.told source.old name.now)) }
+    ensures err { IfErr result (IsUnread name.now (S.told source.old name.now) (Rose (S.faults source.old) (S.faults source.new))) }
+{
+    match read_whole(alloc, source, name) {
+        Ok(bytes) => Ok(bytes),
+        Err(ReadFault::Failed) => Err(Refusal::Input(name)),
+        Err(ReadFault::TooLong) => Err(Refusal::TooLong(name)),
+        Err(ReadFault::NoMemory) => Err(Refusal::Memory),
+    }
+}
+
+// Reads the whole input of this name, where one is given.
+fn read_optional<'a, S: Source>(
+    alloc: Global,
+    source: &mut S,
+    name: Option<&'a str>,
+) -> Result<Bytes, Refusal<'a>>
+    requires { All (S.may_read source.old) (option_to_list (option_map (λ name. name.now) name)) }
+    ensures told_stays { (n : List ℕ) → S.told source.new n ≡ S.told source.old n }
+    ensures may_read_stays { (n : List ℕ) → S.may_read source.old n → S.may_read source.new n }
+    ensures faults_never_fall { S.faults source.old ≤ S.faults source.new }
+    ensures ok { IfOk result (IsReadAs (option_map (λ name. name.now) name.entry) (S.told source.old)) }
+    ensures err { IfErr result (IsUnreadOf (option_map (λ name. name.now) name.entry) (S.told source.old) (Rose (S.faults source.old) (S.faults source.new))) }
+{
+    match name {
+        None => Ok(Bytes::new(alloc)),
+        Some(name) => read_input(alloc, source, name),
+    }
+}
+
+// Reads the inputs of these settings, in their order.
+fn read_inputs<'a, S: Source>(
+    alloc: Global,
+    settings: &LaunchWords<'a>,
+    source: &mut S,
+) -> Result<Inputs, Refusal<'a>>
+    requires { All (S.may_read source.old) (settings_inputs (view settings.now)) }
+    ensures told_stays { (n : List ℕ) → S.told source.new n ≡ S.told source.old n }
+    ensures may_read_stays { (n : List ℕ) → S.may_read source.old n → S.may_read source.new n }
+    ensures faults_never_fall { S.faults source.old ≤ S.faults source.new }
+    ensures ok { IfOk result (AreRead (view settings.now) (S.told source.old)) }
+    ensures err { IfErr result (IsNoLaunchOf (settings_inputs (view settings.now)) (inputs_spell (view settings.now) (S.told source.old)) (Rose (S.faults source.old) (S.faults source.new))) }
+{
+    let program = read_input(alloc, source, settings.program)?;
+    let text = read_input(alloc, source, STANDARD_INPUT)?;
+    let tree = read_optional(alloc, source, settings.tree)?;
+    let stdin = read_optional(alloc, source, settings.stdin)?;
+    Ok(Inputs {
+        program,
+        text,
+        tree,
+        stdin,
+    })
+}
+
+// The launch that settings and inputs spell.
+#[tactic(auto, unfolding(crate::specs::Launch::spelled_by))]
+fn launch_from<'a>(
+    alloc: Global,
+    settings: &LaunchWords<'a>,
+    inputs: Inputs,
+) -> Result<Launch, Refusal<'a>>
+    ensures ok { IfOk result (λ launch. spelled_by (view settings.now) inputs ≡ spells launch) }
+    ensures err { IfErr result (IsNoLaunch (spelled_by (view settings.now) inputs)) }
+{
+    let elf = match read_elf(alloc, inputs.program.as_slice()) {
+        Ok(elf) => elf,
+        Err(ElfFault::NoMemory) => return Err(Refusal::Memory),
+        Err(fault) => return Err(Refusal::Program(fault)),
+    };
+    if inputs.tree.len() != 0 {
+        return Err(Refusal::Tree);
+    }
+    match plan_text(alloc, inputs.text.as_slice()) {
+        Ok(Planned { argdata, grants }) => Ok(Launch {
+            elf,
+            argdata,
+            grants,
+            stdin: inputs.stdin,
+            key: settings.key,
+            epoch: settings.epoch,
+            turns: settings.turns,
+        }),
+        Err(Some(fault)) => Err(Refusal::LaunchText(fault)),
+        Err(None) => Err(Refusal::Memory),
+    }
+}
+
+/// The launch that settings and inputs spell. It reads the settings' inputs and no other: the program, standard input with
+/// the launch text, the tree document and the program's standard input, where they are asked for, in this order.
+///
+/// A refusal is the first in this order: an input that could not be read or is too long, the program, the tree document,
+/// the launch text. Where the source tells nothing of an input, only its bytes as they were read are looked at.
+pub fn read_launch<'a, S: Source>(
+    alloc: Global,
+    settings: &LaunchWords<'a>,
+    source: &mut S,
+) -> Result<Launch, Refusal<'a>>
+    requires may_read { All (S.may_read source.old) (settings_inputs (view settings.now)) }
+    requires within { IsWithin (view settings.now) }
+
+    // What the source tells stays, and so does which names may be read.
+    ensures told_stays { (n : List ℕ) → S.told source.new n ≡ S.told source.old n }
+    ensures may_read_stays { (n : List ℕ) → S.may_read source.old n → S.may_read source.new n }
+    ensures faults_never_fall { S.faults source.old ≤ S.faults source.new }
+
+    // A launch is the one that is spelled, where anything is told of it, and in any case one of these settings.
+    ensures ok { IfOk result (λ launch. IsToldAs (inputs_spell (view settings.now) (S.told source.old)) (spells launch)) }
+    ensures built { IfOk result (IsBuiltLaunch (view settings.now)) }
+    ensures grants { IfOk result (λ launch. AreGrants launch.grants) }
+    ensures bounded { IfOk result IsBounded }
+
+    // When each refusal comes.
+    ensures err { IfErr result (IsNoLaunchOf (settings_inputs (view settings.now)) (inputs_spell (view settings.now) (S.told source.old)) (Rose (S.faults source.old) (S.faults source.new))) }
+
+    // Where no fault was counted, what is spelled is answered, or want of memory.
+    ensures complete { ¬ Rose (S.faults source.old) (S.faults source.new) → AnswersSpelled (inputs_spell (view settings.now) (S.told source.old)) result }
+{
+    let inputs = read_inputs(alloc, settings, source)?;
+    launch_from(alloc, settings, inputs)
+}

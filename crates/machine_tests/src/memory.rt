@@ -1,0 +1,641 @@
+//! Bytes, numbers and pages of a memory.
+use abi_base::{GUEST_BEGIN, GUEST_END, PAGE_LIMIT, PAGE_SIZE, Prot};
+use guest_memory::{Access, GuestMemory, MemFault};
+use std::alloc::{AllocError, Global};
+use std::test::Fail;
+
+const NONE: Prot = Prot {
+    read: false,
+    write: false,
+    exec: false,
+};
+
+const READ: Prot = Prot { read: true, ..NONE };
+
+const WRITE: Prot = Prot {
+    write: true,
+    ..NONE
+};
+
+const EXEC: Prot = Prot { exec: true, ..NONE };
+
+const READ_WRITE: Prot = Prot {
+    write: true,
+    ..READ
+};
+
+// What is done with a memory.
+#[derive(Clone, Copy)]
+enum Act {
+    // At an address, so many pages, with these rights.
+    Map(u64, u32, Prot),
+    MapFixed(u64, u32, Prot),
+    Protect(u64, u32, Prot),
+    Unmap(u64, u32),
+    // The lowest gap of so many pages.
+    Gap(u32),
+    // How many pages there are, and how many from an address on are there.
+    Len,
+    Within(u64, u32),
+    // Whether so many pages from an address on are there.
+    Mapped(u64, u64),
+    // Whether so many bytes from an address on may be accessed.
+    Check(Access, u64, usize),
+    // What may be done with the page at an address: 4 for reading, 2 for writing, 1 for executing.
+    Rights(u64),
+    // Numbers of 1, 2, 4 or 8 bytes.
+    Load(u64, u32),
+    Store(u64, u32, u64),
+    Fetch(u64),
+    // At most 16 bytes.
+    Write(u64, &'static [u8]),
+    // Reads bytes, which are these.
+    Bytes(u64, &'static [u8]),
+}
+
+// What an act gives: a number, or 0 where it gives none.
+type Answer = Result<u64, MemFault>;
+
+const DONE: Answer = Ok(0);
+
+// There is no gap, or there are other bytes.
+const NONE_SUCH: Answer = Err(MemFault::NoMemory);
+
+// A row that asks for pages outside the guest's part of the address space is none that a test has.
+const OUTSIDE: Answer = Err(MemFault::NotMapped(1));
+
+fn map(memory: &mut GuestMemory, alloc: Global, at: u64, pages: u32, prot: Prot) -> Answer {
+    if at % PAGE_SIZE != 0
+        || at < GUEST_BEGIN
+        || at >= GUEST_END
+        || PAGE_SIZE * u64::from(pages) > GUEST_END - at
+    {
+        return OUTSIDE;
+    }
+    memory.map(alloc, at, pages, prot)?;
+    DONE
+}
+
+fn map_fixed(memory: &mut GuestMemory, alloc: Global, at: u64, pages: u32, prot: Prot) -> Answer {
+    if at % PAGE_SIZE != 0
+        || at < GUEST_BEGIN
+        || at >= GUEST_END
+        || PAGE_SIZE * u64::from(pages) > GUEST_END - at
+    {
+        return OUTSIDE;
+    }
+    let staying = memory.len() as u64 - memory.mapped_within(at, pages);
+    if staying + u64::from(pages) > PAGE_LIMIT {
+        return OUTSIDE;
+    }
+    match memory.map_fixed(alloc, at, pages, prot) {
+        Ok(()) => DONE,
+        Err(_) => NONE_SUCH,
+    }
+}
+
+fn protect(memory: &mut GuestMemory, at: u64, pages: u32, prot: Prot) -> Answer {
+    if at % PAGE_SIZE != 0 || at >= GUEST_END {
+        return OUTSIDE;
+    }
+    memory.protect(at, pages, prot)?;
+    DONE
+}
+
+fn unmap(memory: &mut GuestMemory, at: u64, pages: u32) -> Answer {
+    if at % PAGE_SIZE != 0 || at >= GUEST_END {
+        return OUTSIDE;
+    }
+    memory.unmap(at, pages);
+    DONE
+}
+
+fn within(memory: &GuestMemory, at: u64, pages: u32) -> Answer {
+    if at % PAGE_SIZE != 0 || at >= GUEST_END {
+        return OUTSIDE;
+    }
+    Ok(memory.mapped_within(at, pages))
+}
+
+fn mapped(memory: &GuestMemory, at: u64, pages: u64) -> Answer {
+    if at % PAGE_SIZE != 0 || pages > 0x10_0000_0000_0000 {
+        return OUTSIDE;
+    }
+    memory.check_mapped(at, pages)?;
+    DONE
+}
+
+fn rights(memory: &GuestMemory, at: u64) -> Answer {
+    let fault = Err(MemFault::NotMapped(at));
+    if memory.check(Access::Read, at, 1) == fault {
+        return Err(MemFault::NotMapped(at));
+    }
+    let read = u64::from(memory.check(Access::Read, at, 1).is_ok());
+    let write = u64::from(memory.check(Access::Write, at, 1).is_ok());
+    let exec = u64::from(memory.check(Access::Exec, at, 1).is_ok());
+    Ok(read * 4 + write * 2 + exec)
+}
+
+fn load(memory: &mut GuestMemory, at: u64, n: u32) -> Answer {
+    match n {
+        1 => memory.load(at, 1),
+        2 => memory.load(at, 2),
+        4 => memory.load(at, 4),
+        8 => memory.load(at, 8),
+        _ => OUTSIDE,
+    }
+}
+
+fn store(memory: &mut GuestMemory, at: u64, n: u32, v: u64) -> Answer {
+    let stored = match n {
+        1 => memory.store(at, 1, v),
+        2 => memory.store(at, 2, v),
+        4 => memory.store(at, 4, v),
+        8 => memory.store(at, 8, v),
+        _ => return OUTSIDE,
+    };
+    stored?;
+    DONE
+}
+
+// A refused read leaves the bytes that it was to fill.
+fn bytes(memory: &GuestMemory, at: u64, want: &[u8]) -> Answer {
+    let mut buffer = [9; 16];
+    if want.len() > 16 {
+        return OUTSIDE;
+    }
+    let read = memory.read_bytes(at, &mut buffer[..want.len()]);
+    match read {
+        Ok(()) if buffer.starts_with(want) => DONE,
+        Err(fault) if buffer == [9; 16] => Err(fault),
+        _ => NONE_SUCH,
+    }
+}
+
+// Does an act.
+fn answer(memory: &mut GuestMemory, alloc: Global, act: Act) -> Answer {
+    match act {
+        Act::Map(at, pages, prot) => map(memory, alloc, at, pages, prot),
+        Act::MapFixed(at, pages, prot) => map_fixed(memory, alloc, at, pages, prot),
+        Act::Protect(at, pages, prot) => protect(memory, at, pages, prot),
+        Act::Unmap(at, pages) => unmap(memory, at, pages),
+        Act::Gap(pages) => memory.find_gap(pages).ok_or(MemFault::NoMemory),
+        Act::Len => Ok(memory.len() as u64),
+        Act::Within(at, pages) => within(memory, at, pages),
+        Act::Mapped(at, pages) => mapped(memory, at, pages),
+        Act::Check(access, at, count) => {
+            memory.check(access, at, count)?;
+            DONE
+        }
+        Act::Rights(at) => rights(memory, at),
+        Act::Load(at, n) => load(memory, at, n),
+        Act::Store(at, n, v) => store(memory, at, n, v),
+        Act::Fetch(at) => Ok(u64::from(memory.fetch(at)?)),
+        Act::Write(at, bytes) => {
+            memory.write_bytes(at, bytes)?;
+            DONE
+        }
+        Act::Bytes(at, want) => bytes(memory, at, want),
+    }
+}
+
+// Acts one after another, and what each gives.
+type Acts = &'static [(Act, Answer)];
+
+// Does acts. The first row that gives another answer.
+fn first_other(memory: &mut GuestMemory, alloc: Global, acts: Acts) -> Option<usize> {
+    for (i, &(act, want)) in acts.iter().enumerate() {
+        if answer(memory, alloc, act) != want {
+            return Some(i);
+        }
+    }
+    None
+}
+
+// What is read where 0x8877_6655_4433_2211 was stored before zeros.
+const STORED: [u8; 10] = [0x11, 0x22, 0x33, 0x44, 0x55, 0x66, 0x77, 0x88, 0, 0];
+
+// Numbers in a page, over two, and from a page's last byte on.
+const STORES_ARE_LOADED: Acts = &[
+    (Act::Map(0x10000, 2, READ_WRITE), DONE),
+    (Act::Map(0x12000, 1, READ), DONE),
+    (Act::Map(0x13000, 1, WRITE), DONE),
+    (Act::Map(0x14000, 1, EXEC), DONE),
+    (Act::Write(0x10100, &[0; 16]), DONE),
+    (Act::Store(0x10100, 1, 0x8877_6655_4433_2211), DONE),
+    (Act::Load(0x10100, 1), Ok(0x11)),
+    (Act::Load(0x10100, 8), Ok(0x11)),
+    (Act::Write(0x10100, &[0; 16]), DONE),
+    (Act::Store(0x10100, 2, 0x8877_6655_4433_2211), DONE),
+    (Act::Load(0x10100, 2), Ok(0x2211)),
+    (Act::Load(0x10100, 8), Ok(0x2211)),
+    (Act::Write(0x10100, &[0; 16]), DONE),
+    (Act::Store(0x10100, 4, 0x8877_6655_4433_2211), DONE),
+    (Act::Load(0x10100, 4), Ok(0x4433_2211)),
+    (Act::Load(0x10100, 8), Ok(0x4433_2211)),
+    (Act::Write(0x10100, &[0; 16]), DONE),
+    (Act::Store(0x10100, 8, 0x8877_6655_4433_2211), DONE),
+    (Act::Load(0x10100, 8), Ok(0x8877_6655_4433_2211)),
+    (Act::Load(0x10100, 8), Ok(0x8877_6655_4433_2211)),
+    (Act::Bytes(0x10100, &STORED), DONE),
+    (Act::Write(0x10ffc, &[0; 16]), DONE),
+    (Act::Store(0x10ffc, 1, 0x8877_6655_4433_2211), DONE),
+    (Act::Load(0x10ffc, 1), Ok(0x11)),
+    (Act::Load(0x10ffc, 8), Ok(0x11)),
+    (Act::Write(0x10ffc, &[0; 16]), DONE),
+    (Act::Store(0x10ffc, 2, 0x8877_6655_4433_2211), DONE),
+    (Act::Load(0x10ffc, 2), Ok(0x2211)),
+    (Act::Load(0x10ffc, 8), Ok(0x2211)),
+    (Act::Write(0x10ffc, &[0; 16]), DONE),
+    (Act::Store(0x10ffc, 4, 0x8877_6655_4433_2211), DONE),
+    (Act::Load(0x10ffc, 4), Ok(0x4433_2211)),
+    (Act::Load(0x10ffc, 8), Ok(0x4433_2211)),
+    (Act::Write(0x10ffc, &[0; 16]), DONE),
+    (Act::Store(0x10ffc, 8, 0x8877_6655_4433_2211), DONE),
+    (Act::Load(0x10ffc, 8), Ok(0x8877_6655_4433_2211)),
+    (Act::Load(0x10ffc, 8), Ok(0x8877_6655_4433_2211)),
+    (Act::Bytes(0x10ffc, &STORED), DONE),
+    (Act::Write(0x10fff, &[0; 16]), DONE),
+    (Act::Store(0x10fff, 1, 0x8877_6655_4433_2211), DONE),
+    (Act::Load(0x10fff, 1), Ok(0x11)),
+    (Act::Load(0x10fff, 8), Ok(0x11)),
+    (Act::Write(0x10fff, &[0; 16]), DONE),
+    (Act::Store(0x10fff, 2, 0x8877_6655_4433_2211), DONE),
+    (Act::Load(0x10fff, 2), Ok(0x2211)),
+    (Act::Load(0x10fff, 8), Ok(0x2211)),
+    (Act::Write(0x10fff, &[0; 16]), DONE),
+    (Act::Store(0x10fff, 4, 0x8877_6655_4433_2211), DONE),
+    (Act::Load(0x10fff, 4), Ok(0x4433_2211)),
+    (Act::Load(0x10fff, 8), Ok(0x4433_2211)),
+    (Act::Write(0x10fff, &[0; 16]), DONE),
+    (Act::Store(0x10fff, 8, 0x8877_6655_4433_2211), DONE),
+    (Act::Load(0x10fff, 8), Ok(0x8877_6655_4433_2211)),
+    (Act::Load(0x10fff, 8), Ok(0x8877_6655_4433_2211)),
+    (Act::Bytes(0x10fff, &STORED), DONE),
+];
+
+// The first byte that may not be accessed is named.
+const FIRST_FAULT_IS_NAMED: Acts = &[
+    (Act::Map(0x10000, 2, READ_WRITE), DONE),
+    (Act::Map(0x12000, 1, READ), DONE),
+    (Act::Map(0x13000, 1, WRITE), DONE),
+    (Act::Map(0x14000, 1, EXEC), DONE),
+    (Act::Check(Access::Read, 0x10ff8, 16), DONE),
+    (Act::Check(Access::Read, 0x12ff8, 8), DONE),
+    (
+        Act::Check(Access::Read, 0x12ff8, 9),
+        Err(MemFault::NoRight(0x13000)),
+    ),
+    (
+        Act::Check(Access::Read, 0x13004, 1),
+        Err(MemFault::NoRight(0x13004)),
+    ),
+    (
+        Act::Check(Access::Read, 0xfff8, 16),
+        Err(MemFault::NotMapped(0xfff8)),
+    ),
+    (
+        Act::Check(Access::Write, 0x11ff8, 16),
+        Err(MemFault::NoRight(0x12000)),
+    ),
+    (Act::Check(Access::Write, 0x13000, 4096), DONE),
+    (
+        Act::Check(Access::Write, 0x13000, 8192),
+        Err(MemFault::NoRight(0x14000)),
+    ),
+    (Act::Check(Access::Exec, 0x14000, 4096), DONE),
+    (
+        Act::Check(Access::Exec, 0x14ffe, 4),
+        Err(MemFault::NotMapped(0x15000)),
+    ),
+    (
+        Act::Check(Access::Exec, 0x10000, 4),
+        Err(MemFault::NoRight(0x10000)),
+    ),
+    (Act::Check(Access::Read, 0x15000, 0), DONE),
+    (
+        Act::Check(Access::Read, u64::MAX, 2),
+        Err(MemFault::NotMapped(u64::MAX)),
+    ),
+];
+
+// What is refused writes no byte, neither to memory nor from there.
+const REFUSALS_CHANGE_NOTHING: Acts = &[
+    (Act::Map(0x10000, 2, READ_WRITE), DONE),
+    (Act::Map(0x12000, 1, READ), DONE),
+    (Act::Map(0x13000, 1, WRITE), DONE),
+    (Act::Map(0x14000, 1, EXEC), DONE),
+    (Act::Write(0x11ff8, b"abcdefgh"), DONE),
+    (
+        Act::Write(0x11ff9, b"ABCDEFGHI"),
+        Err(MemFault::NoRight(0x12000)),
+    ),
+    (Act::Store(0x11ffc, 8, 0), Err(MemFault::NoRight(0x12000))),
+    (Act::Bytes(0x11ff8, b"abcdefgh"), DONE),
+    (
+        Act::Bytes(0x12ffc, b"abcdefgh"),
+        Err(MemFault::NoRight(0x13000)),
+    ),
+];
+
+// A right is none of the others.
+const EACH_RIGHT_IS_ITS_OWN: Acts = &[
+    (Act::Map(0x10000, 2, READ_WRITE), DONE),
+    (Act::Map(0x12000, 1, READ), DONE),
+    (Act::Map(0x13000, 1, WRITE), DONE),
+    (Act::Map(0x14000, 1, EXEC), DONE),
+    (Act::Store(0x10ffe, 4, 0xdead_beef), DONE),
+    (Act::Fetch(0x10ffe), Err(MemFault::NoRight(0x10ffe))),
+    (Act::Load(0x12000, 8), Ok(0)),
+    (Act::Store(0x12000, 8, 1), Err(MemFault::NoRight(0x12000))),
+    (Act::Store(0x13000, 8, 7), DONE),
+    (Act::Load(0x13000, 8), Err(MemFault::NoRight(0x13000))),
+    (Act::Fetch(0x14000), Ok(0)),
+    (Act::Load(0x14000, 4), Err(MemFault::NoRight(0x14000))),
+    (Act::Protect(0x10000, 2, EXEC), DONE),
+    (Act::Fetch(0x10ffc), Ok(0xbeef_0000)),
+    (Act::Fetch(0x10ffe), Ok(0xdead_beef)),
+    (Act::Protect(0x13000, 1, READ), DONE),
+    (Act::Load(0x13000, 8), Ok(7)),
+];
+
+// Gaps where no page is: all that is between 0x2000000000 and 0x3e00000000, and more.
+const GAPS_OF_NOTHING: Acts = &[
+    (Act::Gap(1), Ok(0x20_0000_0000)),
+    (Act::Gap(2), Ok(0x20_0000_0000)),
+    (Act::Gap(0x1e0_0000), Ok(0x20_0000_0000)),
+    (Act::Gap(0x1df_fffc), Ok(0x20_0000_0000)),
+    (Act::Gap(0x1df_fffd), Ok(0x20_0000_0000)),
+    (Act::Gap(0x1e0_0001), NONE_SUCH),
+    (Act::Gap(u32::MAX), NONE_SUCH),
+];
+
+// Gaps round three pages, and what is behind them.
+const LOWEST_GAP_IS_FOUND: Acts = &[
+    (Act::Map(0x20_0000_0000, 2, READ_WRITE), DONE),
+    (Act::Map(0x20_0000_3000, 1, READ), DONE),
+    (Act::Gap(1), Ok(0x20_0000_2000)),
+    (Act::Gap(2), Ok(0x20_0000_4000)),
+    (Act::Gap(0x1e0_0000), NONE_SUCH),
+    (Act::Gap(0x1df_fffc), Ok(0x20_0000_4000)),
+    (Act::Gap(0x1df_fffd), NONE_SUCH),
+    (Act::Gap(0x1e0_0001), NONE_SUCH),
+    (Act::Gap(u32::MAX), NONE_SUCH),
+];
+
+// Gaps beside two pages that are apart, and two pages below.
+const GAPS_BETWEEN_PAGES: Acts = &[
+    (Act::Map(0x20000, 2, READ), DONE),
+    (Act::Gap(0x1e0_0000), Ok(0x20_0000_0000)),
+    (Act::Gap(0x1e0_0001), NONE_SUCH),
+    (Act::Map(0x20_0000_0000, 1, READ), DONE),
+    (Act::Map(0x20_0000_3000, 1, READ), DONE),
+    (Act::Gap(0), Ok(0x20_0000_0000)),
+    (Act::Gap(1), Ok(0x20_0000_1000)),
+    (Act::Gap(2), Ok(0x20_0000_1000)),
+    (Act::Gap(3), Ok(0x20_0000_4000)),
+    (Act::Gap(0x1df_fffc), Ok(0x20_0000_4000)),
+    (Act::Gap(0x1df_fffd), NONE_SUCH),
+    (Act::Gap(0x1e0_0000), NONE_SUCH),
+];
+
+// The first page that is there already comes before the limit.
+const MAP_NAMES_ITS_FAULT: Acts = &[
+    (Act::Map(0x20000, 2, READ), DONE),
+    (Act::Map(0x20000, 1, READ), Err(MemFault::Overlaps(0x20000))),
+    (Act::Map(0x1e000, 8, READ), Err(MemFault::Overlaps(0x20000))),
+    (Act::Map(0x21000, 8, READ), Err(MemFault::Overlaps(0x21000))),
+    (
+        Act::Map(0x10000, 70_000, READ),
+        Err(MemFault::Overlaps(0x20000)),
+    ),
+    (Act::Map(0x22000, 65_535, READ), Err(MemFault::PageLimit)),
+    (Act::Map(0x20000, 0, READ), DONE),
+    (Act::Map(0x1f000, 1, READ), DONE),
+    (Act::Map(0x22000, 1, READ), DONE),
+    (Act::Map(0x3f_ffff_f000, 1, READ), DONE),
+    (Act::Map(0x1f000, 4, READ), Err(MemFault::Overlaps(0x1f000))),
+    (Act::Len, Ok(5)),
+];
+
+// There are at most 65,536 pages.
+const AT_THE_LIMIT: Acts = &[
+    (Act::Map(0x10000, 65_537, READ), Err(MemFault::PageLimit)),
+    (Act::Map(0x10000, 65_536, READ), DONE),
+    (Act::Map(0x2000_0000, 1, READ), Err(MemFault::PageLimit)),
+    (Act::Map(0x2000_0000, 0, READ), DONE),
+    (Act::Unmap(0x10000, 1), DONE),
+    (Act::Map(0x2000_0000, 1, READ), DONE),
+];
+
+// Pages that aren't there are passed over.
+const UNMAP_PASSES_OVER_ABSENT_PAGES: Acts = &[
+    (Act::Map(0x20000, 2, READ), DONE),
+    (Act::Unmap(0x22000, 1), DONE),
+    (Act::Unmap(0x1f000, 2), DONE),
+    (Act::Rights(0x1f000), Err(MemFault::NotMapped(0x1f000))),
+    (Act::Rights(0x20000), Err(MemFault::NotMapped(0x20000))),
+    (Act::Rights(0x21000), Ok(4)),
+    (Act::Rights(0x22000), Err(MemFault::NotMapped(0x22000))),
+    (Act::Unmap(0, u32::MAX), DONE),
+    (Act::Len, Ok(0)),
+];
+
+// Where a page isn't there, no page is changed.
+const PROTECT_CHANGES_ALL_OR_NOTHING: Acts = &[
+    (Act::Map(0x20000, 2, READ), DONE),
+    (
+        Act::Protect(0x21000, 2, EXEC),
+        Err(MemFault::NotMapped(0x22000)),
+    ),
+    (Act::Rights(0x20000), Ok(4)),
+    (Act::Rights(0x21000), Ok(4)),
+    (
+        Act::Protect(0x1f000, 2, EXEC),
+        Err(MemFault::NotMapped(0x1f000)),
+    ),
+    (Act::Rights(0x20000), Ok(4)),
+    (Act::Rights(0x21000), Ok(4)),
+    (Act::Protect(0x21000, 1, EXEC), DONE),
+    (Act::Rights(0x20000), Ok(4)),
+    (Act::Rights(0x21000), Ok(1)),
+    (Act::Protect(0x20000, 2, EXEC), DONE),
+    (Act::Rights(0x20000), Ok(1)),
+    (Act::Rights(0x21000), Ok(1)),
+    (Act::Protect(0x40000, 0, EXEC), DONE),
+    (Act::Rights(0x20000), Ok(1)),
+    (Act::Rights(0x21000), Ok(1)),
+];
+
+// How many pages of a range are there, and the first that isn't.
+const PAGES_ARE_COUNTED_AND_CHECKED: Acts = &[
+    (Act::Map(0x20000, 2, READ), DONE),
+    (Act::Map(0x24000, 1, EXEC), DONE),
+    (Act::Len, Ok(3)),
+    (Act::Within(0x20000, 2), Ok(2)),
+    (Act::Mapped(0x20000, 2), DONE),
+    (Act::Within(0x20000, 5), Ok(3)),
+    (Act::Mapped(0x20000, 5), Err(MemFault::NotMapped(0x22000))),
+    (Act::Within(0x1f000, 2), Ok(1)),
+    (Act::Mapped(0x1f000, 2), Err(MemFault::NotMapped(0x1f000))),
+    (Act::Within(0x22000, 2), Ok(0)),
+    (Act::Mapped(0x22000, 2), Err(MemFault::NotMapped(0x22000))),
+    (Act::Within(0x24000, 1), Ok(1)),
+    (Act::Mapped(0x24000, 1), DONE),
+    (Act::Within(0x30000, 0), Ok(0)),
+    (Act::Mapped(0x30000, 0), DONE),
+    (Act::Within(0, u32::MAX), Ok(3)),
+    (Act::Mapped(0, 0xffff_ffff), Err(MemFault::NotMapped(0))),
+    (
+        Act::Mapped(0xffff_ffff_ffff_f000, 0x10_0000_0000_0000),
+        Err(MemFault::NotMapped(0xffff_ffff_ffff_f000)),
+    ),
+];
+
+// Fixed mappings are of zeros with the rights asked.
+const FIXED_MAPPINGS_REPLACE_PAGES: Acts = &[
+    (Act::Map(0x20000, 2, READ), DONE),
+    (Act::Map(0x24000, 1, READ_WRITE), DONE),
+    (Act::Write(0x24ff8, &[7; 8]), DONE),
+    // over the second of the first two pages and the free one behind it, over nothing, and over the page with bytes
+    (Act::MapFixed(0x21000, 2, EXEC), DONE),
+    (Act::MapFixed(0x30000, 0, EXEC), DONE),
+    (Act::MapFixed(0x24000, 2, READ), DONE),
+    (Act::Rights(0x20000), Ok(4)),
+    (Act::Rights(0x21000), Ok(1)),
+    (Act::Rights(0x22000), Ok(1)),
+    (Act::Rights(0x23000), Err(MemFault::NotMapped(0x23000))),
+    (Act::Rights(0x24000), Ok(4)),
+    (Act::Rights(0x25000), Ok(4)),
+    (Act::Rights(0x26000), Err(MemFault::NotMapped(0x26000))),
+    (Act::Rights(0x30000), Err(MemFault::NotMapped(0x30000))),
+    (Act::Bytes(0x24ff8, &[0; 16]), DONE),
+    (Act::Len, Ok(5)),
+];
+
+// Each begins with a memory that has no page.
+const ALL: &[(&str, Acts)] = &[
+    ("stores are loaded", STORES_ARE_LOADED),
+    ("first fault is named", FIRST_FAULT_IS_NAMED),
+    ("refusals change nothing", REFUSALS_CHANGE_NOTHING),
+    ("each right is its own", EACH_RIGHT_IS_ITS_OWN),
+    ("gaps of nothing", GAPS_OF_NOTHING),
+    ("lowest gap is found", LOWEST_GAP_IS_FOUND),
+    ("gaps between pages", GAPS_BETWEEN_PAGES),
+    ("map names its fault", MAP_NAMES_ITS_FAULT),
+    (
+        "unmap passes over absent pages",
+        UNMAP_PASSES_OVER_ABSENT_PAGES,
+    ),
+    (
+        "protect changes all or nothing",
+        PROTECT_CHANGES_ALL_OR_NOTHING,
+    ),
+    (
+        "pages are counted and checked",
+        PAGES_ARE_COUNTED_AND_CHECKED,
+    ),
+    ("fixed mappings replace pages", FIXED_MAPPINGS_REPLACE_PAGES),
+];
+
+#[test]
+fn acts_are_answered(rt: HostRuntime) -> Result<(), Fail> {
+    for &(name, acts) in ALL {
+        let mut memory = GuestMemory::new(rt.alloc());
+        let other = first_other(&mut memory, rt.alloc(), acts);
+        assert_eq!(rt; other, None, "{name}");
+    }
+    Ok(())
+}
+
+// The pages of this one take long.
+#[test]
+fn page_limit(rt: HostRuntime) -> Result<(), Fail> {
+    let mut memory = GuestMemory::new(rt.alloc());
+    let other = first_other(&mut memory, rt.alloc(), AT_THE_LIMIT);
+    assert_eq!(rt; other, None);
+    Ok(())
+}
+
+// Acts before a memory is copied, those that change it then, and those on the copy.
+struct Copied {
+    before: Acts,
+    then: Acts,
+    copy: Acts,
+}
+
+const COPIES: &[Copied] = &[
+    Copied {
+        before: &[
+            (Act::Map(0x20000, 2, READ), DONE),
+            (Act::Map(0x3f_ffff_f000, 1, EXEC), DONE),
+        ],
+        then: &[
+            (Act::Unmap(0x20000, 1), DONE),
+            (Act::Protect(0x21000, 1, EXEC), DONE),
+        ],
+        copy: &[
+            (Act::Rights(0x20000), Ok(4)),
+            (Act::Rights(0x21000), Ok(4)),
+            (Act::Rights(0x3f_ffff_f000), Ok(1)),
+            (Act::Len, Ok(3)),
+        ],
+    },
+    Copied {
+        before: &[
+            (Act::Map(0x20_0000_0000, 2, READ_WRITE), DONE),
+            (Act::Map(0x20_0000_3000, 1, READ), DONE),
+            // The first page that is there is named, even where there would be too many too.
+            (
+                Act::Map(0x20_0000_2000, 2, READ),
+                Err(MemFault::Overlaps(0x20_0000_3000)),
+            ),
+            (
+                Act::Map(0x1f_ffff_f000, 65_536, READ),
+                Err(MemFault::Overlaps(0x20_0000_0000)),
+            ),
+            // There are three pages.
+            (Act::Map(0x10000, 65_534, READ), Err(MemFault::PageLimit)),
+            (
+                Act::Load(0x20_0000_2000, 1),
+                Err(MemFault::NotMapped(0x20_0000_2000)),
+            ),
+            (
+                Act::Protect(0x20_0000_0000, 4, READ),
+                Err(MemFault::NotMapped(0x20_0000_2000)),
+            ),
+            (Act::Store(0x20_0000_0ffc, 8, 0x8877_6655_4433_2211), DONE),
+        ],
+        then: &[
+            (Act::Unmap(0x20_0000_1000, 2), DONE),
+            (
+                Act::Load(0x20_0000_0ffc, 8),
+                Err(MemFault::NotMapped(0x20_0000_1000)),
+            ),
+            (Act::Load(0x20_0000_3000, 8), Ok(0)),
+            (Act::Map(0x20_0000_1000, 1, READ), DONE),
+            (Act::Load(0x20_0000_0ffc, 8), Ok(0x4433_2211)),
+        ],
+        copy: &[
+            (Act::Load(0x20_0000_0ffc, 8), Ok(0x8877_6655_4433_2211)),
+            (Act::Gap(1), Ok(0x20_0000_2000)),
+        ],
+    },
+];
+
+// The first row of each list that gives another answer.
+fn copy_and_change(alloc: Global, row: &Copied) -> Result<[Option<usize>; 3], AllocError> {
+    let mut memory = GuestMemory::new(alloc);
+    let before = first_other(&mut memory, alloc, row.before);
+    let mut copy = memory.copy(alloc)?;
+    let then = first_other(&mut memory, alloc, row.then);
+    Ok([before, then, first_other(&mut copy, alloc, row.copy)])
+}
+
+#[test]
+fn copies_are_apart(rt: HostRuntime) -> Result<(), Fail> {
+    for row in COPIES {
+        assert_eq!(rt; copy_and_change(rt.alloc(), row)?, [None; 3]);
+    }
+    Ok(())
+}

@@ -1,0 +1,10 @@
+use Rattle.std.proofs.Common.{◌≡◌}
+use Rattle.plain_run.specs.Run.{IsBetween, ahead}
+use Rattle.plain_run.proofs.run.Run.go_on.Given as goal
+
+-- the run stands between two turns, and is of the same launch
+abbrev pub invariant-loop-alloc : goal.invariant-loop-alloc
+invariant-loop-alloc l = IsBetween l.self × (l.self.launch ≡ l.fn.self.launch)
+
+abbrev pub decreases-loop-alloc : goal.decreases-loop-alloc
+decreases-loop-alloc l = ahead l.self

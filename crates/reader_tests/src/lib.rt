@@ -1,0 +1,20 @@
+//! Tests of what reads and writes bytes and texts: the structures of calls, ELF files, argument data, launch files and
+//! their plans, and the words of a run.
+#![tactic(auto)]
+
+#[cfg(test)]
+mod argdata;
+#[cfg(test)]
+mod elf;
+#[cfg(test)]
+mod events;
+#[cfg(test)]
+mod long_text;
+#[cfg(test)]
+mod plans;
+#[cfg(test)]
+mod structures;
+#[cfg(test)]
+mod words;
+#[cfg(test)]
+mod yaml;

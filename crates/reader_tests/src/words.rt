@@ -1,0 +1,210 @@
+//! Words, with the settings that they spell.
+use launch_words::{LaunchWords, WordsFault, read_words};
+use std::alloc::{AllocError, Global};
+
+// What `p` alone spells.
+const PLAIN: LaunchWords<'static> = LaunchWords {
+    program: "p",
+    tree: None,
+    stdin: None,
+    workers: 4,
+    turns: 100_000,
+    key: [0; 32],
+    epoch: 0,
+    history: false,
+};
+
+// 32 bytes as 64 digits of both cases.
+const DIGITS: &str = "--key=00112233445566778899aabbccddeeff0123456789ABCDEFfedcba9876543210";
+
+const KEY: [u8; 32] = [
+    0x00, 0x11, 0x22, 0x33, 0x44, 0x55, 0x66, 0x77, 0x88, 0x99, 0xaa, 0xbb, 0xcc, 0xdd, 0xee, 0xff,
+    0x01, 0x23, 0x45, 0x67, 0x89, 0xab, 0xcd, 0xef, 0xfe, 0xdc, 0xba, 0x98, 0x76, 0x54, 0x32, 0x10,
+];
+
+// The name of the running program, which is no option of the run, and words of these texts.
+fn words_of(alloc: Global, texts: &[&str]) -> Result<Vec<String>, AllocError> {
+    let mut words = Vec::new(alloc);
+    words.push(String::from_str(alloc, "--history")?)?;
+    for text in texts {
+        words.push(String::from_str(alloc, text)?)?;
+    }
+    Ok(words)
+}
+
+// Words, and what they spell.
+const TAKEN: &[(&[&str], LaunchWords<'static>)] = &[
+    (&["p"], PLAIN),
+    (&["p", "--"], PLAIN),
+    (
+        &["--", "-x"],
+        LaunchWords {
+            program: "-x",
+            ..PLAIN
+        },
+    ),
+    (
+        &["--", "--"],
+        LaunchWords {
+            program: "--",
+            ..PLAIN
+        },
+    ),
+    (
+        &["--", "--tree"],
+        LaunchWords {
+            program: "--tree",
+            ..PLAIN
+        },
+    ),
+    (
+        &["--workers=2", "--", "p"],
+        LaunchWords {
+            workers: 2,
+            ..PLAIN
+        },
+    ),
+    (
+        &["--workers", "64", "p"],
+        LaunchWords {
+            workers: 64,
+            ..PLAIN
+        },
+    ),
+    (
+        &["--turns", "0000000000000000001", "p"],
+        LaunchWords { turns: 1, ..PLAIN },
+    ),
+    (
+        &["--turns=1000000000", "p"],
+        LaunchWords {
+            turns: 1_000_000_000,
+            ..PLAIN
+        },
+    ),
+    (
+        &["--epoch", "4611686018427387904", "p"],
+        LaunchWords {
+            epoch: 1 << 62,
+            ..PLAIN
+        },
+    ),
+    (&["p", "--epoch=0"], PLAIN),
+    (&[DIGITS, "p"], LaunchWords { key: KEY, ..PLAIN }),
+    (
+        &["--tree=-x", "p"],
+        LaunchWords {
+            tree: Some("-x"),
+            ..PLAIN
+        },
+    ),
+    (
+        &["--tree=a=b", "p"],
+        LaunchWords {
+            tree: Some("a=b"),
+            ..PLAIN
+        },
+    ),
+    (
+        &["--stdin", "p", "p"],
+        LaunchWords {
+            stdin: Some("p"),
+            ..PLAIN
+        },
+    ),
+    (
+        &["p", "--tree", "t", "--history"],
+        LaunchWords {
+            tree: Some("t"),
+            history: true,
+            ..PLAIN
+        },
+    ),
+];
+
+// Words that are refused.
+const REFUSED: &[&[&str]] = &[
+    &[],
+    // the program
+    &[""],
+    &["-"],
+    &["--", "-"],
+    &["p", "q"],
+    &["p", "--", "q"],
+    &["--", "p", "--history"],
+    // what stands twice
+    &["--history", "--history", "p"],
+    &["--workers=2", "--workers=2", "p"],
+    &["--tree", "t", "p", "--tree=t"],
+    // values in the next word
+    &["--tree", "-x", "p"],
+    &["--tree", "-", "p"],
+    &["--tree", "--history", "p"],
+    &["--tree", "--", "p"],
+    &["p", "--tree"],
+    // no files
+    &["--tree=", "p"],
+    &["--tree", "", "p"],
+    &["--tree=-", "p"],
+    &["--stdin=-", "p"],
+    // no numbers in the range
+    &["--workers", "0", "p"],
+    &["--workers", "65", "p"],
+    &["--workers", "+2", "p"],
+    &["--workers=-1", "p"],
+    &["--workers=", "p"],
+    &["--turns", "0", "p"],
+    &["--turns=1000000001", "p"],
+    &["--turns", "00000000000000000001", "p"],
+    &["--epoch=4611686018427387905", "p"],
+    &["--epoch", "", "p"],
+    // no keys
+    &["--key", "00", "p"],
+    &["--key=", "p"],
+    &[
+        "--key=0011223344556677889900112233445566778899001122334455667788990011g",
+        "p",
+    ],
+    &[
+        "--key=001122334455667788990011223344556677889900112233445566778899001",
+        "p",
+    ],
+    // no options
+    &["--history=1", "p"],
+    &["--history=", "p"],
+    &["--his", "p"],
+    &["-h"],
+    &["--help"],
+    &["-V", "p"],
+    &["--version"],
+    &["-é", "p"],
+    &["--=x", "p"],
+    &["--program", "p"],
+];
+
+// These words are read so.
+fn are_read(alloc: Global, texts: &[&str], want: Result<LaunchWords, WordsFault>) -> bool {
+    match words_of(alloc, texts) {
+        Ok(words) => read_words(alloc, &words) == want,
+        Err(_) => false,
+    }
+}
+
+#[test]
+fn words(rt: HostRuntime) {
+    for &(texts, want) in TAKEN {
+        assert!(rt; are_read(rt.alloc(), texts, Ok(want)), "{texts:?}");
+    }
+    for &texts in REFUSED {
+        assert!(rt;
+            are_read(rt.alloc(), texts, Err(WordsFault::Refused)),
+            "{texts:?}"
+        );
+    }
+}
+
+// Not even the name of the running program.
+#[test]
+fn no_words(rt: HostRuntime) {
+    assert!(rt; read_words(rt.alloc(), &[]) == Err(WordsFault::Refused));
+}

@@ -1,0 +1,3 @@
+pub mod Chosen
+pub mod Steps
+pub mod OptionSteps

@@ -1,0 +1,51 @@
+//! Guests as programs, and the reports of their runs.
+use crate::calls::{Given, WORDS, check};
+use guest_kit::HELLO_FILE;
+use rv_asm::assemble;
+use std::alloc::{AllocError, Global};
+use std::process::Abort;
+use std::test::Fail;
+
+// A program with the first program's header, and this code behind it.
+pub(crate) fn program_of(alloc: Global, guest: &str) -> Result<Vec<u8>, AllocError> {
+    let code = assemble(alloc, guest).map_err(|_| AllocError)?;
+    let mut program = HELLO_FILE[..120].to_vec(alloc)?;
+    program.extend_from_slice(code.as_slice())?;
+    let length = (program.len() as u64).to_le_bytes();
+    if program.len() >= 120 {
+        program[96..104].copy_from_slice(&length);
+        program[104..112].copy_from_slice(&length);
+    }
+    Ok(program)
+}
+
+// Looks whether a guest that is given a descriptor ends with this exit status and report; how many entries its history has.
+pub(crate) fn check_guest(
+    rt: &impl Abort,
+    alloc: Global,
+    guest: &str,
+    status: u8,
+    report: &[u8],
+) -> Result<Option<usize>, Fail> {
+    let program = program_of(alloc, guest)?;
+    let given = Given::new(WORDS, &program, b"!fd stdout\n");
+    check(rt, alloc, &given, status, report)
+}
+
+// The report of a program that wrote nothing and ended with this status.
+pub(crate) fn quiet_report(alloc: Global, status: &str) -> Result<String, AllocError> {
+    format!(in alloc;
+        "== stdout 0\n== stderr 0\n== status {status}\n== run ended\n== denials 0\n== tree 0\n"
+    )
+}
+
+// The report of a program that wrote these bytes, which don't end with a line feed, and exited with 0.
+pub(crate) fn loud_report(alloc: Global, bytes: &[u8]) -> Result<Vec<u8>, AllocError> {
+    let head = format!(in alloc; "== stdout {}\n", bytes.len())?;
+    let mut report = head.into_bytes();
+    report.extend_from_slice(bytes)?;
+    report.extend_from_slice(
+        b"\n== stderr 0\n== status exit 0\n== run ended\n== denials 0\n== tree 0\n",
+    )?;
+    Ok(report)
+}

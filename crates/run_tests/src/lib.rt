@@ -1,0 +1,15 @@
+//! Tests of the top call, from its words to a status, a record and what is written, over inputs in memory.
+#![tactic(auto)]
+
+#[cfg(test)]
+mod calls;
+#[cfg(test)]
+mod command_lines;
+#[cfg(test)]
+mod guests;
+#[cfg(test)]
+mod memory_calls;
+#[cfg(test)]
+mod programs;
+#[cfg(test)]
+mod refused_launches;

@@ -1,8 +1,0 @@
-use Rattle.std.proofs.Common.{refl, ◌||◌}
-use Rattle.rv_asm.specs.Mnemonics.{word_atomics}
-use Rattle.rv_asm.specs.Ops.{is_atomic, is_reserve}
-use Rattle.rv_asm.proofs.Tables.{lookup_passes}
-use Rattle.rv_asm.proofs.mnemonics.word_atomic.Goals as goal
-
-pub returns-clause-atomic : goal.returns-clause-atomic
-returns-clause-atomic c = lookup_passes (λ op. is_reserve op || is_atomic op) word_atomics c.args.name.now c.lookup.result refl c.lookup.ensures

@@ -1,7 +1,0 @@
-use Rattle.std.proofs.Common.{refl}
-use Rattle.rv_asm.specs.Registers.{registers}
-use Rattle.rv_asm.proofs.Tables.{lookup_below}
-use Rattle.rv_asm.proofs.registers.register.Goals as goal
-
-pub returns-clause-small : goal.returns-clause-small
-returns-clause-small c = lookup_below 32 registers c.args.text.now c.lookup.result refl c.lookup.ensures

@@ -1,5 +1,0 @@
-use Rattle.rv_asm.proofs.Decodes.{registers}
-use Rattle.rv_asm.proofs.words.register_word.Goals as goal
-
-pub returns : goal.returns
-returns c = registers _ _ _ c.word.ensures c.register_row-row.ensures.operation

@@ -1,0 +1,9 @@
+pub mod Results
+pub mod Characters
+pub mod Spaces
+pub mod Plain
+pub mod Quoted
+pub mod PieceViews
+pub mod Scalars
+pub mod Numbers
+pub mod Capped

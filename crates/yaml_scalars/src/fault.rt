@@ -1,0 +1,24 @@
+//! Faults inside a line.
+ghost use Rattle.std.specs.Prelude.{◌≡◌};
+ghost use Rattle.refusals.specs.declared.refusal.Refusal.TheVariants.{At};
+
+use crate::kind::YamlKind;
+use refusals::Refusal;
+
+/// A fault in a line. Its place is told by how many bytes of the line stand behind it, its own included.
+#[derive(Clone, Copy, Drop)]
+pub struct LineFault {
+    /// How many bytes there are from the fault's place to the line's end.
+    pub left: usize,
+    /// What is wrong.
+    pub kind: YamlKind,
+}
+
+impl LineFault {
+    /// The refusal for a fault at a place, which so many bytes of the line stand behind, its own included.
+    pub fn refusal(left: usize, kind: YamlKind) -> Refusal<LineFault>
+        ensures { result ≡ At (record { left = left; kind = kind }) }
+    {
+        Refusal::At(LineFault { left, kind })
+    }
+}
