@@ -81,17 +81,17 @@ reached_is : (S : State) (table : Table) (rows : List Needed) (q : Part) → All
 reached_is S table [] q met h = absurd (not_true h)
 reached_is S table (row ∷ rows) q met h =
     elim (either_true (has_part (reached_by S (get table row.fd)) q) (has_part (reached S table rows) q)
-      (sym (has_of_both (reached_by S (get table row.fd)) (reached S table rows) q) ∙ h)) [
+    (sym (has_of_both (reached_by S (get table row.fd)) (reached S table rows) q) ∙ h)) [
       | inl here ↦ record {
-            before = [];
-            row = row;
-            after = rows;
-            splits = refl;
-            d = met.0.0;
-            there = met.0.1;
-            has = met.0.2;
-            part = subst (λ o. has_part (reached_by S o) q ≡ true) met.0.1 here;
-          }
+        before = [];
+        row = row;
+        after = rows;
+        splits = refl;
+        d = met.0.0;
+        there = met.0.1;
+        has = met.0.2;
+        part = subst (λ o. has_part (reached_by S o) q ≡ true) met.0.1 here;
+      }
       | inr later ↦ reached_later S table row rows q (reached_is S table rows q met.1 later)
     ]
 
