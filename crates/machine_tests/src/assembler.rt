@@ -196,6 +196,17 @@ const FAULTS: &[(&str, u32)] = &[
     // labels on a faulty line and behind one count as defined
     ("jal zero, x\nx: frob", 2),
     ("jal zero, x\nfrob\nx:", 2),
+    // a label behind the first faulty line has no distance; one on that line or before it has one
+    ("beq a0, a1, b\nfrob\n.zero 4096\nb:", 2),
+    ("beq a0, a1, b\n.zero 4096\nfrob\nb:", 3),
+    ("jal a0, b\nfrob\n.byte 0\nb:", 2),
+    ("beq a0, a1, b\n.zero 4092\nb: frob", 1),
+    ("beq a0, a1, b\n.zero 4092\nb:\nfrob", 1),
+    ("b: .zero 4096\n.word 0\nbeq a0, a1, b\nfrob", 3),
+    // of two lines that can't hold a distance, the first
+    ("beq a0, a1, b\nbeq a0, a1, b\n.zero 4096\nb:", 1),
+    // a number's distance is looked at
+    ("beq a0, a1, 4096\nfrob", 1),
     // registers that are none
     ("addi fp, a0, 1", 1),
     ("addi x32, a0, 1", 1),

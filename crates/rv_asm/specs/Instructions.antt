@@ -65,7 +65,7 @@ upper_of op text = do
   plain op rd 0 0 (upper n)
 
 -- `rs1, rs2, T`
-unfoldable pub branch_of : Op → List (List ℕ × ℕ) → ℕ → List ℕ → Option Item
+unfoldable pub branch_of : Op → List (List ℕ × Option ℕ) → ℕ → List ℕ → Option Item
 branch_of op labels here text = do
   parts ← triple_of text
   rs1 ← register_of parts.0
@@ -74,7 +74,7 @@ branch_of op labels here text = do
   plain op 0 rs1 rs2 distance
 
 -- `rd, T`
-unfoldable pub jump_of : List (List ℕ × ℕ) → ℕ → List ℕ → Option Item
+unfoldable pub jump_of : List (List ℕ × Option ℕ) → ℕ → List ℕ → Option Item
 jump_of labels here text = do
   parts ← pair_of text
   rd ← register_of parts.0
@@ -107,7 +107,7 @@ unfoldable pub plain_of : Op → List ℕ → Option Item
 plain_of op text = cond (length text == 0) (Some (Instruction (instr op 0 0 0 (pos 0)) (Whole (plain_word op)))) None
 
 -- `rd, LABEL`
-unfoldable pub address_of : List (List ℕ × ℕ) → ℕ → List ℕ → Option Item
+unfoldable pub address_of : List (List ℕ × Option ℕ) → ℕ → List ℕ → Option Item
 address_of labels here text = do
   parts ← pair_of text
   rd ← register_of parts.0
@@ -115,7 +115,7 @@ address_of labels here text = do
   Some (Address rd distance)
 
 -- the instruction of a form; nothing for a form that is no single instruction
-abbrev pub instruction_of : Form → List (List ℕ × ℕ) → ℕ → List ℕ → Option Item
+abbrev pub instruction_of : Form → List (List ℕ × Option ℕ) → ℕ → List ℕ → Option Item
 instruction_of (Registers op) labels here text = registers_of op text
 instruction_of (Immediate op) labels here text = immediate_of (negsuc 2047) (pos 2047) op text
 instruction_of (Shift op) labels here text = immediate_of (pos 0) (pos 63) op text
@@ -131,6 +131,6 @@ instruction_of (Plain op) labels here text = plain_of op text
 instruction_of _ labels here text = None
 
 -- what a form stands for that must be placed at a multiple of 4: an instruction, or the two of `la`
-abbrev pub code_of : Form → List (List ℕ × ℕ) → ℕ → List ℕ → Option Item
+abbrev pub code_of : Form → List (List ℕ × Option ℕ) → ℕ → List ℕ → Option Item
 code_of La labels here text = address_of labels here text
 code_of form labels here text = instruction_of form labels here text

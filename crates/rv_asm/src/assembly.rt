@@ -1,6 +1,6 @@
 //! A text, assembled.
-ghost use Rattle.std.specs.Prelude.{◌≡◌, ◌+◌, [], None, Some, map, IfOk, IfErr, OnOk};
-ghost use Rattle.rv_asm.specs.Lines.{labels_of, fault_from, first_fault, AreBytesFrom, Assembles, IsFaultOf};
+ghost use Rattle.std.specs.Prelude.{◌≡◌, ◌+◌, ◌++◌, ◌<◌, [], None, Some, map, length, IfOk, IfErr, IfSome, OnOk};
+ghost use Rattle.rv_asm.specs.Lines.{labels_of, labels_up_to, unplaced, fault_from, fault_with, first_fault, AreBytesFrom, Assembles, IsFaultOf};
 ghost use Rattle.rv_syntax.specs.Names.{rows};
 ghost use Rattle.rv_syntax.specs.Text.{lines_of};
 
@@ -77,6 +77,52 @@ fn emit(alloc: Global, lines: &[&str], labels: &[Label<'_>]) -> Result<Vec<u8>, 
     Ok(out)
 }
 
+// Puts labels without their addresses at the end of others.
+fn append_unplaced<'a>(labels: &mut Vec<Label<'a>>, names: &[Label<'a>]) -> Result<(), AllocError>
+    ensures { OnOk result (rows labels.new.items ≡ rows labels.old.items ++ unplaced (rows names.now)) }
+{
+    for (name, _) in names {
+        labels.push((*name, None))?;
+    }
+    Ok(())
+}
+
+// The index of the first line that is outside the grammar, where these are the labels of the text.
+fn fault_index(
+    alloc: Global,
+    lines: &[&str],
+    labels: &[Label<'_>],
+) -> Result<Option<usize>, AllocError>
+    ensures exact { IfOk result (λ found. found ≡ fault_from (rows labels.now) [] 0 0 (map (λ line. line.now) lines.now)) }
+    ensures inside { IfOk result (λ found. IfSome found (λ i. i < length lines.now)) }
+{
+    let mut place = Place::start(alloc);
+    for (i, line) in lines.iter().enumerate() {
+        let Some(_) = piece(labels, &place.labels, place.address, line.as_bytes()) else {
+            return Ok(Some(i));
+        };
+        place.pass(line.as_bytes())?;
+    }
+    Ok(None)
+}
+
+// The fault of lines, where the line at this index is outside the grammar wherever labels are.
+fn fault_up_to<'a>(
+    alloc: Global,
+    lines: &[&'a str],
+    all: &[Label<'a>],
+    index: usize,
+) -> Result<AsmFault, AllocError>
+    requires inside { index < length lines.now }
+    requires all { rows all.now ≡ labels_of (map (λ line. line.now) lines.now) }
+    ensures { IfOk result (λ fault. IsFaultOf fault (fault_with (map (λ line. line.now) lines.now) (Some index))) }
+{
+    let mut known = labels(alloc, &lines[..index + 1])?;
+    append_unplaced(&mut known, all)?;
+    let first = fault_index(alloc, &lines[..index], &known)?;
+    Ok(fault_at(first.unwrap_or(index)))
+}
+
 /// The bytes of a text: those of its lines, in their order. An instruction's word is decoded to the instruction that its
 /// line names. `Line` names the first line that is outside the grammar, and comes where there is one unless memory is
 /// wanting.
@@ -92,5 +138,10 @@ pub fn assemble(alloc: Global, text: &str) -> Result<Bytes, AsmFault>
 {
     let lines = lines(alloc, text)?;
     let labels = labels(alloc, &lines)?;
+    let mut names = Vec::new(alloc);
+    append_unplaced(&mut names, &labels)?;
+    if let Some(index) = fault_index(alloc, &lines, &names)? {
+        return Err(fault_up_to(alloc, &lines, &labels, index)?);
+    }
     Ok(Bytes::from_vec(emit(alloc, &lines, &labels)?))
 }

@@ -27,7 +27,8 @@
 //! | `"TEXT"` | `.ascii`, with ASCII from 0x20 to 0x7e but the quotation mark and the backslash |
 //!
 //! A target T is a label, or an even distance in bytes; the distance of a label, from the instruction, must be one that the
-//! instruction can hold. Addresses count from 0 at the text's start. An instruction stands at a multiple of 4. Numbers are
+//! instruction can hold. A label behind a line that is outside the grammar wherever labels are has no distance, and no line
+//! is outside the grammar for it. Addresses count from 0 at the text's start. An instruction stands at a multiple of 4. Numbers are
 //! little-endian.
 #![tactic(auto)]
 

@@ -35,7 +35,7 @@ impl<'a> Place<'a> {
     {
         let Statement { label, content } = Statement::of(line);
         if let Some(name) = label {
-            self.labels.push((name, self.address))?;
+            self.labels.push((name, Some(self.address)))?;
         }
         let Some(address) = self.address.checked_add(size(content) as u64) else {
             return Err(AllocError);

@@ -31,17 +31,19 @@ memory_of text = do
 unfoldable pub address_register_of : List ℕ → Option ℕ
 address_register_of text = split_at 40 text >>= λ parts. cond (length parts.0 == 0) (closed_register_of parts.1) None
 
--- how far an address is from the instruction's own
-abbrev pub from_here : ℕ → ℕ → ℤ
-from_here here address = pos address -ℤ pos here
+-- How far a label is from the instruction. One without an address has no distance: 0, which each instruction can hold,
+-- stands for it.
+abbrev pub from_here : ℕ → Option ℕ → ℤ
+from_here here None = pos 0
+from_here here (Some address) = pos address -ℤ pos here
 
--- the distance of a label that has an address, or the number that stands in a label's place
-abbrev pub distance_at : ℕ → List ℕ → Option ℕ → Option ℤ
+-- the distance of a label that is defined, or the number that stands in a label's place
+abbrev pub distance_at : ℕ → List ℕ → Option (Option ℕ) → Option ℤ
 distance_at here text None = number_of text
 distance_at here text (Some address) = Some (from_here here address)
 
 -- the distance that a target stands for: that of a label, or a number
-unfoldable pub distance_of : List (List ℕ × ℕ) → ℕ → List ℕ → Option ℤ
+unfoldable pub distance_of : List (List ℕ × Option ℕ) → ℕ → List ℕ → Option ℤ
 distance_of labels here text = distance_at here text (lookup labels text)
 
 -- a number that is even
@@ -49,10 +51,10 @@ abbrev pub even : ℤ → Option ℤ
 even n = cond (is_even n) (Some n) None
 
 -- the even distance, from the first bound to the second, that a target stands for
-unfoldable pub target_of : ℤ → ℤ → List (List ℕ × ℕ) → ℕ → List ℕ → Option ℤ
+unfoldable pub target_of : ℤ → ℤ → List (List ℕ × Option ℕ) → ℕ → List ℕ → Option ℤ
 target_of low high labels here text = distance_of labels here text >>= within low high >>= even
 
 -- the distance of a label, if it is one that two signed immediates, of 32 bits and a multiple of 4096, and of 12 bits,
 -- add up to
-unfoldable pub label_distance_of : List (List ℕ × ℕ) → ℕ → List ℕ → Option ℤ
+unfoldable pub label_distance_of : List (List ℕ × Option ℕ) → ℕ → List ℕ → Option ℤ
 label_distance_of labels here name = lookup labels name >>= λ address. within (negsuc 0x800007ff) (pos 0x7ffff7ff) (from_here here address)

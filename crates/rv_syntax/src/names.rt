@@ -6,8 +6,8 @@ ghost use Rattle.rv_syntax.specs.Names.{rows, lookup, is_name_start, is_name_byt
 /// A name, and what it stands for.
 pub type Named<'a, T> = (&'a [u8], T);
 
-/// A label, and its address.
-pub type Label<'a> = Named<'a, u64>;
+/// A label, and its address, if it has one.
+pub type Label<'a> = Named<'a, Option<u64>>;
 
 /// The meaning of a name: that of the table's first row which has it.
 pub fn lookup<T: Copy>(table: &[Named<'_, T>], name: &[u8]) -> Option<T>

@@ -3,7 +3,7 @@ ghost use Rattle.std.specs.Prelude.{◌≡◌, ◌<◌, ◌≤ℤ◌, IfSome, tr
 ghost use Rattle.rv_syntax.specs.Names.{rows};
 ghost use Rattle.rv_words.specs.Words.{is_even};
 ghost use Rattle.rv_syntax.specs.Numbers.{number_within, within};
-ghost use Rattle.rv_syntax.specs.Operands.{pair_of, triple_of, closed_register_of, memory_of, address_register_of, distance_of, target_of, label_distance_of};
+ghost use Rattle.rv_syntax.specs.Operands.{pair_of, triple_of, closed_register_of, memory_of, address_register_of, from_here, distance_of, target_of, label_distance_of};
 
 use crate::names::{Label, lookup};
 use crate::numbers;
@@ -97,13 +97,23 @@ fn within(n: i128, low: i64, high: i64) -> Option<i64>
     }
 }
 
+// How far a label with this address is from here, or 0 where it has none.
+fn from_here(here: u64, address: Option<u64>) -> i128
+    ensures { result ≡ from_here here address }
+{
+    match address {
+        Some(address) => i128::from(address) - i128::from(here),
+        None => 0,
+    }
+}
+
 // The distance that a target stands for: that of a label from here, or a number.
 #[tactic(auto, unfolding(crate::specs::Operands::distance_of))]
 fn distance(labels: &[Label<'_>], here: u64, text: &[u8]) -> Option<i128>
     ensures { result ≡ distance_of (rows labels.now) here text.now }
 {
     match lookup(labels, text) {
-        Some(address) => Some(i128::from(address) - i128::from(here)),
+        Some(address) => Some(from_here(here, address)),
         None => numbers::number(text),
     }
 }
@@ -127,9 +137,5 @@ pub fn label_distance(labels: &[Label<'_>], here: u64, name: &[u8]) -> Option<i6
     ensures range { IfSome result (λ n. (negsuc 0x800007ff ≤ℤ n) × (n ≤ℤ pos 0x7ffff7ff)) }
 {
     let address = lookup(labels, name)?;
-    within(
-        i128::from(address) - i128::from(here),
-        -0x8000_0800,
-        0x7fff_f7ff,
-    )
+    within(from_here(here, address), -0x8000_0800, 0x7fff_f7ff)
 }
