@@ -1,7 +1,9 @@
 -- The least closure of numbers over the keys of a map, and further laws on maps whose keys are numbers.
---     member k numbers      whether the number is in the list;  IsSubset few many      each number of the first is in the second
---     closure ready m start      the numbers of start, and each key of m that those found before make ready, the least first
---     IsMonotone ready      more numbers make no number less ready;  NoneReady ready m found      no key of m is ready
+--     member k numbers      whether the number is in the list
+--     IsSubset few many      each number of the first list is in the second
+--     closure ready m start      start, and each key of m that is ready at the numbers found so far, the least first
+--     IsMonotone ready      more numbers make no number less ready
+--     NoneReady ready m found      no key of m is ready
 --     closure_induction      what holds where no key is ready, and stays as a ready key is taken, holds of each closure
 --     closure_start, closure_keys      it has each number of start;  each other one is a key
 --     closure_closed      a key that is ready at it is in it
@@ -10,9 +12,12 @@
 --     closure_none      where no key is ready at start, it is start
 --     closure_same      maps with the same keys, and tests alike at these, have the same closure
 --     changed f m      the map with each value changed by f, which is told its key
---     get-changed, entries-changed, len-changed, changed-empty, changed-insert, changed-remove, total-changed      its laws
---     total_zero_exactly      a total is 0 exactly where each weight is 0;  total_below      no greater weights, no greater total
---     total_ones      where each value weighs 1, the total is the number of entries;  len_same      the same keys, as many entries
+--     get-changed, entries-changed, len-changed      what it answers
+--     changed-empty, changed-insert, changed-remove, total-changed      its laws
+--     total_zero_exactly      a total is 0 exactly where each weight is 0
+--     total_below      no weight is greater, so the total is not greater
+--     total_ones      where each value weighs 1, the total is the number of entries
+--     len_same      maps with the same keys have as many
 use Rattle.std.proofs.Common.{◌≡◌, ◌≢◌, ◌↔◌, ◌⊎◌, ℕ, zero, suc, ◌+◌, ◌≤◌, Bool, true, false, cond, ◌&&◌, ◌||◌, T, inl, inr, List, [], ◌∷◌, map, length, Option, Some, None, IsSome, is_some, refl, sym, ap, subst, ◌∙◌, arith}
 use Rattle.std.proofs.lemmas.List.{length-map}
 use Rattle.std.proofs.lemmas.Bool.{eq-eqb, eqb-true}
@@ -267,8 +272,8 @@ module _ {X : Type 0} where
         ))
         m start).1
 
-    -- a test that passes each number of start, and each key that is ready at some numbers that it passes, passes each number
-    -- of the closure
+    -- a test that passes each number of start, and each key that is ready at some numbers that it passes, passes
+    -- each number of the closure
     pub closure_least : (C : ℕ → Bool) (m : FinMap nat_cmp X) (start : List ℕ)
         → ((q : ℕ) → member q start ≡ true → C q ≡ true)
         → ((k : ℕ) → IsSome (get m k) → (numbers : List ℕ) → ((q : ℕ) → member q numbers ≡ true → C q ≡ true) → ready numbers k ≡ true → C k ≡ true)
