@@ -12,6 +12,7 @@ pub use abi_structures::{
     Subscription, ThreadAttr, What,
 };
 pub use call::{Answer, Call, Reply};
+pub use constants::Constants;
 pub use descriptor::{Denial, Descriptor};
 pub use input_output as outside;
 pub use lists::{Bytes, Items, Text, TryClone};
@@ -20,11 +21,14 @@ pub use open_kind::OpenKind;
 pub use place::Place;
 pub use status::Status;
 pub use thread::Thread;
+pub use who::Who;
 
 mod call;
+mod constants;
 mod descriptor;
 mod needed;
 mod open_kind;
 mod place;
 mod status;
 mod thread;
+mod who;

@@ -3,11 +3,13 @@ use Rattle.std.proofs.Common.{◌≡◌, ℕ, ◌+◌, ◌==◌, ◌&&◌, ◌||
 use Rattle.std.proofs.lemmas.Bool.{eq-eqb}
 use Rattle.std.specs.FinMap.{get}
 use Rattle.abi_types.specs.declared.call.Call.{Call}
-use Rattle.kernel_model.specs.Cases.{Outcome}
+use Rattle.abi_types.specs.declared.constants.Constants.{Constants}
+use Rattle.abi_types.specs.declared.who.Who.{Who}
+use Rattle.kernel_model.specs.Outcome.{Outcome}
 use Rattle.kernel_model.specs.Laws.{HasSameSight, EndsAlike}
 use Rattle.kernel_model.specs.Release.{holders, is_ending, release}
 use Rattle.kernel_model.specs.State.{State, Part, at_clock, at_proc, at_status, at_open, at_term, same_part, has_part, Agree, AgreeOn, put_all}
-use Rattle.kernel_model.specs.Step.{tick, sight, act, outcome, unreleased, step_reply, step_state}
+use Rattle.kernel_model.specs.Step.{tick, reach, sight, act, outcome, unreleased, step_answer, step_state}
 use Rattle.kernel_model.specs.View.{only, restrict}
 use Rattle.kernel_model.proofs.Parts.{agree_at, put_same}
 use Rattle.kernel_model.proofs.Valids.{get_released}
@@ -29,10 +31,17 @@ restrict_alike S T parts now all =
       term = λ k. only_alike (has_part parts (at_term k)) (get S.terms k) (get T.terms k) (λ h. agree_at S T parts (at_term k) all h) i;
     }
 
-pub sight_decides : (S T : State) (p : ℕ) (call : Call) → HasSameSight S T p call → outcome S p call ≡ outcome T p call
-sight_decides S T p call same =
-    ap (λ v. act v p call) (restrict_alike S T (sight S p call) same.1.0 same.1)
-    ∙ ap (λ parts. act (restrict (tick T) parts) p call) same.0
+-- the clock is the first of the parts that a call sees
+sees_clock : (S T : State) (who : Who) (call : Call) → AgreeOn S T (sight S who call) → S.clock ≡ T.clock
+unfolding sight
+sees_clock S T who call same = same.0
+
+pub sight_decides : (constants : Constants) (S T : State) (who : Who) (call : Call) → HasSameSight S T who call
+    → outcome constants S who call ≡ outcome constants T who call
+unfolding outcome
+sight_decides constants S T who call same =
+    ap (λ v. act constants v who call) (restrict_alike S T (sight S who call) (sees_clock S T who call same.1) same.1)
+    ∙ ap (λ parts. act constants (restrict (tick T) parts) who call) same.0
 
 -- ---- after the step
 
@@ -48,11 +57,11 @@ ticks_alike S T [] h = tt
 ticks_alike S T (part ∷ parts) h = (tick_alike S T part h.0, ticks_alike S T parts h.1)
 
 -- two states that agree on a part, where the same updates are put into both
-unreleased_alike : (S T : State) (p : ℕ) (call : Call) (q : Part) → outcome S p call ≡ outcome T p call → Agree S T q
-    → Agree (unreleased S p call) (unreleased T p call) q
-unreleased_alike S T p call q same h =
-    subst (λ (o : Outcome). Agree (unreleased S p call) (put_all o.updates (tick T)) q) same
-    (put_same (outcome S p call).updates (tick S) (tick T) q (tick_alike S T q h))
+unreleased_alike : (constants : Constants) (S T : State) (who : Who) (call : Call) (q : Part) → outcome constants S who call ≡ outcome constants T who call
+    → Agree S T q → Agree (unreleased constants S who call) (unreleased constants T who call) q
+unreleased_alike constants S T who call q same h =
+    subst (λ (o : Outcome). Agree (unreleased constants S who call) (put_all o.updates (tick T)) q) same
+    (put_same (outcome constants S who call).updates (tick S) (tick T) q (tick_alike S T q h))
 
 by_ending_one : {X : Type 0} (b c : Bool) (x : Option X) → (is_some x && b) ≡ (is_some x && c) → cond (not b) x None ≡ cond (not c) x None
 by_ending_one b c (Some x) h = ap (λ d. cond (not d) (Some x) None) h
@@ -87,14 +96,15 @@ each_part S T (part ∷ parts) h = (
   each_part S T parts (λ q there. h q (ap (λ b. same_part part q || b) there ∙ or_true (same_part part q))),
 )
 
-pub step_decided : (S T : State) (p : ℕ) (call : Call) → HasSameSight S T p call
-    → (step_reply S p call ≡ step_reply T p call)
-    × (EndsAlike (unreleased S p call) (unreleased T p call) (sight S p call) → AgreeOn (step_state S p call) (step_state T p call) (sight S p call))
-step_decided S T p call same =
-    let alike : outcome S p call ≡ outcome T p call = sight_decides S T p call same in (
-      ap (λ (o : Outcome). o.reply) alike,
-      λ ends. each_part (step_state S p call) (step_state T p call) (sight S p call) (λ q there.
-          release_alike (unreleased S p call) (unreleased T p call) q
-          (unreleased_alike S T p call q alike (agree_at S T (sight S p call) q same.1 there))
-          (λ o is. ends o (subst (λ r. has_part (sight S p call) r ≡ true) is there))),
+pub step_decided : (constants : Constants) (S T : State) (who : Who) (call : Call) → HasSameSight S T who call
+    → (step_answer constants S who call ≡ step_answer constants T who call)
+    × (EndsAlike (unreleased constants S who call) (unreleased constants T who call) (sight S who call)
+    → AgreeOn (step_state constants S who call) (step_state constants T who call) (sight S who call))
+step_decided constants S T who call same =
+    let alike : outcome constants S who call ≡ outcome constants T who call = sight_decides constants S T who call same in (
+      ap (λ (o : Outcome). o.answer) alike,
+      λ ends. each_part (step_state constants S who call) (step_state constants T who call) (sight S who call) (λ q there.
+          release_alike (unreleased constants S who call) (unreleased constants T who call) q
+          (unreleased_alike constants S T who call q alike (agree_at S T (sight S who call) q same.1 there))
+          (λ o is. ends o (subst (λ r. has_part (sight S who call) r ≡ true) is there))),
     )

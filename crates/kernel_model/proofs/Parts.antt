@@ -1,9 +1,10 @@
 -- Parts of states, and what updates leave of them.
-use Rattle.std.proofs.Common.{◌≡◌, ◌≢◌, ℕ, ◌==◌, true, false, T, List, [], ◌∷◌, map, inl, inr, refl, sym, ap, subst, ◌∙◌}
+use Rattle.std.proofs.Common.{◌≡◌, ◌≢◌, ℕ, ◌==◌, ◌||◌, Bool, true, false, T, List, [], ◌∷◌, ◌++◌, map, inl, inr, refl, sym, ap, subst, ◌∙◌}
 use Rattle.std.proofs.lemmas.Bool.Decides.{eqb_tells}
 use Rattle.std.specs.Ordering.{nat_cmp}
 use Rattle.std.specs.FinMap.{FinMap, get, insert}
 use Rattle.number_map.specs.Maps.{get-insert-same, get-insert-other}
+use Rattle.kernel_model.specs.Sight.{own_parts}
 use Rattle.kernel_model.specs.State.{State, Part, at_clock, at_proc, at_status, at_open, at_term, same_part, has_part, Agree, AgreeOn, Update, set_table, set_threads, set_status, set_term, part_of, put_one, put_all}
 use Rattle.kernel_model.proofs.Tests.{not_true, either_false, either_true}
 
@@ -12,6 +13,18 @@ use Rattle.kernel_model.proofs.Tests.{not_true, either_false, either_true}
 -- a part outside a list is no part of it
 pub outside_cons : (part : Part) (parts : List Part) (q : Part) → has_part (part ∷ parts) q ≡ false → (same_part part q ≡ false) × (has_part parts q ≡ false)
 outside_cons part parts q h = either_false (same_part part q) (has_part parts q) h
+
+or_or : (a b c : Bool) → (a || (b || c)) ≡ ((a || b) || c)
+or_or true b c = refl
+or_or false b c = refl
+
+pub has_of_both : (xs ys : List Part) (q : Part) → has_part (xs ++ ys) q ≡ (has_part xs q || has_part ys q)
+has_of_both [] ys q = refl
+has_of_both (x ∷ xs) ys q = ap (λ b. same_part x q || b) (has_of_both xs ys q) ∙ or_or (same_part x q) (has_part xs q) (has_part ys q)
+
+-- a part that is neither the process's own nor among these
+pub beyond_own : (p : ℕ) (parts : List Part) (q : Part) → has_part (own_parts p ++ parts) q ≡ false → (has_part (own_parts p) q ≡ false) × (has_part parts q ≡ false)
+beyond_own p parts q h = either_false (has_part (own_parts p) q) (has_part parts q) (sym (has_of_both (own_parts p) parts q) ∙ h)
 
 -- ---- the same values
 
@@ -32,8 +45,11 @@ agree_through S T U (at_term k) a b = a ∙ b
 same_number : (a b : ℕ) → (a == b) ≡ true → a ≡ b
 same_number a b h = elim (eqb_tells a b) [ inl is ↦ is.1 | inr other ↦ absurd (not_true (sym other.0 ∙ h)) ]
 
-other_number : (a b : ℕ) → (a == b) ≡ false → b ≢ a
+pub other_number : (a b : ℕ) → (a == b) ≡ false → b ≢ a
 other_number a b h e = elim (eqb_tells a b) [ inl is ↦ not_true (sym h ∙ is.0) | inr other ↦ other.1 (sym e) ]
+
+pub number_apart : (a b : ℕ) → b ≢ a → (a == b) ≡ false
+number_apart a b n = elim (eqb_tells a b) [ inl is ↦ absurd (n (sym is.1)) | inr other ↦ other.0 ]
 
 -- the same part is the same
 pub same_part_is : (a b : Part) → same_part a b ≡ true → a ≡ b

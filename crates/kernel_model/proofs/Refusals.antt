@@ -1,54 +1,63 @@
 -- Why a call is refused: the denial of the first descriptor that lacks a right, that want of memory stands in place of no
 -- refusal, and that an error changes nothing.
-use Rattle.std.proofs.Common.{◌≡◌, ◌≢◌, ℕ, ◌||◌, not, Bool, true, false, cond, T, List, [], ◌∷◌, ◌++◌, Option, Some, None, IsSome, is_some, inl, inr, refl, sym, ap, subst, ◌∙◌}
+use Rattle.std.proofs.Common.{◌≡◌, ◌≢◌, ◌⊎◌, ℕ, ◌||◌, not, Bool, true, false, cond, T, List, [], ◌∷◌, ◌++◌, Option, Some, None, IsSome, is_some, inl, inr, refl, sym, ap, subst, ◌∙◌}
 use Rattle.std.specs.List.{AllByRecursion}
 use Rattle.std.specs.FinMap.{get, contains_key}
 use Rattle.abi_types.specs.declared.call.Answer.{Answer}
 use Rattle.abi_types.specs.declared.call.Answer.TheVariants as answer
 use Rattle.abi_types.specs.declared.call.Call.{Call}
-use Rattle.abi_types.specs.declared.call.Call.TheVariants.{FdWrite, MemMap, Memory, ProcExit, Refused}
-use Rattle.abi_types.specs.declared.place.Place.{Place}
-use Rattle.abi_types.specs.declared.place.Place.TheVariants as place
-use Rattle.abi_types.specs.declared.place.Place.TheVariants.{At}
 use Rattle.abi_types.specs.declared.call.Reply.{Reply}
+use Rattle.abi_types.specs.declared.constants.Constants.{Constants}
 use Rattle.abi_types.specs.declared.descriptor.Denial.{Denial}
 use Rattle.abi_types.specs.declared.descriptor.Descriptor.{Descriptor}
 use Rattle.abi_base.specs.declared.errno.Errno.{Errno}
 use Rattle.abi_base.specs.declared.errno.Errno.TheVariants.{Success, Badf, Nomem, Notcapable}
 use Rattle.abi_types.specs.declared.needed.Needed.{Needed}
-use Rattle.abi_types.specs.declared.open_kind.OpenKind.{OpenKind}
-use Rattle.abi_types.specs.declared.open_kind.OpenKind.TheVariants.{Terminal}
-use Rattle.kernel_model.specs.Cases.{Outcome, write_term, write_open, fd_write, case_of, answers, placed}
-use Rattle.kernel_model.specs.Laws.{HasAll, IsMet, IsFirstLack, IsOfFirstLack, IsNotDeniedEarly, IsNotDeniedPlace, TakesNoMemory, Needs}
-use Rattle.kernel_model.specs.Need.{need, has_needed, missing, some_absent, lack_at, either_lack, first_lack, denied_by, refusal, refusal_of}
+use Rattle.abi_types.specs.declared.who.Who.{Who}
+use Rattle.kernel_model.specs.Calls.{meaning_of, named, need, errors_of, takes_memory, refusal, refusal_of}
+use Rattle.kernel_model.specs.Laws.{HasAll, IsMet, IsFirstLack, IsOfFirstLack, IsNotDeniedEarly, IsListed}
+use Rattle.kernel_model.specs.Need.{has_needed, missing, some_absent, lack_at, either_lack, first_lack, denied_by}
+use Rattle.kernel_model.specs.Outcome.{Outcome, OnReply, replies}
+use Rattle.kernel_model.specs.Proper.{IsIn, IsPlain}
 use Rattle.kernel_model.specs.Release.{release}
 use Rattle.kernel_model.specs.Reply.{refused, denied}
 use Rattle.kernel_model.specs.State.{State, Table, put_all}
-use Rattle.kernel_model.specs.Step.{tick, unless, act_on, outcome, step_reply, step_state, TakesMemory, MayLackMemory, IsStep}
+use Rattle.kernel_model.specs.Step.{tick, unless, outcome, step_answer, step_state, failed, MayLackMemory, IsStep}
 use Rattle.kernel_model.specs.Valid.{IsValid}
-use Rattle.kernel_model.specs.View.{View, whole}
-use Rattle.kernel_model.proofs.Carried.{PlaceCarries, Carries, Answers, case_errno}
-use Rattle.kernel_model.proofs.Sights.{outcome_reads, outcome_of_table}
+use Rattle.kernel_model.specs.View.{whole}
+use Rattle.kernel_model.proofs.Calls.{proper}
+use Rattle.kernel_model.proofs.Lists.{in_all, all_weaker}
+use Rattle.kernel_model.proofs.Outcomes.{outcome_of_table, outcome_holds}
 use Rattle.kernel_model.proofs.Valids.{release_valid, tick_valid}
 use Rattle.kernel_model.proofs.Tests.{either_false, none_is_no, not_false, or_true, same_some}
 
 -- ---- absent descriptors
 
-present_all : (table : Table) (rows : List Needed) → HasAll table rows → some_absent table rows ≡ false
+present_all : (table : Table) (fds : List ℕ) → HasAll table fds → some_absent table fds ≡ false
 present_all table [] h = refl
-present_all table (row ∷ rows) h = ap (λ b. not b || some_absent table rows) h.0 ∙ present_all table rows h.1
+present_all table (fd ∷ fds) h = ap (λ b. not b || some_absent table fds) h.0 ∙ present_all table fds h.1
 
-pub all_present : (table : Table) (rows : List Needed) → some_absent table rows ≡ false → HasAll table rows
+pub all_present : (table : Table) (fds : List ℕ) → some_absent table fds ≡ false → HasAll table fds
 all_present table [] h = tt
-all_present table (row ∷ rows) h =
-    let both = either_false (not (contains_key table row.fd)) (some_absent table rows) h in
-    (not_false (contains_key table row.fd) both.0, all_present table rows both.1)
+all_present table (fd ∷ fds) h =
+    let both = either_false (not (contains_key table fd)) (some_absent table fds) h in
+    (not_false (contains_key table fd) both.0, all_present table fds both.1)
 
--- a row whose descriptor is not there
-absent_one : (table : Table) (row : Needed) (before after : List Needed) → get table row.fd ≡ None → some_absent table (before ++ row ∷ after) ≡ true
-absent_one table row [] after h = ap (λ o. not (is_some o) || some_absent table after) h
-absent_one table row (first ∷ before) after h =
-    ap (λ b. not (contains_key table first.fd) || b) (absent_one table row before after h) ∙ or_true (not (contains_key table first.fd))
+-- a descriptor that is not there
+absent_one : (table : Table) (fd : ℕ) (before after : List ℕ) → get table fd ≡ None → some_absent table (before ++ fd ∷ after) ≡ true
+absent_one table fd [] after h = ap (λ o. not (is_some o) || some_absent table after) h
+absent_one table fd (first ∷ before) after h =
+    ap (λ b. not (contains_key table first) || b) (absent_one table fd before after h) ∙ or_true (not (contains_key table first))
+
+-- each row's descriptor is there
+abbrev pub HasRows : Table → List Needed → Type 0
+HasRows table rows = AllByRecursion (λ row. IsSome (get table row.fd)) rows
+
+-- where all that a call names are there, those of its rows are
+pub rows_there : (call : Call) (table : Table) → HasAll table (named call) → HasRows table (need call)
+rows_there call table all =
+    all_weaker (λ (row : Needed). IsIn row.fd (named call)) (λ row. IsSome (get table row.fd))
+    (λ row here. in_all (λ fd. IsSome (get table fd)) row.fd (named call) all here) (need call) (proper call).names
 
 -- ---- the first that lacks a right
 
@@ -102,7 +111,7 @@ lack_at_some : (table : Table) (row : Needed) (rows : List Needed) (denial : Den
 lack_at_some table row rows denial None there some rest e = absurd (subst T (sym some) tt)
 lack_at_some table row rows denial (Some d) there some rest e = lack_among table row rows denial d (has_needed d row) there refl rest e
 
-pub lack_is_first : (table : Table) (rows : List Needed) (denial : Denial) → HasAll table rows → first_lack table rows ≡ Some denial
+pub lack_is_first : (table : Table) (rows : List Needed) (denial : Denial) → HasRows table rows → first_lack table rows ≡ Some denial
     → HasFirstLack table rows denial
 lack_is_first table [] denial all e = absurd (none_is_no denial e)
 lack_is_first table (row ∷ rows) denial all e =
@@ -111,125 +120,142 @@ lack_is_first table (row ∷ rows) denial all e =
 -- ---- denied calls
 
 -- the refusal where some descriptor lacks a right
-refused_of_lack : (call : Call) (table : Table) (row : Needed) (d : Descriptor) → HasAll table (need call) → IsFirstLack table (need call) row d
-    → refusal table (need call) ≡ Some (denied (missing d row))
+refused_of_lack : (call : Call) (table : Table) (row : Needed) (d : Descriptor) → HasAll table (named call) → IsFirstLack table (need call) row d
+    → refusal table call ≡ Some (denied (missing d row))
 refused_of_lack call table row d all first =
-    ap (λ b. cond b (Some (refused Badf)) (denied_by (first_lack table (need call)))) (present_all table (need call) all)
+    ap (λ b. cond b (Some (refused Badf)) (denied_by (first_lack table (need call)))) (present_all table (named call) all)
     ∙ ap denied_by (first_lack_is table (need call) row d first)
 
--- a call that is refused for want of a descriptor or of a right replies so
-refused_reply : (S : State) (p : ℕ) (call : Call) (table : Table) (reply : Reply) → get S.tables p ≡ Some table → refusal table (need call) ≡ Some reply
-    → step_reply S p call ≡ reply
-refused_reply S p call table reply own refuses =
-    ap (λ (o : Outcome). o.reply) (outcome_of_table S p call table own ∙ ap (λ r. unless r (case_of (whole (tick S)) p table call)) refuses)
+-- a call that is refused for want of a descriptor or of a right answers so
+refused_step_answer : (constants : Constants) (S : State) (who : Who) (call : Call) (table : Table) (reply : Reply) → get S.tables who.pid ≡ Some table
+    → refusal table call ≡ Some reply → step_answer constants S who call ≡ answer.Reply reply
+refused_step_answer constants S who call table reply own refuses =
+    ap (λ (o : Outcome). o.answer)
+    (outcome_of_table constants S who call table own
+    ∙ ap (λ r. unless r ((meaning_of call).does constants (whole (tick S)) who table)) refuses)
 
-pub first_lack_is_named : (S : State) (p : ℕ) (call : Call) (table : Table) (row : Needed) (d : Descriptor) → get S.tables p ≡ Some table
-    → HasAll table (need call) → IsFirstLack table (need call) row d → step_reply S p call ≡ denied (missing d row)
-first_lack_is_named S p call table row d own all first =
-    refused_reply S p call table (denied (missing d row)) own (refused_of_lack call table row d all first)
+pub first_lack_is_named : (constants : Constants) (S : State) (who : Who) (call : Call) (table : Table) (row : Needed) (d : Descriptor)
+    → get S.tables who.pid ≡ Some table → HasAll table (named call) → IsFirstLack table (need call) row d
+    → step_answer constants S who call ≡ answer.Reply (denied (missing d row))
+first_lack_is_named constants S who call table row d own all first =
+    refused_step_answer constants S who call table (denied (missing d row)) own (refused_of_lack call table row d all first)
 
--- ---- no case denies
-
--- the reply has no denial
-abbrev HasNoDenial : Outcome → Type 0
-HasNoDenial o = o.reply.denial ≡ None
-
-term_no_denial : (bytes : List ℕ) (which : ℕ) (written : Option (List ℕ)) → HasNoDenial (write_term bytes which written)
-term_no_denial bytes which None = refl
-term_no_denial bytes which (Some written) = refl
-
-open_no_denial : (v : View) (bytes : List ℕ) (kind : Option OpenKind) → HasNoDenial (write_open v bytes kind)
-open_no_denial v bytes None = refl
-open_no_denial v bytes (Some (Terminal which flags)) = term_no_denial bytes which (v.term which)
-
-write_no_denial : (v : View) (bytes : List ℕ) (d : Option Descriptor) → HasNoDenial (fd_write v bytes d)
-write_no_denial v bytes None = refl
-write_no_denial v bytes (Some d) = open_no_denial v bytes (v.opened d.id)
-
-placed_no_denial : (place : Place) → HasNoDenial (answers (placed place))
-placed_no_denial (At address) = refl
-placed_no_denial (place.Refused errno) = refl
-
-case_no_denial : (v : View) (p : ℕ) (table : Table) (call : Call) → HasNoDenial (case_of v p table call)
-case_no_denial v p table (FdWrite fd bytes) = write_no_denial v bytes (get table fd)
-case_no_denial v p table (ProcExit code) = refl
-case_no_denial v p table (MemMap place length prot flags fd offset) = placed_no_denial place
-case_no_denial v p table (Memory number errno) = refl
-case_no_denial v p table (Refused number errno) = refl
-
--- a denial comes of a first lack, where no needed descriptor is absent
-denial_of : (absent : Bool) (lack : Option Denial) (o : Outcome) (denial : Denial) → HasNoDenial o
-    → (unless (cond absent (Some (refused Badf)) (denied_by lack)) o).reply.denial ≡ Some denial → (absent ≡ false) × (lack ≡ Some denial)
-denial_of true lack o denial plain h = absurd (none_is_no denial h)
-denial_of false None o denial plain h = absurd (none_is_no denial (sym plain ∙ h))
-denial_of false (Some x) o denial plain h = (refl, h)
-
-denial_on : (S : State) (p : ℕ) (call : Call) (denial : Denial) (t : Option Table) → get S.tables p ≡ t
-    → (act_on (whole (tick S)) p call t).reply.denial ≡ Some denial → IsOfFirstLack S p call denial
-denial_on S p call denial None own h = absurd (none_is_no denial h)
-denial_on S p call denial (Some table) own h =
-    let found = denial_of (some_absent table (need call)) (first_lack table (need call)) (case_of (whole (tick S)) p table call) denial
-    (case_no_denial (whole (tick S)) p table call) h in
-    let all : HasAll table (need call) = all_present table (need call) found.0 in
-    let first = lack_is_first table (need call) denial all found.1 in
-    record { table = table; row = first.0; d = first.1; own = own; all = all; first = first.2; names = first.3 }
-
-pub denial_is_of_first_lack : (S : State) (p : ℕ) (call : Call) (denial : Denial) → (step_reply S p call).denial ≡ Some denial
-    → IsOfFirstLack S p call denial
-denial_is_of_first_lack S p call denial h =
-    denial_on S p call denial (get S.tables p) refl (sym (ap (λ (o : Outcome). o.reply.denial) (outcome_reads S p call)) ∙ h)
-
--- ---- the answers of steps
+-- ---- whence a reply is
 
 pub same_reply : (a b : Reply) → answer.Reply a ≡ answer.Reply b → a ≡ b
 same_reply a b e = cc
 
+-- what holds of a reply in an answer
+pub on_reply : (P : Reply → Type 0) (given : Answer) (reply : Reply) → OnReply P given → given ≡ answer.Reply reply → P reply
+on_reply P (answer.Reply r) reply h e = subst P (same_reply r reply e) h
+
+-- the reply is the refusal, or the call's own: it denies nothing, and it is a success, or one of its errors with nothing set
+abbrev IsFrom : State → Who → Call → Outcome → Reply → Type 0
+IsFrom S who call o reply =
+    ((refusal_of call (get S.tables who.pid) ≡ Some reply) × (o.updates ≡ []))
+    ⊎ ((reply.denial ≡ None) × ((reply.errno ≡ Success) ⊎ ((o.updates ≡ []) × IsIn reply.errno (errors_of call))))
+
+from_own : (S : State) (who : Who) (call : Call) (o : Outcome) (a : Answer)
+    → OnReply (λ (reply : Reply). (reply.denial ≡ None) × ((reply.errno ≡ Success) ⊎ ((o.updates ≡ []) × IsIn reply.errno (errors_of call)))) a
+    → OnReply (IsFrom S who call o) a
+from_own S who call o (answer.Reply reply) h = inr h
+
+outcome_from : (constants : Constants) (S : State) (who : Who) (call : Call)
+    → OnReply (IsFrom S who call (outcome constants S who call)) (step_answer constants S who call)
+outcome_from constants S who call =
+    outcome_holds (λ (o : Outcome). OnReply (IsFrom S who call o) o.answer) constants S who call (λ reply refuses. inl (refuses, refl))
+    (λ table. (
+      let o : Outcome = (meaning_of call).does constants (whole (tick S)) who table in
+      from_own S who call o o.answer ((proper call).plain constants (whole (tick S)) who table)))
+
+reply_from : (constants : Constants) (S : State) (who : Who) (call : Call) (reply : Reply) → step_answer constants S who call ≡ answer.Reply reply
+    → IsFrom S who call (outcome constants S who call) reply
+reply_from constants S who call reply is =
+    on_reply (IsFrom S who call (outcome constants S who call)) (step_answer constants S who call) reply (outcome_from constants S who call) is
+
+-- ---- a denial is of the first lack
+
+-- a refusal that denies comes of a first lack, where no descriptor that the call names is absent
+denial_of : (absent : Bool) (lack : Option Denial) (reply : Reply) (denial : Denial) → cond absent (Some (refused Badf)) (denied_by lack) ≡ Some reply
+    → reply.denial ≡ Some denial → (absent ≡ false) × (lack ≡ Some denial)
+denial_of true lack reply denial is denies =
+    absurd (none_is_no denial (ap (λ (r : Reply). r.denial) (same_some (refused Badf) reply is) ∙ denies))
+denial_of false None reply denial is denies = absurd (none_is_no reply is)
+denial_of false (Some x) reply denial is denies = (refl, ap (λ (r : Reply). r.denial) (same_some (denied x) reply is) ∙ denies)
+
+denial_on : (S : State) (who : Who) (call : Call) (reply : Reply) (denial : Denial) (t : Option Table) → get S.tables who.pid ≡ t
+    → refusal_of call t ≡ Some reply → reply.denial ≡ Some denial → IsOfFirstLack S who call denial
+denial_on S who call reply denial None own is denies =
+    absurd (none_is_no denial (ap (λ (r : Reply). r.denial) (same_some (refused Badf) reply is) ∙ denies))
+denial_on S who call reply denial (Some table) own is denies =
+    let found = denial_of (some_absent table (named call)) (first_lack table (need call)) reply denial is denies in
+    let all : HasAll table (named call) = all_present table (named call) found.0 in
+    let first = lack_is_first table (need call) denial (rows_there call table all) found.1 in
+    record { table = table; row = first.0; d = first.1; own = own; all = all; first = first.2; names = first.3 }
+
+pub denial_is_of_first_lack : (constants : Constants) (S : State) (who : Who) (call : Call) (reply : Reply) (denial : Denial)
+    → step_answer constants S who call ≡ answer.Reply reply → reply.denial ≡ Some denial → IsOfFirstLack S who call denial
+denial_is_of_first_lack constants S who call reply denial is denies =
+    elim (reply_from constants S who call reply is) [
+      | inl refuses ↦ denial_on S who call reply denial (get S.tables who.pid) refl refuses.0 denies
+      | inr own ↦ absurd (none_is_no denial (sym own.0 ∙ denies))
+    ]
+
 -- a step's answer has a denial only of the first lack
-pub step_denial : (S : State) (p : ℕ) (call : Call) (given : Answer) (T : State) (reply : Reply) (denial : Denial) → IsStep S p call given T
-    → given ≡ answer.Reply reply → reply.denial ≡ Some denial → IsOfFirstLack S p call denial
-step_denial S p call given T reply denial (inl done) is denies =
-    denial_is_of_first_lack S p call denial
-    (ap (λ (r : Reply). r.denial) (same_reply (step_reply S p call) reply (sym done.0 ∙ is)) ∙ denies)
-step_denial S p call given T reply denial (inr lacking) is denies =
+pub step_denial : (constants : Constants) (S : State) (who : Who) (call : Call) (given : Answer) (T : State) (reply : Reply) (denial : Denial)
+    → IsStep constants S who call given T → given ≡ answer.Reply reply → reply.denial ≡ Some denial → IsOfFirstLack S who call denial
+step_denial constants S who call given T reply denial (inl done) is denies =
+    denial_is_of_first_lack constants S who call reply denial (sym done.0 ∙ is) denies
+step_denial constants S who call given T reply denial (inr lacking) is denies =
     absurd (none_is_no denial (ap (λ (r : Reply). r.denial) (same_reply (refused Nomem) reply (sym lacking.1 ∙ is)) ∙ denies))
 
 -- ---- want of memory
 
 -- a call that is refused may not lack memory
-refused_first : (S : State) (p : ℕ) (call : Call) (table : Table) (reply : Reply) → get S.tables p ≡ Some table → refusal table (need call) ≡ Some reply
-    → MayLackMemory S p call → ⊥
-refused_first S p call table reply own refuses lacks =
-    none_is_no reply (sym lacks.1 ∙ ap (refusal_of call) own ∙ refuses)
+refused_first : (S : State) (who : Who) (call : Call) (table : Table) (reply : Reply) → get S.tables who.pid ≡ Some table → refusal table call ≡ Some reply
+    → MayLackMemory S who call → ⊥
+refused_first S who call table reply own refuses lacks = none_is_no reply (sym lacks.1 ∙ ap (refusal_of call) own ∙ refuses)
 
 -- the answer of a call that is refused is the refusal
-refused_answer : (S : State) (p : ℕ) (call : Call) (given : Answer) (T : State) (table : Table) (reply : Reply) → IsStep S p call given T
-    → get S.tables p ≡ Some table → refusal table (need call) ≡ Some reply → given ≡ answer.Reply reply
-refused_answer S p call given T table reply (inl done) own refuses = done.0 ∙ ap answer.Reply (refused_reply S p call table reply own refuses)
-refused_answer S p call given T table reply (inr lacking) own refuses = absurd (refused_first S p call table reply own refuses lacking.0)
+refused_answer : (constants : Constants) (S : State) (who : Who) (call : Call) (given : Answer) (T : State) (table : Table) (reply : Reply)
+    → IsStep constants S who call given T → get S.tables who.pid ≡ Some table → refusal table call ≡ Some reply → given ≡ answer.Reply reply
+refused_answer constants S who call given T table reply (inl done) own refuses =
+    done.0 ∙ refused_step_answer constants S who call table reply own refuses
+refused_answer constants S who call given T table reply (inr lacking) own refuses =
+    absurd (refused_first S who call table reply own refuses lacking.0)
 
-pub lack_is_denied : (S : State) (p : ℕ) (call : Call) (given : Answer) (T : State) (table : Table) (row : Needed) (d : Descriptor) → IsStep S p call given T
-    → get S.tables p ≡ Some table → HasAll table (need call) → IsFirstLack table (need call) row d → given ≡ answer.Reply (denied (missing d row))
-lack_is_denied S p call given T table row d step own all first =
-    refused_answer S p call given T table (denied (missing d row)) step own (refused_of_lack call table row d all first)
+pub lack_is_denied : (constants : Constants) (S : State) (who : Who) (call : Call) (given : Answer) (T : State) (table : Table) (row : Needed) (d : Descriptor)
+    → IsStep constants S who call given T → get S.tables who.pid ≡ Some table → HasAll table (named call) → IsFirstLack table (need call) row d
+    → given ≡ answer.Reply (denied (missing d row))
+lack_is_denied constants S who call given T table row d step own all first =
+    refused_answer constants S who call given T table (denied (missing d row)) step own (refused_of_lack call table row d all first)
 
-pub absent_is_badf : (S : State) (p : ℕ) (call : Call) (given : Answer) (T : State) (table : Table) (row : Needed) → IsStep S p call given T
-    → get S.tables p ≡ Some table → Needs call row → get table row.fd ≡ None → given ≡ answer.Reply (refused Badf)
-absent_is_badf S p call given T table row step own needs absent =
-    refused_answer S p call given T table (refused Badf) step own
+pub absent_is_badf : (constants : Constants) (S : State) (who : Who) (call : Call) (given : Answer) (T : State) (table : Table) (fd : ℕ)
+    → IsStep constants S who call given T → get S.tables who.pid ≡ Some table → IsIn fd (named call) → get table fd ≡ None
+    → given ≡ answer.Reply (refused Badf)
+absent_is_badf constants S who call given T table fd step own here absent =
+    refused_answer constants S who call given T table (refused Badf) step own
     (ap (λ b. cond b (Some (refused Badf)) (denied_by (first_lack table (need call))))
-    (ap (some_absent table) needs.2 ∙ absent_one table row needs.0 needs.1 absent))
+    (ap (some_absent table) here.2 ∙ absent_one table fd here.0 here.1 absent))
 
-takes_none : (call : Call) → TakesNoMemory call → TakesMemory call → ⊥
-takes_none (FdWrite fd bytes) none takes = none
-takes_none (ProcExit code) none takes = takes
-takes_none (MemMap place length prot flags fd offset) none takes = takes
-takes_none (Memory number errno) none takes = takes
-takes_none (Refused number errno) none takes = takes
+true_is_other : (b : Bool) → b ≡ false → b ≡ true → ⊥
+true_is_other true f t = subst T f tt
+true_is_other false f t = subst T (sym t) tt
 
-pub no_memory_is_exact : (S : State) (p : ℕ) (call : Call) (given : Answer) (T : State) → TakesNoMemory call → IsStep S p call given T
-    → (given ≡ answer.Reply (step_reply S p call)) × (T ≡ step_state S p call)
-no_memory_is_exact S p call given T none (inl done) = done
-no_memory_is_exact S p call given T none (inr lacking) = absurd (takes_none call none lacking.0.0)
+pub no_memory_is_exact : (constants : Constants) (S : State) (who : Who) (call : Call) (given : Answer) (T : State) → takes_memory call ≡ false
+    → IsStep constants S who call given T → (given ≡ step_answer constants S who call) × (T ≡ step_state constants S who call)
+no_memory_is_exact constants S who call given T none (inl done) = done
+no_memory_is_exact constants S who call given T none (inr lacking) = absurd (true_is_other (takes_memory call) none lacking.0.0)
+
+pub replies_are_listed : (constants : Constants) (S : State) (who : Who) (call : Call) (reply : Reply) (T : State)
+    → IsStep constants S who call (answer.Reply reply) T → IsListed S who call reply
+replies_are_listed constants S who call reply T (inl done) =
+    elim (reply_from constants S who call reply (sym done.0)) [
+      | inl refuses ↦ inr (inl refuses.0)
+      | inr own ↦ elim own.1 [ inl success ↦ inl success | inr error ↦ inr (inr (inl error.1)) ]
+    ]
+replies_are_listed constants S who call reply T (inr lacking) =
+    inr (inr (inr (lacking.0.0, lacking.0.1, same_reply reply (refused Nomem) lacking.1)))
 
 -- ---- NOTCAPABLE
 
@@ -239,83 +265,80 @@ badf_is_other e = cc
 success_is_other : Success ≢ Notcapable
 success_is_other e = cc
 
-abbrev IsOther : Errno → Type 0
-IsOther errno = errno ≢ Notcapable
+-- a refusal with NOTCAPABLE says what is missing
+notcapable_of : (absent : Bool) (lack : Option Denial) (reply : Reply) → cond absent (Some (refused Badf)) (denied_by lack) ≡ Some reply
+    → reply.errno ≡ Notcapable → IsSome reply.denial
+notcapable_of true lack reply is errno = absurd (badf_is_other (ap (λ (r : Reply). r.errno) (same_some (refused Badf) reply is) ∙ errno))
+notcapable_of false None reply is errno = absurd (none_is_no reply is)
+notcapable_of false (Some x) reply is errno = ap (λ (r : Reply). is_some r.denial) (sym (same_some (denied x) reply is))
 
-place_is_other : (place : Place) → IsNotDeniedPlace place → PlaceCarries IsOther place
-place_is_other (At address) h = tt
-place_is_other (place.Refused errno) h = h
+notcapable_on : (call : Call) (t : Option Table) (reply : Reply) → refusal_of call t ≡ Some reply → reply.errno ≡ Notcapable → IsSome reply.denial
+notcapable_on call None reply is errno = absurd (badf_is_other (ap (λ (r : Reply). r.errno) (same_some (refused Badf) reply is) ∙ errno))
+notcapable_on call (Some table) reply is errno = notcapable_of (some_absent table (named call)) (first_lack table (need call)) reply is errno
 
-carried_is_other : (call : Call) → IsNotDeniedEarly call → Carries IsOther call
-carried_is_other (FdWrite fd bytes) h = tt
-carried_is_other (ProcExit code) h = tt
-carried_is_other (MemMap place length prot flags fd offset) h = place_is_other place h
-carried_is_other (Memory number errno) h = h
-carried_is_other (Refused number errno) h = h
+pub notcapable_is_denied : (constants : Constants) (S : State) (who : Who) (call : Call) (reply : Reply) → IsNotDeniedEarly call
+    → step_answer constants S who call ≡ answer.Reply reply → reply.errno ≡ Notcapable → IsSome reply.denial
+notcapable_is_denied constants S who call reply early is errno =
+    elim (reply_from constants S who call reply is) [
+      | inl refuses ↦ notcapable_on call (get S.tables who.pid) reply refuses.0 errno
+      | inr own ↦ elim own.1 [
+          | inl success ↦ absurd (success_is_other (sym success ∙ errno))
+          | inr error ↦ absurd (in_all (λ e. e ≢ Notcapable) reply.errno (errors_of call) early error.1 errno)
+        ]
+    ]
 
-notcapable_of : (absent : Bool) (lack : Option Denial) (o : Outcome) → Answers IsOther o
-    → (unless (cond absent (Some (refused Badf)) (denied_by lack)) o).reply.errno ≡ Notcapable
-    → IsSome (unless (cond absent (Some (refused Badf)) (denied_by lack)) o).reply.denial
-notcapable_of true lack o other h = absurd (badf_is_other h)
-notcapable_of false None o other h = absurd (other h)
-notcapable_of false (Some x) o other h = refl
+-- ---- no answer but the allowed one is want of memory
 
-notcapable_on : (v : View) (p : ℕ) (call : Call) (t : Option Table) → IsNotDeniedEarly call → (act_on v p call t).reply.errno ≡ Notcapable
-    → IsSome (act_on v p call t).reply.denial
-notcapable_on v p call None other h = absurd (badf_is_other h)
-notcapable_on v p call (Some table) other h =
-    notcapable_of (some_absent table (need call)) (first_lack table (need call)) (case_of v p table call)
-    (case_errno IsOther (success_is_other, badf_is_other) v p table call (carried_is_other call other)) h
+badf_is_no_lack : Badf ≢ Nomem
+badf_is_no_lack e = cc
 
-pub notcapable_is_denied : (S : State) (p : ℕ) (call : Call) → IsNotDeniedEarly call → (step_reply S p call).errno ≡ Notcapable
-    → IsSome (step_reply S p call).denial
-notcapable_is_denied S p call other h =
-    subst (λ (o : Outcome). o.reply.errno ≡ Notcapable → IsSome o.reply.denial) (sym (outcome_reads S p call))
-    (notcapable_on (whole (tick S)) p call (get S.tables p) other) h
+success_is_no_lack : Success ≢ Nomem
+success_is_no_lack e = cc
+
+notcapable_is_no_lack : Notcapable ≢ Nomem
+notcapable_is_no_lack e = cc
+
+-- no refusal is want of memory
+no_lack_of : (absent : Bool) (lack : Option Denial) (reply : Reply) → cond absent (Some (refused Badf)) (denied_by lack) ≡ Some reply → reply.errno ≢ Nomem
+no_lack_of true lack reply is errno = badf_is_no_lack (ap (λ (r : Reply). r.errno) (same_some (refused Badf) reply is) ∙ errno)
+no_lack_of false None reply is errno = none_is_no reply is
+no_lack_of false (Some x) reply is errno = notcapable_is_no_lack (ap (λ (r : Reply). r.errno) (same_some (denied x) reply is) ∙ errno)
+
+no_lack_on : (call : Call) (t : Option Table) (reply : Reply) → refusal_of call t ≡ Some reply → reply.errno ≢ Nomem
+no_lack_on call None reply is errno = badf_is_no_lack (ap (λ (r : Reply). r.errno) (same_some (refused Badf) reply is) ∙ errno)
+no_lack_on call (Some table) reply is errno = no_lack_of (some_absent table (named call)) (first_lack table (need call)) reply is errno
+
+-- none of the errors that the call answers of its own is want of memory
+abbrev pub IsNoLackOf : Call → Type 0
+IsNoLackOf call = AllByRecursion (λ errno. errno ≢ Nomem) (errors_of call)
+
+pub reply_no_lack : (constants : Constants) (S : State) (who : Who) (call : Call) (reply : Reply) → IsNoLackOf call
+    → step_answer constants S who call ≡ answer.Reply reply → reply.errno ≢ Nomem
+reply_no_lack constants S who call reply none is errno =
+    elim (reply_from constants S who call reply is) [
+      | inl refuses ↦ no_lack_on call (get S.tables who.pid) reply refuses.0 errno
+      | inr own ↦ elim own.1 [
+          | inl success ↦ success_is_no_lack (sym success ∙ errno)
+          | inr error ↦ in_all (λ e. e ≢ Nomem) reply.errno (errors_of call) none error.1 errno
+        ]
+    ]
 
 -- ---- an error changes nothing
 
--- nothing is set where the reply is an error
-abbrev KeepsAtError : Outcome → Type 0
-KeepsAtError o = o.reply.errno ≢ Success → o.updates ≡ []
+sets_nothing_at_error : (constants : Constants) (S : State) (who : Who) (call : Call) (reply : Reply) → step_answer constants S who call ≡ answer.Reply reply
+    → reply.errno ≢ Success → (outcome constants S who call).updates ≡ []
+sets_nothing_at_error constants S who call reply is other =
+    elim (reply_from constants S who call reply is) [
+      | inl refuses ↦ refuses.1
+      | inr own ↦ elim own.1 [ inl success ↦ absurd (other success) | inr error ↦ error.0 ]
+    ]
 
-term_at_error : (bytes : List ℕ) (which : ℕ) (written : Option (List ℕ)) → KeepsAtError (write_term bytes which written)
-term_at_error bytes which None h = refl
-term_at_error bytes which (Some written) h = absurd (h refl)
+failed_step : (constants : Constants) (S : State) (who : Who) (call : Call) (reply : Reply) → IsValid S → step_answer constants S who call ≡ answer.Reply reply
+    → reply.errno ≢ Success → step_state constants S who call ≡ failed S who
+failed_step constants S who call reply valid is other =
+    ap (λ us. release (put_all us (tick S))) (sets_nothing_at_error constants S who call reply is other) ∙ release_valid (tick S) (tick_valid S valid)
 
-open_at_error : (v : View) (bytes : List ℕ) (kind : Option OpenKind) → KeepsAtError (write_open v bytes kind)
-open_at_error v bytes None h = refl
-open_at_error v bytes (Some (Terminal which flags)) h = term_at_error bytes which (v.term which) h
-
-write_at_error : (v : View) (bytes : List ℕ) (d : Option Descriptor) → KeepsAtError (fd_write v bytes d)
-write_at_error v bytes None h = refl
-write_at_error v bytes (Some d) h = open_at_error v bytes (v.opened d.id) h
-
-case_at_error : (v : View) (p : ℕ) (table : Table) (call : Call) → KeepsAtError (case_of v p table call)
-case_at_error v p table (FdWrite fd bytes) h = write_at_error v bytes (get table fd) h
-case_at_error v p table (ProcExit code) h = absurd (h refl)
-case_at_error v p table (MemMap place length prot flags fd offset) h = refl
-case_at_error v p table (Memory number errno) h = refl
-case_at_error v p table (Refused number errno) h = refl
-
-unless_at_error : (r : Option Reply) (o : Outcome) → KeepsAtError o → KeepsAtError (unless r o)
-unless_at_error None o k h = k h
-unless_at_error (Some reply) o k h = refl
-
-act_at_error : (v : View) (p : ℕ) (call : Call) (t : Option Table) → KeepsAtError (act_on v p call t)
-act_at_error v p call None h = refl
-act_at_error v p call (Some table) h = unless_at_error (refusal table (need call)) (case_of v p table call) (case_at_error v p table call) h
-
-pub sets_nothing_at_error : (S : State) (p : ℕ) (call : Call) → (step_reply S p call).errno ≢ Success → (outcome S p call).updates ≡ []
-sets_nothing_at_error S p call =
-    subst KeepsAtError (sym (outcome_reads S p call)) (act_at_error (whole (tick S)) p call (get S.tables p))
-
-pub refused_step : (S : State) (p : ℕ) (call : Call) → IsValid S → (step_reply S p call).errno ≢ Success → step_state S p call ≡ tick S
-refused_step S p call valid h =
-    ap (λ us. release (put_all us (tick S))) (sets_nothing_at_error S p call h) ∙ release_valid (tick S) (tick_valid S valid)
-
-pub error_keeps : (S : State) (p : ℕ) (call : Call) (reply : Reply) (T : State) → IsStep S p call (answer.Reply reply) T → IsValid S
-    → reply.errno ≢ Success → T ≡ tick S
-error_keeps S p call reply T (inl done) valid h =
-    done.1 ∙ refused_step S p call valid (subst (λ (r : Reply). r.errno ≢ Success) (same_reply reply (step_reply S p call) done.0) h)
-error_keeps S p call reply T (inr lacking) valid h = lacking.2
+pub error_keeps : (constants : Constants) (S : State) (who : Who) (call : Call) (reply : Reply) (T : State)
+    → IsStep constants S who call (answer.Reply reply) T → IsValid S → reply.errno ≢ Success → T ≡ failed S who
+error_keeps constants S who call reply T (inl done) valid other = done.1 ∙ failed_step constants S who call reply valid (sym done.0) other
+error_keeps constants S who call reply T (inr lacking) valid other = lacking.2

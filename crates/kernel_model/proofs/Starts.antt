@@ -187,10 +187,12 @@ same_keys_one x y = same_keys_inserted empty empty 0 x y (λ q. ap is_some (get-
 
 pub start_valid : (grants : List Grant) → AreGrants grants → IsValid (start_state grants)
 start_valid grants all = record {
-  named = start_named grants all;
+  nearly = record {
+    named = start_named grants all;
+    behind = start_behind grants all;
+    tables = same_keys_one _ _;
+    threads = same_keys_one _ _;
+    ended = λ p status there ends. absurd (ends (sym (only_one Live status p there).1));
+  };
   held = start_held grants all;
-  behind = start_behind grants all;
-  tables = same_keys_one _ _;
-  threads = same_keys_one _ _;
-  ended = λ p status there ends. absurd (ends (sym (only_one Live status p there).1));
 }

@@ -1,40 +1,21 @@
--- What a kernel does keeps its state valid: a call, the end of a process from outside, and the release after both.
+-- What keeps a state valid, or nearly so: one part set, the end of a process, and the release.
 use Rattle.std.proofs.Common.{◌≡◌, ◌≢◌, inl, inr, ℕ, ◌+◌, ◌<◌, ◌≤◌, ◌==◌, Bool, true, false, not, cond, T, List, ◌++◌, Option, Some, None, IsSome, is_some, refl, sym, ap, subst, ◌∙◌, arith}
 use Rattle.std.proofs.lemmas.Bool.Decides.{eqb_tells}
 use Rattle.std.proofs.lemmas.Bool.{eq-eqb}
 use Rattle.std.specs.Ordering.{nat_cmp}
 use Rattle.std.specs.FinMap.{FinMap, get, get-empty, insert, empty}
-use Rattle.abi_types.specs.declared.call.Answer.{Answer}
-use Rattle.abi_types.specs.declared.call.Call.{Call}
-use Rattle.abi_types.specs.declared.call.Call.TheVariants.{FdWrite, MemMap, Memory, ProcExit, Refused}
-use Rattle.abi_types.specs.declared.call.Reply.{Reply}
 use Rattle.abi_types.specs.declared.descriptor.Descriptor.{Descriptor}
 use Rattle.abi_types.specs.declared.open_kind.OpenKind.{OpenKind}
 use Rattle.abi_types.specs.declared.open_kind.OpenKind.TheVariants.{Terminal}
 use Rattle.abi_types.specs.declared.status.Status.{Status}
-use Rattle.abi_types.specs.declared.status.Status.TheVariants.{Live, Exit}
+use Rattle.abi_types.specs.declared.status.Status.TheVariants.{Live}
 use Rattle.number_map.specs.Maps.{get-insert-same, get-insert-other, get-retain, same_numbers, total, weight, total-empty, total-insert, total_at_least}
-use Rattle.kernel_model.specs.Cases.{Outcome, write_term, write_open, fd_write, end_updates, case_of}
-use Rattle.kernel_model.specs.Need.{need, refusal}
+use Rattle.kernel_model.specs.ProcessCalls.{end_updates}
 use Rattle.kernel_model.specs.Release.{names_open, count_in, holders, release}
 use Rattle.kernel_model.specs.State.{State, Table, put_one, put_all, set_term}
-use Rattle.kernel_model.specs.Step.{tick, sight, unless, act_on, unreleased, step_state, IsStep, end_unreleased, end_state}
-use Rattle.kernel_model.specs.Valid.{IsNamed, HasBehind, IsValid}
-use Rattle.kernel_model.specs.View.{View, restrict}
+use Rattle.kernel_model.specs.Step.{tick}
+use Rattle.kernel_model.specs.Valid.{IsNamed, HasBehind, IsNearlyValid, IsValid}
 use Rattle.kernel_model.proofs.Tests.{not_true, none_is_no}
-
--- ---- validity before the release
-
--- all of validity but that each open is held; the release brings that
-pub record IsNearlyValid (S : State) : Type 0 where
-  pub named : (p n : ℕ) (table : Table) (d : Descriptor) → get S.tables p ≡ Some table → get table n ≡ Some d → IsNamed (get S.opens d.id) d
-  pub behind : (o : ℕ) (kind : OpenKind) → get S.opens o ≡ Some kind → HasBehind S kind
-  pub tables : (p : ℕ) → is_some (get S.tables p) ≡ is_some (get S.statuses p)
-  pub threads : (p : ℕ) → is_some (get S.threads p) ≡ is_some (get S.statuses p)
-  pub ended : (p : ℕ) (status : Status) → get S.statuses p ≡ Some status → status ≢ Live → (get S.tables p ≡ Some empty) × (get S.threads p ≡ Some empty)
-
-pub nearly_valid : (S : State) → IsValid S → IsNearlyValid S
-nearly_valid S v = record { named = v.named; behind = v.behind; tables = v.tables; threads = v.threads; ended = v.ended }
 
 -- ---- what holds an open
 
@@ -88,16 +69,18 @@ behind_same S T more (Terminal which flags) h = more which h
 
 pub release_restores : (S : State) → IsNearlyValid S → IsValid (release S)
 release_restores S v = record {
-  named = λ p n table d there here.
-      subst (λ o. IsNamed o d) (sym (get_released S d.id ∙ held_stays (holders S d.id) (get S.opens d.id) (named_is_held S p n table d there here)))
-      (v.named p n table d there here);
+  nearly = record {
+    named = λ p n table d there here.
+        subst (λ o. IsNamed o d) (sym (get_released S d.id ∙ held_stays (holders S d.id) (get S.opens d.id) (named_is_held S p n table d there here)))
+        (v.named p n table d there here);
+    behind = λ o kind e.
+        behind_same S (release S) (λ _ h. h) kind
+        (v.behind o kind (kept_some (not (holders S o == 0)) (get S.opens o) kind (sym (get_released S o) ∙ e)));
+    tables = v.tables;
+    threads = v.threads;
+    ended = v.ended;
+  };
   held = λ o h. some_above_zero (holders S o) (get S.opens o) (subst IsSome (get_released S o) h);
-  behind = λ o kind e.
-      behind_same S (release S) (λ _ h. h) kind
-      (v.behind o kind (kept_some (not (holders S o == 0)) (get S.opens o) kind (sym (get_released S o) ∙ e)));
-  tables = v.tables;
-  threads = v.threads;
-  ended = v.ended;
 }
 
 either_none : {X : Type 0} (b : Bool) → cond {A = Option X} b None None ≡ None
@@ -130,14 +113,7 @@ tick_nearly_valid S v = record {
 }
 
 pub tick_valid : (S : State) → IsValid S → IsValid (tick S)
-tick_valid S v = record {
-  named = v.named;
-  held = v.held;
-  behind = λ o kind e. behind_same S (tick S) (λ _ h. h) kind (v.behind o kind e);
-  tables = v.tables;
-  threads = v.threads;
-  ended = v.ended;
-}
+tick_valid S v = record { nearly = tick_nearly_valid S v.nearly; held = v.held }
 
 -- ---- one part set
 
@@ -210,52 +186,3 @@ end_nearly_valid S p status v = record {
     ended_after S.threads S.statuses p status (λ r t f live. (v.ended r t f live).1) q s e ends,
   );
 }
-
-pub end_valid : (S : State) (p : ℕ) (status : Status) → IsValid S → IsValid (end_state S p status)
-end_valid S p status v =
-    release_restores (end_unreleased S p status) (end_nearly_valid (tick S) p status (tick_nearly_valid S (nearly_valid S v)))
-
--- ---- a call
-
-write_term_keeps : (S : State) (bytes : List ℕ) (which : ℕ) (written : Option (List ℕ)) → IsNearlyValid S
-    → IsNearlyValid (put_all (write_term bytes which written).updates S)
-write_term_keeps S bytes which None v = v
-write_term_keeps S bytes which (Some written) v = set_term_nearly_valid S which (written ++ bytes) v
-
-write_open_keeps : (S : State) (view : View) (bytes : List ℕ) (kind : Option OpenKind) → IsNearlyValid S
-    → IsNearlyValid (put_all (write_open view bytes kind).updates S)
-write_open_keeps S view bytes None v = v
-write_open_keeps S view bytes (Some (Terminal which flags)) v = write_term_keeps S bytes which (view.term which) v
-
-fd_write_keeps : (S : State) (view : View) (bytes : List ℕ) (d : Option Descriptor) → IsNearlyValid S
-    → IsNearlyValid (put_all (fd_write view bytes d).updates S)
-fd_write_keeps S view bytes None v = v
-fd_write_keeps S view bytes (Some d) v = write_open_keeps S view bytes (view.opened d.id) v
-
-case_keeps : (S : State) (view : View) (p : ℕ) (table : Table) (call : Call) → IsNearlyValid S
-    → IsNearlyValid (put_all (case_of view p table call).updates S)
-case_keeps S view p table (FdWrite fd bytes) v = fd_write_keeps S view bytes (get table fd) v
-case_keeps S view p table (ProcExit code) v = end_nearly_valid S p (Exit code) v
-case_keeps S view p table (MemMap place length prot flags fd offset) v = v
-case_keeps S view p table (Memory number errno) v = v
-case_keeps S view p table (Refused number errno) v = v
-
-unless_keeps : (S : State) (o : Outcome) (r : Option Reply) → IsNearlyValid S → IsNearlyValid (put_all o.updates S)
-    → IsNearlyValid (put_all (unless r o).updates S)
-unless_keeps S o None v after = after
-unless_keeps S o (Some reply) v after = v
-
-act_keeps : (S : State) (view : View) (p : ℕ) (call : Call) (t : Option Table) → IsNearlyValid S
-    → IsNearlyValid (put_all (act_on view p call t).updates S)
-act_keeps S view p call None v = v
-act_keeps S view p call (Some table) v =
-    unless_keeps S (case_of view p table call) (refusal table (need call)) v (case_keeps S view p table call v)
-
-pub step_valid : (S : State) (p : ℕ) (call : Call) → IsValid S → IsValid (step_state S p call)
-step_valid S p call v =
-    release_restores (unreleased S p call)
-    (act_keeps (tick S) (restrict (tick S) (sight S p call)) p call ((restrict (tick S) (sight S p call)).table p) (tick_nearly_valid S (nearly_valid S v)))
-
-pub step_keeps_valid : (S : State) (p : ℕ) (call : Call) (given : Answer) (T : State) → IsStep S p call given T → IsValid S → IsValid T
-step_keeps_valid S p call given T (inl done) v = subst IsValid (sym done.1) (step_valid S p call v)
-step_keeps_valid S p call given T (inr lacking) v = subst IsValid (sym lacking.2) (tick_valid S v)

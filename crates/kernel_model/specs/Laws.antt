@@ -1,45 +1,55 @@
 -- What holds of every step of the kernel: the statements that are the contracts of the functions of src/laws.rt.
-use Rattle.std.specs.Prelude.{◌≡◌, ◌≢◌, ◌⊎◌, ℕ, true, false, List, [], ◌∷◌, ◌++◌, None, Some, IsSome}
+use Rattle.std.specs.Prelude.{◌≡◌, ◌≢◌, ◌⊎◌, ℕ, ◌+◌, true, false, List, ◌∷◌, ◌++◌, None, Some, IsSome}
 use Rattle.std.specs.List.{AllByRecursion}
 use Rattle.std.specs.FinMap.{get}
 use Rattle.abi_types.specs.declared.call.Answer.{Answer}
 use Rattle.abi_types.specs.declared.call.Answer.TheVariants as answer
 use Rattle.abi_types.specs.declared.call.Call.{Call}
-use Rattle.abi_types.specs.declared.call.Call.TheVariants.{FdWrite, MemMap, Memory, ProcExit, Refused}
 use Rattle.abi_types.specs.declared.call.Reply.{Reply}
+use Rattle.abi_types.specs.declared.constants.Constants.{Constants}
 use Rattle.abi_types.specs.declared.descriptor.Denial.{Denial}
 use Rattle.abi_types.specs.declared.descriptor.Descriptor.{Descriptor}
-use Rattle.abi_base.specs.declared.errno.Errno.TheVariants.{Success, Badf, Notcapable}
+use Rattle.abi_base.specs.declared.errno.Errno.TheVariants.{Success, Badf, Nomem, Notcapable}
 use Rattle.abi_base.specs.declared.grant.Grant.{Grant}
 use Rattle.abi_types.specs.declared.needed.Needed.{Needed}
-use Rattle.abi_types.specs.declared.place.Place.{Place}
-use Rattle.abi_types.specs.declared.place.Place.TheVariants as place
-use Rattle.abi_types.specs.declared.place.Place.TheVariants.{At}
 use Rattle.abi_types.specs.declared.status.Status.{Status}
-use Rattle.kernel_model.specs.Need.{need, has_needed, missing}
+use Rattle.abi_types.specs.declared.status.Status.TheVariants.{Live}
+use Rattle.abi_types.specs.declared.who.Who.{Who}
+use Rattle.kernel_model.specs.Calls.{meaning_of, named, need, errors_of, takes_memory, refusal_of}
+use Rattle.kernel_model.specs.Need.{has_needed, missing}
+use Rattle.kernel_model.specs.Proper.{IsIn, IsProper}
 use Rattle.kernel_model.specs.Release.{is_ending, is_released}
 use Rattle.kernel_model.specs.Reply.{refused, denied}
 use Rattle.abi_base.specs.Grants.{AreGrants}
+use Rattle.kernel_model.specs.Sight.{own_parts, behind}
 use Rattle.kernel_model.specs.Start.{start_state}
-use Rattle.kernel_model.specs.State.{State, Table, Part, at_clock, at_proc, at_status, at_open, has_part, Agree, AgreeOn}
-use Rattle.kernel_model.specs.Step.{tick, behind, sight, touch, act, outcome, unreleased, step_reply, step_state, IsStep, IsUntouched, end_unreleased, end_state}
+use Rattle.kernel_model.specs.State.{State, Table, Part, at_open, has_part, Agree, AgreeOn}
+use Rattle.kernel_model.specs.Step.{tick, sight, touch, act, outcome, unreleased, step_answer, step_state, failed, IsStep, IsUntouched, end_unreleased, end_state}
 use Rattle.kernel_model.specs.Valid.{IsValid}
 use Rattle.kernel_model.specs.View.{whole}
+
+-- ---- meanings
+
+-- Each call's meaning keeps to what the laws stand on.
+abbrev pub MeaningsAreProper : Type 0
+MeaningsAreProper = (call : Call) → IsProper (meaning_of call)
 
 -- ---- what a call reads
 
 -- A call's outcome, which sees only what is in its sight, is what it would be if it saw the whole state.
 abbrev pub ReadsSight : Type 0
-ReadsSight = (S : State) (p : ℕ) (call : Call) → outcome S p call ≡ act (whole (tick S)) p call
+ReadsSight = (constants : Constants) (S : State) (who : Who) (call : Call) → outcome constants S who call ≡ act constants (whole (tick S)) who call
 
 -- the call sees the same parts in both states, with the same values
-abbrev pub HasSameSight : State → State → ℕ → Call → Type 0
-HasSameSight S T p call = (sight S p call ≡ sight T p call) × AgreeOn S T (sight S p call)
+abbrev pub HasSameSight : State → State → Who → Call → Type 0
+HasSameSight S T who call = (sight S who call ≡ sight T who call) × AgreeOn S T (sight S who call)
 
--- A call that sees the same in two states has the same outcome in both: the same reply, and the same parts set to the
+-- A call that sees the same in two states has the same outcome in both: the same answer, and the same parts set to the
 -- same values.
 abbrev pub SightDecides : Type 0
-SightDecides = (S T : State) (p : ℕ) (call : Call) → HasSameSight S T p call → outcome S p call ≡ outcome T p call
+SightDecides =
+    (constants : Constants) (S T : State) (who : Who) (call : Call) → HasSameSight S T who call
+    → outcome constants S who call ≡ outcome constants T who call
 
 -- of the opens among the parts, the same end in both states
 abbrev pub EndsAlike : State → State → List Part → Type 0
@@ -49,9 +59,10 @@ EndsAlike S T parts = (o : ℕ) → has_part parts (at_open o) ≡ true → is_e
 -- opens that it sees, each part that it sees has the same value in both states after the step.
 abbrev pub StepDecided : Type 0
 StepDecided =
-    (S T : State) (p : ℕ) (call : Call) → HasSameSight S T p call
-    → (step_reply S p call ≡ step_reply T p call)
-    × (EndsAlike (unreleased S p call) (unreleased T p call) (sight S p call) → AgreeOn (step_state S p call) (step_state T p call) (sight S p call))
+    (constants : Constants) (S T : State) (who : Who) (call : Call) → HasSameSight S T who call
+    → (step_answer constants S who call ≡ step_answer constants T who call)
+    × (EndsAlike (unreleased constants S who call) (unreleased constants T who call) (sight S who call)
+    → AgreeOn (step_state constants S who call) (step_state constants T who call) (sight S who call))
 
 -- the table has the descriptor that the row names, with all rights that the row asks
 abbrev pub IsMet : Table → Needed → Type 0
@@ -59,54 +70,78 @@ IsMet table row = (d : Descriptor) × (get table row.fd ≡ Some d) × (has_need
 
 -- the part is the open of a descriptor that a row names and that has all rights which the row asks, or stands behind it
 pub record IsReached (S : State) (table : Table) (rows : List Needed) (q : Part) : Type 0 where
-  pub before : List Needed
   pub row : Needed
-  pub after : List Needed
-  pub splits : rows ≡ before ++ row ∷ after
+  pub asked : IsIn row rows
   pub d : Descriptor
   pub there : get table row.fd ≡ Some d
   pub has : has_needed d row ≡ true
   pub part : has_part (at_open d.id ∷ behind (get S.opens d.id)) q ≡ true
 
 -- each row of the call's needs is met by its process's table, and the part is reached so
-abbrev pub IsReachedBy : State → ℕ → Call → Part → Type 0
-IsReachedBy S p call q = (table : Table) × (get S.tables p ≡ Some table) × AllByRecursion (IsMet table) (need call) × IsReached S table (need call) q
+abbrev pub IsReachedBy : State → Who → Call → Part → Type 0
+IsReachedBy S who call q =
+    (table : Table) × (get S.tables who.pid ≡ Some table) × AllByRecursion (IsMet table) (need call) × IsReached S table (need call) q
 
 -- What a call sees is the clock, what is the process's own and its status, or it is reached through a descriptor that the
 -- call needs, where none is absent and no right is missing.
 abbrev pub SightIsReached : Type 0
 SightIsReached =
-    (S : State) (p : ℕ) (call : Call) (q : Part) → has_part (sight S p call) q ≡ true
-    → (has_part (at_clock ∷ at_proc p ∷ at_status p ∷ []) q ≡ true) ⊎ IsReachedBy S p call q
+    (S : State) (who : Who) (call : Call) (q : Part) → has_part (sight S who call) q ≡ true
+    → (has_part (own_parts who.pid) q ≡ true) ⊎ IsReachedBy S who call q
 
 -- ---- what a call changes
 
 -- What a call touches it sees.
 abbrev pub TouchIsSeen : Type 0
-TouchIsSeen = (S : State) (p : ℕ) (call : Call) (q : Part) → has_part (touch S p call) q ≡ true → has_part (sight S p call) q ≡ true
+TouchIsSeen = (S : State) (who : Who) (call : Call) (q : Part) → has_part (touch S who call) q ≡ true → has_part (sight S who call) q ≡ true
 
 -- After a step each part that the call does not touch and that the release does not end has the value it had.
 abbrev pub OthersStay : Type 0
-OthersStay = (S : State) (p : ℕ) (call : Call) (given : Answer) (T : State) (q : Part) → IsStep S p call given T → IsUntouched S p call q → Agree T S q
+OthersStay =
+    (constants : Constants) (S : State) (who : Who) (call : Call) (given : Answer) (T : State) (q : Part) → IsStep constants S who call given T
+    → IsUntouched constants S who call q → Agree T S q
 
 -- After the end of a process from outside each part but the clock, what is the process's own, its status and what the
 -- release ends has the value it had.
 abbrev pub EndKeeps : Type 0
 EndKeeps =
-    (S : State) (p : ℕ) (status : Status) (q : Part) → has_part (at_clock ∷ at_proc p ∷ at_status p ∷ []) q ≡ false
+    (S : State) (p : ℕ) (status : Status) (q : Part) → has_part (own_parts p) q ≡ false
     → is_released (end_unreleased S p status) q ≡ false → Agree (end_state S p status) S q
 
 -- A call that answers an error, want of memory among them, changes only the clock of a valid state.
 abbrev pub ErrorKeeps : Type 0
 ErrorKeeps =
-    (S : State) (p : ℕ) (call : Call) (reply : Reply) (T : State) → IsStep S p call (answer.Reply reply) T → IsValid S
-    → reply.errno ≢ Success → T ≡ tick S
+    (constants : Constants) (S : State) (who : Who) (call : Call) (reply : Reply) (T : State) → IsStep constants S who call (answer.Reply reply) T
+    → IsValid S → reply.errno ≢ Success → T ≡ failed S who
+
+-- both states have the same of a process: its descriptors, its threads and its status
+abbrev pub HasSameProcess : State → State → ℕ → Type 0
+HasSameProcess S T q = (get S.tables q ≡ get T.tables q) × (get S.threads q ≡ get T.threads q) × (get S.statuses q ≡ get T.statuses q)
+
+-- A step takes 1000 nanoseconds, changes nothing of other processes, and leaves a process that lives on its threads.
+pub record MovesOnly (S : State) (who : Who) (T : State) : Type 0 where
+  pub clock : T.clock ≡ S.clock + 1000
+  pub others : (q : ℕ) → q ≢ who.pid → HasSameProcess T S q
+  pub threads : get T.statuses who.pid ≡ Some Live → get T.threads who.pid ≡ get S.threads who.pid
+
+abbrev pub StepMovesOnly : Type 0
+StepMovesOnly =
+    (constants : Constants) (S : State) (who : Who) (call : Call) (given : Answer) (T : State) → IsStep constants S who call given T → MovesOnly S who T
+
+-- The end of a process from outside takes as long, changes nothing of other processes, and leaves it its status.
+pub record EndsOnly (S : State) (p : ℕ) (status : Status) (T : State) : Type 0 where
+  pub clock : T.clock ≡ S.clock + 1000
+  pub others : (q : ℕ) → q ≢ p → HasSameProcess T S q
+  pub stands : get T.statuses p ≡ Some status
+
+abbrev pub EndStateEndsOnly : Type 0
+EndStateEndsOnly = (S : State) (p : ℕ) (status : Status) → EndsOnly S p status (end_state S p status)
 
 -- ---- why a call is denied
 
--- each needed descriptor is in the table
-abbrev pub HasAll : Table → List Needed → Type 0
-HasAll table rows = AllByRecursion (λ row. IsSome (get table row.fd)) rows
+-- each of these descriptors is in the table
+abbrev pub HasAll : Table → List ℕ → Type 0
+HasAll table fds = AllByRecursion (λ fd. IsSome (get table fd)) fds
 
 -- the row is the first that is not met: it stands after rows that are met, and its descriptor d lacks a right
 pub record IsFirstLack (table : Table) (rows : List Needed) (row : Needed) (d : Descriptor) : Type 0 where
@@ -117,80 +152,80 @@ pub record IsFirstLack (table : Table) (rows : List Needed) (row : Needed) (d : 
   pub there : get table row.fd ≡ Some d
   pub lacks : has_needed d row ≡ false
 
--- Where each needed descriptor is there and some lacks a right, the call is denied, with what the first of these lacks.
+-- Where each descriptor that the call names is there and some lacks a right, the call is denied, with what the first of
+-- these lacks.
 abbrev pub FirstLackIsNamed : Type 0
 FirstLackIsNamed =
-    (S : State) (p : ℕ) (call : Call) (table : Table) (row : Needed) (d : Descriptor) → get S.tables p ≡ Some table
-    → HasAll table (need call) → IsFirstLack table (need call) row d → step_reply S p call ≡ denied (missing d row)
+    (constants : Constants) (S : State) (who : Who) (call : Call) (table : Table) (row : Needed) (d : Descriptor) → get S.tables who.pid ≡ Some table
+    → HasAll table (named call) → IsFirstLack table (need call) row d → step_answer constants S who call ≡ answer.Reply (denied (missing d row))
 
--- the denial names what the first descriptor that lacks a right lacks, and each needed descriptor is there
-pub record IsOfFirstLack (S : State) (p : ℕ) (call : Call) (denial : Denial) : Type 0 where
+-- the denial names what the first descriptor that lacks a right lacks, and each descriptor that the call names is there
+pub record IsOfFirstLack (S : State) (who : Who) (call : Call) (denial : Denial) : Type 0 where
   pub table : Table
   pub row : Needed
   pub d : Descriptor
-  pub own : get S.tables p ≡ Some table
-  pub all : HasAll table (need call)
+  pub own : get S.tables who.pid ≡ Some table
+  pub all : HasAll table (named call)
   pub first : IsFirstLack table (need call) row d
   pub names : denial ≡ missing d row
 
 -- A call is denied in no other case.
 abbrev pub DenialIsOfFirstLack : Type 0
-DenialIsOfFirstLack = (S : State) (p : ℕ) (call : Call) (denial : Denial) → (step_reply S p call).denial ≡ Some denial → IsOfFirstLack S p call denial
+DenialIsOfFirstLack =
+    (constants : Constants) (S : State) (who : Who) (call : Call) (reply : Reply) (denial : Denial) → step_answer constants S who call ≡ answer.Reply reply
+    → reply.denial ≡ Some denial → IsOfFirstLack S who call denial
 
--- the place is not one that is refused with NOTCAPABLE
-abbrev pub IsNotDeniedPlace : Place → Type 0
-IsNotDeniedPlace (At address) = Unit {0}
-IsNotDeniedPlace (place.Refused errno) = errno ≢ Notcapable
-
--- the call is not one that is refused beforehand with NOTCAPABLE, an error that only missing rights have
+-- none of the errors that the call answers of its own is NOTCAPABLE, an error that only missing rights have
 abbrev pub IsNotDeniedEarly : Call → Type 0
-IsNotDeniedEarly (FdWrite fd bytes) = Unit {0}
-IsNotDeniedEarly (ProcExit code) = Unit {0}
-IsNotDeniedEarly (MemMap place length prot flags fd offset) = IsNotDeniedPlace place
-IsNotDeniedEarly (Memory number errno) = errno ≢ Notcapable
-IsNotDeniedEarly (Refused number errno) = errno ≢ Notcapable
+IsNotDeniedEarly call = AllByRecursion (λ errno. errno ≢ Notcapable) (errors_of call)
 
 -- A call that answers NOTCAPABLE says what is missing.
 abbrev pub NotcapableIsDenied : Type 0
-NotcapableIsDenied = (S : State) (p : ℕ) (call : Call) → IsNotDeniedEarly call → (step_reply S p call).errno ≡ Notcapable → IsSome (step_reply S p call).denial
+NotcapableIsDenied =
+    (constants : Constants) (S : State) (who : Who) (call : Call) (reply : Reply) → IsNotDeniedEarly call
+    → step_answer constants S who call ≡ answer.Reply reply → reply.errno ≡ Notcapable → IsSome reply.denial
 
--- ---- where memory is wanting
+-- ---- which errors a call answers, and where memory is wanting
 
--- the calls that take no memory
-abbrev pub TakesNoMemory : Call → Type 0
-TakesNoMemory (FdWrite fd bytes) = ⊥
-TakesNoMemory (ProcExit code) = Unit {0}
-TakesNoMemory (MemMap place length prot flags fd offset) = Unit {0}
-TakesNoMemory (Memory number errno) = Unit {0}
-TakesNoMemory (Refused number errno) = Unit {0}
+-- A reply is a success, the refusal for want of a descriptor or of rights, one of the call's own errors, or want of memory,
+-- and that only of a call that takes memory and isn't refused.
+abbrev pub IsListed : State → Who → Call → Reply → Type 0
+IsListed S who call reply =
+    (reply.errno ≡ Success) ⊎ (refusal_of call (get S.tables who.pid) ≡ Some reply) ⊎ IsIn reply.errno (errors_of call)
+    ⊎ ((takes_memory call ≡ true) × (refusal_of call (get S.tables who.pid) ≡ None) × (reply ≡ refused Nomem))
 
--- A call that takes no memory answers its reply and leaves its state: want of memory stands in place of neither.
+abbrev pub RepliesAreListed : Type 0
+RepliesAreListed =
+    (constants : Constants) (S : State) (who : Who) (call : Call) (reply : Reply) (T : State) → IsStep constants S who call (answer.Reply reply) T
+    → IsListed S who call reply
+
+-- A call that takes no memory has its answer and leaves its state: want of memory stands in place of neither.
 abbrev pub NoMemoryIsExact : Type 0
 NoMemoryIsExact =
-    (S : State) (p : ℕ) (call : Call) (given : Answer) (T : State) → TakesNoMemory call → IsStep S p call given T
-    → (given ≡ answer.Reply (step_reply S p call)) × (T ≡ step_state S p call)
+    (constants : Constants) (S : State) (who : Who) (call : Call) (given : Answer) (T : State) → takes_memory call ≡ false
+    → IsStep constants S who call given T → (given ≡ step_answer constants S who call) × (T ≡ step_state constants S who call)
 
--- the call needs what the row asks
-abbrev pub Needs : Call → Needed → Type 0
-Needs call row = (before : List Needed) × (after : List Needed) × (need call ≡ before ++ row ∷ after)
-
--- Where a needed descriptor is absent, the answer is BADF, whether memory is wanting or not.
+-- Where a descriptor that the call names is absent, the answer is BADF, whether memory is wanting or not.
 abbrev pub AbsentIsBadf : Type 0
 AbsentIsBadf =
-    (S : State) (p : ℕ) (call : Call) (given : Answer) (T : State) (table : Table) (row : Needed) → IsStep S p call given T
-    → get S.tables p ≡ Some table → Needs call row → get table row.fd ≡ None → given ≡ answer.Reply (refused Badf)
+    (constants : Constants) (S : State) (who : Who) (call : Call) (given : Answer) (T : State) (table : Table) (fd : ℕ)
+    → IsStep constants S who call given T → get S.tables who.pid ≡ Some table → IsIn fd (named call) → get table fd ≡ None
+    → given ≡ answer.Reply (refused Badf)
 
--- Where each needed descriptor is there and some lacks a right, the answer is the denial, whether memory is wanting or not.
+-- Where each descriptor that the call names is there and some lacks a right, the answer is the denial, whether memory is
+-- wanting or not.
 abbrev pub LackIsDenied : Type 0
 LackIsDenied =
-    (S : State) (p : ℕ) (call : Call) (given : Answer) (T : State) (table : Table) (row : Needed) (d : Descriptor) → IsStep S p call given T
-    → get S.tables p ≡ Some table → HasAll table (need call) → IsFirstLack table (need call) row d → given ≡ answer.Reply (denied (missing d row))
+    (constants : Constants) (S : State) (who : Who) (call : Call) (given : Answer) (T : State) (table : Table) (row : Needed) (d : Descriptor)
+    → IsStep constants S who call given T → get S.tables who.pid ≡ Some table → HasAll table (named call) → IsFirstLack table (need call) row d
+    → given ≡ answer.Reply (denied (missing d row))
 
 -- ---- valid states
 
 -- A step leaves a valid state valid.
 abbrev pub StepKeepsValid : Type 0
-StepKeepsValid = (S : State) (p : ℕ) (call : Call) (given : Answer) (T : State) → IsStep S p call given T → IsValid S → IsValid T
+StepKeepsValid =
+    (constants : Constants) (S : State) (who : Who) (call : Call) (given : Answer) (T : State) → IsStep constants S who call given T → IsValid S → IsValid T
 
 -- The end of a process from outside leaves a valid state valid.
 abbrev pub EndKeepsValid : Type 0

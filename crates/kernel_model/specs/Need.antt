@@ -1,9 +1,6 @@
--- The rights that a call needs of its descriptors, and the refusals for want of a descriptor or of rights. They come
--- before the call's own case, and are the same for all calls.
-use Rattle.std.specs.Prelude.{◌==◌, ◌&&◌, ◌||◌, not, Bool, false, List, [], ◌∷◌, Option, None, Some, if◌then◌else◌}
+-- The refusals for want of a descriptor or of rights. They come before what a call does, and are the same for all calls.
+use Rattle.std.specs.Prelude.{ℕ, ◌==◌, ◌&&◌, ◌||◌, not, Bool, false, List, [], ◌∷◌, Option, None, Some, if◌then◌else◌}
 use Rattle.std.specs.FinMap.{get, contains_key}
-use Rattle.abi_types.specs.declared.call.Call.{Call}
-use Rattle.abi_types.specs.declared.call.Call.TheVariants.{FdWrite, MemMap, Memory, ProcExit, Refused}
 use Rattle.abi_types.specs.declared.call.Reply.{Reply}
 use Rattle.abi_types.specs.declared.descriptor.Denial.{Denial}
 use Rattle.abi_types.specs.declared.descriptor.Denial.TheVariants.{Missing}
@@ -11,18 +8,9 @@ use Rattle.abi_types.specs.declared.descriptor.Descriptor.{Descriptor}
 use Rattle.abi_base.specs.declared.errno.Errno.TheVariants.{Badf}
 use Rattle.abi_types.specs.declared.needed.Needed.{Needed}
 use Rattle.abi_base.specs.declared.rights.Rights.{Rights}
-use Rattle.abi_base.specs.declared.rights.TheConstants.Rights.{FD_WRITE, NONE}
 use Rattle.abi_base.specs.Rights.{minus_of}
 use Rattle.kernel_model.specs.Reply.{refused, denied}
 use Rattle.kernel_model.specs.State.{Table}
-
--- what a call needs, in the order of its arguments: a descriptor, base rights, and rights asked of the inheriting ones
-abbrev pub need : Call → List Needed
-need (FdWrite fd bytes) = record { fd = fd; base = FD_WRITE; inheriting = NONE } ∷ []
-need (MemMap place length prot flags fd offset) = []
-need (Memory number errno) = []
-need (ProcExit code) = []
-need (Refused number errno) = []
 
 -- the base rights and the inheriting rights that are needed and that the descriptor lacks
 abbrev pub lack_base : Descriptor → Needed → Rights
@@ -39,10 +27,10 @@ has_needed d row = ((lack_base d row).0 == 0) && ((lack_inheriting d row).0 == 0
 abbrev pub missing : Descriptor → Needed → Denial
 missing d row = Missing row.fd (lack_base d row) (lack_inheriting d row)
 
--- whether some needed descriptor is absent
-abbrev pub some_absent : Table → List Needed → Bool
+-- whether some of these descriptors is absent
+abbrev pub some_absent : Table → List ℕ → Bool
 some_absent table [] = false
-some_absent table (row ∷ rows) = not (contains_key table row.fd) || some_absent table rows
+some_absent table (fd ∷ fds) = not (contains_key table fd) || some_absent table fds
 
 -- the denial of one descriptor, if it lacks a right
 abbrev pub lack_at : Option Descriptor → Needed → Option Denial
@@ -62,11 +50,6 @@ abbrev pub denied_by : Option Denial → Option Reply
 denied_by None = None
 denied_by (Some denial) = Some (denied denial)
 
--- the refusal for want of a descriptor, and where all are there for want of rights
-abbrev pub refusal : Table → List Needed → Option Reply
-refusal table rows = if some_absent table rows then Some (refused Badf) else denied_by (first_lack table rows)
-
--- the refusal of a call by its process's table; a process without one has no descriptor, and each of its calls is BADF
-abbrev pub refusal_of : Call → Option Table → Option Reply
-refusal_of call None = Some (refused Badf)
-refusal_of call (Some table) = refusal table (need call)
+-- the refusal for want of one of the descriptors that are named, and where all are there for want of rights
+abbrev pub refusal : Table → List ℕ → List Needed → Option Reply
+refusal table named rows = if some_absent table named then Some (refused Badf) else denied_by (first_lack table rows)

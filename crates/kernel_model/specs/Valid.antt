@@ -31,13 +31,17 @@ IsNamed (Some kind) d = HasRightsOf d kind
 abbrev pub HasBehind : State → OpenKind → Type 0
 HasBehind S (Terminal which flags) = IsSome (get S.terms which)
 
--- A state is valid where each descriptor's open is there with its rights, each open is held and has what stands behind
--- it, each process has a table, threads and a status or none of these, and an ended process has no descriptor and no
--- thread.
-pub record IsValid (S : State) : Type 0 where
+-- All of validity but that each open is held: what each call keeps before the release, which brings the rest. Each
+-- descriptor's open is there with its rights, each open has what stands behind it, each process has a table, threads and a
+-- status or none of these, and an ended process has no descriptor and no thread.
+pub record IsNearlyValid (S : State) : Type 0 where
   pub named : (p n : ℕ) (table : Table) (d : Descriptor) → get S.tables p ≡ Some table → get table n ≡ Some d → IsNamed (get S.opens d.id) d
-  pub held : (o : ℕ) → IsSome (get S.opens o) → 0 < holders S o
   pub behind : (o : ℕ) (kind : OpenKind) → get S.opens o ≡ Some kind → HasBehind S kind
   pub tables : (p : ℕ) → is_some (get S.tables p) ≡ is_some (get S.statuses p)
   pub threads : (p : ℕ) → is_some (get S.threads p) ≡ is_some (get S.statuses p)
   pub ended : (p : ℕ) (status : Status) → get S.statuses p ≡ Some status → status ≢ Live → (get S.tables p ≡ Some empty) × (get S.threads p ≡ Some empty)
+
+-- a state is valid where it is nearly so, and each open is held
+pub record IsValid (S : State) : Type 0 where
+  pub nearly : IsNearlyValid S
+  pub held : (o : ℕ) → IsSome (get S.opens o) → 0 < holders S o

@@ -1,7 +1,13 @@
 //! Laws of the kernel's steps. The statements are in `specs/Laws.antt`, and each holds of every state, process and call.
-ghost use Rattle.kernel_model.specs.Laws.{ReadsSight, SightDecides, StepDecided, SightIsReached, TouchIsSeen, OthersStay, EndKeeps, ErrorKeeps};
-ghost use Rattle.kernel_model.specs.Laws.{FirstLackIsNamed, DenialIsOfFirstLack, NotcapableIsDenied, NoMemoryIsExact, AbsentIsBadf, LackIsDenied};
+ghost use Rattle.kernel_model.specs.Laws.{MeaningsAreProper, ReadsSight, SightDecides, StepDecided, SightIsReached, TouchIsSeen};
+ghost use Rattle.kernel_model.specs.Laws.{OthersStay, EndKeeps, ErrorKeeps, StepMovesOnly, EndStateEndsOnly};
+ghost use Rattle.kernel_model.specs.Laws.{FirstLackIsNamed, DenialIsOfFirstLack, NotcapableIsDenied, RepliesAreListed, NoMemoryIsExact, AbsentIsBadf, LackIsDenied};
 ghost use Rattle.kernel_model.specs.Laws.{StepKeepsValid, EndKeepsValid, StartIsValid};
+
+/// Each call's meaning keeps to what the laws stand on (`specs/Proper.antt`).
+pub fn meanings_are_proper()
+    ensures { MeaningsAreProper }
+{}
 
 /// A call's outcome, which sees only what is in its sight, is what it would be if it saw the whole state.
 pub fn reads_sight()
@@ -37,6 +43,14 @@ pub fn end_keeps()
     ensures { EndKeeps }
 {}
 
+/// A step takes 1000 nanoseconds, changes nothing that another process has of its own, and leaves a process that lives on
+/// its threads. The end of a process from outside takes as long, changes nothing of other processes either, and leaves the
+/// process the status that it was given.
+pub fn steps_move_only()
+    ensures step { StepMovesOnly }
+    ensures end { EndStateEndsOnly }
+{}
+
 /// A call that answers an error, want of memory among them, changes only the clock of a valid state.
 pub fn error_keeps()
     ensures { ErrorKeeps }
@@ -49,6 +63,12 @@ pub fn refusal_names_lack()
     ensures named { FirstLackIsNamed }
     ensures only { DenialIsOfFirstLack }
     ensures denied { NotcapableIsDenied }
+{}
+
+/// A reply is a success, the refusal for want of a descriptor or of rights, one of the errors that the call answers of its
+/// own, or want of memory, and that only of a call that takes memory and is not refused.
+pub fn replies_are_listed()
+    ensures { RepliesAreListed }
 {}
 
 /// Want of memory stands in place of no other answer of a call that takes no memory, and of no refusal: an absent

@@ -1,5 +1,5 @@
-use Rattle.kernel_model.proofs.Sights as sights
+use Rattle.kernel_model.proofs.Outcomes as outcomes
 use Rattle.kernel_model.proofs.laws.reads_sight.Goals as goal
 
 pub returns : goal.returns
-returns c = sights.outcome_reads
+returns c = outcomes.outcome_reads

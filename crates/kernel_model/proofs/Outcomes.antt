@@ -1,0 +1,78 @@
+-- A call's outcome, by the whole state.
+--     reads_sight, sight_ticked, outcome_reads      a call reads nothing outside its sight
+--     outcome_of_table      the outcome of a call of a process that has a table
+--     act_holds, outcome_holds      what holds of each refusal and of what each call does holds of each outcome
+use Rattle.std.proofs.Common.{◌≡◌, ◌++◌, Option, Some, None, refl, sym, ap, subst, ◌∙◌}
+use Rattle.std.specs.FinMap.{get}
+use Rattle.abi_types.specs.declared.call.Call.{Call}
+use Rattle.abi_types.specs.declared.call.Reply.{Reply}
+use Rattle.abi_types.specs.declared.constants.Constants.{Constants}
+use Rattle.abi_types.specs.declared.who.Who.{Who}
+use Rattle.kernel_model.specs.Calls.{meaning_of, seen, refusal, refusal_of}
+use Rattle.kernel_model.specs.Outcome.{Outcome, replies}
+use Rattle.kernel_model.specs.Sight.{own_parts, reached}
+use Rattle.kernel_model.specs.State.{State, Table, Part, at_proc, has_part}
+use Rattle.kernel_model.specs.Step.{tick, unless_refused, reach, sight, unless, act_on, act, outcome}
+use Rattle.kernel_model.specs.View.{View, restrict, whole}
+use Rattle.kernel_model.proofs.Calls.{proper}
+use Rattle.kernel_model.proofs.Sights.{first_seen, reached_ticked}
+
+unless_reads : (constants : Constants) (S : State) (who : Who) (table : Table) (call : Call) (r : Option Reply)
+    → unless r ((meaning_of call).does constants (restrict S (own_parts who.pid ++ unless_refused r (reached S table (seen call)))) who table)
+    ≡ unless r ((meaning_of call).does constants (whole S) who table)
+unless_reads constants S who table call None = (proper call).reads constants S who table
+unless_reads constants S who table call (Some reply) = refl
+
+act_reads : (constants : Constants) (S : State) (who : Who) (call : Call) (t : Option Table)
+    → act_on constants (restrict S (own_parts who.pid ++ reach S call t)) who call t ≡ act_on constants (whole S) who call t
+act_reads constants S who call None = refl
+act_reads constants S who call (Some table) = unless_reads constants S who table call (refusal table call)
+
+-- a call does the same by its sight as by the whole state
+pub reads_sight : (constants : Constants) (S : State) (who : Who) (call : Call)
+    → act constants (restrict S (sight S who call)) who call ≡ act constants (whole S) who call
+unfolding sight
+reads_sight constants S who call =
+    ap (act_on constants (restrict S (own_parts who.pid ++ reach S call (get S.tables who.pid))) who call)
+    (first_seen who.pid (has_part (reach S call (get S.tables who.pid)) (at_proc who.pid)) (get S.tables who.pid))
+    ∙ act_reads constants S who call (get S.tables who.pid)
+
+reach_ticked : (S : State) (call : Call) (t : Option Table) → reach (tick S) call t ≡ reach S call t
+reach_ticked S call None = refl
+reach_ticked S call (Some table) = ap (unless_refused (refusal table call)) (reached_ticked S table (seen call))
+
+-- the sight does not depend on the clock
+pub sight_ticked : (S : State) (who : Who) (call : Call) → sight (tick S) who call ≡ sight S who call
+unfolding sight
+sight_ticked S who call = ap (λ parts. own_parts who.pid ++ parts) (reach_ticked S call (get S.tables who.pid))
+
+-- the outcome of a call, by the whole state at its moment
+pub outcome_reads : (constants : Constants) (S : State) (who : Who) (call : Call) → outcome constants S who call ≡ act constants (whole (tick S)) who call
+unfolding outcome
+outcome_reads constants S who call =
+    ap (λ parts. act constants (restrict (tick S) parts) who call) (sym (sight_ticked S who call)) ∙ reads_sight constants (tick S) who call
+
+-- the outcome of a call of a process that has a table
+pub outcome_of_table : (constants : Constants) (S : State) (who : Who) (call : Call) (table : Table) → get S.tables who.pid ≡ Some table
+    → outcome constants S who call ≡ unless (refusal table call) ((meaning_of call).does constants (whole (tick S)) who table)
+outcome_of_table constants S who call table own = outcome_reads constants S who call ∙ ap (act_on constants (whole (tick S)) who call) own
+
+-- ---- what holds of all outcomes
+
+unless_holds : (P : Outcome → Type 0) (r : Option Reply) (o : Outcome) → ((reply : Reply) → r ≡ Some reply → P (replies reply)) → P o → P (unless r o)
+unless_holds P None o refused done = done
+unless_holds P (Some reply) o refused done = refused reply refl
+
+act_holds : (P : Outcome → Type 0) (constants : Constants) (v : View) (who : Who) (call : Call) (t : Option Table)
+    → ((reply : Reply) → refusal_of call t ≡ Some reply → P (replies reply))
+    → ((table : Table) → P ((meaning_of call).does constants v who table)) → P (act_on constants v who call t)
+act_holds P constants v who call None refused done = refused _ refl
+act_holds P constants v who call (Some table) refused done =
+    unless_holds P (refusal table call) ((meaning_of call).does constants v who table) refused (done table)
+
+-- what holds of each refusal, and of what the call does, holds of its outcome
+pub outcome_holds : (P : Outcome → Type 0) (constants : Constants) (S : State) (who : Who) (call : Call)
+    → ((reply : Reply) → refusal_of call (get S.tables who.pid) ≡ Some reply → P (replies reply))
+    → ((table : Table) → P ((meaning_of call).does constants (whole (tick S)) who table)) → P (outcome constants S who call)
+outcome_holds P constants S who call refused done =
+    subst P (sym (outcome_reads constants S who call)) (act_holds P constants (whole (tick S)) who call (get S.tables who.pid) refused done)

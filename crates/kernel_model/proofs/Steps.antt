@@ -1,0 +1,109 @@
+-- What each step keeps: a valid state, the clock's pace, other processes, and the threads of a process that lives on.
+use Rattle.std.proofs.Common.{◌≡◌, ◌≢◌, inl, inr, ℕ, ◌+◌, false, List, [], ◌∷◌, map, Option, Some, refl, sym, ap, subst, ◌∙◌}
+use Rattle.std.specs.FinMap.{get}
+use Rattle.abi_types.specs.declared.call.Answer.{Answer}
+use Rattle.abi_types.specs.declared.call.Call.{Call}
+use Rattle.abi_types.specs.declared.call.Reply.{Reply}
+use Rattle.abi_types.specs.declared.constants.Constants.{Constants}
+use Rattle.abi_types.specs.declared.status.Status.{Status}
+use Rattle.abi_types.specs.declared.status.Status.TheVariants.{Live}
+use Rattle.abi_types.specs.declared.who.Who.{Who}
+use Rattle.number_map.specs.Maps.{get-insert-same}
+use Rattle.kernel_model.specs.Laws.{HasSameProcess, MovesOnly, EndsOnly}
+use Rattle.kernel_model.specs.Outcome.{Outcome}
+use Rattle.kernel_model.specs.ProcessCalls.{end_updates}
+use Rattle.kernel_model.specs.Proper.{IsUnset}
+use Rattle.kernel_model.specs.Release.{release}
+use Rattle.kernel_model.specs.State.{State, Table, Update, set_table, set_threads, set_status, set_term, at_proc, at_status, has_part, part_of, put_one, put_all}
+use Rattle.kernel_model.specs.Step.{tick, outcome, unreleased, step_state, IsStep, end_unreleased, end_state}
+use Rattle.kernel_model.specs.Valid.{IsNearlyValid, IsValid}
+use Rattle.kernel_model.specs.View.{whole}
+use Rattle.kernel_model.proofs.Calls.{proper}
+use Rattle.kernel_model.proofs.Outcomes.{outcome_holds}
+use Rattle.kernel_model.proofs.Parts.{put_keeps}
+use Rattle.kernel_model.proofs.ProcessCalls.{end_others}
+use Rattle.kernel_model.proofs.Valids.{release_restores, tick_nearly_valid, tick_valid, end_nearly_valid}
+
+-- ---- valid states
+
+outcome_valid : (constants : Constants) (S : State) (who : Who) (call : Call) → IsNearlyValid (tick S)
+    → IsNearlyValid (put_all (outcome constants S who call).updates (tick S))
+outcome_valid constants S who call nearly =
+    outcome_holds (λ (o : Outcome). IsNearlyValid (put_all o.updates (tick S))) constants S who call (λ reply _. nearly)
+    (λ table. (proper call).valid constants (tick S) (whole (tick S)) who table nearly)
+
+step_valid : (constants : Constants) (S : State) (who : Who) (call : Call) → IsValid S → IsValid (step_state constants S who call)
+step_valid constants S who call v =
+    release_restores (unreleased constants S who call) (outcome_valid constants S who call (tick_nearly_valid S v.nearly))
+
+pub step_keeps_valid : (constants : Constants) (S : State) (who : Who) (call : Call) (given : Answer) (T : State)
+    → IsStep constants S who call given T → IsValid S → IsValid T
+step_keeps_valid constants S who call given T (inl done) v = subst IsValid (sym done.1) (step_valid constants S who call v)
+step_keeps_valid constants S who call given T (inr lacking) v = subst IsValid (sym lacking.2) (tick_valid S v)
+
+pub end_valid : (S : State) (p : ℕ) (status : Status) → IsValid S → IsValid (end_state S p status)
+unfolding end_state
+end_valid S p status v = release_restores (end_unreleased S p status) (end_nearly_valid (tick S) p status (tick_nearly_valid S v.nearly))
+
+-- ---- the clock
+
+put_one_clock : (u : Update) (S : State) → (put_one u S).clock ≡ S.clock
+put_one_clock (set_table p t) S = refl
+put_one_clock (set_threads p ts) S = refl
+put_one_clock (set_status p s) S = refl
+put_one_clock (set_term k bytes) S = refl
+
+put_clock : (us : List Update) (S : State) → (put_all us S).clock ≡ S.clock
+put_clock [] S = refl
+put_clock (u ∷ us) S = put_clock us (put_one u S) ∙ put_one_clock u S
+
+-- ---- other processes
+
+put_others : (us : List Update) (S : State) (q : ℕ) → has_part (map part_of us) (at_proc q) ≡ false → has_part (map part_of us) (at_status q) ≡ false
+    → HasSameProcess (put_all us S) S q
+put_others us S q proc status =
+    let own = put_keeps us S (at_proc q) proc in (own.0, own.1, put_keeps us S (at_status q) status)
+
+outcome_others : (constants : Constants) (S : State) (who : Who) (call : Call) (q : ℕ) → q ≢ who.pid
+    → IsUnset (outcome constants S who call) (at_proc q) × IsUnset (outcome constants S who call) (at_status q)
+outcome_others constants S who call q apart =
+    outcome_holds (λ (o : Outcome). IsUnset o (at_proc q) × IsUnset o (at_status q)) constants S who call (λ reply _. (refl, refl))
+    (λ table. (proper call).others constants (whole (tick S)) who table q apart)
+
+step_others : (constants : Constants) (S : State) (who : Who) (call : Call) (q : ℕ) → q ≢ who.pid → HasSameProcess (step_state constants S who call) S q
+step_others constants S who call q apart =
+    let unset = outcome_others constants S who call q apart in
+    put_others (outcome constants S who call).updates (tick S) q unset.0 unset.1
+
+-- ---- threads
+
+-- a process that is live after the outcome has the threads that it had
+abbrev KeepsThreads : State → ℕ → Outcome → Type 0
+KeepsThreads S p o = get (put_all o.updates S).statuses p ≡ Some Live → get (put_all o.updates S).threads p ≡ get S.threads p
+
+step_threads : (constants : Constants) (S : State) (who : Who) (call : Call) → get (step_state constants S who call).statuses who.pid ≡ Some Live
+    → get (step_state constants S who call).threads who.pid ≡ get S.threads who.pid
+step_threads constants S who call =
+    outcome_holds (KeepsThreads (tick S) who.pid) constants S who call (λ reply _ _. refl)
+    (λ table. (proper call).threads constants (tick S) (whole (tick S)) who table)
+
+-- ---- all of them
+
+pub step_moves_only : (constants : Constants) (S : State) (who : Who) (call : Call) (given : Answer) (T : State)
+    → IsStep constants S who call given T → MovesOnly S who T
+step_moves_only constants S who call given T (inl done) =
+    subst (MovesOnly S who) (sym done.1) (record {
+      clock = put_clock (outcome constants S who call).updates (tick S);
+      others = λ q apart. step_others constants S who call q apart;
+      threads = λ live. step_threads constants S who call live;
+    })
+step_moves_only constants S who call given T (inr lacking) =
+    subst (MovesOnly S who) (sym lacking.2) (record { clock = refl; others = λ q apart. (refl, refl, refl); threads = λ live. refl })
+
+pub end_ends_only : (S : State) (p : ℕ) (status : Status) → EndsOnly S p status (end_state S p status)
+unfolding end_state
+end_ends_only S p status = record {
+  clock = refl;
+  others = λ q apart. (let unset = end_others p status q apart in put_others (end_updates p status) (tick S) q unset.0 unset.1);
+  stands = get-insert-same S.statuses p status;
+}

@@ -1,0 +1,113 @@
+-- The meanings of the calls on opens that bytes are read from and written to are proper.
+use Rattle.std.proofs.Common.{◌≡◌, ◌≢◌, inl, inr, ℕ, ◌==◌, ◌||◌, Bool, true, false, List, [], ◌∷◌, ◌++◌, length, Option, Some, None, refl, sym, ap, ◌∙◌}
+use Rattle.std.specs.FinMap.{get}
+use Rattle.abi_types.specs.declared.call.Answer.TheVariants as answer
+use Rattle.abi_types.specs.declared.constants.Constants.{Constants}
+use Rattle.abi_types.specs.declared.descriptor.Descriptor.{Descriptor}
+use Rattle.abi_base.specs.declared.errno.Errno.TheVariants.{Badf, Nomem}
+use Rattle.abi_types.specs.declared.needed.Needed.{Needed}
+use Rattle.abi_types.specs.declared.open_kind.OpenKind.{OpenKind}
+use Rattle.abi_types.specs.declared.open_kind.OpenKind.TheVariants.{Terminal}
+use Rattle.abi_base.specs.declared.rights.TheConstants.Rights.{FD_WRITE, NONE}
+use Rattle.abi_types.specs.declared.status.Status.TheVariants.{Live}
+use Rattle.abi_types.specs.declared.who.Who.{Who}
+use Rattle.kernel_model.specs.Outcome.{Outcome, replies}
+use Rattle.kernel_model.specs.Proper.{IsUnset, IsPlain, IsProper}
+use Rattle.kernel_model.specs.Reply.{success, refused}
+use Rattle.kernel_model.specs.Sight.{own_parts, behind, reached_by}
+use Rattle.kernel_model.specs.State.{State, Table, Part, at_proc, at_status, at_open, at_term, same_part, has_part, put_all, set_term}
+use Rattle.kernel_model.specs.Step.{tick}
+use Rattle.kernel_model.specs.StreamCalls.{write_term, write_open, write_to, fd_write}
+use Rattle.kernel_model.specs.Valid.{IsNearlyValid}
+use Rattle.kernel_model.specs.View.{View, restrict, whole}
+use Rattle.kernel_model.proofs.Parts.{outside_cons, has_of_both, beyond_own}
+use Rattle.kernel_model.proofs.Sights.{first_seen}
+use Rattle.kernel_model.proofs.Tests.{or_false}
+use Rattle.kernel_model.proofs.Valids.{set_term_nearly_valid}
+
+-- ---- what holds of each outcome of a write
+
+-- the outcome where all bytes are written
+abbrev written_out : List ℕ → ℕ → List ℕ → Outcome
+written_out bytes which written = record { answer = answer.Reply (success (length bytes) 0); updates = set_term which (written ++ bytes) ∷ [] }
+
+term_holds : (P : Outcome → Type 0) (bytes : List ℕ) (which : ℕ) (written : Option (List ℕ)) → P (replies (refused Badf))
+    → ((which : ℕ) (written : List ℕ) → P (written_out bytes which written)) → P (write_term bytes which written)
+term_holds P bytes which None absent done = absent
+term_holds P bytes which (Some written) absent done = done which written
+
+open_holds : (P : Outcome → Type 0) (v : View) (bytes : List ℕ) (kind : Option OpenKind) → P (replies (refused Badf))
+    → ((which : ℕ) (written : List ℕ) → P (written_out bytes which written)) → P (write_open v bytes kind)
+open_holds P v bytes None absent done = absent
+open_holds P v bytes (Some (Terminal which flags)) absent done = term_holds P bytes which (v.term which) absent done
+
+write_holds : (P : Outcome → Type 0) (v : View) (bytes : List ℕ) (d : Option Descriptor) → P (replies (refused Badf))
+    → ((which : ℕ) (written : List ℕ) → P (written_out bytes which written)) → P (write_to v bytes d)
+write_holds P v bytes None absent done = absent
+write_holds P v bytes (Some d) absent done = open_holds P v bytes (v.opened d.id) absent done
+
+-- ---- what a write reads
+
+open_reads : (S : State) (p o : ℕ) (bytes : List ℕ) (k : Option OpenKind)
+    → write_open (restrict S (own_parts p ++ at_open o ∷ (behind k ++ []))) bytes k ≡ write_open (whole S) bytes k
+open_reads S p o bytes None = refl
+open_reads S p o bytes (Some (Terminal which flags)) = ap (write_term bytes which) (first_seen which false (get S.terms which))
+
+write_reads : (S : State) (p : ℕ) (bytes : List ℕ) (d : Option Descriptor)
+    → write_to (restrict S (own_parts p ++ (reached_by S d ++ []))) bytes d ≡ write_to (whole S) bytes d
+write_reads S p bytes None = refl
+write_reads S p bytes (Some d) =
+    ap (write_open (restrict S (own_parts p ++ at_open d.id ∷ (behind (get S.opens d.id) ++ []))) bytes)
+    (first_seen d.id (has_part (behind (get S.opens d.id) ++ []) (at_open d.id)) (get S.opens d.id))
+    ∙ open_reads S p d.id bytes (get S.opens d.id)
+
+-- ---- what a write sets
+
+term_unset : (bytes : List ℕ) (which : ℕ) (written : Option (List ℕ)) (q : Part) → same_part (at_term which) q ≡ false → IsUnset (write_term bytes which written) q
+term_unset bytes which None q h = refl
+term_unset bytes which (Some written) q h = ap (λ b. b || false) h
+
+open_unset : (v : View) (bytes : List ℕ) (kind : Option OpenKind) (q : Part) → has_part (behind kind) q ≡ false → IsUnset (write_open v bytes kind) q
+open_unset v bytes None q h = refl
+open_unset v bytes (Some (Terminal which flags)) q h = term_unset bytes which (v.term which) q (outside_cons (at_term which) [] q h).0
+
+write_unset : (S : State) (bytes : List ℕ) (d : Option Descriptor) (q : Part) → has_part (reached_by S d) q ≡ false
+    → IsUnset (write_to (whole (tick S)) bytes d) q
+write_unset S bytes None q h = refl
+write_unset S bytes (Some d) q h =
+    open_unset (whole (tick S)) bytes (get S.opens d.id) q (outside_cons (at_open d.id) (behind (get S.opens d.id)) q h).1
+
+one_reached : (S : State) (d : Option Descriptor) (q : Part) → has_part (reached_by S d) q ≡ true → has_part (reached_by S d ++ []) q ≡ true
+one_reached S d q h = has_of_both (reached_by S d) [] q ∙ or_false (has_part (reached_by S d) q) ∙ h
+
+-- ---- fd_write
+
+badf_is_no_lack : Badf ≢ Nomem
+badf_is_no_lack e = cc
+
+-- the process lives on with the threads that it had
+abbrev KeepsThreads : State → ℕ → Outcome → Type 0
+KeepsThreads S p o = get (put_all o.updates S).statuses p ≡ Some Live → get (put_all o.updates S).threads p ≡ get S.threads p
+
+abbrev row_of : ℕ → Needed
+row_of fd = record { fd = fd; base = FD_WRITE; inheriting = NONE }
+
+pub fd_write_is_proper : (fd : ℕ) (bytes : List ℕ) → IsProper (fd_write fd bytes)
+fd_write_is_proper fd bytes = record {
+  names = (([], [], refl), tt);
+  sees = ((row_of fd, ([], [], refl), refl), tt);
+  reads = λ constants S who table. write_reads S who.pid bytes (get table fd);
+  sets = λ constants S who table part h. write_unset S bytes (get table fd) part (beyond_own who.pid (reached_by S (get table fd)) part h).1;
+  changes = λ S table part h. one_reached S (get table fd) part h;
+  plain = λ constants v who table.
+      write_holds (IsPlain (Badf ∷ [])) v bytes (get table fd) (refl, inr (refl, ([], [], refl))) (λ which written. (refl, inl refl));
+  lacks = λ _. (badf_is_no_lack, tt);
+  others = λ constants v who table q apart. (
+    write_holds (λ o. IsUnset o (at_proc q)) v bytes (get table fd) refl (λ which written. refl),
+    write_holds (λ o. IsUnset o (at_status q)) v bytes (get table fd) refl (λ which written. refl),
+  );
+  threads = λ constants S v who table. write_holds (KeepsThreads S who.pid) v bytes (get table fd) (λ _. refl) (λ which written _. refl);
+  valid = λ constants S v who table nearly.
+      write_holds (λ o. IsNearlyValid (put_all o.updates S)) v bytes (get table fd) nearly
+      (λ which written. set_term_nearly_valid S which (written ++ bytes) nearly);
+}

@@ -1,0 +1,61 @@
+-- What the meaning of each call keeps to. The laws of all steps follow from it (`Laws.antt`), so a call that is added is
+-- shown to keep to this, and nothing else is shown anew.
+use Rattle.std.specs.Prelude.{◌≡◌, ◌≢◌, ◌⊎◌, ℕ, true, false, List, [], ◌∷◌, ◌++◌, map, None, Some}
+use Rattle.std.specs.List.{AllByRecursion}
+use Rattle.std.specs.FinMap.{get}
+use Rattle.abi_base.specs.declared.errno.Errno.{Errno}
+use Rattle.abi_base.specs.declared.errno.Errno.TheVariants.{Success, Nomem}
+use Rattle.abi_types.specs.declared.call.Reply.{Reply}
+use Rattle.abi_types.specs.declared.constants.Constants.{Constants}
+use Rattle.abi_types.specs.declared.needed.Needed.{Needed}
+use Rattle.abi_types.specs.declared.status.Status.TheVariants.{Live}
+use Rattle.abi_types.specs.declared.who.Who.{Who}
+use Rattle.kernel_model.specs.Meaning.{Meaning}
+use Rattle.kernel_model.specs.Outcome.{Outcome, OnReply}
+use Rattle.kernel_model.specs.Sight.{own_parts, reached}
+use Rattle.kernel_model.specs.State.{State, Table, Part, at_proc, at_status, has_part, part_of, put_all}
+use Rattle.kernel_model.specs.Step.{tick}
+use Rattle.kernel_model.specs.Valid.{IsNearlyValid}
+use Rattle.kernel_model.specs.View.{View, restrict, whole}
+
+-- the list has the item
+abbrev pub IsIn : {X : Type 0} → X → List X → Type 0
+IsIn {X} x xs = (before : List X) × (after : List X) × (xs ≡ before ++ x ∷ after)
+
+-- the part is none that the outcome sets
+abbrev pub IsUnset : Outcome → Part → Type 0
+IsUnset o part = has_part (map part_of o.updates) part ≡ false
+
+-- a reply denies nothing, and is a success, or one of these errors with nothing set
+abbrev pub IsPlain : List Errno → Outcome → Type 0
+IsPlain errors o =
+    OnReply (λ (reply : Reply). (reply.denial ≡ None) × ((reply.errno ≡ Success) ⊎ ((o.updates ≡ []) × IsIn reply.errno errors))) o.answer
+
+-- the call needs a right of this descriptor
+abbrev pub NeedsOf : List Needed → ℕ → Type 0
+NeedsOf rows fd = (row : Needed) × IsIn row rows × (row.fd ≡ fd)
+
+pub record IsProper (m : Meaning) : Type 0 where
+  -- the descriptors of which it needs a right it names, and of those that it sees it needs a right
+  pub names : AllByRecursion (λ (row : Needed). IsIn row.fd m.named) m.need
+  pub sees : AllByRecursion (NeedsOf m.need) m.seen
+  -- by what it sees it does what it does by the whole state
+  pub reads : (constants : Constants) (S : State) (who : Who) (table : Table)
+      → m.does constants (restrict S (own_parts who.pid ++ reached S table m.seen)) who table ≡ m.does constants (whole S) who table
+  -- it sets no part beside its process's own and what it says that it changes, and it sees what it changes
+  pub sets : (constants : Constants) (S : State) (who : Who) (table : Table) (part : Part)
+      → has_part (own_parts who.pid ++ m.changes S table) part ≡ false → IsUnset (m.does constants (whole (tick S)) who table) part
+  pub changes : (S : State) (table : Table) (part : Part) → has_part (m.changes S table) part ≡ true → has_part (reached S table m.seen) part ≡ true
+  -- its reply is a success, or one of its errors with nothing set; and of these none is want of memory where that may be
+  pub plain : (constants : Constants) (v : View) (who : Who) (table : Table) → IsPlain m.errors (m.does constants v who table)
+  pub lacks : m.takes_memory ≡ true → AllByRecursion (λ errno. errno ≢ Nomem) m.errors
+  -- it sets nothing that another process has of its own
+  pub others : (constants : Constants) (v : View) (who : Who) (table : Table) (q : ℕ) → q ≢ who.pid
+      → IsUnset (m.does constants v who table) (at_proc q) × IsUnset (m.does constants v who table) (at_status q)
+  -- where its process lives on, that has the threads that it had
+  pub threads : (constants : Constants) (S : State) (v : View) (who : Who) (table : Table)
+      → get (put_all (m.does constants v who table).updates S).statuses who.pid ≡ Some Live
+      → get (put_all (m.does constants v who table).updates S).threads who.pid ≡ get S.threads who.pid
+  -- a state that is nearly valid it leaves so
+  pub valid : (constants : Constants) (S : State) (v : View) (who : Who) (table : Table) → IsNearlyValid S
+      → IsNearlyValid (put_all (m.does constants v who table).updates S)

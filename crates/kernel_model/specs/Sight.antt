@@ -1,0 +1,26 @@
+-- Parts of a state that a process has, and that its descriptors reach.
+use Rattle.std.specs.Prelude.{ℕ, List, [], ◌∷◌, ◌++◌, Option, None, Some}
+use Rattle.std.specs.FinMap.{get}
+use Rattle.abi_types.specs.declared.descriptor.Descriptor.{Descriptor}
+use Rattle.abi_types.specs.declared.open_kind.OpenKind.{OpenKind}
+use Rattle.abi_types.specs.declared.open_kind.OpenKind.TheVariants.{Terminal}
+use Rattle.kernel_model.specs.State.{State, Table, Part, at_clock, at_proc, at_status, at_open, at_term}
+
+-- the clock, what is the process's own, and its status
+abbrev pub own_parts : ℕ → List Part
+own_parts p = at_clock ∷ at_proc p ∷ at_status p ∷ []
+
+-- the part that stands behind an open
+abbrev pub behind : Option OpenKind → List Part
+behind None = []
+behind (Some (Terminal which flags)) = at_term which ∷ []
+
+-- a descriptor's open and what stands behind it
+abbrev pub reached_by : State → Option Descriptor → List Part
+reached_by S None = []
+reached_by S (Some d) = at_open d.id ∷ behind (get S.opens d.id)
+
+-- the same of each of these descriptors
+abbrev pub reached : State → Table → List ℕ → List Part
+reached S table [] = []
+reached S table (fd ∷ fds) = reached_by S (get table fd) ++ reached S table fds

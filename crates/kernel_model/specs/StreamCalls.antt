@@ -1,0 +1,42 @@
+-- Calls on opens that bytes are read from and written to.
+use Rattle.std.specs.Prelude.{ℕ, true, List, [], ◌∷◌, ◌++◌, length, Option, None, Some}
+use Rattle.std.specs.FinMap.{get}
+use Rattle.abi_types.specs.declared.call.Answer.TheVariants as answer
+use Rattle.abi_types.specs.declared.descriptor.Descriptor.{Descriptor}
+use Rattle.abi_base.specs.declared.errno.Errno.TheVariants.{Badf}
+use Rattle.abi_types.specs.declared.open_kind.OpenKind.{OpenKind}
+use Rattle.abi_types.specs.declared.open_kind.OpenKind.TheVariants.{Terminal}
+use Rattle.abi_base.specs.declared.rights.TheConstants.Rights.{FD_WRITE, NONE}
+use Rattle.kernel_model.specs.Meaning.{Meaning}
+use Rattle.kernel_model.specs.Outcome.{Outcome, replies}
+use Rattle.kernel_model.specs.Reply.{success, refused}
+use Rattle.kernel_model.specs.Sight.{reached_by}
+use Rattle.kernel_model.specs.State.{set_term}
+use Rattle.kernel_model.specs.View.{View}
+
+-- bytes written to a standard stream: all are written, and their count is the result
+abbrev pub write_term : List ℕ → ℕ → Option (List ℕ) → Outcome
+write_term bytes which None = replies (refused Badf)
+write_term bytes which (Some written) =
+    record { answer = answer.Reply (success (length bytes) 0); updates = set_term which (written ++ bytes) ∷ [] }
+
+-- bytes written to an open
+abbrev pub write_open : View → List ℕ → Option OpenKind → Outcome
+write_open v bytes None = replies (refused Badf)
+write_open v bytes (Some (Terminal which flags)) = write_term bytes which (v.term which)
+
+-- bytes written to a descriptor
+abbrev pub write_to : View → List ℕ → Option Descriptor → Outcome
+write_to v bytes None = replies (refused Badf)
+write_to v bytes (Some d) = write_open v bytes (v.opened d.id)
+
+abbrev pub fd_write : ℕ → List ℕ → Meaning
+fd_write fd bytes = record {
+  named = fd ∷ [];
+  need = record { fd = fd; base = FD_WRITE; inheriting = NONE } ∷ [];
+  seen = fd ∷ [];
+  does = λ constants v who table. write_to v bytes (get table fd);
+  changes = λ S table. reached_by S (get table fd);
+  errors = Badf ∷ [];
+  takes_memory = true;
+}
