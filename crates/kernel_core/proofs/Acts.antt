@@ -1,32 +1,37 @@
 -- What a call does, by the table of its process.
 use Rattle.std.proofs.Common.{◌≡◌, ℕ, List, Option, None, Some, inl, sym, ap, ◌∙◌}
 use Rattle.std.specs.FinMap.{get, insert}
-use Rattle.abi_types.specs.declared.call.Answer.TheVariants as answer
+use Rattle.abi_types.specs.declared.call.Answer.{Answer}
 use Rattle.abi_types.specs.declared.call.Call.{Call}
 use Rattle.abi_types.specs.declared.call.Reply.{Reply}
+use Rattle.abi_types.specs.declared.constants.Constants.{Constants}
 use Rattle.abi_types.specs.declared.descriptor.Descriptor.{Descriptor}
 use Rattle.abi_types.specs.declared.open_kind.OpenKind.{OpenKind}
 use Rattle.abi_types.specs.declared.open_kind.OpenKind.TheVariants.{Terminal}
-use Rattle.kernel_model.specs.Cases.{Outcome, answers, case_of, write_term, write_open, fd_write}
-use Rattle.kernel_model.specs.Need.{need, refusal}
+use Rattle.abi_types.specs.declared.who.Who.{Who}
+use Rattle.kernel_model.specs.Calls.{meaning_of, refusal}
+use Rattle.kernel_model.specs.Outcome.{Outcome, replies}
 use Rattle.kernel_model.specs.Release.{release}
 use Rattle.kernel_model.specs.State.{State, Table, put_all}
 use Rattle.kernel_model.specs.Step.{IsStep, act, act_on, outcome, tick, unless}
+use Rattle.kernel_model.specs.StreamCalls.{write_term, write_open, write_to}
 use Rattle.kernel_model.specs.Valid.{IsValid}
 use Rattle.kernel_model.specs.View.{whole}
-use Rattle.kernel_model.proofs.Sights.{outcome_reads}
+use Rattle.kernel_model.proofs.Outcomes.{outcome_reads}
 use Rattle.kernel_model.proofs.Valids.{release_valid}
 use Rattle.kernel_core.proofs.Streams.{some_stays, written_valid}
 
 -- a refused call answers the refusal alone
-pub act_refused : (S : State) (p : ℕ) (call : Call) (table : Table) (reply : Reply) → get S.tables p ≡ Some table → refusal table (need call) ≡ Some reply
-    → act (whole S) p call ≡ answers reply
-act_refused S p call table reply there is = ap (act_on (whole S) p call) there ∙ ap (λ r. unless r (case_of (whole S) p table call)) is
+pub act_refused : (constants : Constants) (S : State) (who : Who) (call : Call) (table : Table) (reply : Reply) → get S.tables who.pid ≡ Some table
+    → refusal table call ≡ Some reply → act constants (whole S) who call ≡ replies reply
+act_refused constants S who call table reply there is =
+    ap (act_on constants (whole S) who call) there ∙ ap (λ r. unless r ((meaning_of call).does constants (whole S) who table)) is
 
--- a call that isn't refused does its case
-pub act_allowed : (S : State) (p : ℕ) (call : Call) (table : Table) → get S.tables p ≡ Some table → refusal table (need call) ≡ None
-    → act (whole S) p call ≡ case_of (whole S) p table call
-act_allowed S p call table there is = ap (act_on (whole S) p call) there ∙ ap (λ r. unless r (case_of (whole S) p table call)) is
+-- a call that isn't refused does what it does
+pub act_allowed : (constants : Constants) (S : State) (who : Who) (call : Call) (table : Table) → get S.tables who.pid ≡ Some table
+    → refusal table call ≡ None → act constants (whole S) who call ≡ (meaning_of call).does constants (whole S) who table
+act_allowed constants S who call table there is =
+    ap (act_on constants (whole S) who call) there ∙ ap (λ r. unless r ((meaning_of call).does constants (whole S) who table)) is
 
 -- a write ends no open
 written_released : (S : State) (bytes : List ℕ) (which : ℕ) (term : Option (List ℕ)) → IsValid S
@@ -40,23 +45,24 @@ opened_released S bytes None v = release_valid S v
 opened_released S bytes (Some (Terminal which flags)) v = written_released S bytes which (get S.terms which) v
 
 pub write_released : (S : State) (bytes : List ℕ) (d : Option Descriptor) → IsValid S
-    → release (put_all (fd_write (whole S) bytes d).updates S) ≡ put_all (fd_write (whole S) bytes d).updates S
+    → release (put_all (write_to (whole S) bytes d).updates S) ≡ put_all (write_to (whole S) bytes d).updates S
 write_released S bytes None v = release_valid S v
 write_released S bytes (Some d) v = opened_released S bytes (get S.opens d.id) v
 
--- a reply and a state that are those of an outcome are those of the call that has this outcome
-pub by_outcome : (S T : State) (p : ℕ) (call : Call) (reply : Reply) (o : Outcome) → act (whole S) p call ≡ o
-    → (reply ≡ o.reply) × (T ≡ release (put_all o.updates S))
-    → (reply ≡ (act (whole S) p call).reply) × (T ≡ release (put_all (act (whole S) p call).updates S))
-by_outcome S T p call reply o e done =
-    (done.0 ∙ sym (ap (λ (x : Outcome). x.reply) e), done.1 ∙ sym (ap (λ (x : Outcome). release (put_all x.updates S)) e))
+-- an answer and a state that are those of an outcome are those of the call that has this outcome
+pub by_outcome : (constants : Constants) (S T : State) (who : Who) (call : Call) (given : Answer) (o : Outcome) → act constants (whole S) who call ≡ o
+    → (given ≡ o.answer) × (T ≡ release (put_all o.updates S))
+    → (given ≡ (act constants (whole S) who call).answer) × (T ≡ release (put_all (act constants (whole S) who call).updates S))
+by_outcome constants S T who call given o e done =
+    (done.0 ∙ sym (ap (λ (x : Outcome). x.answer) e), done.1 ∙ sym (ap (λ (x : Outcome). release (put_all x.updates S)) e))
 
 -- a call that was done is a step of the definition
-pub done_is_step : (S U : State) (p : ℕ) (call : Call) (reply : Reply) → reply ≡ (act (whole (tick S)) p call).reply
-    → U ≡ release (put_all (act (whole (tick S)) p call).updates (tick S)) → IsStep S p call (answer.Reply reply) U
-done_is_step S U p call reply replied left =
-    let same : outcome S p call ≡ act (whole (tick S)) p call = outcome_reads S p call in
+pub done_is_step : (constants : Constants) (S U : State) (who : Who) (call : Call) (given : Answer)
+    → given ≡ (act constants (whole (tick S)) who call).answer
+    → U ≡ release (put_all (act constants (whole (tick S)) who call).updates (tick S)) → IsStep constants S who call given U
+done_is_step constants S U who call given answered left =
+    let same : outcome constants S who call ≡ act constants (whole (tick S)) who call = outcome_reads constants S who call in
     inl (
-      ap (λ (r : Reply). answer.Reply r) (replied ∙ ap (λ (o : Outcome). o.reply) (sym same)),
+      answered ∙ ap (λ (o : Outcome). o.answer) (sym same),
       left ∙ ap (λ (o : Outcome). release (put_all o.updates (tick S))) (sym same),
     )

@@ -4,13 +4,16 @@ use Rattle.abi_types.specs.declared.call.Answer.{Answer}
 use Rattle.abi_types.specs.declared.call.Answer.TheVariants as answer
 use Rattle.abi_types.specs.declared.call.Call.{Call}
 use Rattle.abi_types.specs.declared.call.Reply.{Reply}
+use Rattle.abi_types.specs.declared.constants.Constants.{Constants}
+use Rattle.abi_types.specs.declared.who.Who.{Who}
 use Rattle.abi_base.specs.declared.errno.Errno.TheVariants.{Success}
 use Rattle.kernel_model.specs.State.{State}
-use Rattle.kernel_model.specs.Step.{tick, IsStep}
+use Rattle.kernel_model.specs.Step.{failed, IsStep}
 use Rattle.kernel_model.specs.Valid.{IsValid}
 use Rattle.kernel_model.proofs.Refusals.{error_keeps}
 
 -- a call that answers an error changes only the clock
-pub step_refused : (S T : State) (p : ℕ) (call : Call) (given : Answer) (reply : Reply) → IsValid S → IsStep S p call given T
-    → given ≡ answer.Reply reply → reply.errno ≢ Success → T ≡ tick S
-step_refused S T p call given reply v step is fails = error_keeps S p call reply T (subst (λ (a : Answer). IsStep S p call a T) is step) v fails
+pub step_refused : (constants : Constants) (S T : State) (who : Who) (call : Call) (given : Answer) (reply : Reply) → IsValid S
+    → IsStep constants S who call given T → given ≡ answer.Reply reply → reply.errno ≢ Success → T ≡ failed S who
+step_refused constants S T who call given reply v step is fails =
+    error_keeps constants S who call reply T (subst (λ (a : Answer). IsStep constants S who call a T) is step) v fails

@@ -25,10 +25,12 @@ behind_stays S terms stays (Terminal which flags) there = stays which there
 pub written_valid : (S : State) (terms : FinMap nat_cmp (List ℕ)) → ((k : ℕ) → IsSome (get S.terms k) → IsSome (get terms k))
     → IsValid S → IsValid (record S { terms = terms })
 written_valid S terms stays v = record {
-  named = v.named;
+  nearly = record {
+    named = v.nearly.named;
+    behind = λ o kind e. behind_stays S terms stays kind (v.nearly.behind o kind e);
+    tables = v.nearly.tables;
+    threads = v.nearly.threads;
+    ended = v.nearly.ended;
+  };
   held = v.held;
-  behind = λ o kind e. behind_stays S terms stays kind (v.behind o kind e);
-  tables = v.tables;
-  threads = v.threads;
-  ended = v.ended;
 }

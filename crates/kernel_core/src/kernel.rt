@@ -2,25 +2,28 @@
 ghost use Rattle.std.specs.Prelude.{◌≡◌, ◌≢◌, ◌∷◌, ◌^◌, ◌<◌, ◌≤◌, ◌↔◌, ℕ, [], Some, None, IsSome, IfOk, OnErr, IsTrue, false, length, unwrap_or};
 ghost use Rattle.std.specs.FinMap as map;
 ghost use Rattle.kernel_core.specs.Kernel.{terms_after, thread_of, is_live, any_live};
-ghost use Rattle.kernel_model.specs.Cases.{write_term, write_open, fd_write, end_updates};
+ghost use Rattle.kernel_model.specs.Calls.{named, need};
 ghost use Rattle.kernel_model.specs.Laws.{HasAll, IsFirstLack, IsOfFirstLack};
-ghost use Rattle.kernel_model.specs.Need.{need, missing};
+ghost use Rattle.kernel_model.specs.Need.{missing};
+ghost use Rattle.kernel_model.specs.ProcessCalls.{end_updates};
 ghost use Rattle.kernel_model.specs.Release.{release, is_released};
 ghost use Rattle.kernel_model.specs.Reply.{denied};
 ghost use Rattle.abi_base.specs.Grants.{AreGrants};
+ghost use Rattle.kernel_model.specs.Sight.{own_parts};
 ghost use Rattle.kernel_model.specs.Start.{start_state};
-ghost use Rattle.kernel_model.specs.State.{put_all, Table, Part, at_clock, at_proc, at_status, has_part, Agree};
-ghost use Rattle.kernel_model.specs.Step.{act, tick, MayLackMemory, IsStep, IsUntouched, end_unreleased, end_state};
+ghost use Rattle.kernel_model.specs.State.{put_all, Table, Part, has_part, Agree};
+ghost use Rattle.kernel_model.specs.Step.{act, failed, MayLackMemory, IsStep, IsUntouched, end_unreleased, end_state};
+ghost use Rattle.kernel_model.specs.StreamCalls.{write_term, write_to};
 ghost use Rattle.kernel_model.specs.Valid.{IsValid};
 ghost use Rattle.kernel_model.specs.View.{whole};
 
-use crate::needs::{need, placed, refusal, refused, success};
+use crate::needs::{named, need, placed, refusal, refused, success};
 use crate::objects::Objects;
 use crate::start::{granted, single, unwritten};
 use crate::table::{Table as Descriptors, let_go_all};
 use abi_types::{
-    Answer, Bytes, Call, Denial, Descriptor, Errno, Needed, OpenKind, Pid, Reply, Status, Thread,
-    Tid,
+    Answer, Bytes, Call, Constants, Denial, Descriptor, Errno, Needed, OpenKind, Pid, Reply, Status,
+    Thread, Tid, Who,
 };
 use number_map::NumMap;
 use run_types::Launch;
@@ -56,18 +59,18 @@ impl Model for Kernel {
 }
 
 // Writes the bytes to a standard stream. `Err` changes nothing.
-fn write_term(terms: &mut NumMap<Bytes>, which: u32, bytes: &Bytes) -> Result<Reply, AllocError>
-    ensures ok { IfOk result (λ reply. (reply ≡ (write_term bytes.now which (map.get terms.old which)).reply)
+fn write_term(terms: &mut NumMap<Bytes>, which: u32, bytes: &Bytes) -> Result<Answer, AllocError>
+    ensures ok { IfOk result (λ given. (given ≡ (write_term bytes.now which (map.get terms.old which)).answer)
         × (terms.new ≡ terms_after (write_term bytes.now which (map.get terms.old which)).updates terms.old)) }
     ensures err { OnErr result (terms.new ≡ terms.old) }
     ensures there { (k : ℕ) → IsSome (map.get terms.old k) → IsSome (map.get terms.new k) }
 {
     if !terms.contains(u64::from(which)) {
-        return Ok(refused(Errno::Badf));
+        return Ok(Answer::Reply(refused(Errno::Badf)));
     }
     let written = terms.get_mut(u64::from(which));
     match written.append(bytes.as_slice()) {
-        Ok(()) => Ok(success(bytes.len() as u64, 0)),
+        Ok(()) => Ok(Answer::Reply(success(bytes.len() as u64, 0))),
         Err(error) => Err(error),
     }
 }
@@ -112,81 +115,82 @@ impl Kernel {
     }
 
     // Writes the bytes to what the descriptor stands for. `Err` changes nothing.
-    fn fd_write(&mut self, pid: Pid, fd: u32, bytes: &Bytes) -> Result<Reply, AllocError>
-        ensures ok { IfOk result (λ reply. (table : Table) → map.get self.old.tables pid ≡ Some table →
-            (reply ≡ (fd_write (whole self.old) bytes.now (map.get table fd)).reply)
-            × (self.new ≡ put_all (fd_write (whole self.old) bytes.now (map.get table fd)).updates self.old)) }
+    fn fd_write(&mut self, pid: Pid, fd: u32, bytes: &Bytes) -> Result<Answer, AllocError>
+        ensures ok { IfOk result (λ given. (table : Table) → map.get self.old.tables pid ≡ Some table →
+            (given ≡ (write_to (whole self.old) bytes.now (map.get table fd)).answer)
+            × (self.new ≡ put_all (write_to (whole self.old) bytes.now (map.get table fd)).updates self.old)) }
         ensures err { OnErr result (self.new ≡ self.old) }
     {
         let Some(table) = self.tables.get(u64::from(pid.0)) else {
-            return Ok(refused(Errno::Badf));
+            return Ok(Answer::Reply(refused(Errno::Badf)));
         };
         let Some(descriptor) = table.get(u64::from(fd)) else {
-            return Ok(refused(Errno::Badf));
+            return Ok(Answer::Reply(refused(Errno::Badf)));
         };
         match self.objects.get(descriptor.id) {
-            None => Ok(refused(Errno::Badf)),
+            None => Ok(Answer::Reply(refused(Errno::Badf))),
             Some(OpenKind::Terminal { which, .. }) => write_term(&mut self.terms, *which, bytes),
         }
     }
 
     // Does a call, but for the clock. `Err` changes nothing.
-    fn act(&mut self, pid: Pid, call: &Call) -> Result<Reply, AllocError>
-        requires { IsSome (map.get self.old.statuses pid) }
-        ensures ok { IfOk result (λ reply. (reply ≡ (act (whole self.old) pid call.now).reply)
-            × (self.new ≡ release (put_all (act (whole self.old) pid call.now).updates self.old))) }
-        ensures err { OnErr result (MayLackMemory self.old pid call.now × (self.new ≡ self.old)) }
+    fn act(&mut self, constants: &Constants, who: &Who, call: &Call) -> Result<Answer, AllocError>
+        requires { IsSome (map.get self.old.statuses who.now.pid) }
+        ensures ok { IfOk result (λ given. (given ≡ (act constants.now (whole self.old) who.now call.now).answer)
+            × (self.new ≡ release (put_all (act constants.now (whole self.old) who.now call.now).updates self.old))) }
+        ensures err { OnErr result (MayLackMemory self.old who.now call.now × (self.new ≡ self.old)) }
     {
-        let Some(table) = self.tables.get(u64::from(pid.0)) else {
-            return Ok(refused(Errno::Badf));
+        let Some(table) = self.tables.get(u64::from(who.pid.0)) else {
+            return Ok(Answer::Reply(refused(Errno::Badf)));
         };
-        if let Some(reply) = refusal(table, need(call).as_slice()) {
-            return Ok(reply);
+        if let Some(reply) = refusal(table, named(call).as_slice(), need(call).as_slice()) {
+            return Ok(Answer::Reply(reply));
         }
         match call {
-            Call::FdWrite { fd, bytes } => self.fd_write(pid, *fd, bytes),
+            Call::FdWrite { fd, bytes } => self.fd_write(who.pid, *fd, bytes),
             Call::ProcExit { code } => {
-                self.end_process(pid, Status::Exit(*code));
-                Ok(success(0, 0))
+                self.end_process(who.pid, Status::Exit(*code));
+                Ok(Answer::Reply(success(0, 0)))
             }
-            Call::MemMap { place, .. } => Ok(placed(*place)),
-            Call::Memory { errno, .. } => Ok(refused(*errno)),
-            Call::Refused { errno, .. } => Ok(refused(*errno)),
+            Call::MemMap { place, .. } => Ok(Answer::Reply(placed(*place))),
+            Call::Memory { errno, .. } => Ok(Answer::Reply(refused(*errno))),
+            Call::Refused { errno, .. } => Ok(Answer::Reply(refused(*errno))),
         }
     }
 
     // A call, with the clock.
-    fn run(&mut self, pid: Pid, call: &Call) -> Answer
-        requires live { map.get self.old.statuses pid ≡ Some Status.Live }
+    fn run(&mut self, constants: &Constants, who: &Who, call: &Call) -> Answer
+        requires live { map.get self.old.statuses who.now.pid ≡ Some Status.Live }
         requires early { self.old.clock < 2 ^ 63 }
-        ensures step { IsStep self.old pid call.now result self.new }
+        ensures step { IsStep constants.now self.old who.now call.now result self.new }
         ensures valid { IsValid self.old }
     {
         self.clock += STEP_TIME;
-        match self.act(pid, call) {
-            Ok(reply) => Answer::Reply(reply),
+        match self.act(constants, who, call) {
+            Ok(answer) => answer,
             Err(_) => Answer::Reply(refused(Errno::Nomem)),
         }
     }
 
-    /// A call of a live process's runnable thread: the answer, and the state after it. Each call takes 1000 nanoseconds.
-    /// `Errno::Nomem` comes only where memory is wanting, and then only the clock has moved. A call that answers any
-    /// other error moves only the clock too. `Errno::Notcapable` comes with exactly the rights that are missing.
-    pub fn step(&mut self, pid: Pid, tid: Tid, call: &Call) -> Answer
-        requires live { map.get self.old.statuses pid ≡ Some Status.Live }
-        requires runnable { thread_of self.old pid tid ≡ Some Thread.Runnable }
+    /// A call of a live process's runnable thread in a run with these constants: the answer, and the state after it. Each
+    /// call takes 1000 nanoseconds. `Errno::Nomem` comes only where memory is wanting, and then only the clock has moved. A
+    /// call that answers any other error moves only the clock too. `Errno::Notcapable` comes with exactly the rights that
+    /// are missing.
+    pub fn step(&mut self, constants: &Constants, who: &Who, call: &Call) -> Answer
+        requires live { map.get self.old.statuses who.now.pid ≡ Some Status.Live }
+        requires runnable { thread_of self.old who.now.pid who.now.tid ≡ Some Thread.Runnable }
         requires early { self.old.clock < 2 ^ 63 }
-        ensures step { IsStep self.old pid call.now result self.new }
+        ensures step { IsStep constants.now self.old who.now call.now result self.new }
         ensures valid { IsValid self.new }
-        ensures others { (q : Part) → IsUntouched self.old pid call.now q → Agree self.new self.old q }
-        ensures denied { (table : Table) (row : Needed) (d : Descriptor) → map.get self.old.tables pid ≡ Some table
-            → HasAll table (need call.now) → IsFirstLack table (need call.now) row d
+        ensures others { (q : Part) → IsUntouched constants.now self.old who.now call.now q → Agree self.new self.old q }
+        ensures denied { (table : Table) (row : Needed) (d : Descriptor) → map.get self.old.tables who.now.pid ≡ Some table
+            → HasAll table (named call.now) → IsFirstLack table (need call.now) row d
             → result ≡ Answer.Reply (denied (missing d row)) }
         ensures only { (reply : Reply) (denial : Denial) → result ≡ Answer.Reply reply → reply.denial ≡ Some denial
-            → IsOfFirstLack self.old pid call.now denial }
-        ensures refused { (reply : Reply) → result ≡ Answer.Reply reply → reply.errno ≢ Errno.Success → self.new ≡ tick self.old }
+            → IsOfFirstLack self.old who.now call.now denial }
+        ensures refused { (reply : Reply) → result ≡ Answer.Reply reply → reply.errno ≢ Errno.Success → self.new ≡ failed self.old who.now }
     {
-        self.run(pid, call)
+        self.run(constants, who, call)
     }
 
     /// Ends a live process from outside, by a trap or at the end of its turns. It takes 1000 nanoseconds.
@@ -195,7 +199,7 @@ impl Kernel {
         requires early { self.old.clock < 2 ^ 63 }
         ensures end { self.new ≡ end_state self.old pid status }
         ensures valid { IsValid self.new }
-        ensures others { (q : Part) → has_part (at_clock ∷ at_proc pid ∷ at_status pid ∷ []) q ≡ false
+        ensures others { (q : Part) → has_part (own_parts pid) q ≡ false
             → is_released (end_unreleased self.old pid status) q ≡ false → Agree self.new self.old q }
     {
         self.clock += STEP_TIME;

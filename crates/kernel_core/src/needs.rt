@@ -1,7 +1,8 @@
 //! What a call needs of its descriptors, and the refusals for want of it.
 ghost use Rattle.std.specs.Prelude.{◌≡◌, Some};
-ghost use Rattle.kernel_model.specs.Cases.{placed};
-ghost use Rattle.kernel_model.specs.Need.{need, refusal, some_absent, first_lack, lack_at};
+ghost use Rattle.kernel_model.specs.Calls.{named, need};
+ghost use Rattle.kernel_model.specs.MemoryCalls.{placed};
+ghost use Rattle.kernel_model.specs.Need.{refusal, some_absent, first_lack, lack_at};
 ghost use Rattle.kernel_model.specs.Reply.{success, refused, denied};
 ghost use Rattle.std.specs.FinMap as map;
 
@@ -43,7 +44,18 @@ pub fn placed(place: Place) -> Reply
     }
 }
 
-/// What the call needs, in the order of its arguments.
+/// The descriptors that must be there for the call, in the order of its arguments.
+pub fn named(call: &Call) -> ArrayVec<u32, 2>
+    ensures { result.items ≡ named call.now }
+{
+    let mut fds = ArrayVec::new();
+    if let Call::FdWrite { fd, .. } = call {
+        fds.push(*fd);
+    }
+    fds
+}
+
+/// The rights that the call needs of its descriptors, in the order of its arguments.
 pub fn need(call: &Call) -> ArrayVec<Needed, 2>
     ensures { result.items ≡ need call.now }
 {
@@ -58,12 +70,12 @@ pub fn need(call: &Call) -> ArrayVec<Needed, 2>
     rows
 }
 
-// Whether some needed descriptor is absent.
-fn some_absent(table: &Table, rows: &[Needed]) -> bool
-    ensures { result ≡ some_absent table.now rows.now }
+// Whether some of these descriptors is absent.
+fn some_absent(table: &Table, fds: &[u32]) -> bool
+    ensures { result ≡ some_absent table.now fds.now }
 {
-    for row in rows {
-        if !table.contains(u64::from(row.fd)) {
+    for fd in fds {
+        if !table.contains(u64::from(*fd)) {
             return true;
         }
     }
@@ -101,11 +113,11 @@ fn first_lack(table: &Table, rows: &[Needed]) -> Option<Denial>
     None
 }
 
-/// The refusal for want of a descriptor, and where all are there for want of rights.
-pub fn refusal(table: &Table, rows: &[Needed]) -> Option<Reply>
-    ensures { result ≡ refusal table.now rows.now }
+/// The refusal for want of a descriptor that is named, and where all are there for want of rights.
+pub fn refusal(table: &Table, named: &[u32], rows: &[Needed]) -> Option<Reply>
+    ensures { result ≡ refusal table.now named.now rows.now }
 {
-    if some_absent(table, rows) {
+    if some_absent(table, named) {
         return Some(refused(Errno::Badf));
     }
     first_lack(table, rows).map(|denial| Reply {

@@ -1,13 +1,19 @@
 use Rattle.std.proofs.Common.{◌≡◌, Some, None, refl, sym, ap, subst, ◌∙◌}
 use Rattle.std.proofs.lemmas.Result.{IfOk-weaker}
 use Rattle.std.specs.FinMap.{get}
+use Rattle.abi_types.specs.declared.call.Answer.{Answer}
+use Rattle.abi_types.specs.declared.call.Answer.TheVariants as answer
 use Rattle.abi_types.specs.declared.call.Reply.{Reply}
-use Rattle.kernel_model.specs.Cases.{answers, case_of, fd_write, placed}
-use Rattle.kernel_model.specs.Need.{need, refusal}
+use Rattle.abi_types.specs.declared.who.Who.{Who}
+use Rattle.kernel_model.specs.Calls.{meaning_of, named, need, refusal}
+use Rattle.kernel_model.specs.MemoryCalls.{placed}
+use Rattle.kernel_model.specs.Need as needs
+use Rattle.kernel_model.specs.Outcome.{Outcome, replies}
 use Rattle.kernel_model.specs.Reply.{refused}
 use Rattle.kernel_model.specs.Release.{release}
 use Rattle.kernel_model.specs.State.{State, put_all}
 use Rattle.kernel_model.specs.Step.{act}
+use Rattle.kernel_model.specs.StreamCalls.{write_to}
 use Rattle.kernel_model.specs.Valid.{IsValid}
 use Rattle.kernel_model.specs.View.{whole}
 use Rattle.kernel_model.proofs.Valids.{release_valid}
@@ -16,66 +22,81 @@ use Rattle.kernel_core.proofs.kernel.Kernel.act.Goals as goal
 use Rattle.kernel_core.proofs.kernel.Kernel.act.Goals.{After-refusal}
 
 -- the process's table is the one that was found
-there : (c : After-refusal) → get c.args.self.now.tables c.args.pid ≡ Some c.in-Some.table.now
+there : (c : After-refusal) → get c.args.self.now.tables c.args.who.now.pid ≡ Some c.in-Some.table.now
 there c =
-    ap (λ (S : State). get S.tables c.args.pid) (sym c.self.view_is)
-    ∙ ap (get c.self.inside.tables) (sym (c.from.ensures ∙ c.pid.view_is))
+    ap (λ (S : State). get S.tables c.args.who.now.pid) (sym c.self.view_is)
+    ∙ ap (get c.self.inside.tables) (sym (c.from.ensures ∙ ap (λ (w : Who). w.pid) c.who.view_is))
     ∙ sym c.in-Some.ensures.value
 
 valid : (c : After-refusal) → IsValid c.args.self.now
 valid c = subst IsValid c.self.view_is c.self.invariant.valid
 
--- the refusal is of what the call needs
-rows : (c : After-refusal) → refusal c.in-Some.table.now (need c.args.call.now) ≡ c.refusal.result
-rows c = ap (refusal c.in-Some.table.now) (sym (c.as_slice.ensures.value ∙ c.need.ensures)) ∙ sym c.refusal.ensures
+-- the refusal is of what the call names and needs
+rows : (c : After-refusal) → refusal c.in-Some.table.now c.args.call.now ≡ c.refusal.result
+rows c =
+    ap (λ fds. needs.refusal c.in-Some.table.now fds (need c.args.call.now)) (sym (c.as_slice.ensures.value ∙ c.named.ensures))
+    ∙ ap (needs.refusal c.in-Some.table.now c.as_slice.result.now) (sym (c.as_slice-2.ensures.value ∙ c.need.ensures))
+    ∙ sym c.refusal.ensures
 
--- what is said of a call's reply, where the call changes nothing
-abbrev IsAnswered : After-refusal → Reply → Type 0
-IsAnswered c reply =
-    let o = act (whole c.args.self.now) c.args.pid c.args.call.now in
-    (reply ≡ o.reply) × (c.args.self.now ≡ release (put_all o.updates c.args.self.now))
+-- what is said of a call's answer, where the call changes nothing
+abbrev IsAnswered : After-refusal → Answer → Type 0
+IsAnswered c given =
+    let o = act c.args.constants.now (whole c.args.self.now) c.args.who.now c.args.call.now in
+    (given ≡ o.answer) × (c.args.self.now ≡ release (put_all o.updates c.args.self.now))
 
--- a call that isn't refused, and whose case sets nothing
-answered : (c : After-refusal) (reply case : Reply) → c.refusal.result ≡ None
-    → case_of (whole c.args.self.now) c.args.pid c.in-Some.table.now c.args.call.now ≡ answers case → reply ≡ case → IsAnswered c reply
-answered c reply case allowed is same =
+-- a call whose outcome is a reply alone
+replied : (c : After-refusal) (reply : Reply) → act c.args.constants.now (whole c.args.self.now) c.args.who.now c.args.call.now ≡ replies reply
+    → IsAnswered c (answer.Reply reply)
+replied c reply is =
     let S = c.args.self.now in
-    by_outcome S S c.args.pid c.args.call.now reply (answers case)
-    (act_allowed S c.args.pid c.args.call.now c.in-Some.table.now (there c) (rows c ∙ allowed) ∙ is)
-    (same, sym (release_valid S (valid c)))
+    by_outcome c.args.constants.now S S c.args.who.now c.args.call.now (answer.Reply reply) (replies reply) is (refl, sym (release_valid S (valid c)))
+
+-- a call that isn't refused, and that sets nothing
+answered : (c : After-refusal) (reply case : Reply) → c.refusal.result ≡ None
+    → (meaning_of c.args.call.now).does c.args.constants.now (whole c.args.self.now) c.args.who.now c.in-Some.table.now ≡ replies case → reply ≡ case
+    → IsAnswered c (answer.Reply reply)
+answered c reply case allowed is same =
+    replied c reply
+    (act_allowed c.args.constants.now c.args.self.now c.args.who.now c.args.call.now c.in-Some.table.now (there c) (rows c ∙ allowed)
+    ∙ is ∙ ap replies (sym same))
 
 pub returns-in-Some-refusal-clause-ok : goal.returns-in-Some-refusal-clause-ok
 returns-in-Some-refusal-clause-ok c =
     let a = (goal.at.returns-in-Some-refusal-clause-ok c).After-refusal in
-    let S = c.args.self.now in
-    by_outcome S S c.args.pid c.args.call.now c.in-Some-refusal.reply (answers c.in-Some-refusal.reply)
-    (act_refused S c.args.pid c.args.call.now c.in-Some.table.now c.in-Some-refusal.reply (there a) (rows a ∙ c.in-Some-refusal.is))
-    (refl, sym (release_valid S (valid a)))
+    replied a c.in-Some-refusal.reply
+    (act_refused c.args.constants.now c.args.self.now c.args.who.now c.args.call.now c.in-Some.table.now c.in-Some-refusal.reply (there a)
+    (rows a ∙ c.in-Some-refusal.is))
 
 pub returns-in-FdWrite-clause-ok : goal.returns-in-FdWrite-clause-ok
 returns-in-FdWrite-clause-ok c =
     let a = (goal.at.returns-in-FdWrite-clause-ok c).After-refusal in
+    let constants = c.args.constants.now in
     let S = c.args.self.now in
+    let who = c.args.who.now in
     let table = c.in-Some.table.now in
     let found = get table c.in-FdWrite.fd in
-    let allowed : act (whole S) c.args.pid c.args.call.now ≡ fd_write (whole S) c.in-FdWrite.bytes found =
-    act_allowed S c.args.pid c.args.call.now table (there a) (rows a ∙ c.in_default-refusal.is) ∙ ap (case_of (whole S) c.args.pid table) c.in-FdWrite.is in
+    let allowed : act constants (whole S) who c.args.call.now ≡ write_to (whole S) c.in-FdWrite.bytes found =
+    act_allowed constants S who c.args.call.now table (there a) (rows a ∙ c.in_default-refusal.is)
+    ∙ ap (λ call. (meaning_of call).does constants (whole S) who table) c.in-FdWrite.is in
     IfOk-weaker _ _ _
-    (λ reply done. by_outcome S c.fd_write.new.self c.args.pid c.args.call.now reply _ allowed
+    (λ given done. by_outcome constants S c.fd_write.new.self who c.args.call.now given _ allowed
     ((done table (there a)).0, (done table (there a)).1 ∙ sym (write_released S c.in-FdWrite.bytes found (valid a))))
     c.fd_write.ensures.ok
 
 pub returns-in-Refused-clause-ok : goal.returns-in-Refused-clause-ok
 returns-in-Refused-clause-ok c =
     answered (goal.at.returns-in-Refused-clause-ok c).After-refusal c.refused-in-Refused.result (refused c.in-Refused.errno) c.in_default-refusal.is
-    (ap (case_of (whole c.args.self.now) c.args.pid c.in-Some.table.now) c.in-Refused.is) c.refused-in-Refused.ensures
+    (ap (λ call. (meaning_of call).does c.args.constants.now (whole c.args.self.now) c.args.who.now c.in-Some.table.now) c.in-Refused.is)
+    c.refused-in-Refused.ensures
 
 pub returns-in-MemMap-clause-ok : goal.returns-in-MemMap-clause-ok
 returns-in-MemMap-clause-ok c =
     answered (goal.at.returns-in-MemMap-clause-ok c).After-refusal c.placed.result (placed c.in-MemMap.place) c.in_default-refusal.is
-    (ap (case_of (whole c.args.self.now) c.args.pid c.in-Some.table.now) c.in-MemMap.is) c.placed.ensures
+    (ap (λ call. (meaning_of call).does c.args.constants.now (whole c.args.self.now) c.args.who.now c.in-Some.table.now) c.in-MemMap.is)
+    c.placed.ensures
 
 pub returns-in-Memory-clause-ok : goal.returns-in-Memory-clause-ok
 returns-in-Memory-clause-ok c =
     answered (goal.at.returns-in-Memory-clause-ok c).After-refusal c.refused-in-Memory.result (refused c.in-Memory.errno) c.in_default-refusal.is
-    (ap (case_of (whole c.args.self.now) c.args.pid c.in-Some.table.now) c.in-Memory.is) c.refused-in-Memory.ensures
+    (ap (λ call. (meaning_of call).does c.args.constants.now (whole c.args.self.now) c.args.who.now c.in-Some.table.now) c.in-Memory.is)
+    c.refused-in-Memory.ensures

@@ -2,13 +2,18 @@ use Rattle.std.proofs.Common.{◌≡◌, sym, ap, subst, ◌∙◌}
 use Rattle.kernel_model.specs.State.{State, Agree}
 use Rattle.kernel_model.specs.Step.{end_state}
 use Rattle.kernel_model.specs.Valid.{IsValid}
-use Rattle.kernel_model.proofs.Touches.{end_keeps}
-use Rattle.kernel_model.proofs.Valids.{end_valid}
+use Rattle.kernel_model.proofs.Touches.{end_is, end_keeps}
+use Rattle.kernel_model.proofs.Steps.{end_valid}
+use Rattle.kernel_core.specs.contracts.kernel.Kernel.{the_view}
 use Rattle.kernel_core.proofs.kernel.Kernel.end.Goals as goal
 use Rattle.kernel_core.proofs.kernel.Kernel.end.Goals.{After-end_process}
 
 after : (c : After-end_process) → c.end_process.new.self ≡ end_state c.args.self.now c.args.pid c.args.status
-after c = c.end_process.ensures ∙ ap (λ (S : State). end_state S c.args.pid c.args.status) c.self.view_is
+after c =
+    c.end_process.ensures ∙ sym (end_is (the_view c.self.inside) c.args.pid c.args.status) ∙ ap (λ (S : State). end_state S c.args.pid c.args.status) c.self.view_is
+
+pub returns-clause-end : goal.returns-clause-end
+returns-clause-end c = after (goal.at.returns-clause-end c).After-end_process
 
 pub returns-clause-valid : goal.returns-clause-valid
 returns-clause-valid c =

@@ -4,11 +4,11 @@ use Rattle.std.specs.FinMap.{FinMap, get, insert, empty, retain_keys}
 use Rattle.abi_types.specs.declared.open_kind.OpenKind.{OpenKind}
 use Rattle.number_map.specs.Maps.{number, total}
 use Rattle.kernel_core.specs.Objects.{Held, is_held}
-use Rattle.kernel_model.specs.Cases.{end_updates}
+use Rattle.kernel_model.specs.ProcessCalls.{end_updates}
 use Rattle.kernel_model.specs.Release.{count_in, holders, release}
 use Rattle.kernel_model.specs.State.{State, put_all}
 use Rattle.kernel_model.specs.Valid.{IsValid}
-use Rattle.kernel_model.proofs.Valids.{nearly_valid, end_nearly_valid, release_restores}
+use Rattle.kernel_model.proofs.Valids.{end_nearly_valid, release_restores}
 use Rattle.kernel_core.specs.contracts.kernel.Kernel.{the_view}
 use Rattle.kernel_core.proofs.Ends.{covered, left_holders, retain_same, number-retain}
 use Rattle.kernel_core.proofs.kernel.Kernel.end_process.Goals as goal
@@ -56,7 +56,7 @@ pub invariant_of-self : goal.invariant_of-self
 invariant_of-self c =
     let a = (goal.at.invariant_of-self c).After-remove_unheld in
     record {
-      valid = subst IsValid (sym (after a)) (release_restores _ (end_nearly_valid (the_view a.self.inside) a.args.pid a.args.status (nearly_valid _ a.self.invariant.valid)));
+      valid = subst IsValid (sym (after a)) (release_restores _ (end_nearly_valid (the_view a.self.inside) a.args.pid a.args.status a.self.invariant.valid.nearly));
       counted = λ o.
           ap (λ (h : Held). number (get h.counts o)) a.remove_unheld.ensures
           ∙ number-retain a.let_go_all.new.objects.counts o

@@ -8,8 +8,9 @@ use Rattle.kernel_core.proofs.kernel.Kernel.run.Goals as goal
 
 pub returns-in-Ok-clause-step : goal.returns-in-Ok-clause-step
 returns-in-Ok-clause-step c =
-    let p = c.args.pid in
+    let constants = c.args.constants.now in
+    let who = c.args.who.now in
     let call = c.args.call.now in
-    done_is_step c.args.self.now c.act.new.self p call c.in-Ok.reply
-    ((c.in-Ok.ensures.ok.0) ∙ ap (λ (S : State). (act (whole (tick S)) p call).reply) c.self.view_is)
-    ((c.in-Ok.ensures.ok.1) ∙ ap (λ (S : State). release (put_all (act (whole (tick S)) p call).updates (tick S))) c.self.view_is)
+    done_is_step constants c.args.self.now c.act.new.self who call c.in-Ok.answer
+    ((c.in-Ok.ensures.ok.0) ∙ ap (λ (S : State). (act constants (whole (tick S)) who call).answer) c.self.view_is)
+    ((c.in-Ok.ensures.ok.1) ∙ ap (λ (S : State). release (put_all (act constants (whole (tick S)) who call).updates (tick S))) c.self.view_is)
