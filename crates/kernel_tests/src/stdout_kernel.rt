@@ -65,8 +65,7 @@ fn launch_with(alloc: Global, grants: GrantList) -> Launch
         argdata: Bytes::new(alloc),
         grants,
         stdin: Bytes::new(alloc),
-        key: [0; 32],
-        epoch: 0,
+        constants: CONSTANTS,
         turns: 1,
     }
 }

@@ -34,8 +34,7 @@ launch_with settings inputs planned = record {
   argdata = planned.0;
   grants = planned.1;
   stdin = inputs.stdin;
-  key = settings.key;
-  epoch = settings.epoch;
+  constants = record { key = settings.key; epoch = settings.epoch };
   turns = settings.turns;
 }
 
@@ -126,8 +125,8 @@ pub record IsBuiltLaunch (settings : Settings) (launch : Launch) : Type 0 where
   pub sound : fault_of program ≡ None
   pub elf : launch.elf ≡ image program
   pub planned : planned_text text ≡ Ok (launch.argdata, launch.grants)
-  pub key : launch.key ≡ settings.key
-  pub epoch : launch.epoch ≡ settings.epoch
+  pub key : launch.constants.key ≡ settings.key
+  pub epoch : launch.constants.epoch ≡ settings.epoch
   pub turns : launch.turns ≡ settings.turns
 
 -- the same of words that give these settings

@@ -135,8 +135,10 @@ fn launch_from<'a>(
             argdata,
             grants,
             stdin: inputs.stdin,
-            key: settings.key,
-            epoch: settings.epoch,
+            constants: Constants {
+                key: settings.key,
+                epoch: settings.epoch,
+            },
             turns: settings.turns,
         }),
         Err(Some(fault)) => Err(Refusal::LaunchText(fault)),

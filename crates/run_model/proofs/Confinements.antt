@@ -1,107 +1,102 @@
 -- Each entry of a legal history is confined.
-use Rattle.std.proofs.Common.{◌≡◌, ◌≢◌, inl, inr, ℕ, List, ◌∷◌, ◌++◌, IsSome, refl, sym, ap, subst, ◌∙◌}
+use Rattle.std.proofs.Common.{◌≡◌, ◌≢◌, inl, inr, ℕ, true, List, ◌∷◌, ◌++◌, IsSome, refl, sym, ap, subst, ◌∙◌}
 use Rattle.abi_types.specs.declared.call.Answer.{Answer}
 use Rattle.abi_types.specs.declared.call.Answer.TheVariants as answer
 use Rattle.abi_types.specs.declared.call.Call.{Call}
-use Rattle.abi_types.specs.declared.call.Call.TheVariants.{FdWrite, MemMap, Memory, ProcExit, Refused}
 use Rattle.abi_types.specs.declared.call.Reply.{Reply}
+use Rattle.abi_types.specs.declared.constants.Constants.{Constants}
 use Rattle.abi_base.specs.declared.errno.Errno.TheVariants.{Nomem, Notcapable}
 use Rattle.abi_base.specs.declared.signal.Signal.TheVariants.{Xcpu}
 use Rattle.abi_types.specs.declared.status.Status.TheVariants.{Killed}
+use Rattle.abi_types.specs.declared.who.Who.{Who}
 use Rattle.run_types.specs.declared.history.Act.{Act}
 use Rattle.run_types.specs.declared.history.Act.TheVariants as act
 use Rattle.run_types.specs.declared.history.Entry.{Entry}
 use Rattle.run_types.specs.declared.launch.Launch.{Launch}
-use Rattle.kernel_model.specs.Cases.{Outcome}
+use Rattle.kernel_model.specs.Calls.{takes_memory, refusal_of}
 use Rattle.kernel_model.specs.Laws.{HasSameSight, EndsAlike, IsNotDeniedEarly}
-use Rattle.kernel_model.specs.Need.{refusal_of}
+use Rattle.kernel_model.specs.Outcome.{Outcome}
 use Rattle.kernel_model.specs.Reply.{refused}
 use Rattle.abi_base.specs.Grants.{AreGrants}
 use Rattle.kernel_model.specs.State.{State, AgreeOn}
-use Rattle.kernel_model.specs.Step.{tick, sight, unreleased, step_reply, step_state, TakesMemory, IsStep}
+use Rattle.kernel_model.specs.Step.{tick, sight, unreleased, step_answer, step_state, failed, IsStep}
 use Rattle.kernel_model.specs.Valid.{IsValid}
-use Rattle.kernel_model.proofs.Carried.{Carries}
-use Rattle.kernel_model.proofs.Decisions.{sight_decides, step_decided, ticks_alike}
-use Rattle.kernel_model.proofs.Refusals.{lack_is_denied, notcapable_is_denied, error_keeps, same_reply, step_denial}
+use Rattle.kernel_model.proofs.Calls.{proper}
+use Rattle.kernel_model.proofs.Decisions.{sight_decides, step_decided, ticks_alike, same_refusal}
+use Rattle.kernel_model.proofs.Refusals.{lack_is_denied, notcapable_is_denied, replies_are_listed, reply_no_lack, error_keeps, same_reply, step_denial}
 use Rattle.kernel_model.proofs.Touches as touches
 use Rattle.run_model.specs.Confined.{MayAnswer, CallIsConfined, ActIsConfined, EntryIsConfined, IsConfined}
 use Rattle.run_model.specs.Legal.{FitsAct, Fits, Legal}
-use Rattle.run_model.specs.World.{World, Guest, guest_of, registers_of, called_state, turned_guest_by, turned, acted, world}
-use Rattle.run_model.proofs.Calls.{reply_no_lack}
-use Rattle.run_model.proofs.Spelled.{IsNoLack, args_not_denied}
+use Rattle.run_model.specs.World.{World, Guest, guest_of, registers_of, called_state, turned_guest_by, turned, acted, who_of, world}
+use Rattle.run_model.proofs.Spelled.{args_not_denied}
 use Rattle.run_model.proofs.Histories.{apply_is, legal_front, legal_next}
 use Rattle.run_model.proofs.Worlds.{world_is_valid}
 
-call_answers : (S : State) (p : ℕ) (call : Call) (given : Answer) (T U : State) → IsStep S p call given T → HasSameSight S U p call → MayAnswer U p call given
-call_answers S p call given T U (inl done) same =
-    (step_state U p call, inl (done.0 ∙ ap (λ (o : Outcome). answer.Reply o.reply) (sight_decides S U p call same), refl))
-call_answers S p call given T U (inr lacking) same =
-    (tick U, inr ((lacking.0.0, ap (refusal_of call) (sym same.1.1.0.0) ∙ lacking.0.1), lacking.1, refl))
+call_answers : (constants : Constants) (S : State) (who : Who) (call : Call) (given : Answer) (T U : State) → IsStep constants S who call given T
+    → HasSameSight S U who call → MayAnswer constants U who call given
+call_answers constants S who call given T U (inl done) same =
+    (step_state constants U who call, inl (done.0 ∙ ap (λ (o : Outcome). o.answer) (sight_decides constants S U who call same), refl))
+call_answers constants S who call given T U (inr lacking) same =
+    (failed U who, inr ((lacking.0.0, sym (same_refusal S U who call same) ∙ lacking.0.1), lacking.1, refl))
 
--- a call that takes memory carries no error
-takes_carries : (call : Call) → TakesMemory call → Carries IsNoLack call
-takes_carries (FdWrite fd bytes) takes = tt
-takes_carries (ProcExit code) takes = absurd takes
-takes_carries (MemMap place length prot flags fd offset) takes = absurd takes
-takes_carries (Memory number errno) takes = absurd takes
-takes_carries (Refused number errno) takes = absurd takes
+-- the answer of a call that takes memory is none of want of memory
+answer_is_other : (constants : Constants) (S : State) (who : Who) (call : Call) (given : Answer) → takes_memory call ≡ true
+    → given ≡ step_answer constants S who call → given ≡ answer.Reply (refused Nomem) → ⊥
+answer_is_other constants S who call given takes done lacking =
+    reply_no_lack constants S who call (refused Nomem) ((proper call).lacks takes) (sym done ∙ lacking) refl
 
--- the reply of a call that takes memory is none of want of memory
-reply_is_other : (S : State) (p : ℕ) (call : Call) (given : Answer) → TakesMemory call → given ≡ answer.Reply (step_reply S p call)
-    → given ≡ answer.Reply (refused Nomem) → ⊥
-reply_is_other S p call given takes done lacking =
-    reply_no_lack S p call (takes_carries call takes)
-    (ap (λ (r : Reply). r.errno) (same_reply (step_reply S p call) (refused Nomem) (sym done ∙ lacking)))
-
-call_leaves : (S : State) (p : ℕ) (call : Call) (given : Answer) (T U V : State) → IsStep S p call given T → HasSameSight S U p call
-    → EndsAlike (unreleased S p call) (unreleased U p call) (sight S p call) → IsStep U p call given V → AgreeOn T V (sight S p call)
-call_leaves S p call given T U V (inl done) same ends (inl again) =
-    subst (λ X. AgreeOn X V (sight S p call)) (sym done.1)
-    (subst (λ X. AgreeOn (step_state S p call) X (sight S p call)) (sym again.1) ((step_decided S U p call same).1 ends))
-call_leaves S p call given T U V (inl done) same ends (inr lacking) = absurd (reply_is_other S p call given lacking.0.0 done.0 lacking.1)
-call_leaves S p call given T U V (inr lacking) same ends (inl again) = absurd (reply_is_other U p call given lacking.0.0 again.0 lacking.1)
-call_leaves S p call given T U V (inr lacking) same ends (inr more) =
-    subst (λ X. AgreeOn X V (sight S p call)) (sym lacking.2)
-    (subst (λ X. AgreeOn (tick S) X (sight S p call)) (sym more.2) (ticks_alike S U (sight S p call) same.1))
+call_leaves : (constants : Constants) (S : State) (who : Who) (call : Call) (given : Answer) (T U V : State) → IsStep constants S who call given T
+    → HasSameSight S U who call → EndsAlike (unreleased constants S who call) (unreleased constants U who call) (sight S who call)
+    → IsStep constants U who call given V → AgreeOn T V (sight S who call)
+call_leaves constants S who call given T U V (inl done) same ends (inl again) =
+    subst (λ X. AgreeOn X V (sight S who call)) (sym done.1)
+    (subst (λ X. AgreeOn (step_state constants S who call) X (sight S who call)) (sym again.1) ((step_decided constants S U who call same).1 ends))
+call_leaves constants S who call given T U V (inl done) same ends (inr lacking) =
+    absurd (answer_is_other constants S who call given lacking.0.0 done.0 lacking.1)
+call_leaves constants S who call given T U V (inr lacking) same ends (inl again) =
+    absurd (answer_is_other constants U who call given lacking.0.0 again.0 lacking.1)
+call_leaves constants S who call given T U V (inr lacking) same ends (inr more) =
+    subst (λ X. AgreeOn X V (sight S who call)) (sym lacking.2)
+    (subst (λ X. AgreeOn (tick S) X (sight S who call)) (sym more.2) (ticks_alike S U (sight S who call) same.1))
 
 nomem_is_other : Nomem ≢ Notcapable
 nomem_is_other e = cc
 
-call_named : (S : State) (p : ℕ) (call : Call) (given : Answer) (T : State) (reply : Reply) → IsNotDeniedEarly call → IsStep S p call given T
-    → given ≡ answer.Reply reply → reply.errno ≡ Notcapable → IsSome reply.denial
-call_named S p call given T reply plain (inl done) is lacks =
-    let same : step_reply S p call ≡ reply = same_reply (step_reply S p call) reply (sym done.0 ∙ is) in
-    subst (λ (r : Reply). IsSome r.denial) same (notcapable_is_denied S p call plain (ap (λ (r : Reply). r.errno) same ∙ lacks))
-call_named S p call given T reply plain (inr lacking) is lacks =
+call_told : (constants : Constants) (S : State) (who : Who) (call : Call) (given : Answer) (T : State) (reply : Reply) → IsNotDeniedEarly call
+    → IsStep constants S who call given T → given ≡ answer.Reply reply → reply.errno ≡ Notcapable → IsSome reply.denial
+call_told constants S who call given T reply plain (inl done) is lacks =
+    notcapable_is_denied constants S who call reply plain (sym done.0 ∙ is) lacks
+call_told constants S who call given T reply plain (inr lacking) is lacks =
     absurd (nomem_is_other (ap (λ (r : Reply). r.errno) (same_reply (refused Nomem) reply (sym lacking.1 ∙ is)) ∙ lacks))
 
 -- a step is confined
-pub call_confined : (S : State) (p : ℕ) (call : Call) (given : Answer) (T : State) → IsValid S → IsNotDeniedEarly call → IsStep S p call given T
-    → CallIsConfined S p call given T
-call_confined S p call given T valid plain step = record {
-  answers = λ U same. call_answers S p call given T U step same;
-  sets = λ U same. sight_decides S U p call same;
-  leaves = λ U V same ends again. call_leaves S p call given T U V step same ends again;
-  changes = λ part outside. touches.others_stay S p call given T part step outside;
-  lacking = λ table row d own all first. lack_is_denied S p call given T table row d step own all first;
-  only = λ reply denial is denies. step_denial S p call given T reply denial step is denies;
-  named = λ reply is lacks. call_named S p call given T reply plain step is lacks;
-  error = λ reply is other. error_keeps S p call reply T (subst (λ a. IsStep S p call a T) is step) valid other;
+pub call_confined : (constants : Constants) (S : State) (who : Who) (call : Call) (given : Answer) (T : State) → IsValid S → IsNotDeniedEarly call
+    → IsStep constants S who call given T → CallIsConfined constants S who call given T
+call_confined constants S who call given T valid plain step = record {
+  answers = λ U same. call_answers constants S who call given T U step same;
+  sets = λ U same. sight_decides constants S U who call same;
+  leaves = λ U V same ends again. call_leaves constants S who call given T U V step same ends again;
+  changes = λ part outside. touches.others_stay constants S who call given T part step outside;
+  lacking = λ table row d own all first. lack_is_denied constants S who call given T table row d step own all first;
+  only = λ reply denial is denies. step_denial constants S who call given T reply denial step is denies;
+  told = λ reply is lacks. call_told constants S who call given T reply plain step is lacks;
+  listed = λ reply is. replies_are_listed constants S who call reply T (subst (λ a. IsStep constants S who call a T) is step);
+  error = λ reply is other. error_keeps constants S who call reply T (subst (λ a. IsStep constants S who call a T) is step) valid other;
 }
 
-act_confined : (w : World) (p t : ℕ) (guest : Guest) (ts : List ℕ) (a : Act) → IsValid w.state → FitsAct w.state p t guest ts a
-    → ActIsConfined w.state p a (acted w p t a).state
-act_confined w p t guest ts (act.Call call given) valid fits =
-    call_confined w.state p call given (called_state w.state p call given) valid
-    (subst IsNotDeniedEarly (sym fits.1) (args_not_denied (turned_guest_by ts guest).memory (registers_of (turned_guest_by ts guest) t))) fits.2
-act_confined w p t guest ts (act.Trap signal) valid fits = touches.end_keeps w.state p (Killed signal)
-act_confined w p t guest ts act.Expire valid fits = touches.end_keeps w.state p (Killed Xcpu)
+act_confined : (w : World) (who : Who) (guest : Guest) (ts : List ℕ) (a : Act) → IsValid w.state → FitsAct w.constants w.state who guest ts a
+    → ActIsConfined w.constants w.state who a (acted w who a).state
+act_confined w who guest ts (act.Call call given) valid fits =
+    call_confined w.constants w.state who call given (called_state w.constants w.state who call given) valid
+    (subst IsNotDeniedEarly (sym fits.1) (args_not_denied (turned_guest_by ts guest).memory (registers_of (turned_guest_by ts guest) who.tid))) fits.2
+act_confined w who guest ts (act.Trap signal) valid fits = touches.end_keeps w.state who.pid (Killed signal)
+act_confined w who guest ts act.Expire valid fits = touches.end_keeps w.state who.pid (Killed Xcpu)
 
 -- an entry that fits a valid world is confined
 pub entry_confined : (w : World) (e : Entry) → IsValid w.state → Fits w e → EntryIsConfined w e
 entry_confined w e valid fits =
-    subst (λ (v : World). ActIsConfined w.state e.pid e.act v.state) (sym (apply_is w e))
-    (act_confined (turned w e.pid e.turns) e.pid e.tid (guest_of w e.pid) e.turns e.act valid fits.act)
+    subst (λ (v : World). ActIsConfined w.constants w.state (who_of e) e.act v.state) (sym (apply_is w e))
+    (act_confined (turned w e.pid e.turns) (who_of e) (guest_of w e.pid) e.turns e.act valid fits.act)
 
 legal_entry : (launch : Launch) (front : List Entry) (e : Entry) (rest : List Entry) → AreGrants launch.grants → Legal launch (front ++ e ∷ rest)
     → EntryIsConfined (world launch front) e

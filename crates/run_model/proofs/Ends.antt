@@ -6,10 +6,12 @@ use Rattle.std.specs.FinMap.{empty, get, get-empty}
 use Rattle.abi_types.specs.declared.call.Answer.{Answer}
 use Rattle.abi_types.specs.declared.call.Answer.TheVariants as answer
 use Rattle.abi_types.specs.declared.call.Call.{Call}
+use Rattle.abi_types.specs.declared.constants.Constants.{Constants}
 use Rattle.abi_base.specs.declared.signal.Signal.{Signal}
 use Rattle.abi_base.specs.declared.signal.Signal.TheVariants.{Xcpu}
 use Rattle.abi_types.specs.declared.status.Status.TheVariants.{Live, Killed}
 use Rattle.abi_types.specs.declared.thread.Thread.{Thread}
+use Rattle.abi_types.specs.declared.who.Who.{Who}
 use Rattle.abi_types.specs.declared.thread.Thread.TheVariants.{Runnable}
 use Rattle.run_types.specs.declared.history.Act.{Act}
 use Rattle.run_types.specs.declared.history.Act.TheVariants as act
@@ -17,14 +19,15 @@ use Rattle.run_types.specs.declared.history.Entry.{Entry}
 use Rattle.run_types.specs.declared.launch.Launch.{Launch}
 use Rattle.kernel_model.specs.State.{State}
 use Rattle.kernel_model.specs.Step.{end_state}
+use Rattle.kernel_model.proofs.Steps.{step_moves_only, end_ends_only}
 use Rattle.kernel_model.proofs.Tests.{none_is_no}
 use Rattle.number_map.specs.Maps.{get-insert-same, get-insert-other}
 use Rattle.rv_interp.specs.declared.turns.TurnEnd.{TurnEnd}
 use Rattle.rv_interp.specs.declared.turns.TurnEnd.TheVariants.{Ecall, Trap}
 use Rattle.run_model.specs.Ends.{NoneLive, Ended, IsParked, Stalled}
 use Rattle.run_model.specs.Legal.{IsRunnable, LastEnds, FitsAct, Fits, FollowsFrom, Legal}
-use Rattle.run_model.specs.World.{World, Guest, start_world, guest_of, or_no_guest, called_guest, called_state, turned_guest, turned_guest_by, turned, acted, apply, apply_all, world}
-use Rattle.run_model.proofs.Calls.{only_own_status, end_only_own_status, ended_by}
+use Rattle.run_model.specs.World.{World, Guest, start_world, guest_of, or_no_guest, called_guest, called_state, turned_guest, turned_guest_by, turned, acted, who_of, apply, apply_all, world}
+use Rattle.run_model.proofs.Calls.{ended_by}
 use Rattle.run_model.proofs.Histories.{apply_is, guest_turned, turned_more, first_guest_is}
 
 -- ---- the run is ended or stalled
@@ -33,14 +36,16 @@ pub ended_is_final : (launch : Launch) (history : List Entry) (e : Entry) → En
 ended_is_final launch history e ended fits = ended e.pid fits.live
 
 -- an act that fits is of a process with a runnable thread
-fits_runnable : (S : State) (p t : ℕ) (guest : Guest) (ts : List ℕ) (a : Act) → FitsAct S p t guest ts a → IsRunnable S p t
-fits_runnable S p t guest ts (act.Call call given) fits = fits.0.3.0
-fits_runnable S p t guest ts (act.Trap signal) fits = fits.3.0
-fits_runnable S p t guest ts act.Expire fits = fits.1
+fits_runnable : (constants : Constants) (S : State) (who : Who) (guest : Guest) (ts : List ℕ) (a : Act) → FitsAct constants S who guest ts a
+    → IsRunnable S who.pid who.tid
+fits_runnable constants S who guest ts (act.Call call given) fits = fits.0.3.0
+fits_runnable constants S who guest ts (act.Trap signal) fits = fits.3.0
+fits_runnable constants S who guest ts act.Expire fits = fits.1
 
 pub stalled_is_final : (launch : Launch) (history : List Entry) (e : Entry) → Stalled launch history → Fits (world launch history) e → ⊥
 stalled_is_final launch history e stalled fits =
-    stalled.1 e.pid e.tid Runnable (fits_runnable (world launch history).state e.pid e.tid (guest_of (world launch history) e.pid) e.turns e.act fits.act)
+    let w = world launch history in
+    stalled.1 e.pid e.tid Runnable (fits_runnable w.constants w.state (who_of e) (guest_of w e.pid) e.turns e.act fits.act)
 
 not_parked : (thread : Thread) → IsParked thread → ⊥
 not_parked Runnable parked = parked
@@ -71,16 +76,17 @@ last_takes S p guest ts t end last =
 called_left : (guest : Guest) (t : ℕ) (call : Call) (given : Answer) → (called_guest guest t call given).left ≡ guest.left
 called_left guest t call (answer.Reply reply) = refl
 
-acted_left : (w : World) (p t : ℕ) (a : Act) → (guest_of (acted w p t a) p).left ≡ (guest_of w p).left
-acted_left w p t (act.Call call given) =
-    ap (λ o. (or_no_guest o).left) (get-insert-same w.guests p (called_guest (guest_of w p) t call given)) ∙ called_left (guest_of w p) t call given
-acted_left w p t (act.Trap signal) = refl
-acted_left w p t act.Expire = refl
+acted_left : (w : World) (who : Who) (a : Act) → (guest_of (acted w who a) who.pid).left ≡ (guest_of w who.pid).left
+acted_left w who (act.Call call given) =
+    ap (λ o. (or_no_guest o).left) (get-insert-same w.guests who.pid (called_guest (guest_of w who.pid) who.tid call given))
+    ∙ called_left (guest_of w who.pid) who.tid call given
+acted_left w who (act.Trap signal) = refl
+acted_left w who act.Expire = refl
 
 apply_left : (w : World) (e : Entry) → (guest_of (apply w e) e.pid).left ≡ (turned_guest_by e.turns (guest_of w e.pid)).left
 apply_left w e =
     ap (λ (v : World). (guest_of v e.pid).left) (apply_is w e)
-    ∙ acted_left (turned w e.pid e.turns) e.pid e.tid e.act
+    ∙ acted_left (turned w e.pid e.turns) (who_of e) e.act
     ∙ ap (λ (g : Guest). g.left) (guest_turned w e.pid e.turns)
 
 -- ---- only process 0 lives
@@ -93,16 +99,17 @@ pub fits_first : (w : World) (e : Entry) → OnlyFirstLives w.state → Fits w e
 fits_first w e only fits = elim (eqb_tells e.pid 0) [ inl is ↦ is.1 | inr other ↦ absurd (only e.pid other.1 fits.live) ]
 
 -- an act that fits changes no status but its own process's
-acted_status : (w : World) (p t : ℕ) (guest : Guest) (ts : List ℕ) (a : Act) (q : ℕ) → FitsAct w.state p t guest ts a → q ≢ p
-    → get (acted w p t a).state.statuses q ≡ get w.state.statuses q
-acted_status w p t guest ts (act.Call call given) q fits n = only_own_status w.state p call given (called_state w.state p call given) fits.2 q n
-acted_status w p t guest ts (act.Trap signal) q fits n = end_only_own_status w.state p (Killed signal) q n
-acted_status w p t guest ts act.Expire q fits n = end_only_own_status w.state p (Killed Xcpu) q n
+acted_status : (w : World) (who : Who) (guest : Guest) (ts : List ℕ) (a : Act) (q : ℕ) → FitsAct w.constants w.state who guest ts a → q ≢ who.pid
+    → get (acted w who a).state.statuses q ≡ get w.state.statuses q
+acted_status w who guest ts (act.Call call given) q fits n =
+    ((step_moves_only w.constants w.state who call given (called_state w.constants w.state who call given) fits.2).others q n).2
+acted_status w who guest ts (act.Trap signal) q fits n = ((end_ends_only w.state who.pid (Killed signal)).others q n).2
+acted_status w who guest ts act.Expire q fits n = ((end_ends_only w.state who.pid (Killed Xcpu)).others q n).2
 
 pub apply_status : (w : World) (e : Entry) (q : ℕ) → Fits w e → q ≢ e.pid → get (apply w e).state.statuses q ≡ get w.state.statuses q
 apply_status w e q fits n =
     ap (λ (v : World). get v.state.statuses q) (apply_is w e)
-    ∙ acted_status (turned w e.pid e.turns) e.pid e.tid (guest_of w e.pid) e.turns e.act q fits.act n
+    ∙ acted_status (turned w e.pid e.turns) (who_of e) (guest_of w e.pid) e.turns e.act q fits.act n
 
 pub only_first_after : (w : World) (e : Entry) → OnlyFirstLives w.state → Fits w e → OnlyFirstLives (apply w e).state
 only_first_after w e only fits q n live =
@@ -117,11 +124,11 @@ ended_follows w [] none follows = refl
 ended_follows w (e ∷ history) none follows = absurd (none e.pid follows.0.live)
 
 -- an act that fits takes a turn, or the process expires
-act_spends : (S : State) (p t : ℕ) (guest : Guest) (ts : List ℕ) (a : Act) → FitsAct S p t guest ts a
+act_spends : (constants : Constants) (S : State) (who : Who) (guest : Guest) (ts : List ℕ) (a : Act) → FitsAct constants S who guest ts a
     → ((turned_guest_by ts guest).left < guest.left) ⊎ (a ≡ act.Expire)
-act_spends S p t guest ts (act.Call call given) fits = inl (last_takes S p guest ts t Ecall fits.0)
-act_spends S p t guest ts (act.Trap signal) fits = inl (last_takes S p guest ts t (Trap signal) fits)
-act_spends S p t guest ts act.Expire fits = inr refl
+act_spends constants S who guest ts (act.Call call given) fits = inl (last_takes S who.pid guest ts who.tid Ecall fits.0)
+act_spends constants S who guest ts (act.Trap signal) fits = inl (last_takes S who.pid guest ts who.tid (Trap signal) fits)
+act_spends constants S who guest ts act.Expire fits = inr refl
 
 pub killed_is_not_live : (signal : Signal) → Killed signal ≢ Live
 killed_is_not_live signal e = cc
@@ -133,7 +140,7 @@ expired w e only fits expires q live =
       | inl is ↦ ended_by w.state e.pid (Killed Xcpu) (killed_is_not_live Xcpu)
           (subst (λ j. get (end_state w.state e.pid (Killed Xcpu)).statuses j ≡ Some Live) is.1
           (sym (ap (λ (v : World). get v.state.statuses q) (apply_is w e)
-          ∙ ap (λ a. get (acted (turned w e.pid e.turns) e.pid e.tid a).state.statuses q) expires) ∙ live))
+          ∙ ap (λ a. get (acted (turned w e.pid e.turns) (who_of e) a).state.statuses q) expires) ∙ live))
       | inr other ↦ only_first_after w e only fits q (λ none. other.1 (none ∙ sym (fits_first w e only fits))) live
     ]
 
@@ -147,7 +154,7 @@ first_spends : (w : World) (e : Entry) → OnlyFirstLives w.state → Fits w e
     → ((turned_guest_by e.turns (guest_of w 0)).left < (guest_of w 0).left) ⊎ (e.act ≡ act.Expire)
 first_spends w e only fits =
     subst (λ p. ((turned_guest_by e.turns (guest_of w p)).left < (guest_of w p).left) ⊎ (e.act ≡ act.Expire)) (fits_first w e only fits)
-    (act_spends w.state e.pid e.tid (guest_of w e.pid) e.turns e.act fits.act)
+    (act_spends w.constants w.state (who_of e) (guest_of w e.pid) e.turns e.act fits.act)
 
 one_more : (e : Entry) (history : List Entry) (left after before : ℕ) → length history ≤ left + 1 → left ≡ after → after < before
     → length (e ∷ history) ≤ before + 1

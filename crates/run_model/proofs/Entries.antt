@@ -4,17 +4,19 @@ use Rattle.std.proofs.lemmas.List.{append_cancel_right}
 use Rattle.abi_types.specs.declared.call.Answer.{Answer}
 use Rattle.abi_types.specs.declared.call.Answer.TheVariants as answer
 use Rattle.abi_types.specs.declared.call.Call.{Call}
+use Rattle.abi_types.specs.declared.constants.Constants.{Constants}
 use Rattle.abi_base.specs.declared.signal.Signal.{Signal}
+use Rattle.abi_types.specs.declared.who.Who.{Who}
 use Rattle.run_types.specs.declared.history.Act.{Act}
 use Rattle.run_types.specs.declared.history.Act.TheVariants as act
 use Rattle.run_types.specs.declared.history.Entry.{Entry}
 use Rattle.kernel_model.specs.State.{State}
-use Rattle.kernel_model.specs.Step.{step_reply, IsStep}
+use Rattle.kernel_model.specs.Step.{step_answer, IsStep}
 use Rattle.rv_interp.specs.declared.turns.TurnEnd.{TurnEnd}
 use Rattle.rv_interp.specs.declared.turns.TurnEnd.TheVariants as turn_end_is
 use Rattle.run_model.specs.Laws.{LacksNothing}
 use Rattle.run_model.specs.Legal.{AreWhole, LastEnds, FitsAct, Fits}
-use Rattle.run_model.specs.World.{World, Guest, guest_of, called_state, turn_end, turned_guest, turned_guest_by, turned, acted, apply}
+use Rattle.run_model.specs.World.{World, Guest, guest_of, called_state, turn_end, turned_guest, turned_guest_by, turned, acted, who_of, apply}
 use Rattle.run_model.proofs.Histories.{apply_is}
 
 -- ---- how turns end
@@ -51,53 +53,53 @@ same_signal signal other e = cc
 
 -- ---- acts
 
--- where memory is not wanting, the answer is the call's reply
-answer_is : (S : State) (p : ℕ) (call : Call) (given : Answer) (T : State) → IsStep S p call given T → LacksNothing (act.Call call given)
-    → given ≡ answer.Reply (step_reply S p call)
-answer_is S p call given T (inl done) plenty = done.0
-answer_is S p call given T (inr lacking) plenty = absurd (subst (λ a. LacksNothing (act.Call call a)) lacking.1 plenty refl)
+-- where memory is not wanting, the answer is the call's
+answer_is : (constants : Constants) (S : State) (who : Who) (call : Call) (given : Answer) (T : State) → IsStep constants S who call given T
+    → LacksNothing (act.Call call given) → given ≡ step_answer constants S who call
+answer_is constants S who call given T (inl done) plenty = done.0
+answer_is constants S who call given T (inr lacking) plenty = absurd (subst (λ a. LacksNothing (act.Call call a)) lacking.1 plenty refl)
 
-act_is_one : (S : State) (p t : ℕ) (guest : Guest) (ts : List ℕ) (a b : Act) → FitsAct S p t guest ts a → FitsAct S p t guest ts b
-    → LacksNothing a → LacksNothing b → a ≡ b
-act_is_one S p t guest ts (act.Call call given) (act.Call other answered) fits again plenty more =
+act_is_one : (constants : Constants) (S : State) (who : Who) (guest : Guest) (ts : List ℕ) (a b : Act) → FitsAct constants S who guest ts a
+    → FitsAct constants S who guest ts b → LacksNothing a → LacksNothing b → a ≡ b
+act_is_one constants S who guest ts (act.Call call given) (act.Call other answered) fits again plenty more =
     let calls : call ≡ other = fits.1 ∙ sym again.1 in
-    let here = answer_is S p call given (called_state S p call given) fits.2 plenty in
-    let there = answer_is S p other answered (called_state S p other answered) again.2 more in
-    let answers : given ≡ answered = here ∙ ap (λ (c : Call). answer.Reply (step_reply S p c)) calls ∙ sym there in
+    let here = answer_is constants S who call given (called_state constants S who call given) fits.2 plenty in
+    let there = answer_is constants S who other answered (called_state constants S who other answered) again.2 more in
+    let answers : given ≡ answered = here ∙ ap (step_answer constants S who) calls ∙ sym there in
     λ i. act.Call (calls i) (answers i)
-act_is_one S p t guest ts (act.Call call given) (act.Trap signal) fits again plenty more =
-    absurd (ecall_is_no_trap signal (one_end S p guest ts t turn_end_is.Ecall (turn_end_is.Trap signal) fits.0 again))
-act_is_one S p t guest ts (act.Call call given) act.Expire fits again plenty more =
-    absurd (ecall_is_not_whole (whole_end S p guest ts t turn_end_is.Ecall fits.0 again.0))
-act_is_one S p t guest ts (act.Trap signal) (act.Call call given) fits again plenty more =
-    absurd (ecall_is_no_trap signal (one_end S p guest ts t turn_end_is.Ecall (turn_end_is.Trap signal) again.0 fits))
-act_is_one S p t guest ts (act.Trap signal) (act.Trap other) fits again plenty more =
-    ap act.Trap (same_signal signal other (one_end S p guest ts t (turn_end_is.Trap signal) (turn_end_is.Trap other) fits again))
-act_is_one S p t guest ts (act.Trap signal) act.Expire fits again plenty more =
-    absurd (trap_is_not_whole signal (whole_end S p guest ts t (turn_end_is.Trap signal) fits again.0))
-act_is_one S p t guest ts act.Expire (act.Call call given) fits again plenty more =
-    absurd (ecall_is_not_whole (whole_end S p guest ts t turn_end_is.Ecall again.0 fits.0))
-act_is_one S p t guest ts act.Expire (act.Trap signal) fits again plenty more =
-    absurd (trap_is_not_whole signal (whole_end S p guest ts t (turn_end_is.Trap signal) again fits.0))
-act_is_one S p t guest ts act.Expire act.Expire fits again plenty more = refl
+act_is_one constants S who guest ts (act.Call call given) (act.Trap signal) fits again plenty more =
+    absurd (ecall_is_no_trap signal (one_end S who.pid guest ts who.tid turn_end_is.Ecall (turn_end_is.Trap signal) fits.0 again))
+act_is_one constants S who guest ts (act.Call call given) act.Expire fits again plenty more =
+    absurd (ecall_is_not_whole (whole_end S who.pid guest ts who.tid turn_end_is.Ecall fits.0 again.0))
+act_is_one constants S who guest ts (act.Trap signal) (act.Call call given) fits again plenty more =
+    absurd (ecall_is_no_trap signal (one_end S who.pid guest ts who.tid turn_end_is.Ecall (turn_end_is.Trap signal) again.0 fits))
+act_is_one constants S who guest ts (act.Trap signal) (act.Trap other) fits again plenty more =
+    ap act.Trap (same_signal signal other (one_end S who.pid guest ts who.tid (turn_end_is.Trap signal) (turn_end_is.Trap other) fits again))
+act_is_one constants S who guest ts (act.Trap signal) act.Expire fits again plenty more =
+    absurd (trap_is_not_whole signal (whole_end S who.pid guest ts who.tid (turn_end_is.Trap signal) fits again.0))
+act_is_one constants S who guest ts act.Expire (act.Call call given) fits again plenty more =
+    absurd (ecall_is_not_whole (whole_end S who.pid guest ts who.tid turn_end_is.Ecall again.0 fits.0))
+act_is_one constants S who guest ts act.Expire (act.Trap signal) fits again plenty more =
+    absurd (trap_is_not_whole signal (whole_end S who.pid guest ts who.tid (turn_end_is.Trap signal) again fits.0))
+act_is_one constants S who guest ts act.Expire act.Expire fits again plenty more = refl
 
 -- ---- entries
 
 -- the act fits also where the same process, thread and turns are named by another entry
-moved : (w : World) (e f : Entry) → e.pid ≡ f.pid → e.tid ≡ f.tid → e.turns ≡ f.turns → FitsAct w.state f.pid f.tid (guest_of w f.pid) f.turns f.act
-    → FitsAct w.state e.pid e.tid (guest_of w e.pid) e.turns f.act
+moved : (w : World) (e f : Entry) → e.pid ≡ f.pid → e.tid ≡ f.tid → e.turns ≡ f.turns
+    → FitsAct w.constants w.state (who_of f) (guest_of w f.pid) f.turns f.act → FitsAct w.constants w.state (who_of e) (guest_of w e.pid) e.turns f.act
 moved w e f pid tid turns fits =
-    subst (λ p. FitsAct w.state p e.tid (guest_of w p) e.turns f.act) (sym pid)
-    (subst (λ t. FitsAct w.state f.pid t (guest_of w f.pid) e.turns f.act) (sym tid)
-    (subst (λ ts. FitsAct w.state f.pid f.tid (guest_of w f.pid) ts f.act) (sym turns) fits))
+    subst (λ p. FitsAct w.constants w.state (record { pid = p; tid = e.tid }) (guest_of w p) e.turns f.act) (sym pid)
+    (subst (λ t. FitsAct w.constants w.state (record { pid = f.pid; tid = t }) (guest_of w f.pid) e.turns f.act) (sym tid)
+    (subst (λ ts. FitsAct w.constants w.state (who_of f) (guest_of w f.pid) ts f.act) (sym turns) fits))
 
 pub entry_is_one : (w : World) (e f : Entry) → Fits w e → Fits w f → e.pid ≡ f.pid → e.tid ≡ f.tid → e.turns ≡ f.turns
     → LacksNothing e.act → LacksNothing f.act → e ≡ f
 entry_is_one w e f fits again pid tid turns plenty more =
     let acts : e.act ≡ f.act =
-    act_is_one w.state e.pid e.tid (guest_of w e.pid) e.turns e.act f.act fits.act (moved w e f pid tid turns again.act) plenty more in
-    let same : acted (turned w e.pid e.turns) e.pid e.tid e.act ≡ acted (turned w f.pid f.turns) f.pid f.tid f.act =
-    λ i. acted (turned w (pid i) (turns i)) (pid i) (tid i) (acts i) in
+    act_is_one w.constants w.state (who_of e) (guest_of w e.pid) e.turns e.act f.act fits.act (moved w e f pid tid turns again.act) plenty more in
+    let same : acted (turned w e.pid e.turns) (who_of e) e.act ≡ acted (turned w f.pid f.turns) (who_of f) f.act =
+    λ i. acted (turned w (pid i) (turns i)) (record { pid = pid i; tid = tid i }) (acts i) in
     let after : apply w e ≡ apply w f = apply_is w e ∙ same ∙ sym (apply_is w f) in
     let moment : e.moment ≡ f.moment = fits.moment ∙ ap (λ (v : World). v.state.clock) after ∙ sym again.moment in
     λ i. record { moment = moment i; pid = pid i; tid = tid i; turns = turns i; act = acts i }

@@ -2,19 +2,21 @@
 use Rattle.std.proofs.Common.{◌≡◌, ◌≢◌, ◌⊎◌, inl, inr, ℕ, zero, suc, ◌+◌, ◌-◌, ◌≤◌, List, [], ◌∷◌, ◌++◌, length, Option, Some, None, refl, sym, ap, subst, ◌∙◌, arith, length-append}
 use Rattle.std.proofs.lemmas.Bool.Decides.{eqb_tells}
 use Rattle.std.specs.FinMap.{empty, get, insert}
-use Rattle.abi_types.specs.declared.call.Answer.TheVariants as answer
+use Rattle.abi_types.specs.declared.constants.Constants.{Constants}
 use Rattle.abi_base.specs.declared.signal.Signal.{Signal}
 use Rattle.abi_base.specs.declared.signal.Signal.TheVariants.{Xcpu}
 use Rattle.abi_types.specs.declared.status.Status.{Status}
 use Rattle.abi_types.specs.declared.status.Status.TheVariants.{Live, Exit, Killed}
 use Rattle.abi_types.specs.declared.thread.Thread.TheVariants.{Runnable}
+use Rattle.abi_types.specs.declared.who.Who.{Who}
 use Rattle.abi_base.specs.Registers.{Registers}
 use Rattle.run_types.specs.declared.history.Act.{Act}
 use Rattle.run_types.specs.declared.history.Act.TheVariants as act
 use Rattle.run_types.specs.declared.history.Entry.{Entry}
 use Rattle.run_types.specs.declared.launch.Launch.{Launch}
 use Rattle.kernel_model.specs.State.{State, Threads}
-use Rattle.kernel_model.specs.Step.{step_reply, step_state}
+use Rattle.kernel_model.specs.Step.{step_answer, step_state}
+use Rattle.kernel_model.proofs.Steps.{step_moves_only}
 use Rattle.kernel_model.proofs.Tests.{none_is_no}
 use Rattle.number_map.specs.Maps.{get-insert-same}
 use Rattle.rv_interp.specs.declared.turns.TurnEnd.{TurnEnd}
@@ -23,8 +25,8 @@ use Rattle.guest_memory.specs.Page.{Pages}
 use Rattle.call_codec.specs.Args.{args_of}
 use Rattle.run_model.specs.Ends.{NoneLive, Ended}
 use Rattle.run_model.specs.Legal.{IsRunnable, MayTurn, AreWhole, FitsAct, Fits, FollowsFrom, Legal}
-use Rattle.run_model.specs.World.{World, Guest, start_world, guest_of, registers_of, called_state, turn_end, turned_guest_by, turned, acted, apply, apply_all, world}
-use Rattle.run_model.proofs.Calls.{called_is, threads_stay, ended_by}
+use Rattle.run_model.specs.World.{World, Guest, start_world, guest_of, registers_of, called_state, turn_end, turned_guest_by, turned, acted, who_of, apply, apply_all, world}
+use Rattle.run_model.proofs.Calls.{called_is, ended_by}
 use Rattle.run_model.proofs.Ends.{OnlyFirstLives, fits_first, only_first_after, killed_is_not_live, start_only, history_is_short}
 use Rattle.run_model.proofs.Histories.{apply_is, turned_more, whole_more, legal_none, legal_more, first_threads}
 
@@ -38,17 +40,17 @@ first = insert empty 1 Runnable
 abbrev HasFirst : State → ℕ → Type 0
 HasFirst S p = get S.statuses p ≡ Some Live → get S.threads p ≡ Some first
 
-acted_first : (w : World) (p t : ℕ) (guest : Guest) (ts : List ℕ) (a : Act) → FitsAct w.state p t guest ts a → get w.state.statuses p ≡ Some Live
-    → get w.state.threads p ≡ Some first → HasFirst (acted w p t a).state p
-acted_first w p t guest ts (act.Call call given) fits was has live =
-    threads_stay w.state p call given (called_state w.state p call given) fits.2 live was ∙ has
-acted_first w p t guest ts (act.Trap signal) fits was has live = absurd (ended_by w.state p (Killed signal) (killed_is_not_live signal) live)
-acted_first w p t guest ts act.Expire fits was has live = absurd (ended_by w.state p (Killed Xcpu) (killed_is_not_live Xcpu) live)
+acted_first : (w : World) (who : Who) (guest : Guest) (ts : List ℕ) (a : Act) → FitsAct w.constants w.state who guest ts a
+    → get w.state.threads who.pid ≡ Some first → HasFirst (acted w who a).state who.pid
+acted_first w who guest ts (act.Call call given) fits has live =
+    (step_moves_only w.constants w.state who call given (called_state w.constants w.state who call given) fits.2).threads live ∙ has
+acted_first w who guest ts (act.Trap signal) fits has live = absurd (ended_by w.state who.pid (Killed signal) (killed_is_not_live signal) live)
+acted_first w who guest ts act.Expire fits has live = absurd (ended_by w.state who.pid (Killed Xcpu) (killed_is_not_live Xcpu) live)
 
 apply_first : (w : World) (e : Entry) → Fits w e → HasFirst w.state e.pid → HasFirst (apply w e).state e.pid
 apply_first w e fits has =
     subst (λ (v : World). HasFirst v.state e.pid) (sym (apply_is w e))
-    (acted_first (turned w e.pid e.turns) e.pid e.tid (guest_of w e.pid) e.turns e.act fits.act fits.live (has fits.live))
+    (acted_first (turned w e.pid e.turns) (who_of e) (guest_of w e.pid) e.turns e.act fits.act (has fits.live))
 
 -- no process but process 0 lives, and it has its first thread as long as it lives
 record IsFirstAlone (S : State) : Type 0 where
@@ -74,28 +76,30 @@ legal_alone launch history legal =
 -- ---- an act that follows
 
 -- turns of a process and an act that fits after them
-abbrev HasAct : State → ℕ → ℕ → Guest → Type 0
-HasAct S p t guest = (ts : List ℕ) × (a : Act) × FitsAct S p t guest ts a
+abbrev HasAct : Constants → State → Who → Guest → Type 0
+HasAct constants S who guest = (ts : List ℕ) × (a : Act) × FitsAct constants S who guest ts a
 
 -- the thread's call is answered by the kernel
-called : (S : State) (p t : ℕ) (guest : Guest) (ts : List ℕ) → AreWhole S p guest ts → MayTurn S p (turned_guest_by ts guest) t
-    → turn_end (turned_guest_by ts guest) t ≡ turn_end_is.Ecall → HasAct S p t guest
-called S p t guest ts whole may end =
-    let after : Guest = turned_guest_by (ts ++ t ∷ []) guest in
+called : (constants : Constants) (S : State) (who : Who) (guest : Guest) (ts : List ℕ) → AreWhole S who.pid guest ts
+    → MayTurn S who.pid (turned_guest_by ts guest) who.tid → turn_end (turned_guest_by ts guest) who.tid ≡ turn_end_is.Ecall → HasAct constants S who guest
+called constants S who guest ts whole may end =
+    let after : Guest = turned_guest_by (ts ++ who.tid ∷ []) guest in
     let m : Pages = after.memory in
-    let r : Registers = registers_of after t in (
-      ts ++ t ∷ [],
-      act.Call (args_of m r) (answer.Reply (step_reply S p (args_of m r))),
+    let r : Registers = registers_of after who.tid in
+    let given = step_answer constants S who (args_of m r) in (
+      ts ++ who.tid ∷ [],
+      act.Call (args_of m r) given,
       (
         (ts, refl, whole, may, end),
         refl,
-        inl (refl, sym (called_is m r S p (answer.Reply (step_reply S p (args_of m r))) (step_state S p (args_of m r)) (inl (refl, refl)))),
+        inl (refl, sym (called_is m r constants S who given (step_state constants S who (args_of m r)) (inl (refl, refl)))),
       ),
     )
 
-trapped : (S : State) (p t : ℕ) (guest : Guest) (ts : List ℕ) (signal : Signal) → AreWhole S p guest ts → MayTurn S p (turned_guest_by ts guest) t
-    → turn_end (turned_guest_by ts guest) t ≡ turn_end_is.Trap signal → HasAct S p t guest
-trapped S p t guest ts signal whole may end = (ts ++ t ∷ [], act.Trap signal, (ts, refl, whole, may, end))
+trapped : (constants : Constants) (S : State) (who : Who) (guest : Guest) (ts : List ℕ) (signal : Signal) → AreWhole S who.pid guest ts
+    → MayTurn S who.pid (turned_guest_by ts guest) who.tid → turn_end (turned_guest_by ts guest) who.tid ≡ turn_end_is.Trap signal
+    → HasAct constants S who guest
+trapped constants S who guest ts signal whole may end = (ts ++ who.tid ∷ [], act.Trap signal, (ts, refl, whole, may, end))
 
 left_more : (ts : List ℕ) (t : ℕ) (guest : Guest) (n : ℕ) → (turned_guest_by ts guest).left ≡ suc n → (turned_guest_by (ts ++ t ∷ []) guest).left ≡ n
 left_more ts t guest n left =
@@ -103,32 +107,35 @@ left_more ts t guest n left =
     omega arith
 
 -- one more turn, by how it ends
-turn_more : (S : State) (p t : ℕ) (guest : Guest) (ts : List ℕ) (end : TurnEnd) → AreWhole S p guest ts → MayTurn S p (turned_guest_by ts guest) t
-    → turn_end (turned_guest_by ts guest) t ≡ end → (AreWhole S p guest (ts ++ t ∷ []) → HasAct S p t guest) → HasAct S p t guest
-turn_more S p t guest ts turn_end_is.Quantum whole may is rest = rest (whole_more S p ts t guest whole may is)
-turn_more S p t guest ts turn_end_is.Ecall whole may is rest = called S p t guest ts whole may is
-turn_more S p t guest ts (turn_end_is.Trap signal) whole may is rest = trapped S p t guest ts signal whole may is
+turn_more : (constants : Constants) (S : State) (who : Who) (guest : Guest) (ts : List ℕ) (end : TurnEnd) → AreWhole S who.pid guest ts
+    → MayTurn S who.pid (turned_guest_by ts guest) who.tid → turn_end (turned_guest_by ts guest) who.tid ≡ end
+    → (AreWhole S who.pid guest (ts ++ who.tid ∷ []) → HasAct constants S who guest) → HasAct constants S who guest
+turn_more constants S who guest ts turn_end_is.Quantum whole may is rest = rest (whole_more S who.pid ts who.tid guest whole may is)
+turn_more constants S who guest ts turn_end_is.Ecall whole may is rest = called constants S who guest ts whole may is
+turn_more constants S who guest ts (turn_end_is.Trap signal) whole may is rest = trapped constants S who guest ts signal whole may is
 
 -- turns of one thread come to an act
-acts : (S : State) (p t : ℕ) (guest : Guest) (n : ℕ) (ts : List ℕ) → IsRunnable S p t → AreWhole S p guest ts → (turned_guest_by ts guest).left ≡ n
-    → HasAct S p t guest
-acts S p t guest zero ts runs whole left = (ts, act.Expire, (whole, runs, left))
-acts S p t guest (suc n) ts runs whole left =
-    turn_more S p t guest ts (turn_end (turned_guest_by ts guest) t) whole (runs, omega arith) refl
-    (λ more. acts S p t guest n (ts ++ t ∷ []) runs more (left_more ts t guest n left))
+acts : (constants : Constants) (S : State) (who : Who) (guest : Guest) (n : ℕ) (ts : List ℕ) → IsRunnable S who.pid who.tid → AreWhole S who.pid guest ts
+    → (turned_guest_by ts guest).left ≡ n → HasAct constants S who guest
+acts constants S who guest zero ts runs whole left = (ts, act.Expire, (whole, runs, left))
+acts constants S who guest (suc n) ts runs whole left =
+    turn_more constants S who guest ts (turn_end (turned_guest_by ts guest) who.tid) whole (runs, omega arith) refl
+    (λ more. acts constants S who guest n (ts ++ who.tid ∷ []) runs more (left_more ts who.tid guest n left))
 
 -- an act that fits is that of an entry at its moment
-entry_of : (w : World) (p t : ℕ) → get w.state.statuses p ≡ Some Live → HasAct w.state p t (guest_of w p) → (e : Entry) × Fits w e
+entry_of : (w : World) (who : Who) → get w.state.statuses who.pid ≡ Some Live → HasAct w.constants w.state who (guest_of w who.pid)
+    → (e : Entry) × Fits w e
 unfolding apply
-entry_of w p t live next = (
-  record { moment = (acted (turned w p next.0) p t next.1).state.clock; pid = p; tid = t; turns = next.0; act = next.1 },
+entry_of w who live next = (
+  record { moment = (acted (turned w who.pid next.0) who next.1).state.clock; pid = who.pid; tid = who.tid; turns = next.0; act = next.1 },
   record { live = live; act = next.2; moment = refl },
 )
 
 live_goes_on : (w : World) → IsFirstAlone w.state → get w.state.statuses 0 ≡ Some Live → (e : Entry) × Fits w e
 live_goes_on w alone live =
-    entry_of w 0 1 live
-    (acts w.state 0 1 (guest_of w 0) (guest_of w 0).left [] (first, alone.has live, get-insert-same empty 1 Runnable) tt refl)
+    let who : Who = record { pid = 0; tid = 1 } in
+    entry_of w who live
+    (acts w.constants w.state who (guest_of w 0) (guest_of w 0).left [] (first, alone.has live, get-insert-same empty 1 Runnable) tt refl)
 
 -- ---- the end
 

@@ -15,7 +15,7 @@ use Rattle.number_map.specs.Maps.{get-insert-same}
 use Rattle.rv_interp.specs.declared.turns.TurnEnd.TheVariants.{Quantum}
 use Rattle.run_model.specs.Legal.{IsRunnable, MayTurn, AreWhole, Fits, FollowsFrom, Legal}
 use Rattle.call_codec.specs.Start.{first_registers}
-use Rattle.run_model.specs.World.{World, Guest, first_guest, start_world, or_no_guest, guest_of, or_no_registers, registers_of, with_registers, with_guest, turned_guest, turn_end, turned_guest_by, turned, acted, apply, apply_all, world}
+use Rattle.run_model.specs.World.{World, Guest, first_guest, start_world, or_no_guest, guest_of, or_no_registers, registers_of, with_registers, with_guest, turned_guest, turn_end, turned_guest_by, turned, acted, who_of, apply, apply_all, world}
 
 -- ---- the world of a history
 
@@ -74,7 +74,7 @@ legal_next launch front e rest all = follows_next (start_world launch) front e r
 -- ---- what an entry leaves
 
 -- an entry is its turns and then its act
-pub apply_is : (w : World) (e : Entry) → apply w e ≡ acted (turned w e.pid e.turns) e.pid e.tid e.act
+pub apply_is : (w : World) (e : Entry) → apply w e ≡ acted (turned w e.pid e.turns) (who_of e) e.act
 unfolding apply
 apply_is w e = refl
 

@@ -1,17 +1,21 @@
--- The refusals of calls that registers spell.
---     args_carry      none is want of memory
+-- The errors that calls which registers spell answer of their own.
+--     args_no_lack      none is want of memory
 --     args_not_denied      none is NOTCAPABLE
 use Rattle.std.proofs.Common.{◌≢◌, ℕ, nat_le, nat_lt, ◌==◌, ◌&&◌, ◌||◌, not, Bool, true, false, cond, List, Option, Some, None, Result, Ok, Err}
+use Rattle.std.specs.List.{AllByRecursion}
 use Rattle.abi_types.specs.declared.call.Call.{Call}
 use Rattle.abi_types.specs.declared.call.Call.TheVariants.{FdWrite, MemMap, Memory, ProcExit, Refused}
 use Rattle.abi_base.specs.declared.errno.Errno.{Errno}
-use Rattle.abi_base.specs.declared.errno.Errno.TheVariants.{Success, Fault, Inval, Nobufs, Nomem, Nosys, Notcapable, Notsup}
+use Rattle.abi_base.specs.declared.errno.Errno.TheVariants.{Success, Badf, Fault, Inval, Nobufs, Nomem, Nosys, Notcapable, Notsup}
 use Rattle.abi_types.specs.declared.place.Place.{Place}
 use Rattle.abi_types.specs.declared.place.Place.TheVariants as place
 use Rattle.abi_types.specs.declared.place.Place.TheVariants.{At}
 use Rattle.abi_base.specs.Registers.{Registers}
+use Rattle.kernel_model.specs.Calls.{errors_of}
 use Rattle.kernel_model.specs.Laws.{IsNotDeniedEarly}
-use Rattle.kernel_model.proofs.Carried.{PlaceCarries, Carries, carries_weaker}
+use Rattle.kernel_model.specs.MemoryCalls.{place_errors}
+use Rattle.kernel_model.proofs.Lists.{all_weaker}
+use Rattle.kernel_model.proofs.Refusals.{IsNoLackOf}
 use Rattle.guest_memory.specs.declared.fault.MemFault.{MemFault}
 use Rattle.guest_memory.specs.Changes.{all_there, lowest_gap}
 use Rattle.guest_memory.specs.Mapping.{page_limit}
@@ -22,11 +26,7 @@ use Rattle.call_codec.specs.Args.{gathered_in, ranges_at, fd_write_with, fd_writ
 use Rattle.call_codec.specs.MemoryCalls.{is_aligned, is_guests, is_range, is_sync, has_bits, has_one, writes_and_executes, pages_in, if_mapped, map_refusal, protect_refusal, unless_refused, place_at, place_in, place_in_gap, place_of, mem_advise_of, mem_map_of, mem_protect_of, mem_sync_of, mem_unmap_of}
 use Rattle.call_codec.proofs.Calls.{either_call, args_hold}
 
--- the error is not want of memory
-abbrev pub IsNoLack : Errno → Type 0
-IsNoLack errno = errno ≢ Nomem
-
--- an error of calls that registers spell so that the kernel does not look at them
+-- an error of a call that registers spell
 abbrev IsSpelled : Errno → Type 0
 IsSpelled errno = (errno ≢ Nomem) × (errno ≢ Notcapable)
 
@@ -35,14 +35,17 @@ IsSpelledIf None = Unit {0}
 IsSpelledIf (Some errno) = IsSpelled errno
 
 abbrev IsSpelledPlace : Place → Type 0
-IsSpelledPlace place = PlaceCarries IsSpelled place
+IsSpelledPlace place = AllByRecursion IsSpelled (place_errors place)
 
--- the call is not refused, or with one of those
+-- each error that the call answers of its own is one of those
 abbrev IsSpelledCall : Call → Type 0
-IsSpelledCall call = Carries IsSpelled call
+IsSpelledCall call = AllByRecursion IsSpelled (errors_of call)
 
 success_spelled : IsSpelled Success
 success_spelled = (λ e. cc, λ e. cc)
+
+badf_spelled : IsSpelled Badf
+badf_spelled = (λ e. cc, λ e. cc)
 
 fault_spelled : IsSpelled Fault
 fault_spelled = (λ e. cc, λ e. cc)
@@ -62,13 +65,13 @@ notsup_spelled = (λ e. cc, λ e. cc)
 -- ---- fd_write
 
 write_spelled : (fd : ℕ) (bytes : Result (List ℕ) MemFault) → IsSpelledCall (fd_write_with fd bytes)
-write_spelled fd (Ok bytes) = tt
-write_spelled fd (Err fault) = fault_spelled
+write_spelled fd (Ok bytes) = (badf_spelled, tt)
+write_spelled fd (Err fault) = (fault_spelled, tt)
 
 fd_write_spelled : (m : Pages) (r : Registers) → IsSpelledCall (fd_write_of m r)
 fd_write_spelled m r =
     either_call IsSpelledCall (nat_lt MOST_IOVECS (argument r 2)) (Refused 16 Inval) (fd_write_with (low (argument r 0)) (gathered_in m (ranges_at m (argument r 1) (argument r 2))))
-    inval_spelled (write_spelled (low (argument r 0)) (gathered_in m (ranges_at m (argument r 1) (argument r 2))))
+    (inval_spelled, tt) (write_spelled (low (argument r 0)) (gathered_in m (ranges_at m (argument r 1) (argument r 2))))
 
 -- ---- calls about pages that are there
 
@@ -81,7 +84,7 @@ mapped_spelled m a bytes = if_spelled (all_there m _ (pages_in bytes))
 
 unless_spelled : (number : ℕ) (refusal : Option Errno) (call : Call) → IsSpelledIf refusal → IsSpelledCall call → IsSpelledCall (unless_refused number refusal call)
 unless_spelled number None call h k = k
-unless_spelled number (Some errno) call h k = h
+unless_spelled number (Some errno) call h k = (h, tt)
 
 or_else_spelled : (b : Bool) (errno : Errno) (rest : Option Errno) → IsSpelled errno → IsSpelledIf rest → IsSpelledIf (cond b (Some errno) rest)
 or_else_spelled true errno rest h k = h
@@ -90,16 +93,16 @@ or_else_spelled false errno rest h k = k
 advise_spelled : (m : Pages) (r : Registers) → IsSpelledCall (mem_advise_of m r)
 advise_spelled m r =
     either_call IsSpelledCall (nat_lt 0 (low (argument r 2)) && nat_le (low (argument r 2)) 6 && is_aligned (argument r 0))
-    (Memory 32 (if_mapped m (argument r 0) (argument r 1))) (Refused 32 Inval) (mapped_spelled m (argument r 0) (argument r 1)) inval_spelled
+    (Memory 32 (if_mapped m (argument r 0) (argument r 1))) (Refused 32 Inval) (mapped_spelled m (argument r 0) (argument r 1), tt) (inval_spelled, tt)
 
 sync_spelled : (m : Pages) (r : Registers) → IsSpelledCall (mem_sync_of m r)
 sync_spelled m r =
     either_call IsSpelledCall (is_sync (low (argument r 2)) && is_aligned (argument r 0))
-    (Memory 35 (if_mapped m (argument r 0) (argument r 1))) (Refused 35 Inval) (mapped_spelled m (argument r 0) (argument r 1)) inval_spelled
+    (Memory 35 (if_mapped m (argument r 0) (argument r 1))) (Refused 35 Inval) (mapped_spelled m (argument r 0) (argument r 1), tt) (inval_spelled, tt)
 
 unmap_spelled : (r : Registers) → IsSpelledCall (mem_unmap_of r)
 unmap_spelled r =
-    either_call IsSpelledCall (is_aligned (argument r 0) && is_range (argument r 0) (argument r 1)) (Memory 36 Success) (Refused 36 Inval) success_spelled inval_spelled
+    either_call IsSpelledCall (is_aligned (argument r 0) && is_range (argument r 0) (argument r 1)) (Memory 36 Success) (Refused 36 Inval) (success_spelled, tt) (inval_spelled, tt)
 
 protect_spelled : (m : Pages) (r : Registers) → IsSpelledCall (mem_protect_of m r)
 protect_spelled m r =
@@ -108,7 +111,7 @@ protect_spelled m r =
     let last : Option Errno = cond (writes_and_executes prot) (Some Notsup) None in
     unless_spelled 34 (protect_refusal a prot) (Memory 34 (if_mapped m a (argument r 1)))
     (or_else_spelled (nat_lt 7 prot || not (is_aligned a)) Inval last inval_spelled (or_else_spelled (writes_and_executes prot) Notsup None notsup_spelled tt))
-    (mapped_spelled m a (argument r 1))
+    (mapped_spelled m a (argument r 1), tt)
 
 -- ---- mem_map
 
@@ -125,13 +128,13 @@ either_place false x y h k = k
 
 gap_spelled : (gap : Option ℕ) → IsSpelledPlace (place_in gap)
 gap_spelled (Some a) = tt
-gap_spelled None = nobufs_spelled
+gap_spelled None = (nobufs_spelled, tt)
 
 place_spelled : (m : Pages) (a flags k : ℕ) → IsSpelledPlace (place_of m a flags k)
 place_spelled m a flags k =
     either_place (has_bits flags 2) (place_at m a k) (place_in_gap m k)
-    (either_place (nat_le (_) page_limit) (At a) (place.Refused Nobufs) tt nobufs_spelled)
-    (either_place (nat_le (_) page_limit) (place_in (lowest_gap m k)) (place.Refused Nobufs) (gap_spelled (lowest_gap m k)) nobufs_spelled)
+    (either_place (nat_le (_) page_limit) (At a) (place.Refused Nobufs) tt (nobufs_spelled, tt))
+    (either_place (nat_le (_) page_limit) (place_in (lowest_gap m k)) (place.Refused Nobufs) (gap_spelled (lowest_gap m k)) (nobufs_spelled, tt))
 
 map_spelled : (m : Pages) (r : Registers) → IsSpelledCall (mem_map_of m r)
 map_spelled m r =
@@ -150,21 +153,13 @@ args_spelled m r = args_hold IsSpelledCall m r (record {
   mem_sync = sync_spelled m r;
   mem_unmap = unmap_spelled r;
   proc_exit = tt;
-  unknown = λ number. nosys_spelled;
+  unknown = λ number. (nosys_spelled, tt);
 })
 
-spelled_not_denied : (call : Call) → IsSpelledCall call → IsNotDeniedEarly call
-spelled_not_denied (FdWrite fd bytes) h = tt
-spelled_not_denied (MemMap (At address) length prot flags fd offset) h = tt
-spelled_not_denied (MemMap (place.Refused errno) length prot flags fd offset) h = h.1
-spelled_not_denied (Memory number errno) h = h.1
-spelled_not_denied (ProcExit code) h = tt
-spelled_not_denied (Refused number errno) h = h.1
+-- no error that a call which registers spell answers of its own is want of memory
+pub args_no_lack : (m : Pages) (r : Registers) → IsNoLackOf (args_of m r)
+args_no_lack m r = all_weaker IsSpelled (λ errno. errno ≢ Nomem) (λ errno h. h.0) (errors_of (args_of m r)) (args_spelled m r)
 
--- no call that registers spell carries a refusal for want of memory
-pub args_carry : (m : Pages) (r : Registers) → Carries IsNoLack (args_of m r)
-args_carry m r = carries_weaker IsSpelled IsNoLack (λ errno h. h.0) (args_of m r) (args_spelled m r)
-
--- no call that registers spell is refused beforehand with NOTCAPABLE
+-- no error that it answers of its own is NOTCAPABLE
 pub args_not_denied : (m : Pages) (r : Registers) → IsNotDeniedEarly (args_of m r)
-args_not_denied m r = spelled_not_denied (args_of m r) (args_spelled m r)
+args_not_denied m r = all_weaker IsSpelled (λ errno. errno ≢ Notcapable) (λ errno h. h.1) (errors_of (args_of m r)) (args_spelled m r)

@@ -2,6 +2,7 @@
 use Rattle.std.proofs.Common.{◌≡◌, ◌≢◌, ℕ, ◌+◌, ◌*◌, List, [], ◌∷◌, length, refl, sym, ap, subst, ◌∙◌, arith}
 use Rattle.abi_base.specs.declared.signal.Signal.TheVariants.{Xcpu}
 use Rattle.abi_types.specs.declared.status.Status.TheVariants.{Killed}
+use Rattle.abi_types.specs.declared.who.Who.{Who}
 use Rattle.run_types.specs.declared.history.Act.{Act}
 use Rattle.run_types.specs.declared.history.Act.TheVariants as act
 use Rattle.run_types.specs.declared.history.Entry.{Entry}
@@ -10,26 +11,25 @@ use Rattle.abi_base.specs.Grants.{AreGrants}
 use Rattle.kernel_model.specs.State.{State}
 use Rattle.kernel_model.specs.Valid.{IsValid}
 use Rattle.kernel_model.proofs.Starts.{start_valid}
-use Rattle.kernel_model.proofs.Valids.{step_keeps_valid, end_valid}
+use Rattle.kernel_model.proofs.Steps.{step_keeps_valid, end_valid, step_moves_only, end_ends_only}
 use Rattle.number_map.specs.Maps.{get-insert-other}
 use Rattle.run_model.specs.Legal.{FitsAct, Fits, FollowsFrom, Legal}
-use Rattle.run_model.specs.World.{World, Guest, start_world, or_no_guest, guest_of, called_guest, called_state, turned_guest_by, turned, acted, apply, apply_all, world}
-use Rattle.run_model.proofs.Calls.{clock_moves, end_clock_moves}
+use Rattle.run_model.specs.World.{World, Guest, start_world, or_no_guest, guest_of, called_guest, called_state, turned_guest_by, turned, acted, who_of, apply, apply_all, world}
 use Rattle.run_model.proofs.Histories.{apply_is, first_state}
 
 -- ---- valid states
 
-acted_valid : (w : World) (p t : ℕ) (guest : Guest) (ts : List ℕ) (a : Act) → FitsAct w.state p t guest ts a → IsValid w.state
-    → IsValid (acted w p t a).state
-acted_valid w p t guest ts (act.Call call given) fits valid =
-    step_keeps_valid w.state p call given (called_state w.state p call given) fits.2 valid
-acted_valid w p t guest ts (act.Trap signal) fits valid = end_valid w.state p (Killed signal) valid
-acted_valid w p t guest ts act.Expire fits valid = end_valid w.state p (Killed Xcpu) valid
+acted_valid : (w : World) (who : Who) (guest : Guest) (ts : List ℕ) (a : Act) → FitsAct w.constants w.state who guest ts a → IsValid w.state
+    → IsValid (acted w who a).state
+acted_valid w who guest ts (act.Call call given) fits valid =
+    step_keeps_valid w.constants w.state who call given (called_state w.constants w.state who call given) fits.2 valid
+acted_valid w who guest ts (act.Trap signal) fits valid = end_valid w.state who.pid (Killed signal) valid
+acted_valid w who guest ts act.Expire fits valid = end_valid w.state who.pid (Killed Xcpu) valid
 
 apply_valid : (w : World) (e : Entry) → Fits w e → IsValid w.state → IsValid (apply w e).state
 apply_valid w e fits valid =
     subst (λ (v : World). IsValid v.state) (sym (apply_is w e))
-    (acted_valid (turned w e.pid e.turns) e.pid e.tid (guest_of w e.pid) e.turns e.act fits.act valid)
+    (acted_valid (turned w e.pid e.turns) (who_of e) (guest_of w e.pid) e.turns e.act fits.act valid)
 
 follows_valid : (w : World) (history : List Entry) → FollowsFrom w history → IsValid w.state → IsValid (apply_all w history).state
 unfolding FollowsFrom apply_all
@@ -46,17 +46,18 @@ world_is_valid launch history grants legal =
 
 -- ---- the clock
 
-acted_clock : (w : World) (p t : ℕ) (guest : Guest) (ts : List ℕ) (a : Act) → FitsAct w.state p t guest ts a
-    → (acted w p t a).state.clock ≡ w.state.clock + 1000
-acted_clock w p t guest ts (act.Call call given) fits = clock_moves w.state p call given (called_state w.state p call given) fits.2
-acted_clock w p t guest ts (act.Trap signal) fits = end_clock_moves w.state p (Killed signal)
-acted_clock w p t guest ts act.Expire fits = end_clock_moves w.state p (Killed Xcpu)
+acted_clock : (w : World) (who : Who) (guest : Guest) (ts : List ℕ) (a : Act) → FitsAct w.constants w.state who guest ts a
+    → (acted w who a).state.clock ≡ w.state.clock + 1000
+acted_clock w who guest ts (act.Call call given) fits =
+    (step_moves_only w.constants w.state who call given (called_state w.constants w.state who call given) fits.2).clock
+acted_clock w who guest ts (act.Trap signal) fits = (end_ends_only w.state who.pid (Killed signal)).clock
+acted_clock w who guest ts act.Expire fits = (end_ends_only w.state who.pid (Killed Xcpu)).clock
 
 -- an entry takes 1000 nanoseconds
 pub apply_clock : (w : World) (e : Entry) → Fits w e → (apply w e).state.clock ≡ w.state.clock + 1000
 apply_clock w e fits =
     ap (λ (v : World). v.state.clock) (apply_is w e)
-    ∙ acted_clock (turned w e.pid e.turns) e.pid e.tid (guest_of w e.pid) e.turns e.act fits.act
+    ∙ acted_clock (turned w e.pid e.turns) (who_of e) (guest_of w e.pid) e.turns e.act fits.act
 
 follows_clock : (w : World) (history : List Entry) → FollowsFrom w history → (apply_all w history).state.clock ≡ w.state.clock + 1000 * length history
 unfolding FollowsFrom apply_all
@@ -76,13 +77,14 @@ clock_counts launch history legal =
 turned_others : (w : World) (p : ℕ) (ts : List ℕ) (q : ℕ) → q ≢ p → guest_of (turned w p ts) q ≡ guest_of w q
 turned_others w p ts q n = ap or_no_guest (get-insert-other w.guests p (turned_guest_by ts (guest_of w p)) q n)
 
-acted_others : (w : World) (p t : ℕ) (a : Act) (q : ℕ) → q ≢ p → guest_of (acted w p t a) q ≡ guest_of w q
-acted_others w p t (act.Call call given) q n = ap or_no_guest (get-insert-other w.guests p (called_guest (guest_of w p) t call given) q n)
-acted_others w p t (act.Trap signal) q n = refl
-acted_others w p t act.Expire q n = refl
+acted_others : (w : World) (who : Who) (a : Act) (q : ℕ) → q ≢ who.pid → guest_of (acted w who a) q ≡ guest_of w q
+acted_others w who (act.Call call given) q n =
+    ap or_no_guest (get-insert-other w.guests who.pid (called_guest (guest_of w who.pid) who.tid call given) q n)
+acted_others w who (act.Trap signal) q n = refl
+acted_others w who act.Expire q n = refl
 
 pub others_stay : (w : World) (e : Entry) (q : ℕ) → q ≢ e.pid → guest_of (apply w e) q ≡ guest_of w q
 others_stay w e q n =
     ap (λ v. guest_of v q) (apply_is w e)
-    ∙ acted_others (turned w e.pid e.turns) e.pid e.tid e.act q n
+    ∙ acted_others (turned w e.pid e.turns) (who_of e) e.act q n
     ∙ turned_others w e.pid e.turns q n

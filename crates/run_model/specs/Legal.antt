@@ -1,8 +1,10 @@
 -- Which histories a launch may have.
 use Rattle.std.specs.Prelude.{◌≡◌, ℕ, ◌<◌, List, [], ◌∷◌, ◌++◌, Some}
 use Rattle.std.specs.FinMap.{get}
+use Rattle.abi_types.specs.declared.constants.Constants.{Constants}
 use Rattle.abi_types.specs.declared.status.Status.TheVariants.{Live}
 use Rattle.abi_types.specs.declared.thread.Thread.TheVariants.{Runnable}
+use Rattle.abi_types.specs.declared.who.Who.{Who}
 use Rattle.run_types.specs.declared.history.Act.{Act}
 use Rattle.run_types.specs.declared.history.Act.TheVariants as act
 use Rattle.run_types.specs.declared.history.Entry.{Entry}
@@ -12,7 +14,7 @@ use Rattle.kernel_model.specs.Step.{IsStep}
 use Rattle.rv_interp.specs.declared.turns.TurnEnd.{TurnEnd}
 use Rattle.rv_interp.specs.declared.turns.TurnEnd.TheVariants as turn_end_is
 use Rattle.call_codec.specs.Args.{args_of}
-use Rattle.run_model.specs.World.{World, Guest, guest_of, registers_of, turn_end, turned_guest, turned_guest_by, called_state, apply, start_world}
+use Rattle.run_model.specs.World.{World, Guest, guest_of, registers_of, turn_end, turned_guest, turned_guest_by, called_state, who_of, apply, start_world}
 
 -- the thread is live and takes its turns
 abbrev pub IsRunnable : State → ℕ → ℕ → Type 0
@@ -36,18 +38,19 @@ LastEnds S p guest ts t end =
 -- What an act wants of the world before its entry, S being the kernel's state and guest the process's:
 -- A call is the one that the thread's registers and memory spell at the ECALL that ended the last turn, and its answer
 -- is the kernel's. A trap is the one that ended the last turn. A process expires where a runnable thread has no turn left.
-abbrev pub FitsAct : State → ℕ → ℕ → Guest → List ℕ → Act → Type 0
-FitsAct S p t guest ts (act.Call call given) =
-    LastEnds S p guest ts t turn_end_is.Ecall
-    × (call ≡ args_of (turned_guest_by ts guest).memory (registers_of (turned_guest_by ts guest) t))
-    × IsStep S p call given (called_state S p call given)
-FitsAct S p t guest ts (act.Trap signal) = LastEnds S p guest ts t (turn_end_is.Trap signal)
-FitsAct S p t guest ts act.Expire = AreWhole S p guest ts × IsRunnable S p t × ((turned_guest_by ts guest).left ≡ 0)
+abbrev pub FitsAct : Constants → State → Who → Guest → List ℕ → Act → Type 0
+FitsAct constants S who guest ts (act.Call call given) =
+    LastEnds S who.pid guest ts who.tid turn_end_is.Ecall
+    × (call ≡ args_of (turned_guest_by ts guest).memory (registers_of (turned_guest_by ts guest) who.tid))
+    × IsStep constants S who call given (called_state constants S who call given)
+FitsAct constants S who guest ts (act.Trap signal) = LastEnds S who.pid guest ts who.tid (turn_end_is.Trap signal)
+FitsAct constants S who guest ts act.Expire =
+    AreWhole S who.pid guest ts × IsRunnable S who.pid who.tid × ((turned_guest_by ts guest).left ≡ 0)
 
 -- the entry may follow where the world is so
 pub record Fits (w : World) (e : Entry) : Type 0 where
   pub live : get w.state.statuses e.pid ≡ Some Live
-  pub act : FitsAct w.state e.pid e.tid (guest_of w e.pid) e.turns e.act
+  pub act : FitsAct w.constants w.state (who_of e) (guest_of w e.pid) e.turns e.act
   pub moment : e.moment ≡ (apply w e).state.clock
 
 -- each entry fits the world of those before it

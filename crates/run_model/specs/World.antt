@@ -5,10 +5,12 @@ use Rattle.std.specs.FinMap.{FinMap, empty, get, insert}
 use Rattle.abi_types.specs.declared.call.Answer.{Answer}
 use Rattle.abi_types.specs.declared.call.Answer.TheVariants as answer
 use Rattle.abi_types.specs.declared.call.Call.{Call}
+use Rattle.abi_types.specs.declared.constants.Constants.{Constants}
 use Rattle.abi_base.specs.declared.errno.Errno.{Errno}
 use Rattle.abi_base.specs.declared.errno.Errno.TheVariants.{Nomem}
 use Rattle.abi_base.specs.declared.signal.Signal.TheVariants.{Xcpu}
 use Rattle.abi_types.specs.declared.status.Status.TheVariants.{Killed}
+use Rattle.abi_types.specs.declared.who.Who.{Who}
 use Rattle.abi_base.specs.Registers.{Registers, start_registers}
 use Rattle.guest_memory.specs.Page.{Pages}
 use Rattle.run_types.specs.declared.history.Act.{Act}
@@ -17,7 +19,7 @@ use Rattle.run_types.specs.declared.history.Entry.{Entry}
 use Rattle.run_types.specs.declared.launch.Launch.{Launch}
 use Rattle.kernel_model.specs.Start.{start_state}
 use Rattle.kernel_model.specs.State.{State}
-use Rattle.kernel_model.specs.Step.{tick, step_state, end_state}
+use Rattle.kernel_model.specs.Step.{failed, step_state, end_state}
 use Rattle.rv_interp.specs.declared.turns.TurnEnd.{TurnEnd}
 use Rattle.rv_interp.specs.Turns.{Turn, turn_of}
 use Rattle.call_codec.specs.Start.{canary, first_registers, start_pages}
@@ -29,8 +31,9 @@ pub record Guest : Type 0 where
   pub regs : FinMap nat_cmp Registers
   pub left : ℕ
 
--- a kernel's state, and its processes' guests
+-- what stays the same for the whole run, a kernel's state, and its processes' guests
 pub record World : Type 0 where
+  pub constants : Constants
   pub state : State
   pub guests : FinMap nat_cmp Guest
 
@@ -45,7 +48,7 @@ first_guest launch = record {
 
 -- the world that a launch starts from: process 0 with thread 1
 unfoldable pub start_world : Launch → World
-start_world launch = record { state = start_state launch.grants; guests = insert empty 0 (first_guest launch) }
+start_world launch = record { constants = launch.constants; state = start_state launch.grants; guests = insert empty 0 (first_guest launch) }
 
 -- ---- a guest of a world, and its registers; what isn't there is empty
 
@@ -108,8 +111,8 @@ by_errno Nomem lacking done = lacking
 by_errno _ lacking done = done
 
 -- the kernel's state after a call that was answered so
-abbrev pub called_state : State → ℕ → Call → Answer → State
-called_state S p call (answer.Reply reply) = by_errno reply.errno (tick S) (step_state S p call)
+unfoldable pub called_state : Constants → State → Who → Call → Answer → State
+called_state constants S who call (answer.Reply reply) = by_errno reply.errno (failed S who) (step_state constants S who call)
 
 -- the guest after a call of its thread that was answered so
 abbrev pub called_guest : Guest → ℕ → Call → Answer → Guest
@@ -120,14 +123,21 @@ called_guest guest t call given = record {
 }
 
 -- the world after an act of a thread
-abbrev pub acted : World → ℕ → ℕ → Act → World
-acted w p t (act.Call call given) = record { state = called_state w.state p call given; guests = insert w.guests p (called_guest (guest_of w p) t call given) }
-acted w p t (act.Trap signal) = record w { state = end_state w.state p (Killed signal) }
-acted w p t act.Expire = record w { state = end_state w.state p (Killed Xcpu) }
+abbrev pub acted : World → Who → Act → World
+acted w who (act.Call call given) = record w {
+  state = called_state w.constants w.state who call given;
+  guests = insert w.guests who.pid (called_guest (guest_of w who.pid) who.tid call given);
+}
+acted w who (act.Trap signal) = record w { state = end_state w.state who.pid (Killed signal) }
+acted w who act.Expire = record w { state = end_state w.state who.pid (Killed Xcpu) }
+
+-- who an entry is of
+abbrev pub who_of : Entry → Who
+who_of e = record { pid = e.pid; tid = e.tid }
 
 -- the world after an entry: its turns, and then its act
 unfoldable pub apply : World → Entry → World
-apply w e = acted (turned w e.pid e.turns) e.pid e.tid e.act
+apply w e = acted (turned w e.pid e.turns) (who_of e) e.act
 
 -- the world after these entries, one after another
 unfoldable pub apply_all : World → List Entry → World

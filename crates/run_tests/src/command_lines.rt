@@ -75,7 +75,8 @@ fn kept_settings(finished: &Finished, stdin: &[u8]) -> Option<(u8, u8, u64, u64)
     if launch.stdin.as_slice() != stdin {
         return None;
     }
-    Some((launch.key[30], launch.key[31], launch.epoch, launch.turns))
+    let constants = &launch.constants;
+    Some((constants.key[30], constants.key[31], constants.epoch, launch.turns))
 }
 
 // Words that give each setting.

@@ -1,5 +1,6 @@
 //! What a run starts from.
 use abi_base::GrantList;
+use abi_types::Constants;
 use elf_image::Elf;
 use lists::{Bytes, TryClone};
 use std::alloc::AllocError;
@@ -15,10 +16,8 @@ pub struct Launch {
     pub grants: GrantList,
     /// What it can read from the terminal `stdin`.
     pub stdin: Bytes,
-    /// The key of its random bytes.
-    pub key: [u8; 32],
-    /// The time at which the run begins, in nanoseconds since 1970.
-    pub epoch: u64,
+    /// The key of its random bytes, and the time at which it begins.
+    pub constants: Constants,
     /// The turns that it may take.
     pub turns: u64,
 }
@@ -30,8 +29,7 @@ impl TryClone for Launch {
             argdata: self.argdata.copy()?,
             grants: self.grants.copy()?,
             stdin: self.stdin.copy()?,
-            key: self.key,
-            epoch: self.epoch,
+            constants: self.constants,
             turns: self.turns,
         })
     }
