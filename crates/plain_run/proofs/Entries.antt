@@ -4,23 +4,26 @@ use Rattle.std.specs.FinMap.{get}
 use Rattle.abi_base.specs.Registers.{Registers}
 use Rattle.abi_types.specs.declared.call.Answer.{Answer}
 use Rattle.abi_types.specs.declared.call.Call.{Call}
+use Rattle.abi_types.specs.declared.constants.Constants.{Constants}
 use Rattle.abi_types.specs.declared.status.Status.{Status}
 use Rattle.abi_types.specs.declared.status.Status.TheVariants.{Live}
+use Rattle.abi_types.specs.declared.who.Who.{Who}
 use Rattle.run_types.specs.declared.history.Act.{Act}
 use Rattle.run_types.specs.declared.history.Act.TheVariants as act
 use Rattle.run_types.specs.declared.history.Entry.{Entry}
 use Rattle.kernel_model.specs.State.{State}
 use Rattle.kernel_model.specs.Step.{end_state, IsStep}
+use Rattle.kernel_model.proofs.Steps.{step_moves_only}
 use Rattle.rv_interp.specs.declared.turns.TurnEnd.TheVariants as turn_end_is
 use Rattle.guest_memory.specs.Page.{Pages}
 use Rattle.call_codec.specs.Args.{args_of}
 use Rattle.run_model.specs.Legal.{Legal, Fits, FitsAct}
 use Rattle.call_codec.specs.Put.{answered_memory, answered_of}
-use Rattle.run_model.specs.World.{World, Guest, world, apply, acted, turned, guest_of, registers_of, called_state, called_guest}
-use Rattle.run_model.proofs.Calls.{called_is, ended_by, threads_stay, clock_moves}
-use Rattle.run_model.proofs.Histories.{world_more, legal_more, apply_is, guest_turned, guest_set, registers_set}
+use Rattle.run_model.specs.World.{World, Guest, world, apply, acted, turned, who_of, guest_of, registers_of, called_state, called_guest}
+use Rattle.run_model.proofs.Calls.{called_is, ended_by}
+use Rattle.run_model.proofs.Histories.{world_more, world_constants, legal_more, apply_is, guest_turned, guest_set, registers_set}
 use Rattle.plain_run.specs.declared.run.Run.{Run}
-use Rattle.plain_run.specs.Run.{IsAt, IsBetween, IsStopped, IsLive, GoesOn, EndsBy, settled, turned_now, entry_now}
+use Rattle.plain_run.specs.Run.{IsAt, IsBetween, IsStopped, IsLive, GoesOn, EndsBy, first_thread, settled, turned_now, entry_now}
 
 -- the run after an entry, with no turn that has none
 abbrev pub entered : Run → State → Pages → Registers → List Entry → Run
@@ -53,13 +56,13 @@ at_entry r kernel memory regs history e at fits more state same_memory same_regs
 
 -- ---- a process that is ended from outside
 
-acted_stop : (w : World) (p t : ℕ) (a : Act) (status : Status) → EndsBy a status → acted w p t a ≡ record w { state = end_state w.state p status }
-acted_stop w p t (act.Call call given) status by = absurd by
-acted_stop w p t (act.Trap signal) status by = ap (λ (s : Status). record w { state = end_state w.state p s }) (sym by)
-acted_stop w p t act.Expire status by = ap (λ (s : Status). record w { state = end_state w.state p s }) (sym by)
+acted_stop : (w : World) (who : Who) (a : Act) (status : Status) → EndsBy a status → acted w who a ≡ record w { state = end_state w.state who.pid status }
+acted_stop w who (act.Call call given) status by = absurd by
+acted_stop w who (act.Trap signal) status by = ap (λ (s : Status). record w { state = end_state w.state who.pid s }) (sym by)
+acted_stop w who act.Expire status by = ap (λ (s : Status). record w { state = end_state w.state who.pid s }) (sym by)
 
 apply_stop : (w : World) (e : Entry) (status : Status) → EndsBy e.act status → apply w e ≡ record (turned w e.pid e.turns) { state = end_state w.state e.pid status }
-apply_stop w e status by = apply_is w e ∙ acted_stop (turned w e.pid e.turns) e.pid e.tid e.act status by
+apply_stop w e status by = apply_is w e ∙ acted_stop (turned w e.pid e.turns) (who_of e) e.act status by
 
 not_live : (a : Act) (status : Status) → EndsBy a status → status ≢ Live
 not_live (act.Call call given) status by = absurd by
@@ -71,8 +74,11 @@ abbrev pub entry_of : Run → State → Act → Entry
 entry_of r kernel a = entry_now (record r { kernel = kernel }) a
 
 -- the act's wants at the run's own state are those at the world's
-fits_there : (r : Run) (a : Act) → IsAt r → FitsAct r.kernel 0 1 (settled r) r.turns a → FitsAct (world_now r).state 0 1 (settled r) r.turns a
-fits_there r a at fits = subst (λ (S : State). FitsAct S 0 1 (settled r) r.turns a) at.state fits
+fits_there : (r : Run) (a : Act) → IsAt r → FitsAct r.launch.constants r.kernel first_thread (settled r) r.turns a
+    → FitsAct (world_now r).constants (world_now r).state first_thread (settled r) r.turns a
+fits_there r a at fits =
+    subst (λ (c : Constants). FitsAct c (world_now r).state first_thread (settled r) r.turns a) (sym (world_constants r.launch r.history))
+    (subst (λ (S : State). FitsAct r.launch.constants S first_thread (settled r) r.turns a) at.state fits)
 
 live_there : (r : Run) → IsAt r → IsLive r → get (world_now r).state.statuses 0 ≡ Some Live
 live_there r at live = ap (λ (S : State). get S.statuses 0) (sym at.state) ∙ live
@@ -84,7 +90,7 @@ module _ (r : Run) (kernel : State) (a : Act) (status : Status) (by : EndsBy a s
   stop_guest : guest_of (apply (world_now r) (entry_of r kernel a)) 0 ≡ turned_now r
   stop_guest = ap (λ (w : World). guest_of w 0) (apply_stop (world_now r) (entry_of r kernel a) status by) ∙ guest_turned (world_now r) 0 r.turns
 
-  pub stop_fits : IsLive r → FitsAct r.kernel 0 1 (settled r) r.turns a → Fits (world_now r) (entry_of r kernel a)
+  pub stop_fits : IsLive r → FitsAct r.launch.constants r.kernel first_thread (settled r) r.turns a → Fits (world_now r) (entry_of r kernel a)
   stop_fits live fits = record {
     live = live_there r at live;
     act = fits_there r a at fits;
@@ -114,20 +120,21 @@ called_registers : (guest : Guest) (t : ℕ) (call : Call) (given : Answer) → 
 called_registers guest t call given = registers_set guest t (answered_of (registers_of guest t) call given)
 
 module _ (r : Run) (call : Call) (given : Answer) (kernel : State) (stopped : IsStopped r turn_end_is.Ecall)
-    (spelled : call ≡ args_of r.memory r.regs) (step : IsStep r.kernel 0 call given kernel) where
+    (spelled : call ≡ args_of r.memory r.regs) (step : IsStep r.launch.constants r.kernel first_thread call given kernel) where
   -- the state that the entry leaves is the kernel's
-  settled_state : kernel ≡ called_state r.kernel 0 call given
+  settled_state : kernel ≡ called_state r.launch.constants r.kernel first_thread call given
   settled_state =
-      subst (λ (x : Call). IsStep r.kernel 0 x given kernel → kernel ≡ called_state r.kernel 0 x given) (sym spelled)
-      (called_is r.memory r.regs r.kernel 0 given kernel) step
+      subst (λ (x : Call). IsStep r.launch.constants r.kernel first_thread x given kernel → kernel ≡ called_state r.launch.constants r.kernel first_thread x given)
+      (sym spelled) (called_is r.memory r.regs r.launch.constants r.kernel first_thread given kernel) step
 
-  applied : apply (world_now r) (entry_of r kernel (act.Call call given)) ≡ acted (turned (world_now r) 0 r.turns) 0 1 (act.Call call given)
+  applied : apply (world_now r) (entry_of r kernel (act.Call call given)) ≡ acted (turned (world_now r) 0 r.turns) first_thread (act.Call call given)
   applied = apply_is (world_now r) (entry_of r kernel (act.Call call given))
 
   call_state : (apply (world_now r) (entry_of r kernel (act.Call call given))).state ≡ kernel
   call_state =
       ap (λ (w : World). w.state) applied
-      ∙ ap (λ (S : State). called_state S 0 call given) (sym stopped.at.state)
+      ∙ ap (λ (c : Constants). called_state c (world_now r).state first_thread call given) (world_constants r.launch r.history)
+      ∙ ap (λ (S : State). called_state r.launch.constants S first_thread call given) (sym stopped.at.state)
       ∙ sym settled_state
 
   call_guest : guest_of (apply (world_now r) (entry_of r kernel (act.Call call given))) 0 ≡ called_guest (turned_now r) 1 call given
@@ -140,7 +147,7 @@ module _ (r : Run) (call : Call) (given : Answer) (kernel : State) (stopped : Is
   call_fits = record {
     live = live_there r stopped.at stopped.live;
     act = fits_there r (act.Call call given) stopped.at
-        (stopped.last, spelled ∙ (λ i. args_of (sym stopped.at.memory i) (sym stopped.at.regs i)), subst (IsStep r.kernel 0 call given) settled_state step);
+        (stopped.last, spelled ∙ (λ i. args_of (sym stopped.at.memory i) (sym stopped.at.regs i)), subst (IsStep r.launch.constants r.kernel first_thread call given) settled_state step);
     moment = ap (λ (S : State). S.clock) (sym call_state);
   }
 
@@ -148,9 +155,10 @@ module _ (r : Run) (call : Call) (given : Answer) (kernel : State) (stopped : Is
   still_on : (memory : Pages) (regs : Registers) (history : List Entry) → IsLive (entered r kernel memory regs history) → GoesOn (entered r kernel memory regs history)
   still_on memory regs history live =
       let thread = stopped.runnable in
+      let moves = step_moves_only r.launch.constants r.kernel first_thread call given kernel step in
       record {
-        runnable = (thread.0, threads_stay r.kernel 0 call given kernel step live stopped.live ∙ thread.1, thread.2);
-        clock = omega (arith, clock_moves r.kernel 0 call given kernel step, stopped.clock);
+        runnable = (thread.0, moves.threads live ∙ thread.1, thread.2);
+        clock = omega (arith, moves.clock, stopped.clock);
       }
 
   -- the memory that the answer leaves

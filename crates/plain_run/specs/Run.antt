@@ -4,6 +4,7 @@ use Rattle.std.specs.FinMap.{get}
 use Rattle.abi_types.specs.declared.status.Status.{Status}
 use Rattle.abi_types.specs.declared.status.Status.TheVariants.{Live, Exit, Killed}
 use Rattle.abi_base.specs.declared.signal.Signal.TheVariants.{Xcpu}
+use Rattle.abi_types.specs.declared.who.Who.{Who}
 use Rattle.run_types.specs.declared.history.Act.{Act}
 use Rattle.run_types.specs.declared.history.Act.TheVariants as act
 use Rattle.run_types.specs.declared.history.Entry.{Entry}
@@ -12,6 +13,10 @@ use Rattle.run_model.specs.Legal.{Legal, AreWhole, LastEnds, IsRunnable}
 use Rattle.run_model.specs.World.{Guest, world, guest_of, registers_of, turned_guest_by}
 use Rattle.plain_run.specs.declared.run.Run.{Run}
 use Rattle.call_codec.specs.Bounded.{IsBounded}
+
+-- thread 1 of process 0, which alone takes turns
+abbrev pub first_thread : Who
+first_thread = record { pid = 0; tid = 1 }
 
 -- process 0's guest in the world of the history
 abbrev pub settled : Run → Guest

@@ -3,9 +3,9 @@ ghost use Rattle.std.specs.Prelude.{◌≡◌, ◌<◌, [], ◌∷◌, ◌++◌,
 ghost use Rattle.run_model.specs.Legal.{Legal, FitsAct};
 ghost use Rattle.rv_interp.specs.declared.turns.TurnEnd.TheVariants as turn_end;
 ghost use Rattle.call_codec.specs.Bounded.{IsBounded};
-ghost use Rattle.plain_run.specs.Run.{IsAt, IsBetween, IsStopped, IsLive, GoesOn, EndsBy, settled, ahead, entry_now};
+ghost use Rattle.plain_run.specs.Run.{IsAt, IsBetween, IsStopped, IsLive, GoesOn, EndsBy, first_thread, settled, ahead, entry_now};
 
-use abi_types::{Pid, Regs, Signal, Status, Tid, TidList};
+use abi_types::{Pid, Regs, Signal, Status, Tid, TidList, Who};
 use call_codec::{args, put_answer, start_memory};
 use guest_memory::GuestMemory;
 use kernel_core::Kernel;
@@ -79,7 +79,7 @@ impl Run {
         requires at { IsAt self.old }
         requires live { IsLive self.old }
         requires goes_on { GoesOn self.old }
-        requires fits { FitsAct self.old.kernel 0 1 (settled self.old) self.old.turns act }
+        requires fits { FitsAct self.old.launch.constants self.old.kernel first_thread (settled self.old) self.old.turns act }
         requires status { EndsBy act status }
         ensures ok { OnOk result (IsBetween self.new × ¬ IsLive self.new) }
         ensures left { self.new.left ≡ self.old.left }
@@ -99,7 +99,11 @@ impl Run {
         ensures legal { Legal self.new.launch self.new.history }
     {
         let call = args(alloc, &self.regs, &self.memory)?;
-        let answer = self.kernel.step(FIRST, THREAD, &call);
+        let who = Who {
+            pid: FIRST,
+            tid: THREAD,
+        };
+        let answer = self.kernel.step(&self.launch.constants, &who, &call);
         put_answer(alloc, &mut self.regs, &mut self.memory, &call, &answer)?;
         self.enter(alloc, Act::Call { call, answer })
     }

@@ -1,12 +1,16 @@
 -- What a history's world is, which parts of a legal history are legal, and what an entry leaves.
 --     world_none, world_more      the world of no entry, and of one more
+--     world_constants      what stays the same for the whole run
 --     legal_none, legal_more, legal_front, legal_next      legal histories
 --     apply_is, guest_turned, turned_more, whole_more ..      turns and acts
 --     first_guest_is, first_state, first_registers_are, first_threads, first_thread      the start
-use Rattle.std.proofs.Common.{◌≡◌, ℕ, List, [], ◌∷◌, ◌++◌, Some, refl, ap}
+use Rattle.std.proofs.Common.{◌≡◌, ℕ, List, [], ◌∷◌, ◌++◌, Some, refl, ap, ◌∙◌}
 use Rattle.std.specs.FinMap.{empty, get, insert}
 use Rattle.abi_types.specs.declared.thread.Thread.TheVariants.{Runnable}
 use Rattle.abi_base.specs.Registers.{Registers}
+use Rattle.abi_types.specs.declared.who.Who.{Who}
+use Rattle.run_types.specs.declared.history.Act.{Act}
+use Rattle.run_types.specs.declared.history.Act.TheVariants as act
 use Rattle.run_types.specs.declared.history.Entry.{Entry}
 use Rattle.run_types.specs.declared.launch.Launch.{Launch}
 use Rattle.kernel_model.specs.Start.{start_state}
@@ -33,6 +37,25 @@ world_none launch = refl
 pub world_more : (launch : Launch) (history : List Entry) (e : Entry) → world launch (history ++ e ∷ []) ≡ apply (world launch history) e
 unfolding world
 world_more launch history e = all_more (start_world launch) history e
+
+acted_constants : (w : World) (who : Who) (a : Act) → (acted w who a).constants ≡ w.constants
+acted_constants w who (act.Call call given) = refl
+acted_constants w who (act.Trap signal) = refl
+acted_constants w who act.Expire = refl
+
+-- what stays the same for the whole run does
+apply_constants : (w : World) (e : Entry) → (apply w e).constants ≡ w.constants
+unfolding apply
+apply_constants w e = acted_constants (turned w e.pid e.turns) (who_of e) e.act
+
+all_constants : (w : World) (history : List Entry) → (apply_all w history).constants ≡ w.constants
+unfolding apply_all
+all_constants w [] = refl
+all_constants w (e ∷ history) = all_constants (apply w e) history ∙ apply_constants w e
+
+pub world_constants : (launch : Launch) (history : List Entry) → (world launch history).constants ≡ launch.constants
+unfolding world start_world
+world_constants launch history = all_constants (start_world launch) history
 
 -- ---- legal histories
 

@@ -2,6 +2,7 @@
 #![tactic(auto)]
 
 pub use history::{Act, Entry, History, Record};
+pub use abi_types::Constants;
 pub use launch::Launch;
 
 mod history;
