@@ -5,3 +5,4 @@ pub mod MemoryCalls
 pub mod Puts
 pub mod Starts
 pub mod Listed
+pub mod StartBlocks

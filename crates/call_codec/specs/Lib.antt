@@ -6,3 +6,4 @@ pub mod Image
 pub mod Start
 pub mod Bounded
 pub mod Refusals
+pub mod StartBlock

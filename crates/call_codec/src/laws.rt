@@ -1,5 +1,6 @@
 //! Laws of the definitions. The functions do nothing.
 ghost use Rattle.call_codec.specs.Refusals.{AdviseIsListed, MapIsListed, ProtectIsListed, SyncIsListed, UnmapIsListed};
+ghost use Rattle.call_codec.specs.StartBlock.{ArgdataStands, CanaryStands, VectorStands};
 
 /// What each call about memory answers, by a list of conditions of which the first that holds answers.
 pub fn refusals_are_listed()
@@ -8,4 +9,12 @@ pub fn refusals_are_listed()
     ensures protect { ProtectIsListed }
     ensures sync { SyncIsListed }
     ensures unmap { UnmapIsListed }
+{}
+
+/// What a program may read in its start block, whatever its image is: the vector at the address that a0 has, the canary
+/// at the one that the vector's entry CANARY gives, and the argument data at the one that ARGDATA gives.
+pub fn start_block_stands()
+    ensures vector { VectorStands }
+    ensures canary { CanaryStands }
+    ensures argdata { ArgdataStands }
 {}

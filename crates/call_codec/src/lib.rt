@@ -4,7 +4,7 @@
 
 pub use arguments::args;
 pub use image::load;
-pub use laws::refusals_are_listed;
+pub use laws::{refusals_are_listed, start_block_stands};
 pub use replies::put_answer;
 pub use start::start_memory;
 

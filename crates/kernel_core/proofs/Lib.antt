@@ -2,6 +2,7 @@ pub mod Undo
 pub mod Unheld
 pub mod Counts
 pub mod Ends
+pub mod Lives
 pub mod Streams
 pub mod Acts
 pub mod Starts

@@ -1,4 +1,5 @@
 pub mod State
+pub mod Ends
 pub mod Codes
 pub mod View
 pub mod Reply

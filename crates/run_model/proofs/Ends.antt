@@ -17,6 +17,7 @@ use Rattle.run_types.specs.declared.history.Act.{Act}
 use Rattle.run_types.specs.declared.history.Act.TheVariants as act
 use Rattle.run_types.specs.declared.history.Entry.{Entry}
 use Rattle.run_types.specs.declared.launch.Launch.{Launch}
+use Rattle.kernel_model.specs.Ends.{NoneLive}
 use Rattle.kernel_model.specs.State.{State}
 use Rattle.kernel_model.specs.Step.{end_state}
 use Rattle.kernel_model.proofs.Steps.{step_moves_only, end_ends_only}
@@ -24,7 +25,7 @@ use Rattle.kernel_model.proofs.Tests.{none_is_no}
 use Rattle.number_map.specs.Maps.{get-insert-same, get-insert-other}
 use Rattle.rv_interp.specs.declared.turns.TurnEnd.{TurnEnd}
 use Rattle.rv_interp.specs.declared.turns.TurnEnd.TheVariants.{Ecall, Trap}
-use Rattle.run_model.specs.Ends.{NoneLive, Ended, IsParked, Stalled}
+use Rattle.run_model.specs.Ends.{Ended, IsParked, Stalled}
 use Rattle.run_model.specs.Legal.{IsRunnable, LastEnds, FitsAct, Fits, FollowsFrom, Legal}
 use Rattle.run_model.specs.World.{World, Guest, start_world, guest_of, or_no_guest, called_guest, called_state, turned_guest, turned_guest_by, turned, acted, who_of, apply, apply_all, world}
 use Rattle.run_model.proofs.Calls.{ended_by}

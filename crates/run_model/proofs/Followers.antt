@@ -14,6 +14,7 @@ use Rattle.run_types.specs.declared.history.Act.{Act}
 use Rattle.run_types.specs.declared.history.Act.TheVariants as act
 use Rattle.run_types.specs.declared.history.Entry.{Entry}
 use Rattle.run_types.specs.declared.launch.Launch.{Launch}
+use Rattle.kernel_model.specs.Ends.{NoneLive}
 use Rattle.kernel_model.specs.State.{State, Threads}
 use Rattle.kernel_model.specs.Step.{step_answer, step_state}
 use Rattle.kernel_model.proofs.Steps.{step_moves_only}
@@ -23,7 +24,7 @@ use Rattle.rv_interp.specs.declared.turns.TurnEnd.{TurnEnd}
 use Rattle.rv_interp.specs.declared.turns.TurnEnd.TheVariants as turn_end_is
 use Rattle.guest_memory.specs.Page.{Pages}
 use Rattle.call_codec.specs.Args.{args_of}
-use Rattle.run_model.specs.Ends.{NoneLive, Ended}
+use Rattle.run_model.specs.Ends.{Ended}
 use Rattle.run_model.specs.Legal.{IsRunnable, MayTurn, AreWhole, FitsAct, Fits, FollowsFrom, Legal}
 use Rattle.run_model.specs.World.{World, Guest, start_world, guest_of, registers_of, called_state, turn_end, turned_guest_by, turned, acted, who_of, apply, apply_all, world}
 use Rattle.run_model.proofs.Calls.{called_is, ended_by}

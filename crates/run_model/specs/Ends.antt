@@ -1,17 +1,13 @@
 -- How a run may end.
-use Rattle.std.specs.Prelude.{◌≡◌, ◌≢◌, ℕ, List, Some}
+use Rattle.std.specs.Prelude.{◌≡◌, ℕ, List, Some}
 use Rattle.std.specs.FinMap.{get}
-use Rattle.abi_types.specs.declared.status.Status.TheVariants.{Live}
 use Rattle.abi_types.specs.declared.thread.Thread.{Thread}
 use Rattle.abi_types.specs.declared.thread.Thread.TheVariants.{Runnable}
 use Rattle.run_types.specs.declared.history.Entry.{Entry}
 use Rattle.run_types.specs.declared.launch.Launch.{Launch}
+use Rattle.kernel_model.specs.Ends.{NoneLive}
 use Rattle.kernel_model.specs.State.{State, Threads}
 use Rattle.run_model.specs.World.{world}
-
--- no process is live
-abbrev pub NoneLive : State → Type 0
-NoneLive S = (p : ℕ) → get S.statuses p ≢ Some Live
 
 -- the run is ended
 abbrev pub Ended : Launch → List Entry → Type 0

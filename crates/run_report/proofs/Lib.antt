@@ -1,3 +1,4 @@
 mod ReportTexts
 mod ReportLines
 mod HistoryTexts
+mod RunEnds

@@ -1,9 +1,10 @@
 -- What a report tells, whatever the run.
-use Rattle.std.specs.Prelude.{Bool, ◌≡◌, ◌+◌, ◌^◌, ◌<◌, ◌==◌, List, codes, length, take, drop}
+use Rattle.std.specs.Prelude.{Bool, ◌≡◌, ◌↔◌, ◌+◌, ◌^◌, ◌<◌, ◌==◌, List, codes, length, take, drop}
 use Rattle.std.specs.List.{before_first}
 use Rattle.run_types.specs.declared.history.Entry.{Entry}
+use Rattle.kernel_model.specs.Ends.{NoneLive, SomeLive}
 use Rattle.kernel_model.specs.State.{State}
-use Rattle.run_report.specs.Report.{written_to, stream_line, report_of}
+use Rattle.run_report.specs.Report.{written_to, stream_line, run_text, report_of}
 
 -- 64 bits can count what was written to stdout and to stderr
 abbrev pub IsCountable : State → Type 0
@@ -22,3 +23,11 @@ StdoutIsCutOut =
     (S : State) (history : List Entry) (lines : Bool) → IsCountable S
     → (before_first (λ b. b == 10) (report_of S history lines) ≡ stream_line (codes "stdout") (written_to 1 S))
     × (take (length (written_to 1 S)) (drop (length (stream_line (codes "stdout") (written_to 1 S)) + 1) (report_of S history lines)) ≡ written_to 1 S)
+
+-- A report says that the run ended exactly where no process is live.
+abbrev pub EndIsTold : Type 0
+EndIsTold = (S : State) → (run_text S ≡ codes "ended") ↔ NoneLive S
+
+-- A report says that the run stalled exactly where some process is live.
+abbrev pub StallIsTold : Type 0
+StallIsTold = (S : State) → (run_text S ≡ codes "stalled") ↔ SomeLive S
