@@ -4,8 +4,8 @@ ghost use Rattle.abi_base.specs.Grants.{AreGrants};
 ghost use Rattle.abi_base.specs.Rights.{has_all};
 
 use abi_types::{
-    Answer, Bytes, Call, Errno, Grant, GrantList, GrantTarget, Pid, Rights, Signal, Status, Thread,
-    Tid,
+    Answer, Bytes, Call, Constants, Errno, Grant, GrantList, GrantTarget, Pid, Rights, Signal,
+    Status, Thread, Tid, Who,
 };
 use elf_image::{Elf, SegmentList};
 use kernel_core::{Kernel, Launch};
@@ -14,6 +14,12 @@ use std::alloc::{AllocError, Global};
 pub const PID: Pid = Pid(0);
 
 pub const TID: Tid = Tid(1);
+
+/// What stays the same for the whole run: no call of these tests reads it.
+pub const CONSTANTS: Constants = Constants {
+    key: [0; 32],
+    epoch: 0,
+};
 
 /// A call of the first thread.
 pub enum Deed {
@@ -91,6 +97,13 @@ pub fn call_of(alloc: Global, deed: &Deed) -> Result<Call, AllocError> {
     }
 }
 
+// The first thread.
+fn first_thread() -> Who
+    ensures { result ≡ record { pid = 0; tid = 1 } }
+{
+    Who { pid: PID, tid: TID }
+}
+
 /// The answer to a call of the first thread. `None` where that thread can make no call.
 pub fn answer_to(kernel: &mut Kernel, call: &Call) -> Option<Answer> {
     if !kernel.live(PID) || kernel.moment() > 1_000_000 {
@@ -98,7 +111,7 @@ pub fn answer_to(kernel: &mut Kernel, call: &Call) -> Option<Answer> {
     }
     match kernel.thread(PID, TID) {
         None => None,
-        Some(Thread::Runnable) => Some(kernel.step(PID, TID, call)),
+        Some(Thread::Runnable) => Some(kernel.step(&CONSTANTS, &first_thread(), call)),
     }
 }
 

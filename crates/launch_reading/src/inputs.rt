@@ -15,7 +15,7 @@ use input_output::{ReadFault, Source, read_whole};
 use launch_plan::Planned;
 use launch_words::LaunchWords;
 use lists::Bytes;
-use run_types::Launch;
+use run_types::{Constants, Launch};
 use std::alloc::{AllocError, Global};
 
 // The name of standard input, which has the launch text.
