@@ -8,7 +8,7 @@ use Rattle.abi_types.specs.declared.who.Who.{Who}
 use Rattle.kernel_model.specs.Calls.{refusal_of}
 use Rattle.kernel_model.specs.Outcome.{Outcome}
 use Rattle.kernel_model.specs.Laws.{HasSameSight, EndsAlike}
-use Rattle.kernel_model.specs.Release.{holders, is_ending, release}
+use Rattle.kernel_model.specs.Release.{is_released, release}
 use Rattle.kernel_model.specs.State.{State, Part, at_clock, at_proc, at_status, at_open, at_term, same_part, has_part, Agree, AgreeOn, put_all}
 use Rattle.kernel_model.specs.Step.{tick, sight, act, outcome, unreleased, step_answer, step_state}
 use Rattle.kernel_model.specs.View.{only, restrict}
@@ -73,22 +73,12 @@ unreleased_alike constants S T who call q same h =
     subst (λ (o : Outcome). Agree (unreleased constants S who call) (put_all o.updates (tick T)) q) same
     (put_same (outcome constants S who call).updates (tick S) (tick T) q (tick_alike S T q h))
 
-by_ending_one : {X : Type 0} (b c : Bool) (x : Option X) → (is_some x && b) ≡ (is_some x && c) → cond (not b) x None ≡ cond (not c) x None
-by_ending_one b c (Some x) h = ap (λ d. cond (not d) (Some x) None) h
-by_ending_one true true None h = refl
-by_ending_one true false None h = refl
-by_ending_one false true None h = refl
-by_ending_one false false None h = refl
-
-by_ending : {X : Type 0} (b c : Bool) (x y : Option X) → x ≡ y → (is_some x && b) ≡ (is_some y && c) → cond (not b) x None ≡ cond (not c) y None
-by_ending {X} b c x y e h = subst (λ z. (is_some x && b) ≡ (is_some z && c) → cond (not b) x None ≡ cond (not c) z None) e (by_ending_one b c x) h
-
-release_alike : (S T : State) (q : Part) → Agree S T q → ((o : ℕ) → q ≡ at_open o → is_ending S o ≡ is_ending T o) → Agree (release S) (release T) q
+pub release_alike : (S T : State) (q : Part) → Agree S T q → is_released S q ≡ is_released T q → Agree (release S) (release T) q
 release_alike S T at_clock h ends = h
 release_alike S T (at_proc p) h ends = h
 release_alike S T (at_status p) h ends = h
 release_alike S T (at_open o) h ends =
-    get_released S o ∙ by_ending (holders S o == 0) (holders T o == 0) (get S.opens o) (get T.opens o) h (ends o refl) ∙ sym (get_released T o)
+    get_released S o ∙ (λ i. cond (not (ends i)) (h i) None) ∙ sym (get_released T o)
 release_alike S T (at_term k) h ends = h
 
 same_itself : (q : Part) → same_part q q ≡ true
@@ -116,5 +106,5 @@ step_decided constants S T who call same =
       λ ends. each_part (step_state constants S who call) (step_state constants T who call) (sight S who call) (λ q there.
           release_alike (unreleased constants S who call) (unreleased constants T who call) q
           (unreleased_alike constants S T who call q alike (agree_at S T (sight S who call) q same.1 there))
-          (λ o is. ends o (subst (λ r. has_part (sight S who call) r ≡ true) is there))),
+          (ends q there)),
     )

@@ -1,6 +1,7 @@
 pub mod Tests
 pub mod Lists
 pub mod Parts
+pub mod Ends
 pub mod Valids
 pub mod Sights
 pub mod StreamCalls

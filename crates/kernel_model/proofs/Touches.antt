@@ -11,7 +11,7 @@ use Rattle.kernel_model.specs.Calls.{meaning_of, refusal}
 use Rattle.kernel_model.specs.Outcome.{Outcome}
 use Rattle.kernel_model.specs.ProcessCalls.{end_updates}
 use Rattle.kernel_model.specs.Proper.{IsUnset}
-use Rattle.kernel_model.specs.Release.{holders, is_released, release}
+use Rattle.kernel_model.specs.Release.{is_released, release}
 use Rattle.kernel_model.specs.Sight.{own_parts}
 use Rattle.kernel_model.specs.State.{State, Table, Part, at_clock, at_proc, at_status, at_open, at_term, same_part, has_part, Agree, part_of}
 use Rattle.kernel_model.specs.Step.{tick, unless_refused, changed, touch, unless, act_on, outcome, unreleased, step_state, IsStep, IsUntouched, end_unreleased, end_state}
@@ -20,7 +20,7 @@ use Rattle.kernel_model.proofs.Calls.{proper}
 use Rattle.kernel_model.proofs.Outcomes.{outcome_reads}
 use Rattle.kernel_model.proofs.Parts.{outside_cons, agree_through, put_keeps}
 use Rattle.kernel_model.proofs.ProcessCalls.{end_unset}
-use Rattle.kernel_model.proofs.Valids.{get_released}
+use Rattle.kernel_model.proofs.Valids.{released_stays}
 
 -- ---- what a call sets
 
@@ -51,17 +51,12 @@ tick_keeps S (at_status p) h = refl
 tick_keeps S (at_open o) h = refl
 tick_keeps S (at_term k) h = refl
 
-not_ending : {X : Type 0} (b : Bool) (o : Option X) → (is_some o && b) ≡ false → cond (not b) o None ≡ o
-not_ending false o h = refl
-not_ending true None h = refl
-not_ending true (Some x) h = absurd (subst T h tt)
-
 -- a part that the release does not end stays
 pub release_keeps : (S : State) (q : Part) → is_released S q ≡ false → Agree (release S) S q
 release_keeps S at_clock h = refl
 release_keeps S (at_proc p) h = (refl, refl)
 release_keeps S (at_status p) h = refl
-release_keeps S (at_open o) h = get_released S o ∙ not_ending (holders S o == 0) (get S.opens o) h
+release_keeps S (at_open o) h = released_stays S o h
 release_keeps S (at_term k) h = refl
 
 -- ---- steps

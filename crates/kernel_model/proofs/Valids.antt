@@ -3,18 +3,20 @@ use Rattle.std.proofs.Common.{◌≡◌, ◌≢◌, inl, inr, ℕ, ◌+◌, ◌<
 use Rattle.std.proofs.lemmas.Bool.Decides.{eqb_tells}
 use Rattle.std.proofs.lemmas.Bool.{eq-eqb}
 use Rattle.std.specs.Ordering.{nat_cmp}
-use Rattle.std.specs.FinMap.{FinMap, get, get-empty, insert, empty}
+use Rattle.std.specs.FinMap.{FinMap, get, get-empty, insert, empty, retain_keys}
 use Rattle.abi_types.specs.declared.descriptor.Descriptor.{Descriptor}
 use Rattle.abi_types.specs.declared.open_kind.OpenKind.{OpenKind}
 use Rattle.abi_types.specs.declared.open_kind.OpenKind.TheVariants.{Terminal}
 use Rattle.abi_types.specs.declared.status.Status.{Status}
 use Rattle.abi_types.specs.declared.status.Status.TheVariants.{Live}
+use Rattle.number_map.specs.Closure.{member}
 use Rattle.number_map.specs.Maps.{get-insert-same, get-insert-other, get-retain, same_numbers, total, weight, total-empty, total-insert, total_at_least}
 use Rattle.kernel_model.specs.ProcessCalls.{end_updates}
-use Rattle.kernel_model.specs.Release.{names_open, count_in, holders, release}
+use Rattle.kernel_model.specs.Release.{names_open, count_in, holders, ends, release, is_ending}
 use Rattle.kernel_model.specs.State.{State, Table, put_one, put_all, set_term}
 use Rattle.kernel_model.specs.Step.{tick}
 use Rattle.kernel_model.specs.Valid.{IsNamed, HasBehind, IsNearlyValid, IsValid}
+use Rattle.kernel_model.proofs.Ends.{ends_closed, ends_unheld}
 use Rattle.kernel_model.proofs.Tests.{not_true, none_is_no}
 
 -- ---- what holds an open
@@ -41,27 +43,33 @@ emptied_holders tables p o table there =
 
 -- ---- the release
 
-above_zero : (n : ℕ) → 0 < n → not (n == 0) ≡ true
-above_zero n h =
-    elim (eqb_tells n 0) [ inl is ↦ (let same : n ≡ 0 = is.1 in absurd (omega arith)) | inr other ↦ ap not other.0 ]
-
-some_above_zero : {X : Type 0} (n : ℕ) (o : Option X) → IsSome (cond (not (n == 0)) o None) → 0 < n
-some_above_zero n o h =
-    elim (eqb_tells n 0) [
-      | inl is ↦ absurd (not_true (subst (λ b. IsSome (cond (not b) o None)) is.0 h))
-      | inr other ↦ (let apart : n ≢ 0 = other.1 in omega arith)
-    ]
-
 kept_some : {X : Type 0} (b : Bool) (o : Option X) (x : X) → cond b o None ≡ Some x → o ≡ Some x
 kept_some true o x e = e
 kept_some false o x e = absurd (none_is_no x e)
 
-held_stays : {X : Type 0} (n : ℕ) (o : Option X) → 0 < n → cond (not (n == 0)) o None ≡ o
-held_stays n o h = ap (λ b. cond b o None) (above_zero n h)
+-- an open after the release: nothing where it ends, else as before
+pub get_released : (S : State) (o : ℕ) → get (release S).opens o ≡ cond (not (is_ending S o)) (get S.opens o) None
+get_released S o = get-retain S.opens (λ r. not (member r (ends S))) o
 
--- an open after the release: as before where it is held, else nothing
-pub get_released : (S : State) (o : ℕ) → get (release S).opens o ≡ cond (not (holders S o == 0)) (get S.opens o) None
-get_released S o = get-retain S.opens (λ r. not (holders S r == 0)) o
+-- an open that is held does not end
+pub held_stays : (S : State) (o : ℕ) → 0 < holders S o → is_ending S o ≡ false
+held_stays S o held =
+    elim (is_ending S o) as (λ b. is_ending S o ≡ b → b ≡ false) [
+      | true ↦ λ e. (let none : holders S o ≡ 0 = (ends_unheld S o e).1 in absurd (omega arith))
+      | false ↦ λ e. refl
+    ] refl
+
+pub released_stays : (S : State) (o : ℕ) → is_ending S o ≡ false → get (release S).opens o ≡ get S.opens o
+released_stays S o stays = get_released S o ∙ ap (λ b. cond (not b) (get S.opens o) None) stays
+
+-- an open that is there after the release is held
+left_is_held : (S : State) (o : ℕ) (b : Bool) → is_ending S o ≡ b → IsSome (cond (not b) (get S.opens o) None) → 0 < holders S o
+left_is_held S o true ends there = absurd (not_true there)
+left_is_held S o false stays there =
+    elim (eqb_tells (holders S o) 0) [
+      | inl is ↦ absurd (not_true (sym stays ∙ ends_closed S o there is.1))
+      | inr other ↦ (let apart : holders S o ≢ 0 = other.1 in omega arith)
+    ]
 
 -- what stands behind an open does not depend on the other parts
 behind_same : (S T : State) → ((k : ℕ) → IsSome (get S.terms k) → IsSome (get T.terms k)) → (kind : OpenKind) → HasBehind S kind → HasBehind T kind
@@ -71,35 +79,61 @@ pub release_restores : (S : State) → IsNearlyValid S → IsValid (release S)
 release_restores S v = record {
   nearly = record {
     named = λ p n table d there here.
-        subst (λ o. IsNamed o d) (sym (get_released S d.id ∙ held_stays (holders S d.id) (get S.opens d.id) (named_is_held S p n table d there here)))
+        subst (λ o. IsNamed o d) (sym (released_stays S d.id (held_stays S d.id (named_is_held S p n table d there here))))
         (v.named p n table d there here);
     behind = λ o kind e.
         behind_same S (release S) (λ _ h. h) kind
-        (v.behind o kind (kept_some (not (holders S o == 0)) (get S.opens o) kind (sym (get_released S o) ∙ e)));
+        (v.behind o kind (kept_some (not (is_ending S o)) (get S.opens o) kind (sym (get_released S o) ∙ e)));
     tables = v.tables;
     threads = v.threads;
     ended = v.ended;
   };
-  held = λ o h. some_above_zero (holders S o) (get S.opens o) (subst IsSome (get_released S o) h);
+  held = λ o h. left_is_held S o (is_ending S o) refl (subst IsSome (get_released S o) h);
 }
 
-either_none : {X : Type 0} (b : Bool) → cond {A = Option X} b None None ≡ None
-either_none true = refl
-either_none false = refl
-
-held_or_absent : {X : Type 0} (n : ℕ) (o : Option X) → (IsSome o → 0 < n) → cond (not (n == 0)) o None ≡ o
-held_or_absent n (Some x) h = held_stays n (Some x) (h refl)
-held_or_absent n None h = either_none (not (n == 0))
-
 -- where each open is held nothing is released
+held_or_absent : (S : State) → ((o : ℕ) → IsSome (get S.opens o) → 0 < holders S o) → (o : ℕ) → is_ending S o ≡ false
+held_or_absent S held o =
+    elim (is_ending S o) as (λ b. is_ending S o ≡ b → b ≡ false) [
+      | true ↦ λ e. (
+          let unheld = ends_unheld S o e in
+          let none : holders S o ≡ 0 = unheld.1 in
+          let some : 0 < holders S o = held o unheld.0 in
+          absurd (omega arith))
+      | false ↦ λ e. refl
+    ] refl
+
 pub release_held : (S : State) → ((o : ℕ) → IsSome (get S.opens o) → 0 < holders S o) → release S ≡ S
 release_held S held =
-    let same : (release S).opens ≡ S.opens = same_numbers _ _ (λ o. get_released S o ∙ held_or_absent (holders S o) (get S.opens o) (held o)) in
+    let same : (release S).opens ≡ S.opens = same_numbers _ _ (λ o. released_stays S o (held_or_absent S held o)) in
     λ i. record S { opens = same i }
 
 -- nothing of a valid state is released
 pub release_valid : (S : State) → IsValid S → release S ≡ S
 release_valid S v = release_held S v.held
+
+-- the opens that are left are those that are held
+ending_is : (S : State) (o : ℕ) → IsSome (get S.opens o) → is_ending S o ≡ (holders S o == 0)
+ending_is S o there =
+    elim (eqb_tells (holders S o) 0) [
+      | inl is ↦ ends_closed S o there is.1 ∙ sym is.0
+      | inr other ↦ held_stays S o (let apart : holders S o ≢ 0 = other.1 in omega arith) ∙ sym other.0
+    ]
+
+left_alike : {X : Type 0} (b c : Bool) (o : Option X) → (IsSome o → b ≡ c) → cond (not b) o None ≡ cond (not c) o None
+left_alike b c (Some x) h = ap (λ d. cond (not d) (Some x) None) (h refl)
+left_alike true true None h = refl
+left_alike true false None h = refl
+left_alike false true None h = refl
+left_alike false false None h = refl
+
+pub release_is : (S : State) → release S ≡ record S { opens = retain_keys S.opens (λ o. not (holders S o == 0)) }
+release_is S =
+    let same : (release S).opens ≡ retain_keys S.opens (λ o. not (holders S o == 0)) =
+    same_numbers _ _ (λ o.
+        get_released S o ∙ left_alike (is_ending S o) (holders S o == 0) (get S.opens o) (ending_is S o)
+        ∙ sym (get-retain S.opens (λ r. not (holders S r == 0)) o)) in
+    λ i. record S { opens = same i }
 
 -- ---- one more moment
 

@@ -18,7 +18,7 @@ use Rattle.abi_types.specs.declared.who.Who.{Who}
 use Rattle.kernel_model.specs.Calls.{meaning_of, named, need, errors_of, takes_memory, refusal_of}
 use Rattle.kernel_model.specs.Need.{has_needed, missing}
 use Rattle.kernel_model.specs.Proper.{IsIn, IsProper}
-use Rattle.kernel_model.specs.Release.{is_ending, is_released}
+use Rattle.kernel_model.specs.Release.{ends, is_released, IsEnd}
 use Rattle.kernel_model.specs.Reply.{refused, denied}
 use Rattle.abi_base.specs.Grants.{AreGrants}
 use Rattle.kernel_model.specs.Sight.{own_parts, behind}
@@ -51,12 +51,12 @@ SightDecides =
     (constants : Constants) (S T : State) (who : Who) (call : Call) → HasSameSight S T who call
     → outcome constants S who call ≡ outcome constants T who call
 
--- of the opens among the parts, the same end in both states
+-- of these parts, the release of both states ends the same
 abbrev pub EndsAlike : State → State → List Part → Type 0
-EndsAlike S T parts = (o : ℕ) → has_part parts (at_open o) ≡ true → is_ending S o ≡ is_ending T o
+EndsAlike S T parts = (q : Part) → has_part parts q ≡ true → is_released S q ≡ is_released T q
 
--- A call that sees the same in two states answers the same in both; and where the release after it ends the same of the
--- opens that it sees, each part that it sees has the same value in both states after the step.
+-- A call that sees the same in two states answers the same in both; and where the release after it ends the same of what
+-- it sees, each part that it sees has the same value in both states after the step.
 abbrev pub StepDecided : Type 0
 StepDecided =
     (constants : Constants) (S T : State) (who : Who) (call : Call) → HasSameSight S T who call
@@ -136,6 +136,10 @@ pub record EndsOnly (S : State) (p : ℕ) (status : Status) (T : State) : Type 0
 
 abbrev pub EndStateEndsOnly : Type 0
 EndStateEndsOnly = (S : State) (p : ℕ) (status : Status) → EndsOnly S p status (end_state S p status)
+
+-- The opens that end are the least set that has each open which nothing holds once the set has ended.
+abbrev pub EndsAreLeast : Type 0
+EndsAreLeast = (S : State) → IsEnd S (ends S)
 
 -- ---- why a call is denied
 

@@ -1,7 +1,8 @@
 -- Which opens end because nothing holds them any more.
-use Rattle.std.specs.Prelude.{ℕ, ◌==◌, ◌&&◌, not, Bool, false, is_some, if◌then◌else◌}
+use Rattle.std.specs.Prelude.{◌≡◌, ℕ, ◌==◌, not, Bool, true, false, List, [], IsSome, if◌then◌else◌}
 use Rattle.std.specs.FinMap.{get, retain_keys}
 use Rattle.abi_types.specs.declared.descriptor.Descriptor.{Descriptor}
+use Rattle.number_map.specs.Closure.{member, closure}
 use Rattle.number_map.specs.Maps.{total}
 use Rattle.kernel_model.specs.State.{State, Table, Part, at_clock, at_proc, at_status, at_open, at_term}
 
@@ -17,13 +18,25 @@ count_in o table = total (names_open o) table
 abbrev pub holders : State → ℕ → ℕ
 holders S o = total (count_in o) S.tables
 
--- An open ends where nothing holds it. What a standard stream's open reaches stays, so no end leads to another.
-abbrev pub is_ending : State → ℕ → Bool
-is_ending S o = is_some (get S.opens o) && (holders S o == 0)
+-- the state once these opens have ended. What a standard stream's open reaches stays.
+abbrev pub without : List ℕ → State → State
+without ended S = record S { opens = retain_keys S.opens (λ o. not (member o ended)) }
+
+-- whether nothing holds the open once these have ended
+abbrev pub is_unheld : State → List ℕ → ℕ → Bool
+is_unheld S ended o = holders (without ended S) o == 0
+
+-- the opens that end: the least set that has each open which nothing holds once the set has ended
+unfoldable pub ends : State → List ℕ
+ends S = closure (is_unheld S) S.opens []
 
 -- the state without the opens that end
 abbrev pub release : State → State
-release S = record S { opens = retain_keys S.opens (λ o. not (holders S o == 0)) }
+release S = without (ends S) S
+
+-- whether the open is one that ends
+abbrev pub is_ending : State → ℕ → Bool
+is_ending S o = member o (ends S)
 
 -- whether the part is one that the release of this state ends
 abbrev pub is_released : State → Part → Bool
@@ -32,3 +45,12 @@ is_released S (at_proc p) = false
 is_released S (at_status p) = false
 is_released S (at_open o) = is_ending S o
 is_released S (at_term k) = false
+
+-- The set of opens is the one that ends: it has each open which nothing holds once the set has ended, each of it is such
+-- an open, and it is the least: whatever has each open that nothing holds once some of its own have ended has all of it.
+pub record IsEnd (S : State) (ended : List ℕ) : Type 0 where
+  pub closed : (o : ℕ) → IsSome (get S.opens o) → holders (without ended S) o ≡ 0 → member o ended ≡ true
+  pub unheld : (o : ℕ) → member o ended ≡ true → IsSome (get S.opens o) × (holders (without ended S) o ≡ 0)
+  pub least : (has : ℕ → Bool)
+      → ((o : ℕ) → IsSome (get S.opens o) → (some : List ℕ) → ((r : ℕ) → member r some ≡ true → has r ≡ true) → holders (without some S) o ≡ 0 → has o ≡ true)
+      → (o : ℕ) → member o ended ≡ true → has o ≡ true

@@ -1,6 +1,6 @@
 //! Laws of the kernel's steps. The statements are in `specs/Laws.antt`, and each holds of every state, process and call.
 ghost use Rattle.kernel_model.specs.Laws.{MeaningsAreProper, ReadsSight, SightDecides, StepDecided, SightIsReached, TouchIsSeen};
-ghost use Rattle.kernel_model.specs.Laws.{OthersStay, EndKeeps, ErrorKeeps, StepMovesOnly, EndStateEndsOnly};
+ghost use Rattle.kernel_model.specs.Laws.{OthersStay, EndKeeps, ErrorKeeps, StepMovesOnly, EndStateEndsOnly, EndsAreLeast};
 ghost use Rattle.kernel_model.specs.Laws.{FirstLackIsNamed, DenialIsOfFirstLack, NotcapableIsDenied, RepliesAreListed, NoMemoryIsExact, AbsentIsBadf, LackIsDenied};
 ghost use Rattle.kernel_model.specs.Laws.{StepKeepsValid, EndKeepsValid, StartIsValid};
 
@@ -49,6 +49,11 @@ pub fn end_keeps()
 pub fn steps_move_only()
     ensures step { StepMovesOnly }
     ensures end { EndStateEndsOnly }
+{}
+
+/// The opens that a release ends are the least set that has each open which nothing holds once the set has ended.
+pub fn ends_are_least()
+    ensures { EndsAreLeast }
 {}
 
 /// A call that answers an error, want of memory among them, changes only the clock of a valid state.

@@ -8,7 +8,7 @@ use Rattle.kernel_model.specs.ProcessCalls.{end_updates}
 use Rattle.kernel_model.specs.Release.{count_in, holders, release}
 use Rattle.kernel_model.specs.State.{State, put_all}
 use Rattle.kernel_model.specs.Valid.{IsValid}
-use Rattle.kernel_model.proofs.Valids.{end_nearly_valid, release_restores}
+use Rattle.kernel_model.proofs.Valids.{end_nearly_valid, release_is, release_restores}
 use Rattle.kernel_core.specs.contracts.kernel.Kernel.{the_view}
 use Rattle.kernel_core.proofs.Ends.{covered, left_holders, retain_same, number-retain}
 use Rattle.kernel_core.proofs.kernel.Kernel.end_process.Goals as goal
@@ -50,7 +50,8 @@ after c =
     ap (λ (h : Held). h.kinds) c.remove_unheld.ensures
     ∙ ap (λ (m : FinMap nat_cmp OpenKind). retain_keys m (is_held c.let_go_all.new.objects.counts)) c.let_go_all.ensures.kinds
     ∙ retain_same _ _ _ (λ o. ap (λ (n : ℕ). not (n == 0)) (left c o)) in
-    λ i. record { clock = k.clock; tables = tables i; threads = threads i; statuses = statuses i; opens = opens i; terms = k.terms }
+    (λ i. record { clock = k.clock; tables = tables i; threads = threads i; statuses = statuses i; opens = opens i; terms = k.terms })
+    ∙ sym (release_is (put_all (end_updates c.args.pid c.args.status) (the_view k)))
 
 pub invariant_of-self : goal.invariant_of-self
 invariant_of-self c =
