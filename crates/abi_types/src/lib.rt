@@ -13,6 +13,7 @@ pub use abi_structures::{
 };
 pub use call::{Answer, Call, Reply};
 pub use constants::Constants;
+pub use counts::Counts;
 pub use descriptor::{Denial, Descriptor};
 pub use input_output as outside;
 pub use lists::{Bytes, Items, Text, TryClone};
@@ -20,15 +21,18 @@ pub use needed::Needed;
 pub use open_kind::OpenKind;
 pub use place::Place;
 pub use status::Status;
+pub use stream::Stream;
 pub use thread::Thread;
 pub use who::Who;
 
 mod call;
 mod constants;
+mod counts;
 mod descriptor;
 mod needed;
 mod open_kind;
 mod place;
 mod status;
+mod stream;
 mod thread;
 mod who;

@@ -8,6 +8,7 @@ use Rattle.abi_types.specs.declared.constants.Constants.{Constants}
 use Rattle.abi_types.specs.declared.descriptor.Descriptor.{Descriptor}
 use Rattle.abi_types.specs.declared.open_kind.OpenKind.{OpenKind}
 use Rattle.abi_types.specs.declared.open_kind.OpenKind.TheVariants.{Terminal}
+use Rattle.abi_types.specs.declared.stream.Stream.{Stream}
 use Rattle.abi_types.specs.declared.who.Who.{Who}
 use Rattle.kernel_model.specs.Calls.{meaning_of, refusal}
 use Rattle.kernel_model.specs.Outcome.{Outcome, replies}
@@ -34,10 +35,10 @@ act_allowed constants S who call table there is =
     ap (act_on constants (whole S) who call) there ∙ ap (λ r. unless r ((meaning_of call).does constants (whole S) who table)) is
 
 -- a write ends no open
-written_released : (S : State) (bytes : List ℕ) (which : ℕ) (term : Option (List ℕ)) → IsValid S
-    → release (put_all (write_term bytes which term).updates S) ≡ put_all (write_term bytes which term).updates S
+written_released : (S : State) (bytes : List ℕ) (which : ℕ) (stream : Option Stream) → IsValid S
+    → release (put_all (write_term bytes which stream).updates S) ≡ put_all (write_term bytes which stream).updates S
 written_released S bytes which None v = release_valid S v
-written_released S bytes which (Some written) v = release_valid _ (written_valid S (insert S.terms which _) (some_stays S.terms which _) v)
+written_released S bytes which (Some stream) v = release_valid _ (written_valid S (insert S.terms which _) (some_stays S.terms which _) v)
 
 opened_released : (S : State) (bytes : List ℕ) (open_kind : Option OpenKind) → IsValid S
     → release (put_all (write_open (whole S) bytes open_kind).updates S) ≡ put_all (write_open (whole S) bytes open_kind).updates S

@@ -99,16 +99,16 @@ numbered_counts (grant ∷ grants) n m o e =
           omega (arith, rest, sums, none, here)
     ]
 
-pub start_counted : (grants : List Grant) (o : ℕ) → number (get (granted_objects grants).counts o) ≡ holders (start_state grants) o
-start_counted grants o =
+pub start_counted : (grants : List Grant) (stdin : List ℕ) (o : ℕ) → number (get (granted_objects grants).counts o) ≡ holders (start_state grants stdin) o
+start_counted grants stdin o =
     let counts = numbered_counts grants 0 (launch_object 5) o refl in
     let bare : total (count_in o) (empty {X = Table} {R = nat_cmp}) ≡ 0 = total-empty (count_in o) in
     let sums = total-insert_new (count_in o) empty 0 (granted_table grants) (get-empty nat_cmp 0) in
     omega (arith, counts, bare, sums)
 
-pub start_kept : (grants : List Grant) (S : State) (counts : FinMap nat_cmp ℕ) → AreGrants grants → S ≡ start_state grants
+pub start_kept : (grants : List Grant) (stdin : List ℕ) (S : State) (counts : FinMap nat_cmp ℕ) → AreGrants grants → S ≡ start_state grants stdin
     → counts ≡ (granted_objects grants).counts → IsKept S counts
-start_kept grants S counts all is counted = record {
-  valid = subst IsValid (sym is) (start_valid grants all);
-  counted = λ o. ap (λ (m : FinMap nat_cmp ℕ). number (get m o)) counted ∙ start_counted grants o ∙ sym (ap (λ (T : State). holders T o) is);
+start_kept grants stdin S counts all is counted = record {
+  valid = subst IsValid (sym is) (start_valid grants stdin all);
+  counted = λ o. ap (λ (m : FinMap nat_cmp ℕ). number (get m o)) counted ∙ start_counted grants stdin o ∙ sym (ap (λ (T : State). holders T o) is);
 }

@@ -5,6 +5,7 @@ use Rattle.std.specs.Ordering.{nat_cmp}
 use Rattle.std.specs.FinMap.{FinMap, get, insert}
 use Rattle.abi_types.specs.declared.open_kind.OpenKind.{OpenKind}
 use Rattle.abi_types.specs.declared.open_kind.OpenKind.TheVariants.{Terminal}
+use Rattle.abi_types.specs.declared.stream.Stream.{Stream}
 use Rattle.number_map.specs.Maps.{get-insert-same, get-insert-other}
 use Rattle.kernel_model.specs.State.{State}
 use Rattle.kernel_model.specs.Valid.{IsValid, HasBehind}
@@ -17,20 +18,22 @@ some_stays m k v q there =
       | inr h ↦ ap is_some (get-insert-other m k v q h.1) ∙ there
     ]
 
-behind_stays : (S : State) (terms : FinMap nat_cmp (List ℕ)) → ((k : ℕ) → IsSome (get S.terms k) → IsSome (get terms k))
+behind_stays : (S : State) (terms : FinMap nat_cmp Stream) → ((k : ℕ) → IsSome (get S.terms k) → IsSome (get terms k))
     → (kind : OpenKind) → HasBehind S kind → HasBehind (record S { terms = terms }) kind
 behind_stays S terms stays (Terminal which flags) there = stays which there
 
 -- a valid state with more written to its streams is valid
-pub written_valid : (S : State) (terms : FinMap nat_cmp (List ℕ)) → ((k : ℕ) → IsSome (get S.terms k) → IsSome (get terms k))
+pub written_valid : (S : State) (terms : FinMap nat_cmp Stream) → ((k : ℕ) → IsSome (get S.terms k) → IsSome (get terms k))
     → IsValid S → IsValid (record S { terms = terms })
 written_valid S terms stays v = record {
   nearly = record {
     named = v.nearly.named;
     behind = λ o kind e. behind_stays S terms stays kind (v.nearly.behind o kind e);
     tables = v.nearly.tables;
-    threads = v.nearly.threads;
+    owns = v.nearly.owns;
     ended = v.nearly.ended;
+    numbered = v.nearly.numbered;
+    made = v.nearly.made;
   };
   held = v.held;
 }

@@ -2,12 +2,12 @@
 use Rattle.std.specs.Prelude.{◌≡◌, ℕ, List, [], ◌∷◌, Option, None, Some, Bool, true, false, is_some}
 use Rattle.std.specs.Ordering.{nat_cmp}
 use Rattle.std.specs.FinMap.{FinMap, get, insert}
-use Rattle.abi_types.specs.declared.thread.Thread.{Thread}
+use Rattle.abi_types.specs.declared.stream.Stream.{Stream}
 use Rattle.number_map.specs.Maps.{number, least_key}
 use Rattle.abi_types.specs.declared.status.Status.{Status}
 use Rattle.abi_types.specs.declared.status.Status.TheVariants.{Live, Exit, Killed}
 use Rattle.kernel_model.specs.Release.{holders}
-use Rattle.kernel_model.specs.State.{State, Threads, Update, set_table, set_threads, set_status, set_term}
+use Rattle.kernel_model.specs.State.{State, Update, set_table, set_own, set_status, set_term}
 use Rattle.kernel_model.specs.Valid.{IsValid}
 
 -- the state is valid, and each open's count is that of its holders
@@ -15,21 +15,12 @@ pub record IsKept (S : State) (counts : FinMap nat_cmp ℕ) : Type 0 where
   pub valid : IsValid S
   pub counted : (o : ℕ) → number (get counts o) ≡ holders S o
 
--- the thread with this number, if there is one
-abbrev pub thread_in : Option Threads → ℕ → Option Thread
-thread_in None t = None
-thread_in (Some threads) t = get threads t
-
--- what a live thread of a process does
-abbrev pub thread_of : State → ℕ → ℕ → Option Thread
-thread_of S p t = thread_in (get S.threads p) t
-
 -- the standard streams after these updates
-abbrev pub terms_after : List Update → FinMap nat_cmp (List ℕ) → FinMap nat_cmp (List ℕ)
+abbrev pub terms_after : List Update → FinMap nat_cmp Stream → FinMap nat_cmp Stream
 terms_after [] terms = terms
-terms_after (set_term k bytes ∷ updates) terms = terms_after updates (insert terms k bytes)
+terms_after (set_term k stream ∷ updates) terms = terms_after updates (insert terms k stream)
 terms_after (set_table p table ∷ updates) terms = terms_after updates terms
-terms_after (set_threads p threads ∷ updates) terms = terms_after updates terms
+terms_after (set_own p own ∷ updates) terms = terms_after updates terms
 terms_after (set_status p status ∷ updates) terms = terms_after updates terms
 
 -- whether the status is that of a live process

@@ -1,7 +1,7 @@
 //! The kernel's state, and its steps.
 ghost use Rattle.std.specs.Prelude.{◌≡◌, ◌≢◌, ◌∷◌, ◌^◌, ◌<◌, ◌≤◌, ◌↔◌, ℕ, [], Some, None, IsSome, IfOk, OnErr, IsTrue, false, length, unwrap_or};
 ghost use Rattle.std.specs.FinMap as map;
-ghost use Rattle.kernel_core.specs.Kernel.{terms_after, thread_of, is_live, any_live};
+ghost use Rattle.kernel_core.specs.Kernel.{terms_after, is_live, any_live};
 ghost use Rattle.kernel_model.specs.Calls.{named, need};
 ghost use Rattle.kernel_model.specs.Laws.{HasAll, IsFirstLack, IsOfFirstLack};
 ghost use Rattle.kernel_model.specs.Need.{missing};
@@ -11,7 +11,7 @@ ghost use Rattle.kernel_model.specs.Reply.{denied};
 ghost use Rattle.abi_base.specs.Grants.{AreGrants};
 ghost use Rattle.kernel_model.specs.Sight.{own_parts};
 ghost use Rattle.kernel_model.specs.Start.{start_state};
-ghost use Rattle.kernel_model.specs.State.{put_all, Table, Part, has_part, Agree};
+ghost use Rattle.kernel_model.specs.State.{put_all, Table, Part, has_part, Agree, thread_of, written_to};
 ghost use Rattle.kernel_model.specs.Step.{act, failed, MayLackMemory, IsStep, IsUntouched, end_unreleased, end_state};
 ghost use Rattle.kernel_model.specs.StreamCalls.{write_term, write_to};
 ghost use Rattle.kernel_model.specs.Valid.{IsValid};
@@ -19,11 +19,12 @@ ghost use Rattle.kernel_model.specs.View.{whole};
 
 use crate::needs::{named, need, placed, refusal, refused, success};
 use crate::objects::Objects;
-use crate::start::{granted, single, unwritten};
+use crate::own::Own;
+use crate::start::{granted, single, streams};
 use crate::table::{Table as Descriptors, let_go_all};
 use abi_types::{
     Answer, Bytes, Call, Constants, Denial, Descriptor, Errno, Needed, OpenKind, Pid, Reply, Status,
-    Thread, Tid, Who,
+    Stream, Thread, Tid, Who,
 };
 use number_map::NumMap;
 use run_types::Launch;
@@ -38,10 +39,10 @@ const STEP_TIME: u64 = 1000;
 pub struct Kernel {
     clock: u64,
     tables: NumMap<Descriptors>,
-    threads: NumMap<NumMap<Thread>>,
+    own: NumMap<Own>,
     statuses: NumMap<Status>,
     objects: Objects,
-    terms: NumMap<Bytes>,
+    terms: NumMap<Stream>,
 }
 
 impl Model for Kernel {
@@ -53,13 +54,13 @@ impl Model for Kernel {
 
     ghost coded = { state_code };
 
-    ghost view = { λ k. record { clock = k.clock; tables = k.tables; threads = k.threads; statuses = k.statuses; opens = k.objects.kinds; terms = k.terms } };
+    ghost view = { λ k. record { clock = k.clock; tables = k.tables; own = k.own; statuses = k.statuses; opens = k.objects.kinds; terms = k.terms } };
 
-    ghost invariant = { λ k. IsKept (record { clock = k.clock; tables = k.tables; threads = k.threads; statuses = k.statuses; opens = k.objects.kinds; terms = k.terms }) k.objects.counts };
+    ghost invariant = { λ k. IsKept (record { clock = k.clock; tables = k.tables; own = k.own; statuses = k.statuses; opens = k.objects.kinds; terms = k.terms }) k.objects.counts };
 }
 
 // Writes the bytes to a standard stream. `Err` changes nothing.
-fn write_term(terms: &mut NumMap<Bytes>, which: u32, bytes: &Bytes) -> Result<Answer, AllocError>
+fn write_term(terms: &mut NumMap<Stream>, which: u32, bytes: &Bytes) -> Result<Answer, AllocError>
     ensures ok { IfOk result (λ given. (given ≡ (write_term bytes.now which (map.get terms.old which)).answer)
         × (terms.new ≡ terms_after (write_term bytes.now which (map.get terms.old which)).updates terms.old)) }
     ensures err { OnErr result (terms.new ≡ terms.old) }
@@ -68,8 +69,8 @@ fn write_term(terms: &mut NumMap<Bytes>, which: u32, bytes: &Bytes) -> Result<An
     if !terms.contains(u64::from(which)) {
         return Ok(Answer::Reply(refused(Errno::Badf)));
     }
-    let written = terms.get_mut(u64::from(which));
-    match written.append(bytes.as_slice()) {
+    let stream = terms.get_mut(u64::from(which));
+    match stream.written.append(bytes.as_slice()) {
         Ok(()) => Ok(Answer::Reply(success(bytes.len() as u64, 0))),
         Err(error) => Err(error),
     }
@@ -84,32 +85,31 @@ fn is_live(status: &Status) -> bool
 
 impl Kernel {
     /// The state that a launch starts from: process 0 is live with thread 1 and the granted descriptors, numbered from 0,
-    /// and nothing was written yet. `Err` where memory is wanting.
+    /// standard input has the launch's bytes, and nothing was written yet. `Err` where memory is wanting.
     pub fn start(alloc: Global, launch: &Launch) -> Result<Kernel, AllocError>
         requires { AreGrants launch.now.grants }
-        ensures state { IfOk result (λ kernel. kernel ≡ start_state launch.now.grants) }
+        ensures state { IfOk result (λ kernel. kernel ≡ start_state launch.now.grants launch.now.stdin) }
         ensures valid { IfOk result IsValid }
     {
         let (table, objects) = granted(alloc, launch.grants.as_slice())?;
-        let thread = single(alloc, 1, Thread::Runnable)?;
         Ok(Kernel {
             clock: 0,
             tables: single(alloc, 0, table)?,
-            threads: single(alloc, 0, thread)?,
+            own: single(alloc, 0, Own::first(alloc)?)?,
             statuses: single(alloc, 0, Status::Live)?,
             objects,
-            terms: unwritten(alloc)?,
+            terms: streams(alloc, &launch.stdin)?,
         })
     }
 
     // Ends a process: it has this status, no descriptor and no thread, and what nothing holds any more ends.
     fn end_process(&mut self, pid: Pid, status: Status)
         requires { IsSome (map.get self.old.statuses pid) }
-        ensures { self.new ≡ release (put_all (end_updates pid status) self.old) }
+        ensures { self.new ≡ release (put_all (end_updates pid (map.get self.old.own pid) status) self.old) }
     {
         let p = u64::from(pid.0);
         self.statuses.replace(p, status);
-        self.threads.get_mut(p).clear();
+        self.own.get_mut(p).end();
         let_go_all(self.tables.get_mut(p), &mut self.objects);
         self.objects.remove_unheld();
     }
@@ -241,16 +241,15 @@ impl Kernel {
     pub fn thread(&self, pid: Pid, tid: Tid) -> Option<Thread>
         ensures { result ≡ thread_of self.now pid tid }
     {
-        let threads = self.threads.get(u64::from(pid.0))?;
-        threads.get(u64::from(tid.0)).copied()
+        self.own.get(u64::from(pid.0))?.thread(tid)
     }
 
     /// What was written to stdout, 1, or to stderr, 2.
     pub fn output(&self, which: u32) -> &[u8]
-        ensures { result.now ≡ unwrap_or (map.get self.now.terms which) [] }
+        ensures { result.now ≡ written_to which self.now }
     {
         match self.terms.get(u64::from(which)) {
-            Some(written) => written.as_slice(),
+            Some(stream) => stream.written.as_slice(),
             None => &[],
         }
     }

@@ -1,13 +1,13 @@
 //! What a launched process starts with: its descriptors and their opens.
 ghost use Rattle.std.specs.Prelude.{◌≡◌, ◌+◌, ◌^◌, ◌<◌, ◌≤◌, [], length, IfOk, OnOk, None};
 ghost use Rattle.std.specs.FinMap as map;
-ghost use Rattle.kernel_model.specs.Start.{launch_object, open_of, granted_descriptor, granted_open, granted_table};
+ghost use Rattle.kernel_model.specs.Start.{launch_object, open_of, granted_descriptor, granted_open, granted_table, unwritten};
 ghost use Rattle.kernel_core.specs.Start.{granted_objects};
 
 use crate::objects::Objects;
 use crate::table::Table;
 use abi_base::MOST_DESCRIPTORS;
-use abi_types::{Bytes, Descriptor, Grant, GrantTarget, ObjId, OpenKind};
+use abi_types::{Bytes, Descriptor, Grant, GrantTarget, ObjId, OpenKind, Stream, TryClone};
 use number_map::NumMap;
 use std::alloc::{AllocError, Global};
 
@@ -35,13 +35,23 @@ pub fn single<V: Drop>(alloc: Global, key: u64, value: V) -> Result<NumMap<V>, A
     Ok(made)
 }
 
-/// The three standard streams, with nothing written.
-pub fn unwritten(alloc: Global) -> Result<NumMap<Bytes>, AllocError>
-    ensures { IfOk result (λ made. made ≡ map.insert (map.insert (map.insert map.empty 0 []) 1 []) 2 []) }
+// A standard stream from which these bytes can be read, and to which nothing was written.
+fn unwritten(alloc: Global, left: Bytes) -> Stream
+    ensures { result ≡ unwritten left }
 {
-    let mut made = single(alloc, 0, Bytes::new(alloc))?;
-    made.insert(1, Bytes::new(alloc))?;
-    made.insert(2, Bytes::new(alloc))?;
+    Stream {
+        left,
+        written: Bytes::new(alloc),
+    }
+}
+
+/// The three standard streams, where these bytes can be read from standard input, with nothing written.
+pub fn streams(alloc: Global, stdin: &Bytes) -> Result<NumMap<Stream>, AllocError>
+    ensures { IfOk result (λ made. made ≡ map.insert (map.insert (map.insert map.empty 0 (unwritten stdin.now)) 1 (unwritten [])) 2 (unwritten [])) }
+{
+    let mut made = single(alloc, 0, unwritten(alloc, stdin.copy()?))?;
+    made.insert(1, unwritten(alloc, Bytes::new(alloc)))?;
+    made.insert(2, unwritten(alloc, Bytes::new(alloc)))?;
     Ok(made)
 }
 

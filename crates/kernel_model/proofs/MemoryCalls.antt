@@ -25,7 +25,7 @@ answering_is_proper errors reply plain listed = record {
   lacks = λ h. absurd (not_true h);
   others = λ constants v who table q apart. (refl, refl);
   threads = λ constants S v who table live. refl;
-  valid = λ constants S v who table nearly. nearly;
+  valid = λ constants S who table nearly. nearly;
 }
 
 pub decided_is_proper : (errno : Errno) → IsProper (decided errno)

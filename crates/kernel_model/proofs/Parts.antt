@@ -5,7 +5,7 @@ use Rattle.std.specs.Ordering.{nat_cmp}
 use Rattle.std.specs.FinMap.{FinMap, get, insert}
 use Rattle.number_map.specs.Maps.{get-insert-same, get-insert-other}
 use Rattle.kernel_model.specs.Sight.{own_parts}
-use Rattle.kernel_model.specs.State.{State, Part, at_clock, at_proc, at_status, at_open, at_term, same_part, has_part, Agree, AgreeOn, Update, set_table, set_threads, set_status, set_term, part_of, put_one, put_all}
+use Rattle.kernel_model.specs.State.{State, Part, at_clock, at_proc, at_status, at_open, at_term, same_part, has_part, Agree, AgreeOn, Update, set_table, set_own, set_status, set_term, part_of, put_one, put_all}
 use Rattle.kernel_model.proofs.Tests.{not_true, either_false, either_true}
 
 -- ---- lists of parts
@@ -73,9 +73,9 @@ agree_at S T (part ∷ parts) q all h =
 
 pub put_one_keeps : (u : Update) (S : State) (q : Part) → same_part (part_of u) q ≡ false → Agree (put_one u S) S q
 put_one_keeps (set_table p t) S (at_proc q) h = (get-insert-other S.tables p t q (other_number p q h), refl)
-put_one_keeps (set_threads p ts) S (at_proc q) h = (refl, get-insert-other S.threads p ts q (other_number p q h))
+put_one_keeps (set_own p own) S (at_proc q) h = (refl, get-insert-other S.own p own q (other_number p q h))
 put_one_keeps (set_status p s) S (at_status q) h = get-insert-other S.statuses p s q (other_number p q h)
-put_one_keeps (set_term k bytes) S (at_term j) h = get-insert-other S.terms k bytes j (other_number k j h)
+put_one_keeps (set_term k stream) S (at_term j) h = get-insert-other S.terms k stream j (other_number k j h)
 put_one_keeps u S q h = agree_self S q
 
 -- a part that no update sets keeps its value
@@ -94,9 +94,9 @@ insert_alike m n k x q e =
 
 pub put_one_same : (u : Update) (S T : State) (q : Part) → Agree S T q → Agree (put_one u S) (put_one u T) q
 put_one_same (set_table p t) S T (at_proc q) h = (insert_alike S.tables T.tables p t q h.0, h.1)
-put_one_same (set_threads p ts) S T (at_proc q) h = (h.0, insert_alike S.threads T.threads p ts q h.1)
+put_one_same (set_own p own) S T (at_proc q) h = (h.0, insert_alike S.own T.own p own q h.1)
 put_one_same (set_status p s) S T (at_status q) h = insert_alike S.statuses T.statuses p s q h
-put_one_same (set_term k bytes) S T (at_term j) h = insert_alike S.terms T.terms k bytes j h
+put_one_same (set_term k stream) S T (at_term j) h = insert_alike S.terms T.terms k stream j h
 put_one_same u S T q h = h
 
 -- states that agree on a part still agree on it after the same updates

@@ -1,5 +1,5 @@
 -- The state that a launch starts from is valid.
-use Rattle.std.proofs.Common.{◌≡◌, ◌≢◌, inl, inr, ℕ, zero, suc, ◌+◌, ◌-◌, ◌<◌, ◌≤◌, true, cond, List, [], ◌∷◌, ◌++◌, length, Option, Some, None, IsSome, is_some, refl, sym, ap, subst, ◌∙◌, arith}
+use Rattle.std.proofs.Common.{◌≡◌, ◌≢◌, inl, inr, ℕ, zero, suc, ◌+◌, ◌*◌, ◌^◌, ◌-◌, ◌<◌, ◌≤◌, true, cond, List, [], ◌∷◌, ◌++◌, length, Option, Some, None, IsSome, is_some, refl, sym, ap, subst, ◌∙◌, arith}
 use Rattle.std.proofs.lemmas.Bool.Decides.{eqb_tells}
 use Rattle.std.specs.Prelude.{option_map, slice_get}
 use Rattle.std.specs.Ordering.{nat_cmp, eq_by_cmp, is_eq}
@@ -12,12 +12,14 @@ use Rattle.abi_base.specs.declared.grant.GrantTarget.{GrantTarget}
 use Rattle.abi_base.specs.declared.grant.GrantTarget.TheVariants as target
 use Rattle.abi_types.specs.declared.open_kind.OpenKind.{OpenKind}
 use Rattle.abi_types.specs.declared.status.Status.TheVariants.{Live}
+use Rattle.abi_types.specs.declared.stream.Stream.{Stream}
+use Rattle.abi_types.specs.declared.thread.Thread.TheVariants.{Runnable}
 use Rattle.number_map.specs.Maps.{get-insert-same, get-insert-other}
 use Rattle.kernel_model.specs.Release.{holders}
 use Rattle.abi_base.specs.Grants.{IsTarget, IsGrant, AreGrants, HasRightsOfTarget}
-use Rattle.kernel_model.specs.Start.{launch_object, numbered, granted_descriptor, open_of, granted_open, granted_table, start_state}
-use Rattle.kernel_model.specs.State.{Table}
-use Rattle.kernel_model.specs.Valid.{HasRightsOf, IsNamed, HasBehind, IsValid}
+use Rattle.kernel_model.specs.Start.{launch_object, numbered, granted_descriptor, open_of, granted_open, granted_table, first_own, unwritten, start_state}
+use Rattle.kernel_model.specs.State.{Table, Own, thread_in, thread_of, counts_in}
+use Rattle.kernel_model.specs.Valid.{object_of, HasRightsOf, IsNamed, HasBehind, IsValid}
 use Rattle.kernel_model.proofs.Tests.{none_is_no, not_true}
 use Rattle.kernel_model.proofs.Valids.{same_value, named_is_held, same_keys_inserted}
 
@@ -106,7 +108,7 @@ only_one x y p there =
 record IsGranted (grants : List Grant) (k : ℕ) (grant : Grant) : Type 0 where
   allowed : IsGrant grant
   held : get (granted_table grants) k ≡ Some (granted_descriptor k grant)
-  opened : get (start_state grants).opens (launch_object (5 + k)) ≡ Some (open_of grant.target)
+  opened : get (start_state grants []).opens (launch_object (5 + k)) ≡ Some (open_of grant.target)
 
 granted_at : (grants : List Grant) (k : ℕ) (grant : Grant) → AreGrants grants → slice_get grants k ≡ Some grant → IsGranted grants k grant
 granted_at grants k grant all there = record {
@@ -126,7 +128,7 @@ of_descriptor grants n d all there =
     (at.0, granted_at grants n at.0 all at.1, at.2)
 
 -- an open is that of a grant
-of_open : (grants : List Grant) (o : ℕ) (kind : OpenKind) → AreGrants grants → get (start_state grants).opens o ≡ Some kind
+of_open : (grants : List Grant) (o : ℕ) (kind : OpenKind) → AreGrants grants → get (start_state grants []).opens o ≡ Some kind
     → (k : ℕ) × (grant : Grant) × (o ≡ launch_object (5 + k)) × IsGranted grants k grant × (open_of grant.target ≡ kind)
 of_open grants o kind all there =
     let found = sym (get-from_entries nat_cmp_total (numbered granted_open (launch_object 5) grants) o) ∙ there in
@@ -140,59 +142,93 @@ has_rights : (k : ℕ) (grant : Grant) (t : GrantTarget) → HasRightsOfTarget g
 has_rights k grant (target.Terminal which) has = has
 
 named : (grants : List Grant) (k : ℕ) (grant : Grant) → IsGranted grants k grant
-    → IsNamed (get (start_state grants).opens (granted_descriptor k grant).id) (granted_descriptor k grant)
+    → IsNamed (get (start_state grants []).opens (granted_descriptor k grant).id) (granted_descriptor k grant)
 named grants k grant at = subst (λ o. IsNamed o (granted_descriptor k grant)) (sym at.opened) (has_rights k grant grant.target at.allowed.1)
 
 -- ---- the standard streams
 
-stream_there : (grants : List Grant) (which : ℕ) → which < 3 → IsSome (get (start_state grants).terms which)
-stream_there grants which few =
+stream_there : (grants : List Grant) (stdin : List ℕ) (which : ℕ) → which < 3 → IsSome (get (start_state grants stdin).terms which)
+stream_there grants stdin which few =
     elim (eqb_tells which 2) [
-      | inl is ↦ ap (λ j. is_some (get (start_state grants).terms j)) is.1 ∙ ap is_some (get-insert-same _ 2 _)
+      | inl is ↦ ap (λ j. is_some (get (start_state grants stdin).terms j)) is.1 ∙ ap is_some (get-insert-same _ 2 _)
       | inr not_2 ↦ ap is_some (get-insert-other _ 2 _ which not_2.1) ∙ elim (eqb_tells which 1) [
-        | inl is ↦ ap (λ j. is_some (get (insert (insert (empty {X = List ℕ} {R = nat_cmp}) 0 []) 1 []) j)) is.1 ∙ ap is_some (get-insert-same _ 1 _)
+        | inl is ↦ ap (λ j. is_some (get (insert (insert (empty {X = Stream} {R = nat_cmp}) 0 (unwritten stdin)) 1 (unwritten [])) j)) is.1
+            ∙ ap is_some (get-insert-same _ 1 _)
         | inr not_1 ↦ ap is_some (get-insert-other _ 1 _ which not_1.1) ∙
             (let apart_2 : which ≢ 2 = not_2.1 in let apart_1 : which ≢ 1 = not_1.1 in let zeroth : which ≡ 0 = omega arith in
-            ap (λ j. is_some (get (insert (empty {X = List ℕ} {R = nat_cmp}) 0 []) j)) zeroth ∙ ap is_some (get-insert-same _ 0 _))
+            ap (λ j. is_some (get (insert (empty {X = Stream} {R = nat_cmp}) 0 (unwritten stdin)) j)) zeroth ∙ ap is_some (get-insert-same _ 0 _))
       ]
     ]
 
-behind_there : (grants : List Grant) (t : GrantTarget) → IsTarget t → HasBehind (start_state grants) (open_of t)
-behind_there grants (target.Terminal which) few = stream_there grants which few
+behind_there : (grants : List Grant) (stdin : List ℕ) (t : GrantTarget) → IsTarget t → HasBehind (start_state grants stdin) (open_of t)
+behind_there grants stdin (target.Terminal which) few = stream_there grants stdin which few
 
 -- ---- the state
 
 start_named : (grants : List Grant) → AreGrants grants → (p n : ℕ) (table : Table) (d : Descriptor)
-    → get (start_state grants).tables p ≡ Some table → get table n ≡ Some d → IsNamed (get (start_state grants).opens d.id) d
+    → get (start_state grants []).tables p ≡ Some table → get table n ≡ Some d → IsNamed (get (start_state grants []).opens d.id) d
 start_named grants all p n table d there here =
     let own = only_one (granted_table grants) table p there in
     let at = of_descriptor grants n d all (ap (λ (m : Table). get m n) own.1 ∙ here) in
-    subst (λ (e : Descriptor). IsNamed (get (start_state grants).opens e.id) e) at.2 (named grants n at.0 at.1)
+    subst (λ (e : Descriptor). IsNamed (get (start_state grants []).opens e.id) e) at.2 (named grants n at.0 at.1)
 
-start_held : (grants : List Grant) → AreGrants grants → (o : ℕ) → IsSome (get (start_state grants).opens o) → 0 < holders (start_state grants) o
+start_held : (grants : List Grant) → AreGrants grants → (o : ℕ) → IsSome (get (start_state grants []).opens o) → 0 < holders (start_state grants []) o
 start_held grants all o h =
-    let there = some_of (get (start_state grants).opens o) h in
+    let there = some_of (get (start_state grants []).opens o) h in
     let at = of_open grants o there.0 all there.1 in
-    subst (λ r. 0 < holders (start_state grants) r) (sym at.2)
-    (named_is_held (start_state grants) 0 at.0 (granted_table grants) (granted_descriptor at.0 at.1) (get-insert-same empty 0 _) at.3.held)
+    subst (λ r. 0 < holders (start_state grants []) r) (sym at.2)
+    (named_is_held (start_state grants []) 0 at.0 (granted_table grants) (granted_descriptor at.0 at.1) (get-insert-same empty 0 _) at.3.held)
 
-start_behind : (grants : List Grant) → AreGrants grants → (o : ℕ) (kind : OpenKind) → get (start_state grants).opens o ≡ Some kind
-    → HasBehind (start_state grants) kind
-start_behind grants all o kind there =
+start_behind : (grants : List Grant) (stdin : List ℕ) → AreGrants grants → (o : ℕ) (kind : OpenKind) → get (start_state grants stdin).opens o ≡ Some kind
+    → HasBehind (start_state grants stdin) kind
+start_behind grants stdin all o kind there =
     let at = of_open grants o kind all there in
-    subst (HasBehind (start_state grants)) at.4 (behind_there grants at.1.target at.3.allowed.0)
+    subst (HasBehind (start_state grants stdin)) at.4 (behind_there grants stdin at.1.target at.3.allowed.0)
+
+-- ---- what is numbered
+
+-- thread 1 alone is there, and it is the one thread that was numbered
+one_thread : (t : ℕ) → IsSome (get (insert (empty {R = nat_cmp}) 1 Runnable) t) → t ≤ 1
+one_thread t there =
+    elim (eqb_tells t 1) [
+      | inl is ↦ (let same : t ≡ 1 = is.1 in omega arith)
+      | inr other ↦ absurd (not_true (subst IsSome (get-insert-other empty 1 Runnable t other.1 ∙ get-empty nat_cmp t) there))
+    ]
+
+start_numbered : (grants : List Grant) (stdin : List ℕ) (p t : ℕ) → IsSome (thread_of (start_state grants stdin) p t)
+    → t ≤ (counts_in (get (start_state grants stdin).own p)).threads
+start_numbered grants stdin p t there =
+    elim (eqb_tells p 0) [
+      | inl is ↦ subst (λ o. IsSome (thread_in (option_map (λ (own : Own). own.threads) o) t) → t ≤ (counts_in o).threads)
+          (sym (ap (get (start_state grants stdin).own) is.1 ∙ get-insert-same empty 0 first_own)) (one_thread t) there
+      | inr other ↦ absurd (not_true (subst (λ o. IsSome (thread_in (option_map (λ (own : Own). own.threads) o) t))
+          (get-insert-other empty 0 first_own p other.1 ∙ get-empty nat_cmp p) there))
+    ]
+
+-- the opens of the launch are of no process's number
+start_made : (grants : List Grant) → AreGrants grants → (p k : ℕ) → p < 0xffffffff → k < 2 ^ 32 → get (start_state grants []).opens (object_of p k) ≡ None
+start_made grants all p k small fits =
+    elim (get (start_state grants []).opens (object_of p k)) as (λ o. get (start_state grants []).opens (object_of p k) ≡ o → o ≡ None) [
+      | None ↦ λ e. refl
+      | Some kind ↦ λ e. (
+          let at = of_open grants (object_of p k) kind all e in
+          let place : p * 2 ^ 32 + k ≡ 0xffffffff * 2 ^ 32 + (5 + at.0) = at.2 in
+          absurd (omega (arith, place, small, fits)))
+    ] refl
 
 same_keys_one : {X Y : Type 0} (x : X) (y : Y) (p : ℕ) → is_some (get (insert (empty {R = nat_cmp}) 0 x) p) ≡ is_some (get (insert (empty {R = nat_cmp}) 0 y) p)
 same_keys_one x y = same_keys_inserted empty empty 0 x y (λ q. ap is_some (get-empty nat_cmp q) ∙ sym (ap is_some (get-empty nat_cmp q)))
 
-pub start_valid : (grants : List Grant) → AreGrants grants → IsValid (start_state grants)
-start_valid grants all = record {
+pub start_valid : (grants : List Grant) (stdin : List ℕ) → AreGrants grants → IsValid (start_state grants stdin)
+start_valid grants stdin all = record {
   nearly = record {
     named = start_named grants all;
-    behind = start_behind grants all;
+    behind = start_behind grants stdin all;
     tables = same_keys_one _ _;
-    threads = same_keys_one _ _;
+    owns = same_keys_one _ _;
     ended = λ p status there ends. absurd (ends (sym (only_one Live status p there).1));
+    numbered = start_numbered grants stdin;
+    made = λ p k small beyond fits. start_made grants all p k small fits;
   };
   held = start_held grants all;
 }

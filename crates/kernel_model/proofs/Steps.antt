@@ -14,7 +14,7 @@ use Rattle.kernel_model.specs.Outcome.{Outcome}
 use Rattle.kernel_model.specs.ProcessCalls.{end_updates}
 use Rattle.kernel_model.specs.Proper.{IsUnset}
 use Rattle.kernel_model.specs.Release.{release}
-use Rattle.kernel_model.specs.State.{State, Table, Update, set_table, set_threads, set_status, set_term, at_proc, at_status, has_part, part_of, put_one, put_all}
+use Rattle.kernel_model.specs.State.{State, Table, Update, set_table, set_own, set_status, set_term, at_proc, at_status, has_part, part_of, put_one, put_all, threads_of}
 use Rattle.kernel_model.specs.Step.{tick, outcome, unreleased, step_state, IsStep, end_unreleased, end_state}
 use Rattle.kernel_model.specs.Valid.{IsNearlyValid, IsValid}
 use Rattle.kernel_model.specs.View.{whole}
@@ -30,7 +30,7 @@ outcome_valid : (constants : Constants) (S : State) (who : Who) (call : Call) �
     → IsNearlyValid (put_all (outcome constants S who call).updates (tick S))
 outcome_valid constants S who call nearly =
     outcome_holds (λ (o : Outcome). IsNearlyValid (put_all o.updates (tick S))) constants S who call (λ reply _. nearly)
-    (λ table. (proper call).valid constants (tick S) (whole (tick S)) who table nearly)
+    (λ table. (proper call).valid constants (tick S) who table nearly)
 
 step_valid : (constants : Constants) (S : State) (who : Who) (call : Call) → IsValid S → IsValid (step_state constants S who call)
 step_valid constants S who call v =
@@ -49,9 +49,9 @@ end_valid S p status v = release_restores (end_unreleased S p status) (end_nearl
 
 put_one_clock : (u : Update) (S : State) → (put_one u S).clock ≡ S.clock
 put_one_clock (set_table p t) S = refl
-put_one_clock (set_threads p ts) S = refl
+put_one_clock (set_own p own) S = refl
 put_one_clock (set_status p s) S = refl
-put_one_clock (set_term k bytes) S = refl
+put_one_clock (set_term k stream) S = refl
 
 put_clock : (us : List Update) (S : State) → (put_all us S).clock ≡ S.clock
 put_clock [] S = refl
@@ -79,10 +79,10 @@ step_others constants S who call q apart =
 
 -- a process that is live after the outcome has the threads that it had
 abbrev KeepsThreads : State → ℕ → Outcome → Type 0
-KeepsThreads S p o = get (put_all o.updates S).statuses p ≡ Some Live → get (put_all o.updates S).threads p ≡ get S.threads p
+KeepsThreads S p o = get (put_all o.updates S).statuses p ≡ Some Live → threads_of (put_all o.updates S) p ≡ threads_of S p
 
 step_threads : (constants : Constants) (S : State) (who : Who) (call : Call) → get (step_state constants S who call).statuses who.pid ≡ Some Live
-    → get (step_state constants S who call).threads who.pid ≡ get S.threads who.pid
+    → threads_of (step_state constants S who call) who.pid ≡ threads_of S who.pid
 step_threads constants S who call =
     outcome_holds (KeepsThreads (tick S) who.pid) constants S who call (λ reply _ _. refl)
     (λ table. (proper call).threads constants (tick S) (whole (tick S)) who table)
@@ -104,6 +104,6 @@ pub end_ends_only : (S : State) (p : ℕ) (status : Status) → EndsOnly S p sta
 unfolding end_state
 end_ends_only S p status = record {
   clock = refl;
-  others = λ q apart. (let unset = end_others p status q apart in put_others (end_updates p status) (tick S) q unset.0 unset.1);
+  others = λ q apart. (let unset = end_others p (get S.own p) status q apart in put_others (end_updates p (get S.own p) status) (tick S) q unset.0 unset.1);
   stands = get-insert-same S.statuses p status;
 }

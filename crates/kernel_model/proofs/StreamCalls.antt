@@ -10,12 +10,13 @@ use Rattle.abi_types.specs.declared.open_kind.OpenKind.{OpenKind}
 use Rattle.abi_types.specs.declared.open_kind.OpenKind.TheVariants.{Terminal}
 use Rattle.abi_base.specs.declared.rights.TheConstants.Rights.{FD_WRITE, NONE}
 use Rattle.abi_types.specs.declared.status.Status.TheVariants.{Live}
+use Rattle.abi_types.specs.declared.stream.Stream.{Stream}
 use Rattle.abi_types.specs.declared.who.Who.{Who}
 use Rattle.kernel_model.specs.Outcome.{Outcome, replies}
 use Rattle.kernel_model.specs.Proper.{IsUnset, IsPlain, IsProper}
 use Rattle.kernel_model.specs.Reply.{success, refused}
 use Rattle.kernel_model.specs.Sight.{own_parts, behind, reached_by}
-use Rattle.kernel_model.specs.State.{State, Table, Part, at_proc, at_status, at_open, at_term, same_part, has_part, put_all, set_term}
+use Rattle.kernel_model.specs.State.{State, Table, Part, at_proc, at_status, at_open, at_term, same_part, has_part, put_all, set_term, threads_of}
 use Rattle.kernel_model.specs.Step.{tick}
 use Rattle.kernel_model.specs.StreamCalls.{write_term, write_open, write_to, fd_write}
 use Rattle.kernel_model.specs.Valid.{IsNearlyValid}
@@ -28,21 +29,24 @@ use Rattle.kernel_model.proofs.Valids.{set_term_nearly_valid}
 -- ---- what holds of each outcome of a write
 
 -- the outcome where all bytes are written
-abbrev written_out : List ℕ → ℕ → List ℕ → Outcome
-written_out bytes which written = record { answer = answer.Reply (success (length bytes) 0); updates = set_term which (written ++ bytes) ∷ [] }
+abbrev written_out : List ℕ → ℕ → Stream → Outcome
+written_out bytes which stream = record {
+  answer = answer.Reply (success (length bytes) 0);
+  updates = set_term which (record stream { written = stream.written ++ bytes }) ∷ [];
+}
 
-term_holds : (P : Outcome → Type 0) (bytes : List ℕ) (which : ℕ) (written : Option (List ℕ)) → P (replies (refused Badf))
-    → ((which : ℕ) (written : List ℕ) → P (written_out bytes which written)) → P (write_term bytes which written)
+term_holds : (P : Outcome → Type 0) (bytes : List ℕ) (which : ℕ) (stream : Option Stream) → P (replies (refused Badf))
+    → ((which : ℕ) (stream : Stream) → P (written_out bytes which stream)) → P (write_term bytes which stream)
 term_holds P bytes which None absent done = absent
-term_holds P bytes which (Some written) absent done = done which written
+term_holds P bytes which (Some stream) absent done = done which stream
 
 open_holds : (P : Outcome → Type 0) (v : View) (bytes : List ℕ) (kind : Option OpenKind) → P (replies (refused Badf))
-    → ((which : ℕ) (written : List ℕ) → P (written_out bytes which written)) → P (write_open v bytes kind)
+    → ((which : ℕ) (stream : Stream) → P (written_out bytes which stream)) → P (write_open v bytes kind)
 open_holds P v bytes None absent done = absent
 open_holds P v bytes (Some (Terminal which flags)) absent done = term_holds P bytes which (v.term which) absent done
 
 write_holds : (P : Outcome → Type 0) (v : View) (bytes : List ℕ) (d : Option Descriptor) → P (replies (refused Badf))
-    → ((which : ℕ) (written : List ℕ) → P (written_out bytes which written)) → P (write_to v bytes d)
+    → ((which : ℕ) (stream : Stream) → P (written_out bytes which stream)) → P (write_to v bytes d)
 write_holds P v bytes None absent done = absent
 write_holds P v bytes (Some d) absent done = open_holds P v bytes (v.opened d.id) absent done
 
@@ -63,9 +67,9 @@ write_reads S p bytes (Some d) =
 
 -- ---- what a write sets
 
-term_unset : (bytes : List ℕ) (which : ℕ) (written : Option (List ℕ)) (q : Part) → same_part (at_term which) q ≡ false → IsUnset (write_term bytes which written) q
+term_unset : (bytes : List ℕ) (which : ℕ) (stream : Option Stream) (q : Part) → same_part (at_term which) q ≡ false → IsUnset (write_term bytes which stream) q
 term_unset bytes which None q h = refl
-term_unset bytes which (Some written) q h = ap (λ b. b || false) h
+term_unset bytes which (Some stream) q h = ap (λ b. b || false) h
 
 open_unset : (v : View) (bytes : List ℕ) (kind : Option OpenKind) (q : Part) → has_part (behind kind) q ≡ false → IsUnset (write_open v bytes kind) q
 open_unset v bytes None q h = refl
@@ -87,7 +91,7 @@ badf_is_no_lack e = cc
 
 -- the process lives on with the threads that it had
 abbrev KeepsThreads : State → ℕ → Outcome → Type 0
-KeepsThreads S p o = get (put_all o.updates S).statuses p ≡ Some Live → get (put_all o.updates S).threads p ≡ get S.threads p
+KeepsThreads S p o = get (put_all o.updates S).statuses p ≡ Some Live → threads_of (put_all o.updates S) p ≡ threads_of S p
 
 abbrev row_of : ℕ → Needed
 row_of fd = record { fd = fd; base = FD_WRITE; inheriting = NONE }
@@ -100,14 +104,14 @@ fd_write_is_proper fd bytes = record {
   sets = λ constants S who table part h. write_unset S bytes (get table fd) part (beyond_own who.pid (reached_by S (get table fd)) part h).1;
   changes = λ S table part h. one_reached S (get table fd) part h;
   plain = λ constants v who table.
-      write_holds (IsPlain (Badf ∷ [])) v bytes (get table fd) (refl, inr (refl, ([], [], refl))) (λ which written. (refl, inl refl));
+      write_holds (IsPlain (Badf ∷ [])) v bytes (get table fd) (refl, inr (refl, ([], [], refl))) (λ which stream. (refl, inl refl));
   lacks = λ _. (badf_is_no_lack, tt);
   others = λ constants v who table q apart. (
-    write_holds (λ o. IsUnset o (at_proc q)) v bytes (get table fd) refl (λ which written. refl),
-    write_holds (λ o. IsUnset o (at_status q)) v bytes (get table fd) refl (λ which written. refl),
+    write_holds (λ o. IsUnset o (at_proc q)) v bytes (get table fd) refl (λ which stream. refl),
+    write_holds (λ o. IsUnset o (at_status q)) v bytes (get table fd) refl (λ which stream. refl),
   );
-  threads = λ constants S v who table. write_holds (KeepsThreads S who.pid) v bytes (get table fd) (λ _. refl) (λ which written _. refl);
-  valid = λ constants S v who table nearly.
-      write_holds (λ o. IsNearlyValid (put_all o.updates S)) v bytes (get table fd) nearly
-      (λ which written. set_term_nearly_valid S which (written ++ bytes) nearly);
+  threads = λ constants S v who table. write_holds (KeepsThreads S who.pid) v bytes (get table fd) (λ _. refl) (λ which stream _. refl);
+  valid = λ constants S who table nearly.
+      write_holds (λ o. IsNearlyValid (put_all o.updates S)) (whole S) bytes (get table fd) nearly
+      (λ which stream. set_term_nearly_valid S which (record stream { written = stream.written ++ bytes }) nearly);
 }

@@ -88,5 +88,5 @@ pub end_keeps : (S : State) (p : ℕ) (status : Status) (q : Part) → has_part 
 unfolding end_state
 end_keeps S p status q outside stays =
     agree_through (end_state S p status) (end_unreleased S p status) S q (release_keeps (end_unreleased S p status) q stays)
-    (agree_through (end_unreleased S p status) (tick S) S q (put_keeps (end_updates p status) (tick S) q (end_unset p status q outside))
+    (agree_through (end_unreleased S p status) (tick S) S q (put_keeps (end_updates p (get S.own p) status) (tick S) q (end_unset p (get S.own p) status q outside))
     (tick_keeps S q (outside_cons at_clock (at_proc p ∷ at_status p ∷ []) q outside).0))

@@ -4,18 +4,21 @@ use Rattle.std.proofs.lemmas.Bool.Decides.{eqb_tells}
 use Rattle.std.proofs.lemmas.Bool.{eq-eqb}
 use Rattle.std.specs.Ordering.{nat_cmp}
 use Rattle.std.specs.FinMap.{FinMap, get, get-empty, insert, empty, retain_keys}
+use Rattle.std.specs.Option.{option_map}
+use Rattle.abi_types.specs.declared.counts.Counts.{Counts}
 use Rattle.abi_types.specs.declared.descriptor.Descriptor.{Descriptor}
 use Rattle.abi_types.specs.declared.open_kind.OpenKind.{OpenKind}
 use Rattle.abi_types.specs.declared.open_kind.OpenKind.TheVariants.{Terminal}
 use Rattle.abi_types.specs.declared.status.Status.{Status}
 use Rattle.abi_types.specs.declared.status.Status.TheVariants.{Live}
+use Rattle.abi_types.specs.declared.stream.Stream.{Stream}
 use Rattle.number_map.specs.Closure.{member}
 use Rattle.number_map.specs.Maps.{get-insert-same, get-insert-other, get-retain, same_numbers, total, weight, total-empty, total-insert, total_at_least}
-use Rattle.kernel_model.specs.ProcessCalls.{end_updates}
+use Rattle.kernel_model.specs.ProcessCalls.{ended_own, end_updates}
 use Rattle.kernel_model.specs.Release.{names_open, count_in, holders, ends, release, is_ending}
-use Rattle.kernel_model.specs.State.{State, Table, put_one, put_all, set_term}
+use Rattle.kernel_model.specs.State.{State, Table, Own, put_one, put_all, set_term, threads_of, thread_in, thread_of, counts_in}
 use Rattle.kernel_model.specs.Step.{tick}
-use Rattle.kernel_model.specs.Valid.{IsNamed, HasBehind, IsNearlyValid, IsValid}
+use Rattle.kernel_model.specs.Valid.{object_of, IsNamed, HasBehind, IsNearlyValid, IsValid}
 use Rattle.kernel_model.proofs.Ends.{ends_closed, ends_unheld}
 use Rattle.kernel_model.proofs.Tests.{not_true, none_is_no}
 
@@ -75,6 +78,10 @@ left_is_held S o false stays there =
 behind_same : (S T : State) → ((k : ℕ) → IsSome (get S.terms k) → IsSome (get T.terms k)) → (kind : OpenKind) → HasBehind S kind → HasBehind T kind
 behind_same S T more (Terminal which flags) h = more which h
 
+none_left : {X : Type 0} (b : Bool) (o : Option X) → o ≡ None → cond (not b) o None ≡ None
+none_left true o h = refl
+none_left false o h = h
+
 pub release_restores : (S : State) → IsNearlyValid S → IsValid (release S)
 release_restores S v = record {
   nearly = record {
@@ -85,8 +92,10 @@ release_restores S v = record {
         behind_same S (release S) (λ _ h. h) kind
         (v.behind o kind (kept_some (not (is_ending S o)) (get S.opens o) kind (sym (get_released S o) ∙ e)));
     tables = v.tables;
-    threads = v.threads;
+    owns = v.owns;
     ended = v.ended;
+    numbered = v.numbered;
+    made = λ p k small beyond fits. get_released S (object_of p k) ∙ none_left (is_ending S (object_of p k)) (get S.opens (object_of p k)) (v.made p k small beyond fits);
   };
   held = λ o h. left_is_held S o (is_ending S o) refl (subst IsSome (get_released S o) h);
 }
@@ -142,8 +151,10 @@ tick_nearly_valid S v = record {
   named = v.named;
   behind = λ o kind e. behind_same S (tick S) (λ _ h. h) kind (v.behind o kind e);
   tables = v.tables;
-  threads = v.threads;
+  owns = v.owns;
   ended = v.ended;
+  numbered = v.numbered;
+  made = v.made;
 }
 
 pub tick_valid : (S : State) → IsValid S → IsValid (tick S)
@@ -168,13 +179,15 @@ same_keys_inserted m n k x y same q =
       | inr other ↦ ap is_some (get-insert-other m k x q other.1) ∙ same q ∙ sym (ap is_some (get-insert-other n k y q other.1))
     ]
 
-pub set_term_nearly_valid : (S : State) (k : ℕ) (bytes : List ℕ) → IsNearlyValid S → IsNearlyValid (put_one (set_term k bytes) S)
-set_term_nearly_valid S k bytes v = record {
+pub set_term_nearly_valid : (S : State) (k : ℕ) (stream : Stream) → IsNearlyValid S → IsNearlyValid (put_one (set_term k stream) S)
+set_term_nearly_valid S k stream v = record {
   named = v.named;
-  behind = λ o kind e. behind_same S (put_one (set_term k bytes) S) (some_inserted S.terms k bytes) kind (v.behind o kind e);
+  behind = λ o kind e. behind_same S (put_one (set_term k stream) S) (some_inserted S.terms k stream) kind (v.behind o kind e);
   tables = v.tables;
-  threads = v.threads;
+  owns = v.owns;
   ended = v.ended;
+  numbered = v.numbered;
+  made = v.made;
 }
 
 -- ---- the end of a process
@@ -209,14 +222,56 @@ ended_after m statuses p status before q s e ends =
       | inr other ↦ emptied_stays m p q (before q s (sym (get-insert-other statuses p status q other.1) ∙ e) ends)
     ]
 
-pub end_nearly_valid : (S : State) (p : ℕ) (status : Status) → IsNearlyValid S → IsNearlyValid (put_all (end_updates p status) S)
+-- what an ended process and all others have of their own, once one more has ended
+own_at : (m : FinMap nat_cmp Own) (p : ℕ) → get (insert m p (ended_own (get m p))) p ≡ Some (ended_own (get m p))
+own_at m p = get-insert-same m p (ended_own (get m p))
+
+threads_at : (S : State) (p : ℕ) (status : Status) → threads_of (put_all (end_updates p (get S.own p) status) S) p ≡ Some empty
+threads_at S p status = ap (option_map (λ (own : Own). own.threads)) (own_at S.own p)
+
+own_apart : (S : State) (p : ℕ) (status : Status) (q : ℕ) → q ≢ p → get (put_all (end_updates p (get S.own p) status) S).own q ≡ get S.own q
+own_apart S p status q n = get-insert-other S.own p (ended_own (get S.own p)) q n
+
+threads_ended : (S : State) (p : ℕ) (status : Status) → IsNearlyValid S → (q : ℕ) (s : Status) → get (insert S.statuses p status) q ≡ Some s → s ≢ Live
+    → threads_of (put_all (end_updates p (get S.own p) status) S) q ≡ Some empty
+threads_ended S p status v q s e ends =
+    elim (eqb_tells q p) [
+      | inl is ↦ subst (λ j. threads_of (put_all (end_updates p (get S.own p) status) S) j ≡ Some empty) (sym is.1) (threads_at S p status)
+      | inr other ↦ ap (option_map (λ (own : Own). own.threads)) (own_apart S p status q other.1)
+          ∙ (v.ended q s (sym (get-insert-other S.statuses p status q other.1) ∙ e) ends).1
+    ]
+
+no_thread : (t : ℕ) → IsSome (thread_in (Some empty) t) → ⊥
+no_thread t h = not_true (subst IsSome (get-empty nat_cmp t) h)
+
+counts_stay : (S : State) (p : ℕ) (status : Status) (q : ℕ) → counts_in (get (put_all (end_updates p (get S.own p) status) S).own q) ≡ counts_in (get S.own q)
+counts_stay S p status q =
+    elim (eqb_tells q p) [
+      | inl is ↦ subst (λ j. counts_in (get (put_all (end_updates p (get S.own p) status) S).own j) ≡ counts_in (get S.own j)) (sym is.1)
+          (ap counts_in (own_at S.own p))
+      | inr other ↦ ap counts_in (own_apart S p status q other.1)
+    ]
+
+ended_numbered : (S : State) (p : ℕ) (status : Status) → IsNearlyValid S → (q t : ℕ) → IsSome (thread_of (put_all (end_updates p (get S.own p) status) S) q t)
+    → t ≤ (counts_in (get S.own q)).threads
+ended_numbered S p status v q t there =
+    elim (eqb_tells q p) [
+      | inl is ↦ absurd (no_thread t (subst (λ o. IsSome (thread_in o t)) (threads_at S p status)
+          (subst (λ j. IsSome (thread_of (put_all (end_updates p (get S.own p) status) S) j t)) is.1 there)))
+      | inr other ↦ v.numbered q t (subst (λ o. IsSome (thread_in (option_map (λ (own : Own). own.threads) o) t)) (own_apart S p status q other.1) there)
+    ]
+
+pub end_nearly_valid : (S : State) (p : ℕ) (status : Status) → IsNearlyValid S → IsNearlyValid (put_all (end_updates p (get S.own p) status) S)
 end_nearly_valid S p status v = record {
   named = λ q n table d there here. v.named q n table d (emptied_before S.tables p q n table d there here) here;
-  behind = λ o kind e. behind_same S (put_all (end_updates p status) S) (λ _ h. h) kind (v.behind o kind e);
+  behind = λ o kind e. behind_same S (put_all (end_updates p (get S.own p) status) S) (λ _ h. h) kind (v.behind o kind e);
   tables = same_keys_inserted S.tables S.statuses p empty status v.tables;
-  threads = same_keys_inserted S.threads S.statuses p empty status v.threads;
+  owns = same_keys_inserted S.own S.statuses p (ended_own (get S.own p)) status v.owns;
   ended = λ q s e ends. (
     ended_after S.tables S.statuses p status (λ r t f live. (v.ended r t f live).0) q s e ends,
-    ended_after S.threads S.statuses p status (λ r t f live. (v.ended r t f live).1) q s e ends,
+    threads_ended S p status v q s e ends,
   );
+  numbered = λ q t there. subst (λ (c : Counts). t ≤ c.threads) (sym (counts_stay S p status q)) (ended_numbered S p status v q t there);
+  made = λ q k small beyond fits.
+      v.made q k small (subst (λ (c : Counts). c.objects < k) (counts_stay S p status q) beyond) fits;
 }

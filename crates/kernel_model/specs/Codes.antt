@@ -1,15 +1,19 @@
 -- The code of a state, by which proofs tell states apart: the tuple of its fields.
-use Rattle.std.specs.Prelude.{ℕ, List, refl}
+use Rattle.std.specs.Prelude.{ℕ, refl}
 use Rattle.std.specs.Ordering.{nat_cmp}
 use Rattle.std.specs.FinMap.{FinMap, code}
-use Rattle.std.specs.Coded.{Coded, code_by, coded×, coded_list, coded_ℕ}
+use Rattle.std.specs.Coded.{Coded, code_by, coded×, coded_ℕ}
 use Rattle.abi_types.specs.declared.open_kind.OpenKind.{OpenKind}
 use Rattle.abi_types.specs.declared.status.Status.{Status}
+use Rattle.abi_types.specs.declared.counts.Counts.{Counts}
+use Rattle.abi_types.specs.declared.stream.Stream.{Stream}
+use Rattle.abi_types.specs.contracts.counts.Counts as counts
 use Rattle.abi_types.specs.contracts.descriptor.Descriptor as descriptor
 use Rattle.abi_types.specs.contracts.open_kind.OpenKind as open_kind
 use Rattle.abi_types.specs.contracts.status.Status as status
+use Rattle.abi_types.specs.contracts.stream.Stream as stream
 use Rattle.abi_types.specs.contracts.thread.Thread as thread
-use Rattle.kernel_model.specs.State.{State, Table, Threads}
+use Rattle.kernel_model.specs.State.{State, Table, Threads, Own}
 
 abbrev pub table_code : Coded Table
 table_code = code coded_ℕ descriptor.the_row.coded
@@ -17,20 +21,25 @@ table_code = code coded_ℕ descriptor.the_row.coded
 abbrev pub threads_code : Coded Threads
 threads_code = code coded_ℕ thread.the_row.coded
 
+abbrev pub own_code : Coded Own
+own_code =
+    code_by (Threads × Counts) (coded× threads_code counts.the_row.coded) (λ own. (own.threads, own.counts))
+    (λ f. record { threads = f.0; counts = f.1 }) (λ _. refl)
+
 -- the fields as nested pairs
 abbrev Fields : Type 0
 Fields =
-    ℕ × (FinMap nat_cmp Table × (FinMap nat_cmp Threads × (FinMap nat_cmp Status × (FinMap nat_cmp OpenKind × FinMap nat_cmp (List ℕ)))))
+    ℕ × (FinMap nat_cmp Table × (FinMap nat_cmp Own × (FinMap nat_cmp Status × (FinMap nat_cmp OpenKind × FinMap nat_cmp Stream))))
 
 abbrev fields_code : Coded Fields
 fields_code =
     coded× coded_ℕ
     (coded× (code coded_ℕ table_code)
-    (coded× (code coded_ℕ threads_code)
+    (coded× (code coded_ℕ own_code)
     (coded× (code coded_ℕ status.the_row.coded)
-    (coded× (code coded_ℕ open_kind.the_row.coded) (code coded_ℕ (coded_list coded_ℕ))))))
+    (coded× (code coded_ℕ open_kind.the_row.coded) (code coded_ℕ stream.the_row.coded)))))
 
 abbrev pub state_code : Coded State
 state_code =
-    code_by Fields fields_code (λ S. (S.clock, (S.tables, (S.threads, (S.statuses, (S.opens, S.terms))))))
-    (λ f. record { clock = f.0; tables = f.1.0; threads = f.1.1.0; statuses = f.1.1.1.0; opens = f.1.1.1.1.0; terms = f.1.1.1.1.1 }) (λ _. refl)
+    code_by Fields fields_code (λ S. (S.clock, (S.tables, (S.own, (S.statuses, (S.opens, S.terms))))))
+    (λ f. record { clock = f.0; tables = f.1.0; own = f.1.1.0; statuses = f.1.1.1.0; opens = f.1.1.1.1.0; terms = f.1.1.1.1.1 }) (λ _. refl)

@@ -23,7 +23,7 @@ use Rattle.kernel_model.specs.Reply.{refused, denied}
 use Rattle.abi_base.specs.Grants.{AreGrants}
 use Rattle.kernel_model.specs.Sight.{own_parts, behind}
 use Rattle.kernel_model.specs.Start.{start_state}
-use Rattle.kernel_model.specs.State.{State, Table, Part, at_open, has_part, Agree, AgreeOn}
+use Rattle.kernel_model.specs.State.{State, Table, Part, at_open, has_part, Agree, AgreeOn, threads_of}
 use Rattle.kernel_model.specs.Step.{tick, sight, touch, act, outcome, unreleased, step_answer, step_state, failed, IsStep, IsUntouched, end_unreleased, end_state}
 use Rattle.kernel_model.specs.Valid.{IsValid}
 use Rattle.kernel_model.specs.View.{whole}
@@ -114,15 +114,15 @@ ErrorKeeps =
     (constants : Constants) (S : State) (who : Who) (call : Call) (reply : Reply) (T : State) → IsStep constants S who call (answer.Reply reply) T
     → IsValid S → reply.errno ≢ Success → T ≡ failed S who
 
--- both states have the same of a process: its descriptors, its threads and its status
+-- both states have the same of a process: its descriptors, what else is its own, and its status
 abbrev pub HasSameProcess : State → State → ℕ → Type 0
-HasSameProcess S T q = (get S.tables q ≡ get T.tables q) × (get S.threads q ≡ get T.threads q) × (get S.statuses q ≡ get T.statuses q)
+HasSameProcess S T q = (get S.tables q ≡ get T.tables q) × (get S.own q ≡ get T.own q) × (get S.statuses q ≡ get T.statuses q)
 
 -- A step takes 1000 nanoseconds, changes nothing of other processes, and leaves a process that lives on its threads.
 pub record MovesOnly (S : State) (who : Who) (T : State) : Type 0 where
   pub clock : T.clock ≡ S.clock + 1000
   pub others : (q : ℕ) → q ≢ who.pid → HasSameProcess T S q
-  pub threads : get T.statuses who.pid ≡ Some Live → get T.threads who.pid ≡ get S.threads who.pid
+  pub threads : get T.statuses who.pid ≡ Some Live → threads_of T who.pid ≡ threads_of S who.pid
 
 abbrev pub StepMovesOnly : Type 0
 StepMovesOnly =
@@ -237,4 +237,4 @@ EndKeepsValid = (S : State) (p : ℕ) (status : Status) → IsValid S → IsVali
 
 -- The state that a launch starts from is valid, where its grants are of what is there.
 abbrev pub StartIsValid : Type 0
-StartIsValid = (grants : List Grant) → AreGrants grants → IsValid (start_state grants)
+StartIsValid = (grants : List Grant) (stdin : List ℕ) → AreGrants grants → IsValid (start_state grants stdin)

@@ -13,7 +13,7 @@ use Rattle.abi_types.specs.declared.who.Who.{Who}
 use Rattle.kernel_model.specs.Meaning.{Meaning}
 use Rattle.kernel_model.specs.Outcome.{Outcome, OnReply}
 use Rattle.kernel_model.specs.Sight.{own_parts, reached}
-use Rattle.kernel_model.specs.State.{State, Table, Part, at_proc, at_status, has_part, part_of, put_all}
+use Rattle.kernel_model.specs.State.{State, Table, Part, at_proc, at_status, has_part, part_of, put_all, threads_of}
 use Rattle.kernel_model.specs.Step.{tick}
 use Rattle.kernel_model.specs.Valid.{IsNearlyValid}
 use Rattle.kernel_model.specs.View.{View, restrict, whole}
@@ -55,7 +55,7 @@ pub record IsProper (m : Meaning) : Type 0 where
   -- where its process lives on, that has the threads that it had
   pub threads : (constants : Constants) (S : State) (v : View) (who : Who) (table : Table)
       → get (put_all (m.does constants v who table).updates S).statuses who.pid ≡ Some Live
-      → get (put_all (m.does constants v who table).updates S).threads who.pid ≡ get S.threads who.pid
+      → threads_of (put_all (m.does constants v who table).updates S) who.pid ≡ threads_of S who.pid
   -- a state that is nearly valid it leaves so
-  pub valid : (constants : Constants) (S : State) (v : View) (who : Who) (table : Table) → IsNearlyValid S
-      → IsNearlyValid (put_all (m.does constants v who table).updates S)
+  pub valid : (constants : Constants) (S : State) (who : Who) (table : Table) → IsNearlyValid S
+      → IsNearlyValid (put_all (m.does constants (whole S) who table).updates S)

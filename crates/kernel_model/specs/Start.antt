@@ -8,8 +8,9 @@ use Rattle.abi_base.specs.declared.grant.GrantTarget.TheVariants as target
 use Rattle.abi_types.specs.declared.open_kind.OpenKind.{OpenKind}
 use Rattle.abi_types.specs.declared.open_kind.OpenKind.TheVariants as kind
 use Rattle.abi_types.specs.declared.status.Status.TheVariants.{Live}
+use Rattle.abi_types.specs.declared.stream.Stream.{Stream}
 use Rattle.abi_types.specs.declared.thread.Thread.TheVariants.{Runnable}
-use Rattle.kernel_model.specs.State.{State, Table}
+use Rattle.kernel_model.specs.State.{State, Table, Own}
 
 -- Objects that the launch makes have numbers of process 0xffffffff: 1 to 3 are the standard streams, 4 is the root of
 -- the file tree, and from 5 on come the opens of the granted descriptors.
@@ -36,13 +37,21 @@ granted_open n grant = open_of grant.target
 abbrev pub granted_table : List Grant → Table
 granted_table grants = from_entries (numbered granted_descriptor 0 grants)
 
--- Process 0 is live with thread 1 and the granted descriptors, and nothing was written yet.
-abbrev pub start_state : List Grant → State
-start_state grants = record {
+-- what process 0 starts with beside its descriptors: thread 1, the one thread that it has numbered
+abbrev pub first_own : Own
+first_own = record { threads = insert empty 1 Runnable; counts = record { objects = 0; threads = 1; forks = 0; words = 0 } }
+
+-- a standard stream of which so much can be read
+abbrev pub unwritten : List ℕ → Stream
+unwritten left = record { left = left; written = [] }
+
+-- Process 0 is live with thread 1 and the granted descriptors, standard input has these bytes, and nothing was written yet.
+abbrev pub start_state : List Grant → List ℕ → State
+start_state grants stdin = record {
   clock = 0;
   tables = insert empty 0 (granted_table grants);
-  threads = insert empty 0 (insert empty 1 Runnable);
+  own = insert empty 0 first_own;
   statuses = insert empty 0 Live;
   opens = from_entries (numbered granted_open (launch_object 5) grants);
-  terms = insert (insert (insert empty 0 []) 1 []) 2 [];
+  terms = insert (insert (insert empty 0 (unwritten stdin)) 1 (unwritten [])) 2 (unwritten []);
 }

@@ -1,10 +1,13 @@
 -- The state of a kernel: what it keeps between two calls.
-use Rattle.std.specs.Prelude.{◌≡◌, ℕ, ◌==◌, ◌||◌, Bool, true, false, List, [], ◌∷◌}
+use Rattle.std.specs.Prelude.{◌≡◌, ℕ, ◌==◌, ◌||◌, Bool, true, false, List, [], ◌∷◌, Option, None, Some}
 use Rattle.std.specs.Ordering.{nat_cmp}
 use Rattle.std.specs.FinMap.{FinMap, get, insert}
+use Rattle.std.specs.Option.{option_map}
+use Rattle.abi_types.specs.declared.counts.Counts.{Counts}
 use Rattle.abi_types.specs.declared.descriptor.Descriptor.{Descriptor}
 use Rattle.abi_types.specs.declared.open_kind.OpenKind.{OpenKind}
 use Rattle.abi_types.specs.declared.status.Status.{Status}
+use Rattle.abi_types.specs.declared.stream.Stream.{Stream}
 use Rattle.abi_types.specs.declared.thread.Thread.{Thread}
 
 -- a process's descriptors by number
@@ -15,18 +18,53 @@ Table = FinMap nat_cmp Descriptor
 abbrev pub Threads : Type 0
 Threads = FinMap nat_cmp Thread
 
--- the moment in nanoseconds; each process's descriptors, threads and status; the opens that descriptors name; and the
--- bytes that were written to each standard stream
+-- what a process has of its own beside its descriptors: its threads, and what it has made so far
+pub record Own : Type 0 where
+  pub threads : Threads
+  pub counts : Counts
+
+-- the moment in nanoseconds; each process's descriptors, what else it has of its own, and its status; the opens that
+-- descriptors name; and the standard streams
 pub record State : Type 0 where
   pub clock : ℕ
   pub tables : FinMap nat_cmp Table
-  pub threads : FinMap nat_cmp Threads
+  pub own : FinMap nat_cmp Own
   pub statuses : FinMap nat_cmp Status
   pub opens : FinMap nat_cmp OpenKind
-  pub terms : FinMap nat_cmp (List ℕ)
+  pub terms : FinMap nat_cmp Stream
 
--- A state is a map from parts to values. Its parts are the clock, what a process has of its own (descriptors and
--- threads), its status, an open, and a standard stream.
+-- a process's live threads, if it was ever made
+abbrev pub threads_of : State → ℕ → Option Threads
+threads_of S p = option_map (λ (own : Own). own.threads) (get S.own p)
+
+-- the thread with this number, if there is one
+abbrev pub thread_in : Option Threads → ℕ → Option Thread
+thread_in None t = None
+thread_in (Some threads) t = get threads t
+
+-- what a live thread of a process does
+abbrev pub thread_of : State → ℕ → ℕ → Option Thread
+thread_of S p t = thread_in (threads_of S p) t
+
+-- what was written to a standard stream
+abbrev pub written_in : Option Stream → List ℕ
+written_in None = []
+written_in (Some stream) = stream.written
+
+abbrev pub written_to : ℕ → State → List ℕ
+written_to which S = written_in (get S.terms which)
+
+-- what a process that was never made has made
+abbrev pub no_counts : Counts
+no_counts = record { objects = 0; threads = 0; forks = 0; words = 0 }
+
+-- what a process has made so far
+abbrev pub counts_in : Option Own → Counts
+counts_in None = no_counts
+counts_in (Some own) = own.counts
+
+-- A state is a map from parts to values. Its parts are the clock, what a process has of its own (descriptors,
+-- threads and counts), its status, an open, and a standard stream.
 pub data Part : Type 0 where
   at_clock : Part
   at_proc : ℕ → Part
@@ -51,7 +89,7 @@ has_part (part ∷ parts) q = same_part part q || has_part parts q
 -- the part has the same value in both states
 abbrev pub Agree : State → State → Part → Type 0
 Agree S T at_clock = S.clock ≡ T.clock
-Agree S T (at_proc p) = (get S.tables p ≡ get T.tables p) × (get S.threads p ≡ get T.threads p)
+Agree S T (at_proc p) = (get S.tables p ≡ get T.tables p) × (get S.own p ≡ get T.own p)
 Agree S T (at_status p) = get S.statuses p ≡ get T.statuses p
 Agree S T (at_open o) = get S.opens o ≡ get T.opens o
 Agree S T (at_term k) = get S.terms k ≡ get T.terms k
@@ -64,23 +102,23 @@ AgreeOn S T (part ∷ parts) = Agree S T part × AgreeOn S T parts
 -- a new value of one part
 pub data Update : Type 0 where
   set_table : ℕ → Table → Update
-  set_threads : ℕ → Threads → Update
+  set_own : ℕ → Own → Update
   set_status : ℕ → Status → Update
-  set_term : ℕ → List ℕ → Update
+  set_term : ℕ → Stream → Update
 
 -- the part that an update sets
 abbrev pub part_of : Update → Part
 part_of (set_table p t) = at_proc p
-part_of (set_threads p ts) = at_proc p
+part_of (set_own p own) = at_proc p
 part_of (set_status p s) = at_status p
-part_of (set_term k bytes) = at_term k
+part_of (set_term k stream) = at_term k
 
 -- the state with one part set
 abbrev pub put_one : Update → State → State
 put_one (set_table p t) S = record S { tables = insert S.tables p t }
-put_one (set_threads p ts) S = record S { threads = insert S.threads p ts }
+put_one (set_own p own) S = record S { own = insert S.own p own }
 put_one (set_status p s) S = record S { statuses = insert S.statuses p s }
-put_one (set_term k bytes) S = record S { terms = insert S.terms k bytes }
+put_one (set_term k stream) S = record S { terms = insert S.terms k stream }
 
 -- the state with the parts set, one after another
 abbrev pub put_all : List Update → State → State

@@ -6,6 +6,7 @@ use Rattle.abi_types.specs.declared.descriptor.Descriptor.{Descriptor}
 use Rattle.abi_base.specs.declared.errno.Errno.TheVariants.{Badf}
 use Rattle.abi_types.specs.declared.open_kind.OpenKind.{OpenKind}
 use Rattle.abi_types.specs.declared.open_kind.OpenKind.TheVariants.{Terminal}
+use Rattle.abi_types.specs.declared.stream.Stream.{Stream}
 use Rattle.abi_base.specs.declared.rights.TheConstants.Rights.{FD_WRITE, NONE}
 use Rattle.kernel_model.specs.Meaning.{Meaning}
 use Rattle.kernel_model.specs.Outcome.{Outcome, replies}
@@ -15,10 +16,12 @@ use Rattle.kernel_model.specs.State.{set_term}
 use Rattle.kernel_model.specs.View.{View}
 
 -- bytes written to a standard stream: all are written, and their count is the result
-abbrev pub write_term : List ℕ → ℕ → Option (List ℕ) → Outcome
+abbrev pub write_term : List ℕ → ℕ → Option Stream → Outcome
 write_term bytes which None = replies (refused Badf)
-write_term bytes which (Some written) =
-    record { answer = answer.Reply (success (length bytes) 0); updates = set_term which (written ++ bytes) ∷ [] }
+write_term bytes which (Some stream) = record {
+  answer = answer.Reply (success (length bytes) 0);
+  updates = set_term which (record stream { written = stream.written ++ bytes }) ∷ [];
+}
 
 -- bytes written to an open
 abbrev pub write_open : View → List ℕ → Option OpenKind → Outcome

@@ -1,5 +1,5 @@
 -- States that a kernel may be in.
-use Rattle.std.specs.Prelude.{◌≡◌, ◌≢◌, ℕ, ◌<◌, Option, None, Some, IsSome, IsTrue, is_some}
+use Rattle.std.specs.Prelude.{◌≡◌, ◌≢◌, ℕ, ◌+◌, ◌*◌, ◌^◌, ◌<◌, ◌≤◌, Option, None, Some, IsSome, IsTrue, is_some}
 use Rattle.std.specs.FinMap.{get, empty}
 use Rattle.abi_types.specs.declared.descriptor.Descriptor.{Descriptor}
 use Rattle.abi_types.specs.declared.open_kind.OpenKind.{OpenKind}
@@ -9,7 +9,7 @@ use Rattle.abi_types.specs.declared.status.Status.TheVariants.{Live}
 use Rattle.abi_base.specs.Grants.{stream_rights}
 use Rattle.abi_base.specs.Rights.{has_all}
 use Rattle.kernel_model.specs.Release.{holders}
-use Rattle.kernel_model.specs.State.{State, Table}
+use Rattle.kernel_model.specs.State.{State, Table, threads_of, thread_of, counts_in}
 
 -- the base rights that a descriptor of the open may have, and the inheriting rights
 abbrev pub fits : OpenKind → ℕ
@@ -31,15 +31,22 @@ IsNamed (Some kind) d = HasRightsOf d kind
 abbrev pub HasBehind : State → OpenKind → Type 0
 HasBehind S (Terminal which flags) = IsSome (get S.terms which)
 
+-- the object that a process numbers so
+abbrev pub object_of : ℕ → ℕ → ℕ
+object_of p k = p * 2 ^ 32 + k
+
 -- All of validity but that each open is held: what each call keeps before the release, which brings the rest. Each
--- descriptor's open is there with its rights, each open has what stands behind it, each process has a table, threads and a
--- status or none of these, and an ended process has no descriptor and no thread.
+-- descriptor's open is there with its rights, and each open has what stands behind it. A process has a table, what is its
+-- own and a status, or none of these, and an ended process has no descriptor and no thread. No thread and no open that a
+-- process has is numbered beyond its count.
 pub record IsNearlyValid (S : State) : Type 0 where
   pub named : (p n : ℕ) (table : Table) (d : Descriptor) → get S.tables p ≡ Some table → get table n ≡ Some d → IsNamed (get S.opens d.id) d
   pub behind : (o : ℕ) (kind : OpenKind) → get S.opens o ≡ Some kind → HasBehind S kind
   pub tables : (p : ℕ) → is_some (get S.tables p) ≡ is_some (get S.statuses p)
-  pub threads : (p : ℕ) → is_some (get S.threads p) ≡ is_some (get S.statuses p)
-  pub ended : (p : ℕ) (status : Status) → get S.statuses p ≡ Some status → status ≢ Live → (get S.tables p ≡ Some empty) × (get S.threads p ≡ Some empty)
+  pub owns : (p : ℕ) → is_some (get S.own p) ≡ is_some (get S.statuses p)
+  pub ended : (p : ℕ) (status : Status) → get S.statuses p ≡ Some status → status ≢ Live → (get S.tables p ≡ Some empty) × (threads_of S p ≡ Some empty)
+  pub numbered : (p t : ℕ) → IsSome (thread_of S p t) → t ≤ (counts_in (get S.own p)).threads
+  pub made : (p k : ℕ) → p < 0xffffffff → (counts_in (get S.own p)).objects < k → k < 2 ^ 32 → get S.opens (object_of p k) ≡ None
 
 -- a state is valid where it is nearly so, and each open is held
 pub record IsValid (S : State) : Type 0 where

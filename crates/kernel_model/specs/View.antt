@@ -3,16 +3,17 @@ use Rattle.std.specs.Prelude.{ℕ, Bool, List, Option, None, if◌then◌else◌
 use Rattle.std.specs.FinMap.{get}
 use Rattle.abi_types.specs.declared.open_kind.OpenKind.{OpenKind}
 use Rattle.abi_types.specs.declared.status.Status.{Status}
-use Rattle.kernel_model.specs.State.{State, Table, Threads, Part, at_proc, at_status, at_open, at_term, has_part}
+use Rattle.abi_types.specs.declared.stream.Stream.{Stream}
+use Rattle.kernel_model.specs.State.{State, Table, Own, Part, at_proc, at_status, at_open, at_term, has_part}
 
 -- what is seen of a state: the moment, and for each number the value of its part, where that is seen
 pub record View : Type 0 where
   pub clock : ℕ
   pub table : ℕ → Option Table
-  pub threads : ℕ → Option Threads
+  pub own : ℕ → Option Own
   pub status : ℕ → Option Status
   pub opened : ℕ → Option OpenKind
-  pub term : ℕ → Option (List ℕ)
+  pub term : ℕ → Option Stream
 
 -- the value where the test is true, else nothing
 abbrev pub only : {X : Type 0} → Bool → Option X → Option X
@@ -23,7 +24,7 @@ abbrev pub restrict : State → List Part → View
 restrict S parts = record {
   clock = S.clock;
   table = λ p. only (has_part parts (at_proc p)) (get S.tables p);
-  threads = λ p. only (has_part parts (at_proc p)) (get S.threads p);
+  own = λ p. only (has_part parts (at_proc p)) (get S.own p);
   status = λ p. only (has_part parts (at_status p)) (get S.statuses p);
   opened = λ o. only (has_part parts (at_open o)) (get S.opens o);
   term = λ k. only (has_part parts (at_term k)) (get S.terms k);
@@ -34,7 +35,7 @@ abbrev pub whole : State → View
 whole S = record {
   clock = S.clock;
   table = λ p. get S.tables p;
-  threads = λ p. get S.threads p;
+  own = λ p. get S.own p;
   status = λ p. get S.statuses p;
   opened = λ o. get S.opens o;
   term = λ k. get S.terms k;

@@ -4,7 +4,7 @@ use Rattle.std.specs.FinMap.{FinMap, get, insert, empty, retain_keys}
 use Rattle.abi_types.specs.declared.open_kind.OpenKind.{OpenKind}
 use Rattle.number_map.specs.Maps.{number, total}
 use Rattle.kernel_core.specs.Objects.{Held, is_held}
-use Rattle.kernel_model.specs.ProcessCalls.{end_updates}
+use Rattle.kernel_model.specs.ProcessCalls.{ended_own, end_updates}
 use Rattle.kernel_model.specs.Release.{count_in, holders, release}
 use Rattle.kernel_model.specs.State.{State, put_all}
 use Rattle.kernel_model.specs.Valid.{IsValid}
@@ -30,28 +30,29 @@ abbrev fields : After-remove_unheld → State
 fields c = record {
   clock = c.self.inside.clock;
   tables = insert c.self.inside.tables c.from-p.result c.let_go_all.new.table;
-  threads = insert c.self.inside.threads c.from-p.result c.clear.new.self;
+  own = insert c.self.inside.own c.from-p.result c.end.new.self;
   statuses = c.replace.new.self;
   opens = c.remove_unheld.new.self.kinds;
   terms = c.self.inside.terms;
 }
 
-after : (c : After-remove_unheld) → fields c ≡ release (put_all (end_updates c.args.pid c.args.status) (the_view c.self.inside))
+after : (c : After-remove_unheld) → fields c ≡ release (put_all (end_updates c.args.pid (get c.self.inside.own c.args.pid) c.args.status) (the_view c.self.inside))
 after c =
     let k = c.self.inside in
     let same : c.from-p.result ≡ c.args.pid = c.from-p.ensures ∙ c.pid.view_is in
     let tables : insert k.tables c.from-p.result c.let_go_all.new.table ≡ insert k.tables c.args.pid empty =
     ap (insert k.tables c.from-p.result) c.let_go_all.ensures.empty ∙ ap (λ (p : ℕ). insert k.tables p empty) same in
-    let threads : insert k.threads c.from-p.result c.clear.new.self ≡ insert k.threads c.args.pid empty =
-    ap (insert k.threads c.from-p.result) c.clear.ensures ∙ ap (λ (p : ℕ). insert k.threads p empty) same in
+    let there : Some c.get_mut.result.now ≡ get k.own c.args.pid = c.get_mut.ensures.value ∙ ap (get k.own) same in
+    let own : insert k.own c.from-p.result c.end.new.self ≡ insert k.own c.args.pid (ended_own (get k.own c.args.pid)) =
+    ap (insert k.own c.from-p.result) (c.end.ensures ∙ ap ended_own there) ∙ ap (λ (p : ℕ). insert k.own p (ended_own (get k.own c.args.pid))) same in
     let statuses : c.replace.new.self ≡ insert k.statuses c.args.pid c.args.status =
     c.replace.ensures.new ∙ ap (λ (p : ℕ). insert k.statuses p c.args.status) same in
     let opens : c.remove_unheld.new.self.kinds ≡ retain_keys k.objects.kinds (λ o. not (total (count_in o) (insert k.tables c.args.pid empty) == 0)) =
     ap (λ (h : Held). h.kinds) c.remove_unheld.ensures
     ∙ ap (λ (m : FinMap nat_cmp OpenKind). retain_keys m (is_held c.let_go_all.new.objects.counts)) c.let_go_all.ensures.kinds
     ∙ retain_same _ _ _ (λ o. ap (λ (n : ℕ). not (n == 0)) (left c o)) in
-    (λ i. record { clock = k.clock; tables = tables i; threads = threads i; statuses = statuses i; opens = opens i; terms = k.terms })
-    ∙ sym (release_is (put_all (end_updates c.args.pid c.args.status) (the_view k)))
+    (λ i. record { clock = k.clock; tables = tables i; own = own i; statuses = statuses i; opens = opens i; terms = k.terms })
+    ∙ sym (release_is (put_all (end_updates c.args.pid (get k.own c.args.pid) c.args.status) (the_view k)))
 
 pub invariant_of-self : goal.invariant_of-self
 invariant_of-self c =

@@ -4,39 +4,39 @@ use Rattle.std.specs.FinMap.{insert, empty}
 use Rattle.kernel_core.specs.Objects.{Held}
 use Rattle.kernel_core.specs.Start.{granted_objects}
 use Rattle.kernel_model.specs.Start.{granted_table, start_state}
-use Rattle.kernel_model.specs.State.{State, Table, Threads}
+use Rattle.kernel_model.specs.State.{State, Table, Own}
 use Rattle.kernel_model.specs.Valid.{IsValid}
 use Rattle.kernel_model.proofs.Starts.{start_valid}
 use Rattle.kernel_core.proofs.Starts.{start_kept}
 use Rattle.kernel_core.proofs.kernel.Kernel.start.Goals as goal
-use Rattle.kernel_core.proofs.kernel.Kernel.start.Goals.{In_ok-unwritten}
+use Rattle.kernel_core.proofs.kernel.Kernel.start.Goals.{In_ok-streams}
 
 -- the fields as they are made
-abbrev fields : In_ok-unwritten → State
+abbrev fields : In_ok-streams → State
 fields c = record {
   clock = 0;
   tables = c.in_ok-single.field-0;
-  threads = c.in_ok-single-2.field-0;
+  own = c.in_ok-single-2.field-0;
   statuses = c.in_ok-single-3.field-0;
   opens = c.objects.inside.kinds;
-  terms = c.in_ok-unwritten.field-0;
+  terms = c.in_ok-streams.field-0;
 }
 
-held : (c : In_ok-unwritten) → record { kinds = c.objects.inside.kinds; counts = c.objects.inside.counts } ≡ granted_objects c.args.launch.now.grants
+held : (c : In_ok-streams) → record { kinds = c.objects.inside.kinds; counts = c.objects.inside.counts } ≡ granted_objects c.args.launch.now.grants
 held c = c.objects.view_is ∙ c.in_ok-table.ensures.1 ∙ ap granted_objects c.as_slice.ensures
 
-made : (c : In_ok-unwritten) → fields c ≡ start_state c.args.launch.now.grants
+made : (c : In_ok-streams) → fields c ≡ start_state c.args.launch.now.grants c.args.launch.now.stdin
 made c =
     let tables : c.in_ok-single.field-0 ≡ insert empty 0 (granted_table c.args.launch.now.grants) =
     c.in_ok-single.ensures ∙ ap (λ (t : Table). insert (empty {R = nat_cmp}) 0 t) (c.in_ok-table.ensures.0 ∙ ap granted_table c.as_slice.ensures) in
-    let threads = c.in_ok-single-2.ensures ∙ ap (λ (t : Threads). insert (empty {R = nat_cmp}) 0 t) c.in_ok-thread.ensures in
+    let own = c.in_ok-single-2.ensures ∙ ap (λ (o : Own). insert (empty {R = nat_cmp}) 0 o) c.in_ok-first.ensures in
     let statuses = c.in_ok-single-3.ensures in
     let opens = ap (λ (h : Held). h.kinds) (held c) in
-    let terms = c.in_ok-unwritten.ensures in
-    λ i. record { clock = 0; tables = tables i; threads = threads i; statuses = statuses i; opens = opens i; terms = terms i }
+    let terms = c.in_ok-streams.ensures in
+    λ i. record { clock = 0; tables = tables i; own = own i; statuses = statuses i; opens = opens i; terms = terms i }
 
 pub invariant_of-result-2 : goal.invariant_of-result-2
-invariant_of-result-2 c = start_kept c.args.launch.now.grants (fields c) c.objects.inside.counts c.requires (made c) (ap (λ (h : Held). h.counts) (held c))
+invariant_of-result-2 c = start_kept c.args.launch.now.grants c.args.launch.now.stdin (fields c) c.objects.inside.counts c.requires (made c) (ap (λ (h : Held). h.counts) (held c))
 
 pub returns-clause-valid : goal.returns-clause-valid
-returns-clause-valid c = subst IsValid (sym (made c)) (start_valid c.args.launch.now.grants c.requires)
+returns-clause-valid c = subst IsValid (sym (made c)) (start_valid c.args.launch.now.grants c.args.launch.now.stdin c.requires)

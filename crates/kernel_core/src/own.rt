@@ -1,0 +1,60 @@
+//! What the kernel keeps of a process beside its descriptors and its status.
+ghost use Rattle.std.specs.Prelude.{◌≡◌, IfOk, Some};
+ghost use Rattle.std.specs.FinMap as map;
+ghost use Rattle.kernel_model.specs.ProcessCalls.{ended_own};
+ghost use Rattle.kernel_model.specs.Start.{first_own};
+
+use crate::start::single;
+use abi_types::{Counts, Thread, Tid};
+use number_map::NumMap;
+use std::alloc::{AllocError, Global};
+use std::marker::Model;
+
+/// What a process has of its own beside its descriptors: its live threads by number, and what it has made so far.
+#[derive(Drop)]
+pub struct Own {
+    threads: NumMap<Thread>,
+    counts: Counts,
+}
+
+impl Model for Own {
+    ghost use Rattle.kernel_model.specs.State.{Own};
+    ghost use Rattle.kernel_model.specs.Codes.{own_code};
+
+    ghost Value = { Own };
+
+    ghost coded = { own_code };
+
+    ghost view = { λ own. record { threads = own.threads; counts = own.counts } };
+}
+
+impl Own {
+    /// What the launched process starts with: thread 1, the one thread that it has numbered.
+    pub fn first(alloc: Global) -> Result<Self, AllocError>
+        ensures { IfOk result (λ own. own ≡ first_own) }
+    {
+        Ok(Own {
+            threads: single(alloc, 1, Thread::Runnable)?,
+            counts: Counts {
+                objects: 0,
+                threads: 1,
+                forks: 0,
+                words: 0,
+            },
+        })
+    }
+
+    /// Leaves no thread, as a process that ends does. What it has made so far stays.
+    pub fn end(&mut self)
+        ensures { self.new ≡ ended_own (Some self.old) }
+    {
+        self.threads.clear();
+    }
+
+    /// What a thread does. `None` exactly where the process has no such live thread.
+    pub fn thread(&self, tid: Tid) -> Option<Thread>
+        ensures { result ≡ map.get self.now.threads tid }
+    {
+        self.threads.get(u64::from(tid.0)).copied()
+    }
+}
