@@ -1,6 +1,5 @@
 //! What a program starts with.
 ghost use Rattle.std.specs.Prelude.{◌≡◌, ◌++◌, ◌≤◌, length, IfOk, OnOk};
-ghost use Rattle.call_codec.specs.Image.{IsPlaced};
 ghost use Rattle.call_codec.specs.Start.{MayStart, block_bytes, block_of, entry_bytes, first_registers, stack, start_pages, vector_of};
 
 use crate::image::{READ_WRITE, load, map_segment};
@@ -110,8 +109,7 @@ fn first_registers(entry: u64) -> Regs
 }
 
 /// The memory and the registers that a process's first thread starts with: the image, a stack of 256 pages, and the start
-/// block with a vector of 12 entries, the canary and the argument data. Only want of memory, or an image that leaves no
-/// room for these, keeps it from that.
+/// block with a vector of 12 entries, the canary and the argument data. Only want of memory keeps it from that.
 pub fn start_memory(
     alloc: Global,
     elf: &Elf,
