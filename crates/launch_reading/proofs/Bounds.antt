@@ -1,6 +1,5 @@
 -- A launch that words and inputs spell can be started.
 use Rattle.std.proofs.Common.{◌≡◌, ℕ, List, Result, Ok, Err, refl, sym, subst, arith}
-use Rattle.elf_image.specs.declared.elf.Elf.{Elf}
 use Rattle.elf_image.specs.Sound.{IsSound}
 use Rattle.elf_image.proofs.FaultOrder.{image_sound}
 use Rattle.run_types.specs.declared.launch.Launch.{Launch}
