@@ -3,7 +3,7 @@
 --     next_page      a segment's pages, one after another
 --     HasRoom, fit_room, room_behind      room for segments, one after another
 --     fit_more, ends_before      one segment more
-use Rattle.std.proofs.Common.{◌≡◌, ℕ, zero, suc, ◌+◌, ◌/◌, ◌<◌, ◌≤◌, true, false, List, [], ◌∷◌, ◌++◌, length, drop, get_or, Option, Some, None, IsSome, refl, sym, ap, subst, ◌∙◌, arith, drop-cons}
+use Rattle.std.proofs.Common.{◌≡◌, ℕ, zero, suc, ◌+◌, ◌/◌, ◌<◌, ◌≤◌, false, List, [], ◌∷◌, ◌++◌, length, drop, get_or, Option, Some, None, IsSome, refl, sym, ap, subst, ◌∙◌, arith, drop-cons}
 use Rattle.std.proofs.lemmas.List.Elements.{All-head, All-push, All-tail}
 use Rattle.std.proofs.lemmas.List.Quantifiers.{all_pairs_push}
 use Rattle.std.proofs.lemmas.List.Sums.{sum_by-cons, sum_by_push}
@@ -125,8 +125,7 @@ has_room (s ∷ segments) m placed apart free few =
     let mine = All-head (λ t. AreFree m (first_page t) (page_count t)) s segments free in
     let others = All-tail (λ t. AreFree m (first_page t) (page_count t)) s segments free in
     let parts : sum_by page_count (s ∷ segments) ≡ page_count s + sum_by page_count segments = sum_by-cons page_count s segments in
-    let more = segment_len m s mine in
-    (
+    let more = segment_len m s mine in (
       All-head IsPlaced s segments placed,
       record { free = mine; fits = omega (arith, parts, few) },
       has_room segments (with_segment m s) (All-tail IsPlaced s segments placed)

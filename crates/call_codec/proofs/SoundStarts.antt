@@ -3,7 +3,7 @@ use Rattle.std.proofs.Common.{◌≡◌, ℕ, ◌+◌, ◌*◌, ◌/◌, ◌%◌
 use Rattle.std.proofs.lemmas.List.Elements.{All-push, All-weaker}
 use Rattle.std.proofs.lemmas.List.Sums.{sum_by-le-sum_by, sum_by_push}
 use Rattle.std.specs.FinMap.{empty}
-use Rattle.std.specs.List.{All, AllPairs, sum_by}
+use Rattle.std.specs.List.{AllPairs, sum_by}
 use Rattle.elf_image.specs.declared.elf.Elf.{Elf}
 use Rattle.elf_image.specs.declared.elf.Segment.{Segment}
 use Rattle.elf_image.specs.Sound.{IsSound, IsSoundSegment, pages_of}

@@ -75,7 +75,7 @@ fn map_segment_page(
     }
 }
 
-// What keeps a page that may be mapped from it. Each other fault would be a mistake of the loader.
+// The fault of a page that may be mapped, which is want of memory: each other one would be a mistake of the loader.
 fn want_of_memory(fault: MemFault) -> AllocError
     requires { fault ≡ MemFault.NoMemory }
 {
