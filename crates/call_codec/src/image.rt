@@ -1,5 +1,5 @@
 //! The memory of a program's image.
-ghost use Rattle.std.specs.Prelude.{◌≡◌, ◌≤◌, ◌<◌, ◌+◌, ◌/◌, length, IfErr, IfOk, OnOk};
+ghost use Rattle.std.specs.Prelude.{◌≡◌, ◌≤◌, ◌<◌, ◌+◌, ◌/◌, length, IfErr, IfOk, IsOkUnless, OnOk};
 ghost use Rattle.std.specs.FinMap as map;
 ghost use Rattle.guest_memory.specs.Mapping.{MapFails, MayMap};
 ghost use Rattle.guest_memory.specs.Ranges.{IsPageAddress};
@@ -9,7 +9,7 @@ use abi_base::{GUEST_BEGIN, GUEST_END, PAGE_SIZE};
 use abi_types::Prot;
 use elf_image::Segment;
 use guest_memory::{GuestMemory, MemFault};
-use std::alloc::{AllocError, Global};
+use std::alloc::Global;
 
 /// To be read and written, as a page is while its bytes are put in.
 pub const READ_WRITE: Prot = Prot {
@@ -75,36 +75,28 @@ fn map_segment_page(
     }
 }
 
-// The fault of a page that may be mapped, which is want of memory: each other one would be a mistake of the loader.
-fn want_of_memory(fault: MemFault) -> AllocError
-    requires { fault ≡ MemFault.NoMemory }
-{
-    match fault {
-        MemFault::NoMemory => AllocError,
-        _ => unreachable!(),
-    }
-}
-
 /// Maps a segment's pages, where none is yet. Only want of memory keeps it from that.
 pub fn map_segment(
     alloc: Global,
     memory: &mut GuestMemory,
     segment: &Segment,
-) -> Result<(), AllocError>
+) -> Result<(), MemFault>
     requires placed { IsPlaced segment.now }
     requires room { MayMap memory.old (first_page segment.now) (page_count segment.now) }
-    ensures { OnOk result (memory.new ≡ with_segment memory.old segment.now) }
+    ensures ok { OnOk result (memory.new ≡ with_segment memory.old segment.now) }
+    ensures only { IsOkUnless result MemFault.NoMemory }
 {
     for index in 0..page_count(segment) {
-        map_segment_page(alloc, memory, segment, index).map_err(want_of_memory)?;
+        map_segment_page(alloc, memory, segment, index)?;
     }
     Ok(())
 }
 
 /// The memory of an image's segments, which have no page in common. Only want of memory keeps it from that.
-pub fn load(alloc: Global, segments: &[Segment]) -> Result<GuestMemory, AllocError>
+pub fn load(alloc: Global, segments: &[Segment]) -> Result<GuestMemory, MemFault>
     requires { FitTogether segments.now }
-    ensures { IfOk result (λ memory. memory ≡ with_segments map.empty segments.now) }
+    ensures ok { IfOk result (λ memory. memory ≡ with_segments map.empty segments.now) }
+    ensures only { IsOkUnless result MemFault.NoMemory }
 {
     let mut memory = GuestMemory::new(alloc);
     for segment in segments {

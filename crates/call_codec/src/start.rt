@@ -6,7 +6,7 @@ use crate::image::{READ_WRITE, load, map_segment};
 use abi_base::PAGE_SIZE;
 use abi_types::{Bytes, Pid, Regs, Tid};
 use elf_image::{Elf, Segment};
-use guest_memory::GuestMemory;
+use guest_memory::{GuestMemory, MemFault};
 use std::alloc::{AllocError, Global};
 
 // Where the first thread's stack ends.
@@ -108,6 +108,16 @@ fn first_registers(entry: u64) -> Regs
     regs
 }
 
+// The only fault that keeps a start from its memory: each other one would be a mistake of the loader.
+fn want_of_memory(fault: MemFault) -> AllocError
+    requires { fault ≡ MemFault.NoMemory }
+{
+    match fault {
+        MemFault::NoMemory => AllocError,
+        _ => unreachable!(),
+    }
+}
+
 /// The memory and the registers that a process's first thread starts with: the image, a stack of 256 pages, and the start
 /// block with a vector of 12 entries, the canary and the argument data. Only want of memory keeps it from that.
 pub fn start_memory(
@@ -124,8 +134,8 @@ pub fn start_memory(
 {
     let stack = stack(alloc);
     let block = start_block(block_bytes(alloc, elf, argdata, canary, pid, tid)?);
-    let mut memory = load(alloc, elf.segments.as_slice())?;
-    map_segment(alloc, &mut memory, &stack)?;
-    map_segment(alloc, &mut memory, &block)?;
+    let mut memory = load(alloc, elf.segments.as_slice()).map_err(want_of_memory)?;
+    map_segment(alloc, &mut memory, &stack).map_err(want_of_memory)?;
+    map_segment(alloc, &mut memory, &block).map_err(want_of_memory)?;
     Ok((memory, first_registers(elf.entry)))
 }
