@@ -1,5 +1,5 @@
 -- Where a memory has room for segments.
---     not_unprotected, only_want      what can't keep a page from being protected, and what alone can keep it from being mapped
+--     not_unprotected, only_want      what keeps a page from being protected, or from being mapped
 --     next_page      a segment's pages, one after another
 --     HasRoom, fit_room, room_behind      room for segments, one after another
 --     fit_more, ends_before      one segment more

@@ -53,7 +53,7 @@ abbrev pub ShareNoPage : Segment → Segment → Type 0
 ShareNoPage one other =
     (q : ℕ) → in_range (first_page one) (page_count one) q ≡ true → in_range (first_page other) (page_count other) q ≡ true → ⊥
 
--- segments that one memory can have: each is placed, they share no page, and a memory may have as many pages
+-- segments that one memory can have: each is placed, no two share a page, and a memory may have that many pages
 pub record FitTogether (segments : List Segment) : Type 0 where
   pub placed : All IsPlaced segments
   pub apart : AllPairs ShareNoPage segments

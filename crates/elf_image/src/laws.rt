@@ -7,8 +7,8 @@ pub fn checks_find_first()
     ensures none { ChecksPass }
 {}
 
-/// The image of a file without fault is what a loader may rely on: its segments lie in the program's part of the address
-/// space, share no page, and have at most 32,768.
+/// A loader may rely on the image of a file without fault: its segments lie in the program's part of the address space,
+/// share no page, and have at most 32,768 pages.
 pub fn image_is_sound()
     ensures { ImageIsSound }
 {}
