@@ -1,5 +1,5 @@
 -- The memory that segments make.
---     page_mapped      a page that is mapped, written and protected
+--     is_written, is_there, page_mapped      a page that is mapped, written and protected
 --     first_part, later_part      the part of a segment's bytes that its pages have
 use Rattle.std.proofs.Common.{◌≡◌, ℕ, zero, suc, ◌+◌, ◌-◌, ◌*◌, ◌/◌, ◌%◌, ◌^◌, ◌<◌, ◌≤◌, ◌≢◌, ◌⊎◌, inl, inr, true, false, cond, List, [], ◌++◌, min, length, replicate, take, drop, Some, option_map, Result, Ok, Err, sym, ap, ◌∙◌, arith, append_assoc}
 use Rattle.std.proofs.lemmas.List.{drop-replicate, length-replicate, take-replicate, take-append-le, take_all, drop_all, length-drop, length-take-le}
@@ -9,15 +9,17 @@ use Rattle.abi_base.specs.declared.prot.Prot.{Prot}
 use Rattle.guest_memory.specs.declared.access.Access.TheVariants.{Write}
 use Rattle.guest_memory.specs.declared.fault.MemFault.{MemFault}
 use Rattle.guest_memory.specs.Bytes.{bytes_from}
-use Rattle.guest_memory.specs.Mapping.{AreMapped, AreProtected}
+use Rattle.guest_memory.specs.Mapping.{AreMapped, AreProtected, ProtectFails}
 use Rattle.guest_memory.specs.Page.{Page, Pages, zero_page, with_prot}
 use Rattle.guest_memory.specs.Ranges.{in_range}
 use Rattle.guest_memory.specs.Written.{set_bytes, write_of, written_over}
 use Rattle.guest_memory.proofs.PageRanges.{is_inside, is_outside}
+use Rattle.guest_memory.proofs.Runs.{in_page}
 use Rattle.guest_memory.proofs.Writes.{set_in_page, with_bytes}
 use Rattle.number_map.specs.Maps.{get-insert-same, get-insert-other, same_around}
 use Rattle.elf_image.specs.declared.elf.Segment.{Segment}
 use Rattle.call_codec.specs.Image.{content, page_count, page_of, page_with, with_pages, with_segment}
+use Rattle.call_codec.proofs.Rooms.{not_unprotected}
 
 abbrev zeros : List ℕ
 zeros = replicate 4096 0
@@ -75,8 +77,13 @@ filled p bs fits =
     ∙ ap (λ (ys : List ℕ). replicate p 0 ++ ys) (sym (fill_is (4096 - p) bs (omega arith) (omega arith)))
     ∙ sym (behind p (bs ++ zeros) (omega arith))
 
-module _ (m0 m1 m2 m3 : Pages) (a p : ℕ) (bs : List ℕ) (filling prot : Prot) (place : a % 4096 ≡ 0) (small : a + 4096 < 2 ^ 64) (inside : p < 4096) (fits : p + length bs ≤ 4096)
-    (mapped : AreMapped m0 (a / 4096) 1 filling m1) (wrote : write_of m1 (a + p) bs ≡ Ok m2) (protected : AreProtected m2 (a / 4096) 1 prot m3) where
+-- bytes that can be read over are written
+not_refused : (m : Pages) (a : ℕ) (bs before : List ℕ) (r : Result (List ℕ) MemFault) (fault : MemFault) → r ≡ Ok before → written_over m a bs r ≡ Err fault → ⊥
+not_refused m a bs before (Ok xs) fault had e = cc
+not_refused m a bs before (Err other) fault had e = cc
+
+module _ (m0 m1 : Pages) (a p : ℕ) (bs : List ℕ) (filling : Prot) (place : a % 4096 ≡ 0) (small : a + 4096 < 2 ^ 64) (inside : p < 4096) (fits : p + length bs ≤ 4096)
+    (mapped : AreMapped m0 (a / 4096) 1 filling m1) where
   here : in_range (a / 4096) 1 (a / 4096) ≡ true
   here = is_inside (a / 4096) 1 (a / 4096) (omega arith) (omega arith)
 
@@ -92,34 +99,48 @@ module _ (m0 m1 m2 m3 : Pages) (a p : ℕ) (bs : List ℕ) (filling prot : Prot)
   mapped_here : get m1 (a / 4096) ≡ Some (zero_page filling)
   mapped_here = mapped (a / 4096) ∙ ap (λ b. cond b (Some (zero_page filling)) (get m0 (a / 4096))) here
 
-  is_filled : m2 ≡ insert m1 (a / 4096) (page_with p bs filling)
-  is_filled =
+  -- a page that was mapped can be written
+  pub is_written : filling.write ≡ true → (fault : MemFault) → write_of m1 (a + p) bs ≡ Err fault → ⊥
+  is_written right fault refused =
+      not_refused m1 (a + p) bs _ (bytes_from Write m1 (a + p) (length bs)) fault
+      (in_page Write m1 (zero_page filling) (length bs) (a + p) (ap (get m1) same_page ∙ mapped_here) right (length-replicate {A = ℕ} 4096 0) (omega (arith, small, inside)) (omega (arith, same_place, fits)))
+      refused
+
+  is_filled : (m2 : Pages) → write_of m1 (a + p) bs ≡ Ok m2 → m2 ≡ insert m1 (a / 4096) (page_with p bs filling)
+  is_filled m2 wrote =
       written m1 m2 (a + p) bs (bytes_from Write m1 (a + p) (length bs)) wrote
       ∙ set_in_page bs m1 (zero_page filling) (a + p) (ap (get m1) same_page ∙ mapped_here) (length-replicate {A = ℕ} 4096 0) (omega (arith, small, inside)) (omega (arith, same_place, fits))
       ∙ ap (λ (q : ℕ). insert m1 q (with_bytes (zero_page filling) (take ((a + p) % 4096) zeros ++ (bs ++ drop ((a + p) % 4096 + length bs) zeros)))) same_page
       ∙ ap (λ (i : ℕ). insert m1 (a / 4096) (with_bytes (zero_page filling) (take i zeros ++ (bs ++ drop (i + length bs) zeros)))) same_place
       ∙ ap (λ (ys : List ℕ). insert m1 (a / 4096) (with_bytes (zero_page filling) ys)) (filled p bs fits)
 
-  at_page : get m3 (a / 4096) ≡ get (insert m0 (a / 4096) (page_with p bs prot)) (a / 4096)
-  at_page =
-      protected (a / 4096)
-      ∙ ap (λ b. cond b (option_map (with_prot prot) (get m2 (a / 4096))) (get m2 (a / 4096))) here
-      ∙ ap (λ (m : Pages). option_map (with_prot prot) (get m (a / 4096))) is_filled
-      ∙ ap (option_map (with_prot prot)) (get-insert-same m1 (a / 4096) (page_with p bs filling))
-      ∙ sym (get-insert-same m0 (a / 4096) (page_with p bs prot))
+  -- and then it can be given other rights
+  pub is_there : (m2 : Pages) (fault : MemFault) → write_of m1 (a + p) bs ≡ Ok m2 → ProtectFails m2 (a / 4096) 1 fault → ⊥
+  is_there m2 fault wrote refused =
+      not_unprotected m2 (a / 4096) (page_with p bs filling) fault
+      (ap (λ (m : Pages). get m (a / 4096)) (is_filled m2 wrote) ∙ get-insert-same m1 (a / 4096) (page_with p bs filling)) refused
 
-  at_others : (q : ℕ) → q ≢ a / 4096 → get m3 q ≡ get (insert m0 (a / 4096) (page_with p bs prot)) q
-  at_others q other =
-      protected q
-      ∙ ap (λ b. cond b (option_map (with_prot prot) (get m2 q)) (get m2 q)) (elsewhere q other)
-      ∙ ap (λ (m : Pages). get m q) is_filled
-      ∙ get-insert-other m1 (a / 4096) (page_with p bs filling) q other
-      ∙ mapped q
-      ∙ ap (λ b. cond b (Some (zero_page filling)) (get m0 q)) (elsewhere q other)
-      ∙ sym (get-insert-other m0 (a / 4096) (page_with p bs prot) q other)
+  module _ (m2 m3 : Pages) (prot : Prot) (wrote : write_of m1 (a + p) bs ≡ Ok m2) (protected : AreProtected m2 (a / 4096) 1 prot m3) where
+    at_page : get m3 (a / 4096) ≡ get (insert m0 (a / 4096) (page_with p bs prot)) (a / 4096)
+    at_page =
+        protected (a / 4096)
+        ∙ ap (λ b. cond b (option_map (with_prot prot) (get m2 (a / 4096))) (get m2 (a / 4096))) here
+        ∙ ap (λ (m : Pages). option_map (with_prot prot) (get m (a / 4096))) (is_filled m2 wrote)
+        ∙ ap (option_map (with_prot prot)) (get-insert-same m1 (a / 4096) (page_with p bs filling))
+        ∙ sym (get-insert-same m0 (a / 4096) (page_with p bs prot))
 
-  pub page_mapped : m3 ≡ insert m0 (a / 4096) (page_with p bs prot)
-  page_mapped = same_around m3 (insert m0 (a / 4096) (page_with p bs prot)) (a / 4096) at_page at_others
+    at_others : (q : ℕ) → q ≢ a / 4096 → get m3 q ≡ get (insert m0 (a / 4096) (page_with p bs prot)) q
+    at_others q other =
+        protected q
+        ∙ ap (λ b. cond b (option_map (with_prot prot) (get m2 q)) (get m2 q)) (elsewhere q other)
+        ∙ ap (λ (m : Pages). get m q) (is_filled m2 wrote)
+        ∙ get-insert-other m1 (a / 4096) (page_with p bs filling) q other
+        ∙ mapped q
+        ∙ ap (λ b. cond b (Some (zero_page filling)) (get m0 q)) (elsewhere q other)
+        ∙ sym (get-insert-other m0 (a / 4096) (page_with p bs prot) q other)
+
+    pub page_mapped : m3 ≡ insert m0 (a / 4096) (page_with p bs prot)
+    page_mapped = same_around m3 (insert m0 (a / 4096) (page_with p bs prot)) (a / 4096) at_page at_others
 
 -- ---- a segment's pages
 

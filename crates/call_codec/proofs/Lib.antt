@@ -3,6 +3,8 @@ pub mod Gathering
 pub mod Images
 pub mod MemoryCalls
 pub mod Puts
+pub mod Rooms
+pub mod SoundStarts
 pub mod Starts
 pub mod Listed
 pub mod StartBlocks

@@ -1,5 +1,5 @@
 -- The memory of a start: one segment after another.
-use Rattle.std.proofs.Common.{◌≡◌, ℕ, suc, ◌+◌, ◌<◌, List, [], ◌∷◌, ◌++◌, length, drop, get_or, refl, sym, ap, ◌∙◌, arith, append_assoc, drop-cons}
+use Rattle.std.proofs.Common.{◌≡◌, ℕ, suc, ◌+◌, ◌<◌, List, [], ◌∷◌, ◌++◌, length, drop, get_or, Result, Ok, Err, IfOk, MatchResult, is_ok, refl, sym, ap, subst, ◌∙◌, arith, append_assoc, drop-cons}
 use Rattle.std.specs.FinMap.{empty}
 use Rattle.elf_image.specs.declared.elf.Elf.{Elf}
 use Rattle.elf_image.specs.declared.elf.Segment.{Segment}
@@ -19,6 +19,14 @@ started elf argdata canary pid tid m1 m2 m3 segments s b bytes image loaded is_s
     ∙ ap (with_segment m2) (is_block ∙ ap block_of spelled)
     ∙ ap (λ (m : Pages). with_segment m (block_of (block_bytes elf argdata canary pid tid))) (second ∙ ap (with_segment m1) is_stack ∙ ap (λ (m : Pages). with_segment m stack) (loaded ∙ ap (with_segments empty) image))
     ∙ sym (segments-append empty elf.segments (stack ∷ block_of (block_bytes elf argdata canary pid tid) ∷ []))
+
+-- ---- faults
+
+-- what an outcome holds where it is one, with its fault turned into another
+pub ok_before : {X E F : Type 0} (r : Result X E) (turned : Result X F) (x : X) (P : X → Type 0) (Q : E → Type 0) → turned ≡ Ok x
+    → MatchResult r (λ v. turned ≡ Ok v) Q → is_ok turned ≡ is_ok r → IfOk r P → P x
+ok_before (Ok v) turned x P Q is cases same holds = let here : v ≡ x = cc in subst P here holds
+ok_before (Err e) turned x P Q is cases same holds = absurd (cc (ap is_ok is))
 
 -- ---- the vector
 

@@ -1,9 +1,11 @@
 -- The memory that segments make.
-use Rattle.std.specs.Prelude.{◌≤◌, ℕ, zero, suc, ◌+◌, ◌-◌, ◌*◌, ◌/◌, ◌%◌, List, [], ◌∷◌, ◌++◌, length, replicate, take, drop}
-use Rattle.abi_base.specs.declared.address_space.TheConstants.{GUEST_BEGIN, GUEST_END, PAGE_SIZE}
+use Rattle.std.specs.Prelude.{◌≡◌, ◌≤◌, ℕ, zero, suc, ◌+◌, ◌-◌, ◌*◌, ◌/◌, ◌%◌, List, [], ◌∷◌, ◌++◌, length, replicate, take, drop, true}
+use Rattle.abi_base.specs.declared.address_space.TheConstants.{GUEST_BEGIN, GUEST_END, PAGE_LIMIT, PAGE_SIZE}
 use Rattle.std.specs.FinMap.{insert}
+use Rattle.std.specs.List.{All, AllPairs, sum_by}
 use Rattle.abi_base.specs.declared.prot.Prot.{Prot}
 use Rattle.guest_memory.specs.Page.{Page, Pages}
+use Rattle.guest_memory.specs.Ranges.{in_range}
 use Rattle.elf_image.specs.declared.elf.Segment.{Segment}
 
 -- the number of a segment's first page
@@ -45,3 +47,14 @@ pub record IsPlaced (segment : Segment) : Type 0 where
   pub low : GUEST_BEGIN ≤ segment.at
   pub high : segment.at + segment.length ≤ GUEST_END
   pub fits : length segment.bytes ≤ segment.length
+
+-- no page is touched by each of the two segments
+abbrev pub ShareNoPage : Segment → Segment → Type 0
+ShareNoPage one other =
+    (q : ℕ) → in_range (first_page one) (page_count one) q ≡ true → in_range (first_page other) (page_count other) q ≡ true → ⊥
+
+-- segments that one memory can have: each is placed, no two share a page, and a memory may have that many pages
+pub record FitTogether (segments : List Segment) : Type 0 where
+  pub placed : All IsPlaced segments
+  pub apart : AllPairs ShareNoPage segments
+  pub few : sum_by page_count segments ≤ PAGE_LIMIT

@@ -2,15 +2,15 @@
 use Rattle.std.specs.Prelude.{◌≡◌, ◌≤◌, ℕ, ◌+◌, ◌-◌, true, false, List, [], ◌∷◌, ◌++◌, length, replicate}
 use Rattle.std.specs.Int.{w64, to_le_bytes}
 use Rattle.std.specs.FinMap.{empty}
-use Rattle.std.specs.List.{All}
 use Rattle.abi_base.specs.declared.address_space.TheConstants.{PAGE_SIZE}
 use Rattle.abi_base.specs.declared.limits.TheConstants.{MOST_ARGDATA}
 use Rattle.abi_base.specs.declared.prot.Prot.{Prot}
 use Rattle.abi_base.specs.Registers.{Registers, start_registers, with_x}
 use Rattle.elf_image.specs.declared.elf.Elf.{Elf}
 use Rattle.elf_image.specs.declared.elf.Segment.{Segment}
+use Rattle.elf_image.specs.Sound.{IsSound}
 use Rattle.guest_memory.specs.Page.{Pages}
-use Rattle.call_codec.specs.Image.{IsPlaced, with_segments}
+use Rattle.call_codec.specs.Image.{with_segments}
 
 abbrev pub read_write : Prot
 read_write = record { read = true; write = true; exec = false }
@@ -71,6 +71,6 @@ first_registers entry = with_x (with_x (start_registers entry) 2 stack_end) 10 s
 
 -- an image, argument data and a canary that a program can start with
 pub record MayStart (elf : Elf) (argdata canary : List ℕ) : Type 0 where
-  pub placed : All IsPlaced elf.segments
+  pub sound : IsSound elf
   pub short : length argdata ≤ MOST_ARGDATA
   pub whole : length canary ≡ 64

@@ -1,14 +1,15 @@
 //! The memory of a program's image.
-ghost use Rattle.std.specs.Prelude.{◌≡◌, ◌≤◌, ◌<◌, ◌+◌, ◌/◌, length, All, IfOk, OnOk};
+ghost use Rattle.std.specs.Prelude.{◌≡◌, ◌≤◌, ◌<◌, ◌+◌, ◌/◌, length, IfErr, IfOk, IsOkUnless, OnOk};
 ghost use Rattle.std.specs.FinMap as map;
+ghost use Rattle.guest_memory.specs.Mapping.{MapFails, MayMap};
 ghost use Rattle.guest_memory.specs.Ranges.{IsPageAddress};
-ghost use Rattle.call_codec.specs.Image.{IsPlaced, page_with, page_of, page_count, with_segment, with_segments};
+ghost use Rattle.call_codec.specs.Image.{FitTogether, IsPlaced, first_page, page_with, page_of, page_count, with_segment, with_segments};
 
 use abi_base::{GUEST_BEGIN, GUEST_END, PAGE_SIZE};
 use abi_types::Prot;
 use elf_image::Segment;
 use guest_memory::{GuestMemory, MemFault};
-use std::alloc::{AllocError, Global};
+use std::alloc::Global;
 
 /// To be read and written, as a page is while its bytes are put in.
 pub const READ_WRITE: Prot = Prot {
@@ -17,7 +18,8 @@ pub const READ_WRITE: Prot = Prot {
     exec: false,
 };
 
-// Maps one page with bytes from a place in it on, and zeros around them.
+// Maps one page with bytes from a place in it on, and zeros around them. It fails only where a page of zeros can't be
+// mapped there: a page that was mapped can be written and given its rights.
 fn map_page(
     alloc: Global,
     memory: &mut GuestMemory,
@@ -31,7 +33,8 @@ fn map_page(
     requires high { at + PAGE_SIZE ≤ GUEST_END }
     requires place { place < PAGE_SIZE }
     requires fits { place + length bytes.now ≤ PAGE_SIZE }
-    ensures { OnOk result (memory.new ≡ map.insert memory.old (at / PAGE_SIZE) (page_with place bytes.now prot)) }
+    ensures ok { OnOk result (memory.new ≡ map.insert memory.old (at / PAGE_SIZE) (page_with place bytes.now prot)) }
+    ensures fault { IfErr result (MapFails memory.old (at / PAGE_SIZE) 1) }
 {
     memory.map(alloc, at, 1, READ_WRITE)?;
     memory.write_bytes(at + place as u64, bytes)?;
@@ -55,7 +58,8 @@ fn map_segment_page(
 ) -> Result<(), MemFault>
     requires placed { IsPlaced segment.now }
     requires within { index < page_count segment.now }
-    ensures { OnOk result (memory.new ≡ map.insert memory.old (segment.now.at / PAGE_SIZE + index) (page_of segment.now index)) }
+    ensures ok { OnOk result (memory.new ≡ map.insert memory.old (first_page segment.now + index) (page_of segment.now index)) }
+    ensures fault { IfErr result (MapFails memory.old (first_page segment.now + index) 1) }
 {
     let before = (segment.at % PAGE_SIZE) as usize;
     let bytes = segment.bytes.as_slice();
@@ -71,25 +75,28 @@ fn map_segment_page(
     }
 }
 
-/// Maps a segment's pages. Only want of memory, or a page that is there already, keeps it from that.
+/// Maps a segment's pages, where none is yet. Only want of memory keeps it from that.
 pub fn map_segment(
     alloc: Global,
     memory: &mut GuestMemory,
     segment: &Segment,
-) -> Result<(), AllocError>
-    requires { IsPlaced segment.now }
-    ensures { OnOk result (memory.new ≡ with_segment memory.old segment.now) }
+) -> Result<(), MemFault>
+    requires placed { IsPlaced segment.now }
+    requires room { MayMap memory.old (first_page segment.now) (page_count segment.now) }
+    ensures ok { OnOk result (memory.new ≡ with_segment memory.old segment.now) }
+    ensures only { IsOkUnless result MemFault.NoMemory }
 {
     for index in 0..page_count(segment) {
-        map_segment_page(alloc, memory, segment, index).map_err(|_| AllocError)?;
+        map_segment_page(alloc, memory, segment, index)?;
     }
     Ok(())
 }
 
-/// The memory of an image's segments. Only want of memory, or two segments in one page, keep it from that.
-pub fn load(alloc: Global, segments: &[Segment]) -> Result<GuestMemory, AllocError>
-    requires { All IsPlaced segments.now }
-    ensures { IfOk result (λ memory. memory ≡ with_segments map.empty segments.now) }
+/// The memory of an image's segments, which have no page in common. Only want of memory keeps it from that.
+pub fn load(alloc: Global, segments: &[Segment]) -> Result<GuestMemory, MemFault>
+    requires { FitTogether segments.now }
+    ensures ok { IfOk result (λ memory. memory ≡ with_segments map.empty segments.now) }
+    ensures only { IsOkUnless result MemFault.NoMemory }
 {
     let mut memory = GuestMemory::new(alloc);
     for segment in segments {

@@ -1,13 +1,12 @@
 //! What a program starts with.
 ghost use Rattle.std.specs.Prelude.{◌≡◌, ◌++◌, ◌≤◌, length, IfOk, OnOk};
-ghost use Rattle.call_codec.specs.Image.{IsPlaced};
 ghost use Rattle.call_codec.specs.Start.{MayStart, block_bytes, block_of, entry_bytes, first_registers, stack, start_pages, vector_of};
 
 use crate::image::{READ_WRITE, load, map_segment};
 use abi_base::PAGE_SIZE;
 use abi_types::{Bytes, Pid, Regs, Tid};
 use elf_image::{Elf, Segment};
-use guest_memory::GuestMemory;
+use guest_memory::{GuestMemory, MemFault};
 use std::alloc::{AllocError, Global};
 
 // Where the first thread's stack ends.
@@ -109,9 +108,18 @@ fn first_registers(entry: u64) -> Regs
     regs
 }
 
+// The only fault that keeps a start from its memory: each other one would be a mistake of the loader.
+fn want_of_memory(fault: MemFault) -> AllocError
+    requires { fault ≡ MemFault.NoMemory }
+{
+    match fault {
+        MemFault::NoMemory => AllocError,
+        _ => unreachable!(),
+    }
+}
+
 /// The memory and the registers that a process's first thread starts with: the image, a stack of 256 pages, and the start
-/// block with a vector of 12 entries, the canary and the argument data. Only want of memory, or an image that leaves no
-/// room for these, keeps it from that.
+/// block with a vector of 12 entries, the canary and the argument data. Only want of memory keeps it from that.
 pub fn start_memory(
     alloc: Global,
     elf: &Elf,
@@ -126,8 +134,8 @@ pub fn start_memory(
 {
     let stack = stack(alloc);
     let block = start_block(block_bytes(alloc, elf, argdata, canary, pid, tid)?);
-    let mut memory = load(alloc, elf.segments.as_slice())?;
-    map_segment(alloc, &mut memory, &stack)?;
-    map_segment(alloc, &mut memory, &block)?;
+    let mut memory = load(alloc, elf.segments.as_slice()).map_err(want_of_memory)?;
+    map_segment(alloc, &mut memory, &stack).map_err(want_of_memory)?;
+    map_segment(alloc, &mut memory, &block).map_err(want_of_memory)?;
     Ok((memory, first_registers(elf.entry)))
 }

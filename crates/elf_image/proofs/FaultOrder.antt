@@ -7,6 +7,7 @@ use Rattle.elf_image.specs.Checks.{fault_at, fault_if, fault_of, first_below, fi
 use Rattle.elf_image.specs.Faults.{HasFault, HasNoFault, IsFirst, IsFirstFault, IsRefusal, base_of, entry_of, order}
 use Rattle.elf_image.specs.Fields.{e_type, e_machine, e_phoff, e_phnum, e_flags, program_headers, program_headers_from, program_header_at}
 use Rattle.elf_image.specs.Image.{image}
+use Rattle.elf_image.specs.Laws.{ImageIsSound}
 use Rattle.elf_image.specs.Sound.{IsSound}
 use Rattle.elf_image.specs.declared.elf.Elf.{Elf}
 use Rattle.elf_image.specs.declared.fault.ElfFault.{ElfFault}
@@ -252,7 +253,7 @@ if_none true given e = refl
 if_none false given e = absurd (cc)
 
 -- the image of a file without a fault is sound
-image_sound : (bytes : List ℕ) → fault_of bytes ≡ None → IsSound (image bytes)
+pub image_sound : ImageIsSound
 image_sound bytes e =
     let none = first_none (checks bytes) (sym (first_of_checks bytes) ∙ e) in
     sound_image bytes (at_none fault.Segment (first_unloadable (base_of bytes) (length bytes) (program_headers bytes))

@@ -7,4 +7,3 @@ pub mod Pages
 pub mod Searches
 pub mod Sharing
 pub mod Soundness
-pub mod Placed

@@ -1,6 +1,5 @@
 -- The image of a file.
-use Rattle.std.specs.Prelude.{ℕ, ◌+◌, ◌-◌, ◌&&◌, Bool, nat_le, List, map, take, drop, Option, Some, None, ◌≤◌, length}
-use Rattle.abi_base.specs.declared.address_space.TheConstants.{GUEST_BEGIN}
+use Rattle.std.specs.Prelude.{ℕ, ◌+◌, ◌-◌, ◌&&◌, Bool, nat_le, List, map, take, drop, Option, Some, None}
 use Rattle.std.specs.List.{filter, find}
 use Rattle.elf_image.specs.Faults.{base_of, entry_of}
 use Rattle.elf_image.specs.Fields.{e_phoff, e_phnum, program_headers, program_headers_end}
@@ -46,9 +45,3 @@ image bytes = record {
   phnum = e_phnum bytes;
   segments = segments bytes (base_of bytes) (program_headers bytes);
 }
-
--- a segment that lies in the program's part of the address space, with no more bytes of the file than of memory
-pub record IsInProgramPart (segment : Segment) : Type 0 where
-  pub low : GUEST_BEGIN ≤ segment.at
-  pub high : segment.at + segment.length ≤ 0x2000000000
-  pub fits : length segment.bytes ≤ segment.length

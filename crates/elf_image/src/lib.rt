@@ -3,7 +3,7 @@
 
 pub use elf::{Elf, Segment, SegmentList};
 pub use fault::ElfFault;
-pub use laws::{checks_find_first, image_is_placed};
+pub use laws::{checks_find_first, image_is_sound};
 pub use reading::read_elf;
 
 mod elf;

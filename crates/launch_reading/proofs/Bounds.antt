@@ -1,12 +1,7 @@
 -- A launch that words and inputs spell can be started.
 use Rattle.std.proofs.Common.{◌≡◌, ℕ, List, Result, Ok, Err, refl, sym, subst, arith}
-use Rattle.std.proofs.lemmas.List.Elements.{All-weaker}
-use Rattle.std.specs.List.{All}
-use Rattle.call_codec.specs.Image.{IsPlaced}
-use Rattle.elf_image.specs.Image.{IsInProgramPart}
-use Rattle.elf_image.specs.declared.elf.Elf.{Elf}
-use Rattle.elf_image.specs.declared.elf.Segment.{Segment}
-use Rattle.elf_image.proofs.Placed.{image_placed}
+use Rattle.elf_image.specs.Sound.{IsSound}
+use Rattle.elf_image.proofs.FaultOrder.{image_sound}
 use Rattle.run_types.specs.declared.launch.Launch.{Launch}
 use Rattle.abi_base.specs.Grants.{AreGrants}
 use Rattle.abi_base.specs.declared.grant.Grant.{Grant}
@@ -22,9 +17,6 @@ use Rattle.launch_reading.specs.LaunchText.{with_plan, with_document, planned_te
 use Rattle.call_codec.specs.Bounded.{IsBounded}
 use Rattle.launch_reading.specs.declared.lines.Refusal.{Refusal}
 use Rattle.std.specs.Prelude.{IfOk}
-
-placed : (segment : Segment) → IsInProgramPart segment → IsPlaced segment
-placed segment h = record { low = h.low; high = omega (arith, h.high); fits = h.fits }
 
 -- what a launch text gives is a plan
 same_plan : (p q : List ℕ × List Grant) → with_plan (Ok p) ≡ Ok q → p ≡ q
@@ -44,10 +36,10 @@ text_plan_is text planned e = with_document_is (parse_at text) planned e
 
 bounded : (settings : Settings) (launch : Launch) → IsWithin settings → IsBuiltLaunch settings launch → AreGrants launch.grants → IsBounded launch
 bounded settings launch within b grants =
-    let image : All IsPlaced launch.elf.segments = subst (λ (e : Elf). All IsPlaced e.segments) (sym b.elf) (All-weaker IsInProgramPart IsPlaced placed _ (image_placed b.program b.sound)) in
+    let image : IsSound launch.elf = subst IsSound (sym b.elf) (image_sound b.program b.sound) in
     record {
       grants = grants;
-      start = record { placed = image; short = omega (arith, (text_plan_is b.text _ b.planned).0); whole = refl };
+      start = record { sound = image; short = omega (arith, (text_plan_is b.text _ b.planned).0); whole = refl };
       turns = omega (arith, b.turns, within.turns.1);
     }
 

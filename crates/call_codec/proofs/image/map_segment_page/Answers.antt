@@ -5,8 +5,8 @@ use Rattle.call_codec.specs.Image.{page_with}
 use Rattle.call_codec.proofs.Images.{first_page_is, later_page_is}
 use Rattle.call_codec.proofs.image.map_segment_page.Goals as goal
 
-pub returns-then-index-eq0 : goal.returns-then-index-eq0
-returns-then-index-eq0 c =
+pub returns-then-index-eq0-clause-ok : goal.returns-then-index-eq0-clause-ok
+returns-then-index-eq0-clause-ok c =
     let s = c.args.segment.now in
     let bytes = c.as_slice-bytes.ensures in
     let at : ℕ = s.at - s.at % 4096 + c.args.index * 4096 in
@@ -14,10 +14,10 @@ returns-then-index-eq0 c =
     (λ (mapped : c.map_page.new.memory ≡ insert c.args.memory.now (at / 4096) (page_with (s.at % 4096) (take c.min-end.result c.as_slice-bytes.result.now) s.prot)). mapped
     ∙ ap (λ (xs : List ℕ). insert c.args.memory.now (at / 4096) (page_with (s.at % 4096) (take c.min-end.result xs) s.prot)) bytes
     ∙ first_page_is c.args.memory.now s c.args.index c.min-end.result c.if-index-eq0.true (c.min-end.ensures ∙ ap (λ (xs : List ℕ). min (length xs) (4096 - s.at % 4096)) bytes))
-    c.map_page.ensures
+    c.map_page.ensures.ok
 
-pub returns-else-index-eq0 : goal.returns-else-index-eq0
-returns-else-index-eq0 c =
+pub returns-else-index-eq0-clause-ok : goal.returns-else-index-eq0-clause-ok
+returns-else-index-eq0-clause-ok c =
     let s = c.args.segment.now in
     let bytes = c.as_slice-bytes.ensures in
     let at : ℕ = s.at - s.at % 4096 + c.args.index * 4096 in
@@ -28,4 +28,4 @@ returns-else-index-eq0 c =
     ∙ ap (λ (xs : List ℕ). insert c.args.memory.now (at / 4096) (page_with 0 (take (end - start) (drop start xs)) s.prot)) bytes
     ∙ later_page_is c.args.memory.now s c.args.index start end c.if-index-eq0.false (c.min-start.ensures ∙ ap (λ (xs : List ℕ). min (length xs) (c.args.index * 4096 - s.at % 4096)) bytes)
     (c.min-end-else-index-eq0.ensures ∙ ap (λ (xs : List ℕ). min (length xs) (start + 4096)) bytes))
-    c.map_page-else-index-eq0.ensures
+    c.map_page-else-index-eq0.ensures.ok
