@@ -19,7 +19,7 @@ abbrev begun : Launch → State → Pages → Registers → List ℕ → List En
 begun launch kernel memory regs turns history = record { launch = launch; kernel = kernel; memory = memory; regs = regs; left = launch.turns; turns = turns; history = history }
 
 pub begins : (launch : Launch) (kernel : State) (memory : Pages) (regs : Registers) (turns : List ℕ) (history : List Entry) → IsBounded launch
-    → kernel ≡ start_state launch.grants → memory ≡ start_pages launch.elf launch.argdata canary 0 1 → regs ≡ first_registers launch.elf.entry
+    → kernel ≡ start_state launch.grants launch.stdin → memory ≡ start_pages launch.elf launch.argdata canary 0 1 → regs ≡ first_registers launch.elf.entry
     → turns ≡ [] → history ≡ [] → IsBetween (begun launch kernel memory regs turns history)
 begins launch kernel memory regs turns history bounded state pages registers none fresh =
     let there : world launch history ≡ start_world launch = ap (world launch) fresh ∙ world_none launch in

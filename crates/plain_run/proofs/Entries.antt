@@ -11,7 +11,7 @@ use Rattle.abi_types.specs.declared.who.Who.{Who}
 use Rattle.run_types.specs.declared.history.Act.{Act}
 use Rattle.run_types.specs.declared.history.Act.TheVariants as act
 use Rattle.run_types.specs.declared.history.Entry.{Entry}
-use Rattle.kernel_model.specs.State.{State}
+use Rattle.kernel_model.specs.State.{State, thread_in}
 use Rattle.kernel_model.specs.Step.{end_state, IsStep}
 use Rattle.kernel_model.proofs.Steps.{step_moves_only}
 use Rattle.rv_interp.specs.declared.turns.TurnEnd.TheVariants as turn_end_is
@@ -154,10 +154,9 @@ module _ (r : Run) (call : Call) (given : Answer) (kernel : State) (stopped : Is
   -- while the process is live after the call, its thread is runnable
   still_on : (memory : Pages) (regs : Registers) (history : List Entry) → IsLive (entered r kernel memory regs history) → GoesOn (entered r kernel memory regs history)
   still_on memory regs history live =
-      let thread = stopped.runnable in
       let moves = step_moves_only r.launch.constants r.kernel first_thread call given kernel step in
       record {
-        runnable = (thread.0, moves.threads live ∙ thread.1, thread.2);
+        runnable = ap (λ o. thread_in o 1) (moves.threads live) ∙ stopped.runnable;
         clock = omega (arith, moves.clock, stopped.clock);
       }
 

@@ -15,7 +15,7 @@ use Rattle.run_types.specs.declared.history.Act.TheVariants as act
 use Rattle.run_types.specs.declared.history.Entry.{Entry}
 use Rattle.run_types.specs.declared.launch.Launch.{Launch}
 use Rattle.kernel_model.specs.Ends.{NoneLive}
-use Rattle.kernel_model.specs.State.{State, Threads}
+use Rattle.kernel_model.specs.State.{State, Threads, threads_of, thread_in}
 use Rattle.kernel_model.specs.Step.{step_answer, step_state}
 use Rattle.kernel_model.proofs.Steps.{step_moves_only}
 use Rattle.kernel_model.proofs.Tests.{none_is_no}
@@ -39,10 +39,10 @@ first = insert empty 1 Runnable
 
 -- process 0 has its first thread as long as it lives
 abbrev HasFirst : State → ℕ → Type 0
-HasFirst S p = get S.statuses p ≡ Some Live → get S.threads p ≡ Some first
+HasFirst S p = get S.statuses p ≡ Some Live → threads_of S p ≡ Some first
 
 acted_first : (w : World) (who : Who) (guest : Guest) (ts : List ℕ) (a : Act) → FitsAct w.constants w.state who guest ts a
-    → get w.state.threads who.pid ≡ Some first → HasFirst (acted w who a).state who.pid
+    → threads_of w.state who.pid ≡ Some first → HasFirst (acted w who a).state who.pid
 acted_first w who guest ts (act.Call call given) fits has live =
     (step_moves_only w.constants w.state who call given (called_state w.constants w.state who call given) fits.2).threads live ∙ has
 acted_first w who guest ts (act.Trap signal) fits has live = absurd (ended_by w.state who.pid (Killed signal) (killed_is_not_live signal) live)
@@ -136,7 +136,7 @@ live_goes_on : (w : World) → IsFirstAlone w.state → get w.state.statuses 0 �
 live_goes_on w alone live =
     let who : Who = record { pid = 0; tid = 1 } in
     entry_of w who live
-    (acts w.constants w.state who (guest_of w 0) (guest_of w 0).left [] (first, alone.has live, get-insert-same empty 1 Runnable) tt refl)
+    (acts w.constants w.state who (guest_of w 0) (guest_of w 0).left [] (ap (λ o. thread_in o 1) (alone.has live) ∙ get-insert-same empty 1 Runnable) tt refl)
 
 -- ---- the end
 

@@ -5,6 +5,7 @@
 --     apply_is, guest_turned, turned_more, whole_more ..      turns and acts
 --     first_guest_is, first_state, first_registers_are, first_threads, first_thread      the start
 use Rattle.std.proofs.Common.{◌≡◌, ℕ, List, [], ◌∷◌, ◌++◌, Some, refl, ap, ◌∙◌}
+use Rattle.std.specs.Option.{option_map}
 use Rattle.std.specs.FinMap.{empty, get, insert}
 use Rattle.abi_types.specs.declared.thread.Thread.TheVariants.{Runnable}
 use Rattle.abi_base.specs.Registers.{Registers}
@@ -13,8 +14,8 @@ use Rattle.run_types.specs.declared.history.Act.{Act}
 use Rattle.run_types.specs.declared.history.Act.TheVariants as act
 use Rattle.run_types.specs.declared.history.Entry.{Entry}
 use Rattle.run_types.specs.declared.launch.Launch.{Launch}
-use Rattle.kernel_model.specs.Start.{start_state}
-use Rattle.kernel_model.specs.State.{State}
+use Rattle.kernel_model.specs.Start.{first_own, start_state}
+use Rattle.kernel_model.specs.State.{State, Own, threads_of, thread_in}
 use Rattle.number_map.specs.Maps.{get-insert-same}
 use Rattle.rv_interp.specs.declared.turns.TurnEnd.TheVariants.{Quantum}
 use Rattle.run_model.specs.Legal.{IsRunnable, MayTurn, AreWhole, Fits, FollowsFrom, Legal}
@@ -125,7 +126,7 @@ pub first_guest_is : (launch : Launch) → guest_of (start_world launch) 0 ≡ f
 unfolding start_world
 first_guest_is launch = ap or_no_guest (get-insert-same empty 0 (first_guest launch))
 
-pub first_state : (launch : Launch) → (start_world launch).state ≡ start_state launch.grants
+pub first_state : (launch : Launch) → (start_world launch).state ≡ start_state launch.grants launch.stdin
 unfolding start_world
 first_state launch = refl
 
@@ -133,9 +134,9 @@ pub first_registers_are : (launch : Launch) → registers_of (first_guest launch
 first_registers_are launch = ap or_no_registers (get-insert-same empty 1 (first_registers launch.elf.entry))
 
 -- the threads of process 0 are thread 1 alone, which is runnable
-pub first_threads : (launch : Launch) → get (start_world launch).state.threads 0 ≡ Some (insert empty 1 Runnable)
+pub first_threads : (launch : Launch) → threads_of (start_world launch).state 0 ≡ Some (insert empty 1 Runnable)
 unfolding start_world
-first_threads launch = get-insert-same empty 0 (insert empty 1 Runnable)
+first_threads launch = ap (option_map (λ (own : Own). own.threads)) (get-insert-same empty 0 first_own)
 
 pub first_thread : (launch : Launch) → IsRunnable (start_world launch).state 0 1
-first_thread launch = (insert empty 1 Runnable, first_threads launch, get-insert-same empty 1 Runnable)
+first_thread launch = ap (λ o. thread_in o 1) (first_threads launch) ∙ get-insert-same empty 1 Runnable

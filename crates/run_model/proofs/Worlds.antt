@@ -42,7 +42,7 @@ legal_valid launch history start legal = follows_valid (start_world launch) hist
 
 pub world_is_valid : (launch : Launch) (history : List Entry) → AreGrants launch.grants → Legal launch history → IsValid (world launch history).state
 world_is_valid launch history grants legal =
-    legal_valid launch history (subst IsValid (sym (first_state launch)) (start_valid launch.grants grants)) legal
+    legal_valid launch history (subst IsValid (sym (first_state launch)) (start_valid launch.grants launch.stdin grants)) legal
 
 -- ---- the clock
 

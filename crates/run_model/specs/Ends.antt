@@ -6,7 +6,7 @@ use Rattle.abi_types.specs.declared.thread.Thread.TheVariants.{Runnable}
 use Rattle.run_types.specs.declared.history.Entry.{Entry}
 use Rattle.run_types.specs.declared.launch.Launch.{Launch}
 use Rattle.kernel_model.specs.Ends.{NoneLive}
-use Rattle.kernel_model.specs.State.{State, Threads}
+use Rattle.kernel_model.specs.State.{State, thread_of}
 use Rattle.run_model.specs.World.{world}
 
 -- the run is ended
@@ -19,7 +19,7 @@ IsParked Runnable = ⊥
 
 -- the process has this thread
 abbrev pub HasThread : State → ℕ → ℕ → Thread → Type 0
-HasThread S p t thread = (threads : Threads) × (get S.threads p ≡ Some threads) × (get threads t ≡ Some thread)
+HasThread S p t thread = thread_of S p t ≡ Some thread
 
 -- some thread is live, and each live thread waits
 abbrev pub AllParked : State → Type 0

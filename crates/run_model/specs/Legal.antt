@@ -9,7 +9,7 @@ use Rattle.run_types.specs.declared.history.Act.{Act}
 use Rattle.run_types.specs.declared.history.Act.TheVariants as act
 use Rattle.run_types.specs.declared.history.Entry.{Entry}
 use Rattle.run_types.specs.declared.launch.Launch.{Launch}
-use Rattle.kernel_model.specs.State.{State, Threads}
+use Rattle.kernel_model.specs.State.{State, thread_of}
 use Rattle.kernel_model.specs.Step.{IsStep}
 use Rattle.rv_interp.specs.declared.turns.TurnEnd.{TurnEnd}
 use Rattle.rv_interp.specs.declared.turns.TurnEnd.TheVariants as turn_end_is
@@ -18,7 +18,7 @@ use Rattle.run_model.specs.World.{World, Guest, guest_of, registers_of, turn_end
 
 -- the thread is live and takes its turns
 abbrev pub IsRunnable : State → ℕ → ℕ → Type 0
-IsRunnable S p t = (threads : Threads) × (get S.threads p ≡ Some threads) × (get threads t ≡ Some Runnable)
+IsRunnable S p t = thread_of S p t ≡ Some Runnable
 
 -- a turn may be the thread's: it is runnable, and its process has a turn left
 abbrev pub MayTurn : State → ℕ → Guest → ℕ → Type 0

@@ -48,7 +48,7 @@ first_guest launch = record {
 
 -- the world that a launch starts from: process 0 with thread 1
 unfoldable pub start_world : Launch → World
-start_world launch = record { constants = launch.constants; state = start_state launch.grants; guests = insert empty 0 (first_guest launch) }
+start_world launch = record { constants = launch.constants; state = start_state launch.grants launch.stdin; guests = insert empty 0 (first_guest launch) }
 
 -- ---- a guest of a world, and its registers; what isn't there is empty
 

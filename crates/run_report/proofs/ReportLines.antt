@@ -9,9 +9,9 @@ use Rattle.std.specs.Fmt.{decimal}
 use Rattle.std.specs.List.{before_first, position_or_len}
 use Rattle.std.specs.Str.Parse.{AllDigits}
 use Rattle.run_types.specs.declared.history.Entry.{Entry}
-use Rattle.kernel_model.specs.State.{State}
+use Rattle.kernel_model.specs.State.{State, written_to}
 use Rattle.run_report.specs.Denials.{denials_text}
-use Rattle.run_report.specs.Report.{written_to, ending, stream_line, stream_text, end_text, asked_history, report_of}
+use Rattle.run_report.specs.Report.{ending, stream_line, stream_text, end_text, asked_history, report_of}
 use Rattle.run_report.specs.ReportLaws.{ReportTellsStreams, StdoutIsCutOut}
 
 -- no line feed is in the text

@@ -1,5 +1,5 @@
 -- The report of a run, as a text.
-use Rattle.std.specs.Prelude.{ℕ, Bool, ◌-◌, ◌==◌, ◌||◌, ◌++◌, List, [], ◌∷◌, Option, None, Some, codes, length, slice_index, unwrap_or, if◌then◌else◌}
+use Rattle.std.specs.Prelude.{ℕ, Bool, ◌-◌, ◌==◌, ◌||◌, ◌++◌, List, [], ◌∷◌, Option, None, Some, codes, length, slice_index, if◌then◌else◌}
 use Rattle.std.specs.FinMap.{get}
 use Rattle.std.specs.Fmt.{decimal}
 use Rattle.abi_base.specs.declared.signal.Signal.{Signal}
@@ -8,13 +8,9 @@ use Rattle.abi_types.specs.declared.status.Status.TheVariants.{Live, Exit, Kille
 use Rattle.abi_base.specs.Signal.{number_of, name_of}
 use Rattle.run_types.specs.declared.history.Entry.{Entry}
 use Rattle.kernel_core.specs.Kernel.{any_live}
-use Rattle.kernel_model.specs.State.{State}
+use Rattle.kernel_model.specs.State.{State, written_to}
 use Rattle.run_report.specs.Denials.{denials_text}
 use Rattle.run_report.specs.HistoryLines.{history_text}
-
--- what was written to a standard stream
-abbrev pub written_to : ℕ → State → List ℕ
-written_to which S = unwrap_or (get S.terms which) []
 
 -- the line feed that ends a last line without one
 abbrev pub ending : List ℕ → List ℕ

@@ -3,8 +3,8 @@ use Rattle.std.specs.Prelude.{Bool, ◌≡◌, ◌↔◌, ◌+◌, ◌^◌, ◌<
 use Rattle.std.specs.List.{before_first}
 use Rattle.run_types.specs.declared.history.Entry.{Entry}
 use Rattle.kernel_model.specs.Ends.{NoneLive, SomeLive}
-use Rattle.kernel_model.specs.State.{State}
-use Rattle.run_report.specs.Report.{written_to, stream_line, run_text, report_of}
+use Rattle.kernel_model.specs.State.{State, written_to}
+use Rattle.run_report.specs.Report.{stream_line, run_text, report_of}
 
 -- 64 bits can count what was written to stdout and to stderr
 abbrev pub IsCountable : State → Type 0
