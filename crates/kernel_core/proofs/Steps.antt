@@ -1,5 +1,5 @@
 -- What follows for a step's answer and state from the laws of the kernel's model.
-use Rattle.std.proofs.Common.{◌≡◌, ◌≢◌, ℕ, subst}
+use Rattle.std.proofs.Common.{◌≡◌, ◌≢◌, subst}
 use Rattle.abi_types.specs.declared.call.Answer.{Answer}
 use Rattle.abi_types.specs.declared.call.Answer.TheVariants as answer
 use Rattle.abi_types.specs.declared.call.Call.{Call}

@@ -1,5 +1,5 @@
 -- The standard streams stay there as they are written.
-use Rattle.std.proofs.Common.{ℕ, List, IsSome, is_some, ap, ◌∙◌, inl, inr}
+use Rattle.std.proofs.Common.{ℕ, IsSome, is_some, ap, ◌∙◌, inl, inr}
 use Rattle.std.proofs.lemmas.Bool.Decides.{eqb_tells}
 use Rattle.std.specs.Ordering.{nat_cmp}
 use Rattle.std.specs.FinMap.{FinMap, get, insert}

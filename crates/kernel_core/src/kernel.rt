@@ -23,8 +23,8 @@ use crate::own::Own;
 use crate::start::{granted, single, streams};
 use crate::table::{Table as Descriptors, let_go_all};
 use abi_types::{
-    Answer, Bytes, Call, Constants, Denial, Descriptor, Errno, Needed, OpenKind, Pid, Reply, Status,
-    Stream, Thread, Tid, Who,
+    Answer, Bytes, Call, Constants, Denial, Descriptor, Errno, Needed, OpenKind, Pid, Reply,
+    Status, Stream, Thread, Tid, Who,
 };
 use number_map::NumMap;
 use run_types::Launch;

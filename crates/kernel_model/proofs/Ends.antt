@@ -1,8 +1,8 @@
 -- Which opens end: the least set that has each open which nothing holds once the set has ended.
-use Rattle.std.proofs.Common.{◌≡◌, ℕ, ◌==◌, Bool, true, false, List, [], IsSome, refl, sym, ap, subst, ◌∙◌}
+use Rattle.std.proofs.Common.{◌≡◌, ℕ, ◌==◌, Bool, true, false, List, [], IsSome, refl}
 use Rattle.std.proofs.lemmas.Bool.{eqb-true, eq-eqb}
 use Rattle.std.specs.FinMap.{get}
-use Rattle.number_map.specs.Closure.{member, closure, closure_closed, closure_ready, closure_least}
+use Rattle.number_map.specs.Closure.{member, closure_closed, closure_ready, closure_least}
 use Rattle.kernel_model.specs.Release.{holders, without, is_unheld, ends, IsEnd}
 use Rattle.kernel_model.specs.State.{State}
 use Rattle.kernel_model.proofs.Tests.{not_true}

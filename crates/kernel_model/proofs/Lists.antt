@@ -1,5 +1,5 @@
 -- Items of lists.
-use Rattle.std.proofs.Common.{◌≡◌, List, [], ◌∷◌, ◌++◌, ap, subst}
+use Rattle.std.proofs.Common.{List, [], ◌∷◌, ◌++◌, ap, subst}
 use Rattle.std.specs.List.{AllByRecursion}
 use Rattle.kernel_model.specs.Proper.{IsIn}
 

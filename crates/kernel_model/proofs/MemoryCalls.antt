@@ -1,5 +1,5 @@
 -- The meanings of the calls on the caller's memory, and of those that are refused beforehand, are proper.
-use Rattle.std.proofs.Common.{◌≡◌, ◌≢◌, ◌⊎◌, inl, inr, true, false, List, [], ◌∷◌, None, refl, sym}
+use Rattle.std.proofs.Common.{◌≡◌, ◌⊎◌, inl, inr, List, [], ◌∷◌, None, refl}
 use Rattle.abi_base.specs.declared.errno.Errno.{Errno}
 use Rattle.abi_base.specs.declared.errno.Errno.TheVariants.{Success}
 use Rattle.abi_types.specs.declared.call.Reply.{Reply}

@@ -11,7 +11,7 @@ use Rattle.abi_types.specs.declared.who.Who.{Who}
 use Rattle.kernel_model.specs.Calls.{meaning_of, seen, refusal, refusal_of}
 use Rattle.kernel_model.specs.Outcome.{Outcome, replies}
 use Rattle.kernel_model.specs.Sight.{own_parts, reached}
-use Rattle.kernel_model.specs.State.{State, Table, Part, at_proc, has_part}
+use Rattle.kernel_model.specs.State.{State, Table, at_proc, has_part}
 use Rattle.kernel_model.specs.Step.{tick, unless_refused, reach, sight, unless, act_on, act, outcome}
 use Rattle.kernel_model.specs.View.{View, restrict, whole}
 use Rattle.kernel_model.proofs.Calls.{proper}

@@ -1,5 +1,5 @@
 -- The meanings of the calls on processes are proper.
-use Rattle.std.proofs.Common.{◌≡◌, ◌≢◌, inl, inr, ℕ, ◌==◌, ◌||◌, true, false, [], ◌∷◌, ◌++◌, map, Option, Some, refl, sym, ap, ◌∙◌}
+use Rattle.std.proofs.Common.{◌≡◌, ◌≢◌, inl, ℕ, ◌||◌, false, [], ◌∷◌, map, Option, Some, refl, sym, ap, ◌∙◌}
 use Rattle.std.specs.FinMap.{get}
 use Rattle.abi_types.specs.declared.status.Status.{Status}
 use Rattle.abi_types.specs.declared.status.Status.TheVariants.{Live, Exit}
@@ -7,7 +7,7 @@ use Rattle.number_map.specs.Maps.{get-insert-same}
 use Rattle.kernel_model.specs.ProcessCalls.{end_updates, exit_of, proc_exit}
 use Rattle.kernel_model.specs.Proper.{IsProper}
 use Rattle.kernel_model.specs.Sight.{own_parts}
-use Rattle.kernel_model.specs.State.{State, Own, Part, at_clock, at_proc, at_status, same_part, has_part, part_of, put_all}
+use Rattle.kernel_model.specs.State.{Own, Part, at_clock, at_proc, at_status, same_part, has_part, part_of}
 use Rattle.kernel_model.proofs.Parts.{outside_cons, beyond_own, number_apart}
 use Rattle.kernel_model.proofs.Sights.{first_seen}
 use Rattle.kernel_model.proofs.Tests.{not_true}

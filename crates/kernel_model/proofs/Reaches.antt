@@ -1,6 +1,6 @@
 -- What a call sees is the process's own or reached through descriptors that have the rights needed, and what it touches it
 -- sees.
-use Rattle.std.proofs.Common.{◌≡◌, ◌⊎◌, inl, inr, ℕ, ◌||◌, Bool, true, false, cond, T, List, [], ◌∷◌, ◌++◌, Option, Some, None, IsSome, refl, sym, ap, subst, ◌∙◌}
+use Rattle.std.proofs.Common.{◌≡◌, ◌⊎◌, inl, inr, ℕ, ◌||◌, Bool, true, false, cond, T, List, [], ◌∷◌, Option, Some, None, IsSome, refl, sym, ap, subst, ◌∙◌}
 use Rattle.std.specs.List.{AllByRecursion}
 use Rattle.std.specs.FinMap.{get}
 use Rattle.abi_types.specs.declared.call.Call.{Call}
@@ -15,8 +15,8 @@ use Rattle.kernel_model.specs.Laws.{IsMet, IsReached, IsReachedBy}
 use Rattle.kernel_model.specs.Need.{has_needed, missing, some_absent, lack_at, either_lack, first_lack, denied_by}
 use Rattle.kernel_model.specs.Proper.{NeedsOf}
 use Rattle.kernel_model.specs.Reply.{refused, denied}
-use Rattle.kernel_model.specs.Sight.{own_parts, behind, reached_by, reached}
-use Rattle.kernel_model.specs.State.{State, Table, Part, at_open, same_part, has_part}
+use Rattle.kernel_model.specs.Sight.{own_parts, reached_by, reached}
+use Rattle.kernel_model.specs.State.{State, Table, Part, has_part}
 use Rattle.kernel_model.specs.Step.{unless_refused, reach, sight, changed, touch}
 use Rattle.kernel_model.proofs.Calls.{proper}
 use Rattle.kernel_model.proofs.Lists.{in_all}

@@ -10,15 +10,14 @@ use Rattle.abi_types.specs.declared.call.Reply.{Reply}
 use Rattle.abi_types.specs.declared.constants.Constants.{Constants}
 use Rattle.abi_types.specs.declared.descriptor.Denial.{Denial}
 use Rattle.abi_types.specs.declared.descriptor.Descriptor.{Descriptor}
-use Rattle.abi_base.specs.declared.errno.Errno.{Errno}
 use Rattle.abi_base.specs.declared.errno.Errno.TheVariants.{Success, Badf, Nomem, Notcapable}
 use Rattle.abi_types.specs.declared.needed.Needed.{Needed}
 use Rattle.abi_types.specs.declared.who.Who.{Who}
 use Rattle.kernel_model.specs.Calls.{meaning_of, named, need, errors_of, takes_memory, refusal, refusal_of}
 use Rattle.kernel_model.specs.Laws.{HasAll, IsMet, IsFirstLack, IsOfFirstLack, IsNotDeniedEarly, IsListed}
 use Rattle.kernel_model.specs.Need.{has_needed, missing, some_absent, lack_at, either_lack, first_lack, denied_by}
-use Rattle.kernel_model.specs.Outcome.{Outcome, OnReply, replies}
-use Rattle.kernel_model.specs.Proper.{IsIn, IsPlain}
+use Rattle.kernel_model.specs.Outcome.{Outcome, OnReply}
+use Rattle.kernel_model.specs.Proper.{IsIn}
 use Rattle.kernel_model.specs.Release.{release}
 use Rattle.kernel_model.specs.Reply.{refused, denied}
 use Rattle.kernel_model.specs.State.{State, Table, put_all}
@@ -165,8 +164,8 @@ outcome_from : (constants : Constants) (S : State) (who : Who) (call : Call)
 outcome_from constants S who call =
     outcome_holds (λ (o : Outcome). OnReply (IsFrom S who call o) o.answer) constants S who call (λ reply refuses. inl (refuses, refl))
     (λ table. (
-      let o : Outcome = (meaning_of call).does constants (whole (tick S)) who table in
-      from_own S who call o o.answer ((proper call).plain constants (whole (tick S)) who table)))
+    let o : Outcome = (meaning_of call).does constants (whole (tick S)) who table in
+    from_own S who call o o.answer ((proper call).plain constants (whole (tick S)) who table)))
 
 reply_from : (constants : Constants) (S : State) (who : Who) (call : Call) (reply : Reply) → step_answer constants S who call ≡ answer.Reply reply
     → IsFrom S who call (outcome constants S who call) reply
@@ -282,9 +281,9 @@ notcapable_is_denied constants S who call reply early is errno =
     elim (reply_from constants S who call reply is) [
       | inl refuses ↦ notcapable_on call (get S.tables who.pid) reply refuses.0 errno
       | inr own ↦ elim own.1 [
-          | inl success ↦ absurd (success_is_other (sym success ∙ errno))
-          | inr error ↦ absurd (in_all (λ e. e ≢ Notcapable) reply.errno (errors_of call) early error.1 errno)
-        ]
+        | inl success ↦ absurd (success_is_other (sym success ∙ errno))
+        | inr error ↦ absurd (in_all (λ e. e ≢ Notcapable) reply.errno (errors_of call) early error.1 errno)
+      ]
     ]
 
 -- ---- no answer but the allowed one is want of memory
@@ -318,9 +317,9 @@ reply_no_lack constants S who call reply none is errno =
     elim (reply_from constants S who call reply is) [
       | inl refuses ↦ no_lack_on call (get S.tables who.pid) reply refuses.0 errno
       | inr own ↦ elim own.1 [
-          | inl success ↦ success_is_no_lack (sym success ∙ errno)
-          | inr error ↦ in_all (λ e. e ≢ Nomem) reply.errno (errors_of call) none error.1 errno
-        ]
+        | inl success ↦ success_is_no_lack (sym success ∙ errno)
+        | inr error ↦ in_all (λ e. e ≢ Nomem) reply.errno (errors_of call) none error.1 errno
+      ]
     ]
 
 -- ---- an error changes nothing

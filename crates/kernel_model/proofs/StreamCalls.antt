@@ -1,8 +1,7 @@
 -- The meanings of the calls on opens that bytes are read from and written to are proper.
-use Rattle.std.proofs.Common.{◌≡◌, ◌≢◌, inl, inr, ℕ, ◌==◌, ◌||◌, Bool, true, false, List, [], ◌∷◌, ◌++◌, length, Option, Some, None, refl, sym, ap, ◌∙◌}
+use Rattle.std.proofs.Common.{◌≡◌, ◌≢◌, inl, inr, ℕ, ◌||◌, true, false, List, [], ◌∷◌, ◌++◌, length, Option, Some, None, refl, ap, ◌∙◌}
 use Rattle.std.specs.FinMap.{get}
 use Rattle.abi_types.specs.declared.call.Answer.TheVariants as answer
-use Rattle.abi_types.specs.declared.constants.Constants.{Constants}
 use Rattle.abi_types.specs.declared.descriptor.Descriptor.{Descriptor}
 use Rattle.abi_base.specs.declared.errno.Errno.TheVariants.{Badf, Nomem}
 use Rattle.abi_types.specs.declared.needed.Needed.{Needed}
@@ -11,12 +10,11 @@ use Rattle.abi_types.specs.declared.open_kind.OpenKind.TheVariants.{Terminal}
 use Rattle.abi_base.specs.declared.rights.TheConstants.Rights.{FD_WRITE, NONE}
 use Rattle.abi_types.specs.declared.status.Status.TheVariants.{Live}
 use Rattle.abi_types.specs.declared.stream.Stream.{Stream}
-use Rattle.abi_types.specs.declared.who.Who.{Who}
 use Rattle.kernel_model.specs.Outcome.{Outcome, replies}
 use Rattle.kernel_model.specs.Proper.{IsUnset, IsPlain, IsProper}
 use Rattle.kernel_model.specs.Reply.{success, refused}
 use Rattle.kernel_model.specs.Sight.{own_parts, behind, reached_by}
-use Rattle.kernel_model.specs.State.{State, Table, Part, at_proc, at_status, at_open, at_term, same_part, has_part, put_all, set_term, threads_of}
+use Rattle.kernel_model.specs.State.{State, Part, at_proc, at_status, at_open, at_term, same_part, has_part, put_all, set_term, threads_of}
 use Rattle.kernel_model.specs.Step.{tick}
 use Rattle.kernel_model.specs.StreamCalls.{write_term, write_open, write_to, fd_write}
 use Rattle.kernel_model.specs.Valid.{IsNearlyValid}

@@ -1,5 +1,5 @@
 -- What keeps a state valid, or nearly so: one part set, the end of a process, and the release.
-use Rattle.std.proofs.Common.{◌≡◌, ◌≢◌, inl, inr, ℕ, ◌+◌, ◌<◌, ◌≤◌, ◌==◌, Bool, true, false, not, cond, T, List, ◌++◌, Option, Some, None, IsSome, is_some, refl, sym, ap, subst, ◌∙◌, arith}
+use Rattle.std.proofs.Common.{◌≡◌, ◌≢◌, inl, inr, ℕ, ◌+◌, ◌<◌, ◌≤◌, ◌==◌, Bool, true, false, not, cond, T, Option, Some, None, IsSome, is_some, refl, sym, ap, subst, ◌∙◌, arith}
 use Rattle.std.proofs.lemmas.Bool.Decides.{eqb_tells}
 use Rattle.std.proofs.lemmas.Bool.{eq-eqb}
 use Rattle.std.specs.Ordering.{nat_cmp}
@@ -140,8 +140,8 @@ pub release_is : (S : State) → release S ≡ record S { opens = retain_keys S.
 release_is S =
     let same : (release S).opens ≡ retain_keys S.opens (λ o. not (holders S o == 0)) =
     same_numbers _ _ (λ o.
-        get_released S o ∙ left_alike (is_ending S o) (holders S o == 0) (get S.opens o) (ending_is S o)
-        ∙ sym (get-retain S.opens (λ r. not (holders S r == 0)) o)) in
+    get_released S o ∙ left_alike (is_ending S o) (holders S o == 0) (get S.opens o) (ending_is S o)
+    ∙ sym (get-retain S.opens (λ r. not (holders S r == 0)) o)) in
     λ i. record S { opens = same i }
 
 -- ---- one more moment

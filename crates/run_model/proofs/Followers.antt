@@ -28,7 +28,8 @@ use Rattle.run_model.specs.Ends.{Ended}
 use Rattle.run_model.specs.Legal.{IsRunnable, MayTurn, AreWhole, FitsAct, Fits, FollowsFrom, Legal}
 use Rattle.run_model.specs.World.{World, Guest, start_world, guest_of, registers_of, called_state, turn_end, turned_guest_by, turned, acted, who_of, apply, apply_all, world}
 use Rattle.run_model.proofs.Calls.{called_is, ended_by}
-use Rattle.run_model.proofs.Ends.{OnlyFirstLives, fits_first, only_first_after, killed_is_not_live, start_only, history_is_short}
+use Rattle.run_model.proofs.Ends.{OnlyFirstLives, fits_first, only_first_after, killed_is_not_live, start_only}
+use Rattle.run_model.proofs.Potentials.{history_is_short}
 use Rattle.run_model.proofs.Histories.{apply_is, turned_more, whole_more, legal_none, legal_more, first_threads}
 
 -- ---- the first process's thread

@@ -6,7 +6,7 @@
 --     first_guest_is, first_state, first_registers_are, first_threads, first_thread      the start
 use Rattle.std.proofs.Common.{◌≡◌, ℕ, List, [], ◌∷◌, ◌++◌, Some, refl, ap, ◌∙◌}
 use Rattle.std.specs.Option.{option_map}
-use Rattle.std.specs.FinMap.{empty, get, insert}
+use Rattle.std.specs.FinMap.{empty, insert}
 use Rattle.abi_types.specs.declared.thread.Thread.TheVariants.{Runnable}
 use Rattle.abi_base.specs.Registers.{Registers}
 use Rattle.abi_types.specs.declared.who.Who.{Who}

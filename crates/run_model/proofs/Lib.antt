@@ -1,6 +1,7 @@
 pub mod Calls
 pub mod Confinements
 pub mod Ends
+pub mod Potentials
 pub mod Entries
 pub mod Followers
 pub mod Histories

@@ -1,13 +1,15 @@
 -- How a run may end.
-use Rattle.std.specs.Prelude.{◌≡◌, ℕ, List, Some}
-use Rattle.std.specs.FinMap.{get}
+use Rattle.std.specs.Prelude.{◌≡◌, ℕ, ◌+◌, List, Some}
+use Rattle.abi_types.specs.declared.status.Status.{Status}
+use Rattle.abi_types.specs.declared.status.Status.TheVariants.{Live, Exit, Killed}
 use Rattle.abi_types.specs.declared.thread.Thread.{Thread}
 use Rattle.abi_types.specs.declared.thread.Thread.TheVariants.{Runnable}
 use Rattle.run_types.specs.declared.history.Entry.{Entry}
 use Rattle.run_types.specs.declared.launch.Launch.{Launch}
 use Rattle.kernel_model.specs.Ends.{NoneLive}
 use Rattle.kernel_model.specs.State.{State, thread_of}
-use Rattle.run_model.specs.World.{world}
+use Rattle.number_map.specs.Maps.{total}
+use Rattle.run_model.specs.World.{World, Guest, world}
 
 -- the run is ended
 abbrev pub Ended : Launch → List Entry → Type 0
@@ -30,3 +32,15 @@ AllParked S =
 -- the run is stalled
 abbrev pub Stalled : Launch → List Entry → Type 0
 Stalled launch history = AllParked (world launch history).state
+
+-- ---- how long a run may be
+
+-- 1 while a process with this status is live
+abbrev pub live_number : Status → ℕ
+live_number Live = 1
+live_number (Exit code) = 0
+live_number (Killed signal) = 0
+
+-- what is left to do: the turns that the processes have left, and one more for each that lives
+abbrev pub potential : World → ℕ
+potential w = total (λ (guest : Guest). guest.left) w.guests + total live_number w.state.statuses

@@ -1,5 +1,5 @@
 -- What holds of every legal history: the statements that are the contracts of the functions of src/laws.rt.
-use Rattle.std.specs.Prelude.{◌≡◌, ◌≢◌, ◌⊎◌, ℕ, ◌+◌, ◌*◌, ◌≤◌, List, [], ◌∷◌, ◌++◌, length}
+use Rattle.std.specs.Prelude.{◌≡◌, ◌≢◌, ◌⊎◌, ℕ, ◌+◌, ◌*◌, ◌<◌, ◌≤◌, List, [], ◌∷◌, ◌++◌, length}
 use Rattle.abi_types.specs.declared.call.Answer.TheVariants as answer
 use Rattle.abi_base.specs.declared.errno.Errno.TheVariants.{Nomem}
 use Rattle.run_types.specs.declared.history.Act.{Act}
@@ -9,7 +9,7 @@ use Rattle.run_types.specs.declared.launch.Launch.{Launch}
 use Rattle.abi_base.specs.Grants.{AreGrants}
 use Rattle.kernel_model.specs.Valid.{IsValid}
 use Rattle.run_model.specs.Confined.{IsConfined}
-use Rattle.run_model.specs.Ends.{Ended, Stalled}
+use Rattle.run_model.specs.Ends.{Ended, Stalled, potential}
 use Rattle.run_model.specs.Legal.{Fits, Legal}
 use Rattle.run_model.specs.World.{World, guest_of, apply, world}
 
@@ -61,9 +61,15 @@ OthersStay = (w : World) (e : Entry) (q : ℕ) → q ≢ e.pid → guest_of (app
 
 -- ---- ends
 
--- A legal history has at most one entry more than the launch has turns.
+-- Each entry takes from what is left to do: a turn of its process, or the life of one that has no turn left.
+abbrev pub EntryTakes : Type 0
+EntryTakes = (w : World) (e : Entry) → Fits w e → potential (apply w e) < potential w
+
+-- The entries of a legal history and what is left to do after them are together at most one more than the launch's turns.
+-- So it has at most one entry more than the launch has turns.
 abbrev pub HistoryIsShort : Type 0
-HistoryIsShort = (launch : Launch) (history : List Entry) → Legal launch history → length history ≤ launch.turns + 1
+HistoryIsShort =
+    (launch : Launch) (history : List Entry) → Legal launch history → length history + potential (world launch history) ≤ launch.turns + 1
 
 -- No entry may follow where the run is ended.
 abbrev pub EndedIsFinal : Type 0

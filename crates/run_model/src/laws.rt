@@ -1,5 +1,5 @@
 //! Laws of legal histories. The statements are in `specs/Laws.antt`, and each holds of every launch and history.
-ghost use Rattle.run_model.specs.Laws.{LegalBegins, LegalGoesOn, EachEntryFits, EntryIsOne, LegalIsConfined, WorldIsValid, ClockCounts};
+ghost use Rattle.run_model.specs.Laws.{LegalBegins, LegalGoesOn, EachEntryFits, EntryIsOne, LegalIsConfined, WorldIsValid, ClockCounts, EntryTakes};
 ghost use Rattle.run_model.specs.Laws.{OthersStay, HistoryIsShort, EndedIsFinal, StalledIsFinal, NeverStalled, EndsOrGoesOn, RunsToItsEnd};
 
 /// The empty history is legal, an entry that fits the world of a legal history may follow it, and no other history is
@@ -36,9 +36,11 @@ pub fn others_stay()
     ensures { OthersStay }
 {}
 
-/// A legal history has at most one entry more than the launch has turns.
+/// Each entry takes from what is left to do, the turns that processes have left and one for each that lives. The entries of
+/// a legal history and what is left after them are together at most one more than the launch's turns.
 pub fn history_is_short()
-    ensures { HistoryIsShort }
+    ensures takes { EntryTakes }
+    ensures short { HistoryIsShort }
 {}
 
 /// No entry may follow where the run is ended or stalled.

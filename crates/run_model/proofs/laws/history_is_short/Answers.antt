@@ -1,5 +1,8 @@
-use Rattle.run_model.proofs.Ends as ends
+use Rattle.run_model.proofs.Potentials.{potential_falls, history_is_paid}
 use Rattle.run_model.proofs.laws.history_is_short.Goals as goal
 
-pub returns : goal.returns
-returns c = ends.history_is_short
+pub returns-clause-takes : goal.returns-clause-takes
+returns-clause-takes c = potential_falls
+
+pub returns-clause-short : goal.returns-clause-short
+returns-clause-short c = history_is_paid

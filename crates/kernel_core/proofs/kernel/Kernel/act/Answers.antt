@@ -5,10 +5,10 @@ use Rattle.abi_types.specs.declared.call.Answer.{Answer}
 use Rattle.abi_types.specs.declared.call.Answer.TheVariants as answer
 use Rattle.abi_types.specs.declared.call.Reply.{Reply}
 use Rattle.abi_types.specs.declared.who.Who.{Who}
-use Rattle.kernel_model.specs.Calls.{meaning_of, named, need, refusal}
+use Rattle.kernel_model.specs.Calls.{meaning_of, need, refusal}
 use Rattle.kernel_model.specs.MemoryCalls.{placed}
 use Rattle.kernel_model.specs.Need as needs
-use Rattle.kernel_model.specs.Outcome.{Outcome, replies}
+use Rattle.kernel_model.specs.Outcome.{replies}
 use Rattle.kernel_model.specs.Reply.{refused}
 use Rattle.kernel_model.specs.Release.{release}
 use Rattle.kernel_model.specs.State.{State, put_all}
