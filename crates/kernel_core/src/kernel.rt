@@ -34,7 +34,7 @@ use std::marker::Model;
 // How long each call takes, and each end from outside, in nanoseconds.
 const STEP_TIME: u64 = 1000;
 
-/// The state of the kernel, in contracts a `State` (docs/MODEL.md), which is always valid.
+/// The state of the kernel, in contracts a `State` (docs/MODEL.md), which is always valid. It has no file tree yet.
 #[derive(Drop)]
 pub struct Kernel {
     clock: u64,
@@ -46,6 +46,7 @@ pub struct Kernel {
 }
 
 impl Model for Kernel {
+    ghost use Rattle.std.specs.FinMap.{empty};
     ghost use Rattle.kernel_model.specs.State.{State};
     ghost use Rattle.kernel_model.specs.Codes.{state_code};
     ghost use Rattle.kernel_core.specs.Kernel.{IsKept};
@@ -54,9 +55,9 @@ impl Model for Kernel {
 
     ghost coded = { state_code };
 
-    ghost view = { λ k. record { clock = k.clock; tables = k.tables; own = k.own; statuses = k.statuses; opens = k.objects.kinds; terms = k.terms } };
+    ghost view = { λ k. record { clock = k.clock; tables = k.tables; own = k.own; statuses = k.statuses; opens = k.objects.kinds; nodes = empty; names = empty; terms = k.terms } };
 
-    ghost invariant = { λ k. IsKept (record { clock = k.clock; tables = k.tables; own = k.own; statuses = k.statuses; opens = k.objects.kinds; terms = k.terms }) k.objects.counts };
+    ghost invariant = { λ k. IsKept (record { clock = k.clock; tables = k.tables; own = k.own; statuses = k.statuses; opens = k.objects.kinds; nodes = empty; names = empty; terms = k.terms }) k.objects.counts };
 }
 
 // Writes the bytes to a standard stream. `Err` changes nothing.

@@ -9,7 +9,7 @@ use Rattle.kernel_model.specs.Calls.{refusal_of}
 use Rattle.kernel_model.specs.Outcome.{Outcome}
 use Rattle.kernel_model.specs.Laws.{HasSameSight, EndsAlike}
 use Rattle.kernel_model.specs.Release.{is_released, release}
-use Rattle.kernel_model.specs.State.{State, Part, at_clock, at_proc, at_status, at_open, at_term, same_part, has_part, Agree, AgreeOn, put_all}
+use Rattle.kernel_model.specs.State.{State, Part, at_clock, at_proc, at_status, at_open, at_node, at_names, at_term, same_part, has_part, Agree, AgreeOn, put_all}
 use Rattle.kernel_model.specs.Step.{tick, sight, act, outcome, unreleased, step_answer, step_state}
 use Rattle.kernel_model.specs.View.{only, restrict}
 use Rattle.kernel_model.proofs.Parts.{agree_at, put_same}
@@ -29,6 +29,10 @@ restrict_alike S T parts now all =
       own = λ p. only_alike (has_part parts (at_proc p)) (get S.own p) (get T.own p) (λ h. (agree_at S T parts (at_proc p) all h).1) i;
       status = λ p. only_alike (has_part parts (at_status p)) (get S.statuses p) (get T.statuses p) (λ h. agree_at S T parts (at_status p) all h) i;
       opened = λ o. only_alike (has_part parts (at_open o)) (get S.opens o) (get T.opens o) (λ h. agree_at S T parts (at_open o) all h) i;
+      branch = record {
+        node = λ n. only_alike (has_part parts (at_node n)) (get S.nodes n) (get T.nodes n) (λ h. agree_at S T parts (at_node n) all h) i;
+        names = λ n. only_alike (has_part parts (at_names n)) (get S.names n) (get T.names n) (λ h. agree_at S T parts (at_names n) all h) i;
+      };
       term = λ k. only_alike (has_part parts (at_term k)) (get S.terms k) (get T.terms k) (λ h. agree_at S T parts (at_term k) all h) i;
     }
 
@@ -60,6 +64,8 @@ tick_alike S T at_clock h = ap (λ n. n + 1000) h
 tick_alike S T (at_proc p) h = h
 tick_alike S T (at_status p) h = h
 tick_alike S T (at_open o) h = h
+tick_alike S T (at_node n) h = h
+tick_alike S T (at_names n) h = h
 tick_alike S T (at_term k) h = h
 
 pub ticks_alike : (S T : State) (parts : List Part) → AgreeOn S T parts → AgreeOn (tick S) (tick T) parts
@@ -79,6 +85,8 @@ release_alike S T (at_proc p) h ends = h
 release_alike S T (at_status p) h ends = h
 release_alike S T (at_open o) h ends =
     get_released S o ∙ (λ i. cond (not (ends i)) (h i) None) ∙ sym (get_released T o)
+release_alike S T (at_node n) h ends = h
+release_alike S T (at_names n) h ends = h
 release_alike S T (at_term k) h ends = h
 
 same_itself : (q : Part) → same_part q q ≡ true
@@ -86,6 +94,8 @@ same_itself at_clock = refl
 same_itself (at_proc p) = eq-eqb p p refl
 same_itself (at_status p) = eq-eqb p p refl
 same_itself (at_open o) = eq-eqb o o refl
+same_itself (at_node n) = eq-eqb n n refl
+same_itself (at_names n) = eq-eqb n n refl
 same_itself (at_term k) = eq-eqb k k refl
 
 -- each part of a list

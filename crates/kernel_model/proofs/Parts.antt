@@ -5,7 +5,7 @@ use Rattle.std.specs.Ordering.{nat_cmp}
 use Rattle.std.specs.FinMap.{FinMap, get, insert}
 use Rattle.number_map.specs.Maps.{get-insert-same, get-insert-other}
 use Rattle.kernel_model.specs.Sight.{own_parts}
-use Rattle.kernel_model.specs.State.{State, Part, at_clock, at_proc, at_status, at_open, at_term, same_part, has_part, Agree, AgreeOn, Update, set_table, set_own, set_status, set_term, part_of, put_one, put_all}
+use Rattle.kernel_model.specs.State.{State, Part, at_clock, at_proc, at_status, at_open, at_node, at_names, at_term, same_part, has_part, Agree, AgreeOn, Update, set_table, set_own, set_status, set_node, set_names, set_term, part_of, put_one, put_all}
 use Rattle.kernel_model.proofs.Tests.{not_true, either_false, either_true}
 
 -- ---- lists of parts
@@ -33,6 +33,8 @@ agree_self S at_clock = refl
 agree_self S (at_proc p) = (refl, refl)
 agree_self S (at_status p) = refl
 agree_self S (at_open o) = refl
+agree_self S (at_node n) = refl
+agree_self S (at_names n) = refl
 agree_self S (at_term k) = refl
 
 pub agree_through : (S T U : State) (q : Part) → Agree S T q → Agree T U q → Agree S U q
@@ -40,6 +42,8 @@ agree_through S T U at_clock a b = a ∙ b
 agree_through S T U (at_proc p) a b = (a.0 ∙ b.0, a.1 ∙ b.1)
 agree_through S T U (at_status p) a b = a ∙ b
 agree_through S T U (at_open o) a b = a ∙ b
+agree_through S T U (at_node n) a b = a ∙ b
+agree_through S T U (at_names n) a b = a ∙ b
 agree_through S T U (at_term k) a b = a ∙ b
 
 same_number : (a b : ℕ) → (a == b) ≡ true → a ≡ b
@@ -57,6 +61,8 @@ same_part_is at_clock at_clock h = refl
 same_part_is (at_proc p) (at_proc q) h = ap at_proc (same_number p q h)
 same_part_is (at_status p) (at_status q) h = ap at_status (same_number p q h)
 same_part_is (at_open o) (at_open r) h = ap at_open (same_number o r h)
+same_part_is (at_node n) (at_node m) h = ap at_node (same_number n m h)
+same_part_is (at_names n) (at_names m) h = ap at_names (same_number n m h)
 same_part_is (at_term k) (at_term j) h = ap at_term (same_number k j h)
 same_part_is a b h = absurd (not_true h)
 
@@ -75,6 +81,8 @@ pub put_one_keeps : (u : Update) (S : State) (q : Part) → same_part (part_of u
 put_one_keeps (set_table p t) S (at_proc q) h = (get-insert-other S.tables p t q (other_number p q h), refl)
 put_one_keeps (set_own p own) S (at_proc q) h = (refl, get-insert-other S.own p own q (other_number p q h))
 put_one_keeps (set_status p s) S (at_status q) h = get-insert-other S.statuses p s q (other_number p q h)
+put_one_keeps (set_node n node) S (at_node m) h = get-insert-other S.nodes n node m (other_number n m h)
+put_one_keeps (set_names n names) S (at_names m) h = get-insert-other S.names n names m (other_number n m h)
 put_one_keeps (set_term k stream) S (at_term j) h = get-insert-other S.terms k stream j (other_number k j h)
 put_one_keeps u S q h = agree_self S q
 
@@ -96,6 +104,8 @@ pub put_one_same : (u : Update) (S T : State) (q : Part) → Agree S T q → Agr
 put_one_same (set_table p t) S T (at_proc q) h = (insert_alike S.tables T.tables p t q h.0, h.1)
 put_one_same (set_own p own) S T (at_proc q) h = (h.0, insert_alike S.own T.own p own q h.1)
 put_one_same (set_status p s) S T (at_status q) h = insert_alike S.statuses T.statuses p s q h
+put_one_same (set_node n node) S T (at_node m) h = insert_alike S.nodes T.nodes n node m h
+put_one_same (set_names n names) S T (at_names m) h = insert_alike S.names T.names n names m h
 put_one_same (set_term k stream) S T (at_term j) h = insert_alike S.terms T.terms k stream j h
 put_one_same u S T q h = h
 

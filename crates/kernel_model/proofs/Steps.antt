@@ -12,7 +12,7 @@ use Rattle.kernel_model.specs.Laws.{HasSameProcess, MovesOnly, EndsOnly}
 use Rattle.kernel_model.specs.Outcome.{Outcome}
 use Rattle.kernel_model.specs.ProcessCalls.{end_updates}
 use Rattle.kernel_model.specs.Proper.{IsUnset}
-use Rattle.kernel_model.specs.State.{State, Update, set_table, set_own, set_status, set_term, at_proc, at_status, has_part, part_of, put_one, put_all, threads_of}
+use Rattle.kernel_model.specs.State.{State, Update, set_table, set_own, set_status, set_node, set_names, set_term, at_proc, at_status, has_part, part_of, put_one, put_all, threads_of}
 use Rattle.kernel_model.specs.Step.{tick, outcome, unreleased, step_state, IsStep, end_unreleased, end_state}
 use Rattle.kernel_model.specs.Valid.{IsNearlyValid, IsValid}
 use Rattle.kernel_model.specs.View.{whole}
@@ -49,6 +49,8 @@ put_one_clock : (u : Update) (S : State) → (put_one u S).clock ≡ S.clock
 put_one_clock (set_table p t) S = refl
 put_one_clock (set_own p own) S = refl
 put_one_clock (set_status p s) S = refl
+put_one_clock (set_node n node) S = refl
+put_one_clock (set_names n names) S = refl
 put_one_clock (set_term k stream) S = refl
 
 put_clock : (us : List Update) (S : State) → (put_all us S).clock ≡ S.clock

@@ -13,7 +13,7 @@ use Rattle.kernel_model.specs.ProcessCalls.{end_updates}
 use Rattle.kernel_model.specs.Proper.{IsUnset}
 use Rattle.kernel_model.specs.Release.{is_released, release}
 use Rattle.kernel_model.specs.Sight.{own_parts}
-use Rattle.kernel_model.specs.State.{State, Table, Part, at_clock, at_proc, at_status, at_open, at_term, same_part, has_part, Agree, part_of}
+use Rattle.kernel_model.specs.State.{State, Table, Part, at_clock, at_proc, at_status, at_open, at_node, at_names, at_term, same_part, has_part, Agree, part_of}
 use Rattle.kernel_model.specs.Step.{tick, unless_refused, changed, touch, unless, act_on, outcome, unreleased, step_state, IsStep, IsUntouched, end_unreleased, end_state}
 use Rattle.kernel_model.specs.View.{whole}
 use Rattle.kernel_model.proofs.Calls.{proper}
@@ -49,6 +49,8 @@ tick_keeps S at_clock h = absurd (subst T h tt)
 tick_keeps S (at_proc p) h = (refl, refl)
 tick_keeps S (at_status p) h = refl
 tick_keeps S (at_open o) h = refl
+tick_keeps S (at_node n) h = refl
+tick_keeps S (at_names n) h = refl
 tick_keeps S (at_term k) h = refl
 
 -- a part that the release does not end stays
@@ -57,6 +59,8 @@ release_keeps S at_clock h = refl
 release_keeps S (at_proc p) h = (refl, refl)
 release_keeps S (at_status p) h = refl
 release_keeps S (at_open o) h = released_stays S o h
+release_keeps S (at_node n) h = refl
+release_keeps S (at_names n) h = refl
 release_keeps S (at_term k) h = refl
 
 -- ---- steps

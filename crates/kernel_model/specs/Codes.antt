@@ -2,24 +2,29 @@
 use Rattle.std.specs.Prelude.{ℕ, refl}
 use Rattle.std.specs.Ordering.{nat_cmp}
 use Rattle.std.specs.FinMap.{FinMap, code}
-use Rattle.std.specs.Coded.{Coded, code_by, coded×, coded_ℕ}
+use Rattle.std.specs.Coded.{Coded, code_by, coded×, coded_list, coded_ℕ}
+use Rattle.abi_types.specs.declared.node.Node.{Node}
 use Rattle.abi_types.specs.declared.open_kind.OpenKind.{OpenKind}
 use Rattle.abi_types.specs.declared.status.Status.{Status}
 use Rattle.abi_types.specs.declared.counts.Counts.{Counts}
 use Rattle.abi_types.specs.declared.stream.Stream.{Stream}
 use Rattle.abi_types.specs.contracts.counts.Counts as counts
 use Rattle.abi_types.specs.contracts.descriptor.Descriptor as descriptor
+use Rattle.abi_types.specs.contracts.node.Node as node
 use Rattle.abi_types.specs.contracts.open_kind.OpenKind as open_kind
 use Rattle.abi_types.specs.contracts.status.Status as status
 use Rattle.abi_types.specs.contracts.stream.Stream as stream
 use Rattle.abi_types.specs.contracts.thread.Thread as thread
-use Rattle.kernel_model.specs.State.{State, Table, Threads, Own}
+use Rattle.kernel_model.specs.State.{State, Table, Threads, Own, Names}
 
 abbrev pub table_code : Coded Table
 table_code = code coded_ℕ descriptor.the_row.coded
 
 abbrev pub threads_code : Coded Threads
 threads_code = code coded_ℕ thread.the_row.coded
+
+abbrev pub names_code : Coded Names
+names_code = code (coded_list coded_ℕ) coded_ℕ
 
 abbrev pub own_code : Coded Own
 own_code =
@@ -29,7 +34,7 @@ own_code =
 -- the fields as nested pairs
 abbrev Fields : Type 0
 Fields =
-    ℕ × (FinMap nat_cmp Table × (FinMap nat_cmp Own × (FinMap nat_cmp Status × (FinMap nat_cmp OpenKind × FinMap nat_cmp Stream))))
+    ℕ × (FinMap nat_cmp Table × (FinMap nat_cmp Own × (FinMap nat_cmp Status × (FinMap nat_cmp OpenKind × (FinMap nat_cmp Node × (FinMap nat_cmp Names × FinMap nat_cmp Stream))))))
 
 abbrev fields_code : Coded Fields
 fields_code =
@@ -37,9 +42,11 @@ fields_code =
     (coded× (code coded_ℕ table_code)
     (coded× (code coded_ℕ own_code)
     (coded× (code coded_ℕ status.the_row.coded)
-    (coded× (code coded_ℕ open_kind.the_row.coded) (code coded_ℕ stream.the_row.coded)))))
+    (coded× (code coded_ℕ open_kind.the_row.coded)
+    (coded× (code coded_ℕ node.the_row.coded)
+    (coded× (code coded_ℕ names_code) (code coded_ℕ stream.the_row.coded)))))))
 
 abbrev pub state_code : Coded State
 state_code =
-    code_by Fields fields_code (λ S. (S.clock, (S.tables, (S.own, (S.statuses, (S.opens, S.terms))))))
-    (λ f. record { clock = f.0; tables = f.1.0; own = f.1.1.0; statuses = f.1.1.1.0; opens = f.1.1.1.1.0; terms = f.1.1.1.1.1 }) (λ _. refl)
+    code_by Fields fields_code (λ S. (S.clock, (S.tables, (S.own, (S.statuses, (S.opens, (S.nodes, (S.names, S.terms))))))))
+    (λ f. record { clock = f.0; tables = f.1.0; own = f.1.1.0; statuses = f.1.1.1.0; opens = f.1.1.1.1.0; nodes = f.1.1.1.1.1.0; names = f.1.1.1.1.1.1.0; terms = f.1.1.1.1.1.1.1 }) (λ _. refl)

@@ -4,7 +4,7 @@ use Rattle.std.specs.FinMap.{get, retain_keys}
 use Rattle.abi_types.specs.declared.descriptor.Descriptor.{Descriptor}
 use Rattle.number_map.specs.Closure.{member, closure}
 use Rattle.number_map.specs.Maps.{total}
-use Rattle.kernel_model.specs.State.{State, Table, Part, at_clock, at_proc, at_status, at_open, at_term}
+use Rattle.kernel_model.specs.State.{State, Table, Part, at_clock, at_proc, at_status, at_open, at_node, at_names, at_term}
 
 -- 1 where the descriptor names the open, else 0
 abbrev pub names_open : ℕ → Descriptor → ℕ
@@ -44,6 +44,8 @@ is_released S at_clock = false
 is_released S (at_proc p) = false
 is_released S (at_status p) = false
 is_released S (at_open o) = is_ending S o
+is_released S (at_node n) = false
+is_released S (at_names n) = false
 is_released S (at_term k) = false
 
 -- The set of opens is the one that ends: it has each open which nothing holds once the set has ended, each of it is such

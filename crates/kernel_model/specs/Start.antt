@@ -45,7 +45,8 @@ first_own = record { threads = insert empty 1 Runnable; counts = record { object
 abbrev pub unwritten : List ℕ → Stream
 unwritten left = record { left = left; written = [] }
 
--- Process 0 is live with thread 1 and the granted descriptors, standard input has these bytes, and nothing was written yet.
+-- Process 0 is live with thread 1 and the granted descriptors, there is no file tree yet, standard input has these bytes,
+-- and nothing was written.
 abbrev pub start_state : List Grant → List ℕ → State
 start_state grants stdin = record {
   clock = 0;
@@ -53,5 +54,7 @@ start_state grants stdin = record {
   own = insert empty 0 first_own;
   statuses = insert empty 0 Live;
   opens = from_entries (numbered granted_open (launch_object 5) grants);
+  nodes = empty;
+  names = empty;
   terms = insert (insert (insert empty 0 (unwritten stdin)) 1 (unwritten [])) 2 (unwritten []);
 }

@@ -1,10 +1,12 @@
 -- The state of a kernel: what it keeps between two calls.
 use Rattle.std.specs.Prelude.{◌≡◌, ℕ, ◌==◌, ◌||◌, Bool, true, false, List, [], ◌∷◌, Option, None, Some}
+use Rattle.std.specs.Cmp.Lexicographic.{slice_cmp}
 use Rattle.std.specs.Ordering.{nat_cmp}
 use Rattle.std.specs.FinMap.{FinMap, get, insert}
 use Rattle.std.specs.Option.{option_map}
 use Rattle.abi_types.specs.declared.counts.Counts.{Counts}
 use Rattle.abi_types.specs.declared.descriptor.Descriptor.{Descriptor}
+use Rattle.abi_types.specs.declared.node.Node.{Node}
 use Rattle.abi_types.specs.declared.open_kind.OpenKind.{OpenKind}
 use Rattle.abi_types.specs.declared.status.Status.{Status}
 use Rattle.abi_types.specs.declared.stream.Stream.{Stream}
@@ -23,14 +25,20 @@ pub record Own : Type 0 where
   pub threads : Threads
   pub counts : Counts
 
+-- the names in a directory, in the order of their bytes, each with the number of its node
+abbrev pub Names : Type 0
+Names = FinMap (slice_cmp nat_cmp) ℕ
+
 -- the moment in nanoseconds; each process's descriptors, what else it has of its own, and its status; the opens that
--- descriptors name; and the standard streams
+-- descriptors name; the nodes of the file tree, and the names in each directory; and the standard streams
 pub record State : Type 0 where
   pub clock : ℕ
   pub tables : FinMap nat_cmp Table
   pub own : FinMap nat_cmp Own
   pub statuses : FinMap nat_cmp Status
   pub opens : FinMap nat_cmp OpenKind
+  pub nodes : FinMap nat_cmp Node
+  pub names : FinMap nat_cmp Names
   pub terms : FinMap nat_cmp Stream
 
 -- a process's live threads, if it was ever made
@@ -64,12 +72,14 @@ counts_in None = no_counts
 counts_in (Some own) = own.counts
 
 -- A state is a map from parts to values. Its parts are the clock, what a process has of its own (descriptors,
--- threads and counts), its status, an open, and a standard stream.
+-- threads and counts), its status, an open, a node, the names in a directory, and a standard stream.
 pub data Part : Type 0 where
   at_clock : Part
   at_proc : ℕ → Part
   at_status : ℕ → Part
   at_open : ℕ → Part
+  at_node : ℕ → Part
+  at_names : ℕ → Part
   at_term : ℕ → Part
 
 -- whether two parts are one
@@ -78,6 +88,8 @@ same_part at_clock at_clock = true
 same_part (at_proc p) (at_proc q) = p == q
 same_part (at_status p) (at_status q) = p == q
 same_part (at_open o) (at_open r) = o == r
+same_part (at_node n) (at_node m) = n == m
+same_part (at_names n) (at_names m) = n == m
 same_part (at_term k) (at_term j) = k == j
 same_part _ _ = false
 
@@ -92,6 +104,8 @@ Agree S T at_clock = S.clock ≡ T.clock
 Agree S T (at_proc p) = (get S.tables p ≡ get T.tables p) × (get S.own p ≡ get T.own p)
 Agree S T (at_status p) = get S.statuses p ≡ get T.statuses p
 Agree S T (at_open o) = get S.opens o ≡ get T.opens o
+Agree S T (at_node n) = get S.nodes n ≡ get T.nodes n
+Agree S T (at_names n) = get S.names n ≡ get T.names n
 Agree S T (at_term k) = get S.terms k ≡ get T.terms k
 
 -- each part of the list has the same value in both states
@@ -104,6 +118,8 @@ pub data Update : Type 0 where
   set_table : ℕ → Table → Update
   set_own : ℕ → Own → Update
   set_status : ℕ → Status → Update
+  set_node : ℕ → Node → Update
+  set_names : ℕ → Names → Update
   set_term : ℕ → Stream → Update
 
 -- the part that an update sets
@@ -111,6 +127,8 @@ abbrev pub part_of : Update → Part
 part_of (set_table p t) = at_proc p
 part_of (set_own p own) = at_proc p
 part_of (set_status p s) = at_status p
+part_of (set_node n node) = at_node n
+part_of (set_names n names) = at_names n
 part_of (set_term k stream) = at_term k
 
 -- the state with one part set
@@ -118,6 +136,8 @@ abbrev pub put_one : Update → State → State
 put_one (set_table p t) S = record S { tables = insert S.tables p t }
 put_one (set_own p own) S = record S { own = insert S.own p own }
 put_one (set_status p s) S = record S { statuses = insert S.statuses p s }
+put_one (set_node n node) S = record S { nodes = insert S.nodes n node }
+put_one (set_names n names) S = record S { names = insert S.names n names }
 put_one (set_term k stream) S = record S { terms = insert S.terms k stream }
 
 -- the state with the parts set, one after another

@@ -33,6 +33,8 @@ fields c = record {
   own = insert c.self.inside.own c.from-p.result c.end.new.self;
   statuses = c.replace.new.self;
   opens = c.remove_unheld.new.self.kinds;
+  nodes = empty;
+  names = empty;
   terms = c.self.inside.terms;
 }
 
@@ -51,7 +53,7 @@ after c =
     ap (λ (h : Held). h.kinds) c.remove_unheld.ensures
     ∙ ap (λ (m : FinMap nat_cmp OpenKind). retain_keys m (is_held c.let_go_all.new.objects.counts)) c.let_go_all.ensures.kinds
     ∙ retain_same _ _ _ (λ o. ap (λ (n : ℕ). not (n == 0)) (left c o)) in
-    (λ i. record { clock = k.clock; tables = tables i; own = own i; statuses = statuses i; opens = opens i; terms = k.terms })
+    (λ i. record { clock = k.clock; tables = tables i; own = own i; statuses = statuses i; opens = opens i; nodes = empty; names = empty; terms = k.terms })
     ∙ sym (release_is (put_all (end_updates c.args.pid (get k.own c.args.pid) c.args.status) (the_view k)))
 
 pub invariant_of-self : goal.invariant_of-self

@@ -19,6 +19,8 @@ fields c = record {
   own = c.in_ok-single-2.field-0;
   statuses = c.in_ok-single-3.field-0;
   opens = c.objects.inside.kinds;
+  nodes = empty;
+  names = empty;
   terms = c.in_ok-streams.field-0;
 }
 
@@ -33,7 +35,7 @@ made c =
     let statuses = c.in_ok-single-3.ensures in
     let opens = ap (λ (h : Held). h.kinds) (held c) in
     let terms = c.in_ok-streams.ensures in
-    λ i. record { clock = 0; tables = tables i; own = own i; statuses = statuses i; opens = opens i; terms = terms i }
+    λ i. record { clock = 0; tables = tables i; own = own i; statuses = statuses i; opens = opens i; nodes = empty; names = empty; terms = terms i }
 
 pub invariant_of-result-2 : goal.invariant_of-result-2
 invariant_of-result-2 c = start_kept c.args.launch.now.grants c.args.launch.now.stdin (fields c) c.objects.inside.counts c.requires (made c) (ap (λ (h : Held). h.counts) (held c))
