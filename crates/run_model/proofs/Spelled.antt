@@ -27,7 +27,7 @@ use Rattle.call_codec.specs.MemoryCalls.{is_aligned, is_guests, is_range, is_syn
 use Rattle.call_codec.proofs.Calls.{either_call, args_hold}
 
 -- an error of a call that registers spell
-abbrev IsSpelled : Errno → Type 0
+abbrev pub IsSpelled : Errno → Type 0
 IsSpelled errno = (errno ≢ Nomem) × (errno ≢ Notcapable)
 
 abbrev IsSpelledIf : Option Errno → Type 0
@@ -38,7 +38,7 @@ abbrev IsSpelledPlace : Place → Type 0
 IsSpelledPlace place = AllByRecursion IsSpelled (place_errors place)
 
 -- each error that the call answers of its own is one of those
-abbrev IsSpelledCall : Call → Type 0
+abbrev pub IsSpelledCall : Call → Type 0
 IsSpelledCall call = AllByRecursion IsSpelled (errors_of call)
 
 success_spelled : IsSpelled Success
@@ -144,7 +144,7 @@ map_spelled m r =
 
 -- ---- all of them
 
-args_spelled : (m : Pages) (r : Registers) → IsSpelledCall (args_of m r)
+pub args_spelled : (m : Pages) (r : Registers) → IsSpelledCall (args_of m r)
 args_spelled m r = args_hold IsSpelledCall m r (record {
   fd_write = fd_write_spelled m r;
   mem_advise = advise_spelled m r;

@@ -1,13 +1,18 @@
 -- What holds of every legal history: the statements that are the contracts of the functions of src/laws.rt.
 use Rattle.std.specs.Prelude.{◌≡◌, ◌≢◌, ◌⊎◌, ℕ, ◌+◌, ◌*◌, ◌<◌, ◌≤◌, List, [], ◌∷◌, ◌++◌, length}
 use Rattle.abi_types.specs.declared.call.Answer.TheVariants as answer
-use Rattle.abi_base.specs.declared.errno.Errno.TheVariants.{Nomem}
+use Rattle.std.specs.List.{AllByRecursion}
+use Rattle.abi_base.specs.declared.errno.Errno.TheVariants.{Nomem, Notcapable}
+use Rattle.abi_base.specs.Registers.{Registers}
 use Rattle.run_types.specs.declared.history.Act.{Act}
 use Rattle.run_types.specs.declared.history.Act.TheVariants as act
 use Rattle.run_types.specs.declared.history.Entry.{Entry}
 use Rattle.run_types.specs.declared.launch.Launch.{Launch}
 use Rattle.abi_base.specs.Grants.{AreGrants}
+use Rattle.kernel_model.specs.Calls.{errors_of}
 use Rattle.kernel_model.specs.Valid.{IsValid}
+use Rattle.guest_memory.specs.Page.{Pages}
+use Rattle.call_codec.specs.Args.{args_of}
 use Rattle.run_model.specs.Confined.{IsConfined}
 use Rattle.run_model.specs.Ends.{Ended, Stalled, potential}
 use Rattle.run_model.specs.Legal.{Fits, Legal}
@@ -44,6 +49,13 @@ EntryIsOne =
 -- A legal history of a launch with proper grants is confined.
 abbrev pub LegalIsConfined : Type 0
 LegalIsConfined = (launch : Launch) (history : List Entry) → Legal launch history → AreGrants launch.grants → IsConfined launch history
+
+-- ---- calls
+
+-- No call that memory and registers spell answers NOMEM or NOTCAPABLE of its own.
+abbrev pub SpelledIsPlain : Type 0
+SpelledIsPlain =
+    (m : Pages) (r : Registers) → AllByRecursion (λ errno. (errno ≢ Nomem) × (errno ≢ Notcapable)) (errors_of (args_of m r))
 
 -- ---- worlds
 
