@@ -28,7 +28,7 @@ use Rattle.kernel_model.specs.MemoryCalls.{mem_map, decided}
 use Rattle.kernel_model.specs.ProcessCalls.{end_updates, proc_exit}
 use Rattle.kernel_model.specs.View.{View}
 use Rattle.kernel_model.proofs.Tests.{none_is_no, same_some}
-use Rattle.authority_laws.specs.Rows.{Row, granted_row, by_success, answered_row}
+use Rattle.authority_laws.specs.Ledger.{Row, granted_row, by_success, answered_row}
 use Rattle.authority_laws.proofs.Rows.{row_in, row_of, row_emptied, by_error, by_either}
 
 -- after the outcome's updates its process has what the ledger says after this answer

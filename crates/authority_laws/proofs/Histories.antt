@@ -12,16 +12,18 @@ use Rattle.run_types.specs.declared.history.Act.TheVariants as act
 use Rattle.run_types.specs.declared.history.Entry.{Entry}
 use Rattle.run_types.specs.declared.launch.Launch.{Launch}
 use Rattle.kernel_model.specs.State.{State, Table}
+use Rattle.kernel_model.specs.Valid.{IsValid}
 use Rattle.run_model.specs.Legal.{FitsAct, Fits, FollowsFrom, Legal}
 use Rattle.run_model.specs.World.{World, Guest, start_world, guest_of, called_state, turned, acted, who_of, apply, apply_all, world}
 use Rattle.run_model.proofs.Histories.{apply_is, first_state}
 use Rattle.run_model.proofs.Worlds.{world_is_valid}
 use Rattle.authority_laws.specs.Laws.{Tells, ComesFrom}
-use Rattle.authority_laws.specs.Ledger.{Ledger, with_row, launch_ledger, acted_row, noted, noted_all, ledger}
+use Rattle.authority_laws.specs.Ledger.{Ledger, with_row, launch_ledger}
 use Rattle.authority_laws.specs.Origins.{ComesFromGrant}
+use Rattle.authority_laws.specs.Recorded.{acted_row, noted, noted_all, ledger}
 use Rattle.authority_laws.proofs.Origins.{AllGranted, noted_from, noted_granted, launch_granted}
 use Rattle.authority_laws.proofs.Rows.{row_in, row_of}
-use Rattle.authority_laws.proofs.States.{HasRows, step_rows, end_rows, start_rows, ended_row}
+use Rattle.authority_laws.proofs.States.{HasRows, step_rows, end_rows, start_rows, ended_row, row_is_held}
 
 -- ---- the ledger of one more entry
 
@@ -64,12 +66,17 @@ world_rows launch history legal =
     follows_rows (start_world launch) history (launch_ledger launch.grants) legal
     (subst (λ (S : State). HasRows S (launch_ledger launch.grants)) (sym (first_state launch)) (start_rows launch.grants))
 
+rows_tell : (S : State) (l : Ledger) → IsValid S → HasRows S l → Tells S l
+rows_tell S l valid rows = record {
+  tables = λ p table there n. (λ i. (sym (ap row_in there) ∙ rows p) i n);
+  held = λ p n d here. row_is_held S p n d valid ((λ i. rows p i n) ∙ here);
+  ended = λ p ends n. (λ i. (sym (rows p) ∙ ended_row S p valid ends) i n);
+}
+
 pub ledger_tells : (launch : Launch) (history : List Entry) → AreGrants launch.grants → Legal launch history
     → Tells (world launch history).state (ledger launch history)
-ledger_tells launch history grants legal = record {
-  tables = λ p table there n. (λ i. (sym (ap row_in there) ∙ world_rows launch history legal p) i n);
-  ended = λ p ends n. (λ i. (sym (world_rows launch history legal p) ∙ ended_row (world launch history).state p (world_is_valid launch history grants legal) ends) i n);
-}
+ledger_tells launch history grants legal =
+    rows_tell (world launch history).state (ledger launch history) (world_is_valid launch history grants legal) (world_rows launch history legal)
 
 -- ---- where descriptors come from
 

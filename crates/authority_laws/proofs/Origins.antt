@@ -16,10 +16,10 @@ use Rattle.run_types.specs.declared.history.Act.TheVariants as act
 use Rattle.run_types.specs.declared.history.Entry.{Entry}
 use Rattle.kernel_model.specs.Start.{granted_descriptor}
 use Rattle.kernel_model.proofs.Tests.{none_is_no, same_some}
-use Rattle.authority_laws.specs.Rows.{Row, no_row, launch_row, granted_row, by_success, answered_row}
-use Rattle.authority_laws.specs.Ledger.{Ledger, with_row, launch_ledger, acted_row, noted}
+use Rattle.authority_laws.specs.Ledger.{Row, no_row, Ledger, with_row, launch_row, launch_ledger, granted_row, by_success, answered_row}
 use Rattle.authority_laws.specs.Laws.{ComesFrom}
 use Rattle.authority_laws.specs.Origins.{Origin, was_held, IsNoMoreThan, ComesFromGrant}
+use Rattle.authority_laws.specs.Recorded.{acted_row, noted}
 
 -- each descriptor of the row has its origin in the ledger
 abbrev RowComesFrom : Ledger → Row → Type 0

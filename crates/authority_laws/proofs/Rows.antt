@@ -6,7 +6,7 @@ use Rattle.abi_base.specs.declared.errno.Errno.{Errno}
 use Rattle.abi_base.specs.declared.errno.Errno.TheVariants.{Success}
 use Rattle.number_map.specs.Maps.{get-insert-same}
 use Rattle.kernel_model.specs.State.{State, Table}
-use Rattle.authority_laws.specs.Rows.{Row, no_row, by_success}
+use Rattle.authority_laws.specs.Ledger.{Row, no_row, by_success}
 
 -- what is under each number of a table, where there is a table
 abbrev pub row_in : Option Table → Row

@@ -5,11 +5,13 @@ use Rattle.std.specs.Ordering.{nat_cmp}
 use Rattle.std.specs.Cmp.{nat_cmp_total}
 use Rattle.std.specs.FinMap.{get, get-empty, get-from_entries, empty}
 use Rattle.abi_base.specs.declared.grant.Grant.{Grant}
+use Rattle.abi_base.specs.declared.signal.Signal.{Signal}
 use Rattle.abi_types.specs.declared.call.Answer.{Answer}
 use Rattle.abi_types.specs.declared.call.Call.{Call}
 use Rattle.abi_types.specs.declared.constants.Constants.{Constants}
+use Rattle.abi_types.specs.declared.descriptor.Descriptor.{Descriptor}
 use Rattle.abi_types.specs.declared.status.Status.{Status}
-use Rattle.abi_types.specs.declared.status.Status.TheVariants.{Live}
+use Rattle.abi_types.specs.declared.status.Status.TheVariants.{Live, Exit, Killed}
 use Rattle.abi_types.specs.declared.who.Who.{Who}
 use Rattle.kernel_model.specs.Outcome.{Outcome}
 use Rattle.number_map.specs.Maps.{get-insert-same, get-insert-other}
@@ -21,9 +23,9 @@ use Rattle.kernel_model.specs.View.{whole}
 use Rattle.kernel_model.proofs.Outcomes.{outcome_holds}
 use Rattle.kernel_model.proofs.Starts.{find_numbered}
 use Rattle.kernel_model.proofs.Steps.{step_moves_only, end_ends_only}
-use Rattle.kernel_model.proofs.Tests.{not_true}
-use Rattle.authority_laws.specs.Rows.{Row, no_row, launch_row, answered_row}
-use Rattle.authority_laws.specs.Ledger.{Ledger, with_row, launch_ledger}
+use Rattle.kernel_model.proofs.Tests.{not_true, none_is_no}
+use Rattle.authority_laws.specs.Ledger.{Row, no_row, Ledger, with_row, launch_row, launch_ledger, answered_row}
+use Rattle.authority_laws.specs.Laws.{Holds}
 use Rattle.authority_laws.proofs.Calls.{LeavesRow, told, refusal_told}
 use Rattle.authority_laws.proofs.Rows.{row_in, row_of, row_in_empty, row_emptied}
 
@@ -102,3 +104,30 @@ ended_by S p (Some status) valid is ends =
 -- in a valid state they hold nothing
 pub ended_row : (S : State) (p : ℕ) → IsValid S → get S.statuses p ≢ Some Live → row_of S p ≡ no_row
 ended_row S p valid ends = ended_by S p (get S.statuses p) valid refl ends
+
+ended_has_none : (S : State) (p n : ℕ) (d : Descriptor) {X : Type 0} → IsValid S → get S.statuses p ≢ Some Live → row_of S p n ≡ Some d → X
+ended_has_none S p n d valid ends here = absurd (none_is_no d ((λ i. sym (ended_row S p valid ends) i n) ∙ here))
+
+-- ---- what a row has
+
+exit_is_not_live : (code : ℕ) → Some (Exit code) ≢ Some Live
+exit_is_not_live code e = cc
+
+killed_is_not_live : (signal : Signal) → Some (Killed signal) ≢ Some Live
+killed_is_not_live signal e = cc
+
+live_by : (S : State) (p n : ℕ) (d : Descriptor) (status : Option Status) → IsValid S → get S.statuses p ≡ status → row_of S p n ≡ Some d → status ≡ Some Live
+live_by S p n d (Some Live) valid is here = refl
+live_by S p n d None valid is here = ended_has_none S p n d valid (λ live. none_is_no Live (sym is ∙ live)) here
+live_by S p n d (Some (Exit code)) valid is here = ended_has_none S p n d valid (λ live. exit_is_not_live code (sym is ∙ live)) here
+live_by S p n d (Some (Killed signal)) valid is here = ended_has_none S p n d valid (λ live. killed_is_not_live signal (sym is ∙ live)) here
+
+table_by : (n : ℕ) (d : Descriptor) (t : Option Table) → row_in t n ≡ Some d → (table : Table) × (t ≡ Some table) × (get table n ≡ Some d)
+table_by n d None here = absurd (none_is_no d here)
+table_by n d (Some table) here = (table, refl, here)
+
+-- what a row of a valid state has stands in a live process's table
+pub row_is_held : (S : State) (p n : ℕ) (d : Descriptor) → IsValid S → row_of S p n ≡ Some d → Holds S p n d
+row_is_held S p n d valid here =
+    let found = table_by n d (get S.tables p) here in
+    (live_by S p n d (get S.statuses p) valid refl here, found.0, found.1, found.2)

@@ -9,8 +9,9 @@ use Rattle.run_types.specs.declared.launch.Launch.{Launch}
 use Rattle.kernel_model.specs.State.{State, Table}
 use Rattle.run_model.specs.Legal.{Legal}
 use Rattle.run_model.specs.World.{world}
-use Rattle.authority_laws.specs.Ledger.{Ledger, launch_ledger, noted, ledger}
+use Rattle.authority_laws.specs.Ledger.{Ledger, launch_ledger}
 use Rattle.authority_laws.specs.Origins.{Origin, ComesFromGrant}
+use Rattle.authority_laws.specs.Recorded.{noted, ledger}
 
 -- ---- the ledger of one more entry
 
@@ -24,10 +25,15 @@ LedgerGoesOn = (launch : Launch) (history : List Entry) (e : Entry) → ledger l
 
 -- ---- the kernel's tables
 
--- The ledger tells who holds what in this state: a process's table has under each number what the ledger says, and a process
--- that is not live holds nothing.
+-- process p is live, and its table has the descriptor under number n
+abbrev pub Holds : State → ℕ → ℕ → Descriptor → Type 0
+Holds S p n d = (get S.statuses p ≡ Some Live) × (table : Table) × (get S.tables p ≡ Some table) × (get table n ≡ Some d)
+
+-- The ledger tells who holds what in this state: a process's table has under each number what the ledger says, what the
+-- ledger says is held stands in the table of a live process, and a process that is not live holds nothing.
 pub record Tells (S : State) (l : Ledger) : Type 0 where
   pub tables : (p : ℕ) (table : Table) → get S.tables p ≡ Some table → (n : ℕ) → get table n ≡ l.held p n
+  pub held : (p n : ℕ) (d : Descriptor) → l.held p n ≡ Some d → Holds S p n d
   pub ended : (p : ℕ) → get S.statuses p ≢ Some Live → (n : ℕ) → l.held p n ≡ None
 
 -- The ledger of a legal history tells who holds what in its world.

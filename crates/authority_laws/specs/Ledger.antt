@@ -1,40 +1,54 @@
--- Who holds what, carried forward from entry to entry. It is read from the launch and the recorded entries alone: no state of
--- the kernel comes in.
-use Rattle.std.specs.Prelude.{ℕ, ◌==◌, List, [], ◌∷◌, if◌then◌else◌}
+-- Who holds which descriptors, and what a call leaves of that.
+use Rattle.std.specs.Prelude.{ℕ, ◌==◌, List, Option, None, option_map, slice_get, if◌then◌else◌}
+use Rattle.abi_base.specs.declared.errno.Errno.{Errno}
+use Rattle.abi_base.specs.declared.errno.Errno.TheVariants.{Success}
 use Rattle.abi_base.specs.declared.grant.Grant.{Grant}
-use Rattle.run_types.specs.declared.history.Act.{Act}
-use Rattle.run_types.specs.declared.history.Act.TheVariants as act
-use Rattle.run_types.specs.declared.history.Entry.{Entry}
-use Rattle.run_types.specs.declared.launch.Launch.{Launch}
-use Rattle.authority_laws.specs.Rows.{Row, no_row, launch_row, answered_row}
+use Rattle.abi_types.specs.declared.call.Answer.{Answer}
+use Rattle.abi_types.specs.declared.call.Answer.TheVariants as answer
+use Rattle.abi_types.specs.declared.call.Call.{Call}
+use Rattle.abi_types.specs.declared.call.Call.TheVariants.{ProcExit}
+use Rattle.abi_types.specs.declared.call.Reply.{Reply}
+use Rattle.abi_types.specs.declared.descriptor.Descriptor.{Descriptor}
+use Rattle.kernel_model.specs.Start.{granted_descriptor}
+
+-- what one process holds: the descriptor under each number, where there is one
+abbrev pub Row : Type 0
+Row = ℕ → Option Descriptor
+
+abbrev pub no_row : Row
+no_row n = None
 
 -- what each process holds
 pub record Ledger : Type 0 where
   pub held : ℕ → Row
 
--- the ledger with another row of one process
+-- the ledger with another row of process p
 abbrev pub with_row : Ledger → ℕ → Row → Ledger
 with_row l p row = record l { held = λ q. if q == p then row else l.held q }
 
--- at the start process 0 holds the grants, and no other process holds anything
+-- ---- the start
+
+-- what a launch gives: the n-th grant under number n
+abbrev pub launch_row : List Grant → Row
+launch_row grants n = option_map (granted_descriptor n) (slice_get grants n)
+
+-- process 0 holds that, and no other process holds anything
 abbrev pub launch_ledger : List Grant → Ledger
 launch_ledger grants = with_row (record { held = λ p. no_row }) 0 (launch_row grants)
 
--- what a process holds after its act: an ended process holds nothing
-abbrev pub acted_row : Row → Act → Row
-acted_row row (act.Call call given) = answered_row row call given
-acted_row row (act.Trap signal) = no_row
-acted_row row act.Expire = no_row
+-- ---- calls
 
--- the ledger after an entry
-abbrev pub noted : Ledger → Entry → Ledger
-noted l e = with_row l e.pid (acted_row (l.held e.pid) e.act)
+-- What a process holds after its call that succeeded with this reply, row being what it held before. Each call that changes
+-- what its process holds has a line.
+abbrev pub granted_row : Row → Call → Reply → Row
+granted_row row (ProcExit code) reply = no_row
+granted_row row _ reply = row
 
--- the ledger after these entries, one after another
-unfoldable pub noted_all : Ledger → List Entry → Ledger
-noted_all l [] = l
-noted_all l (e ∷ es) = noted_all (noted l e) es
+-- after an error a process holds what it held
+abbrev pub by_success : Errno → Row → Row → Row
+by_success Success granted row = granted
+by_success _ granted row = row
 
--- the ledger of a launch and a history
-unfoldable pub ledger : Launch → List Entry → Ledger
-ledger launch history = noted_all (launch_ledger launch.grants) history
+-- what a process holds after its call that was answered so
+abbrev pub answered_row : Row → Call → Answer → Row
+answered_row row call (answer.Reply reply) = by_success reply.errno (granted_row row call reply) row

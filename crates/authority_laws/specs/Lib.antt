@@ -1,4 +1,4 @@
-pub mod Rows
 pub mod Ledger
+pub mod Recorded
 pub mod Origins
 pub mod Laws

@@ -8,7 +8,8 @@ pub fn ledger_goes_on()
 {}
 
 /// Who holds what is told by the recorded entries: in the world of a legal history of a launch with proper grants, each
-/// process's table has under each number what the ledger says, and a process that is not live holds nothing.
+/// process's table has under each number what the ledger says, what the ledger says is held stands in the table of a live
+/// process, and a process that is not live holds nothing.
 pub fn ledger_tells()
     ensures { LedgerTells }
 {}
