@@ -1,9 +1,10 @@
 -- The ledger of a history, beside its world.
-use Rattle.std.proofs.Common.{◌≡◌, ◌≢◌, ℕ, List, [], ◌∷◌, ◌++◌, Some, None, refl, sym, ap, subst, ◌∙◌}
+use Rattle.std.proofs.Common.{◌≡◌, ◌≢◌, ◌⊎◌, inl, inr, ℕ, true, List, [], ◌∷◌, ◌++◌, Some, None, refl, sym, ap, subst, ◌∙◌}
 use Rattle.std.specs.FinMap.{get}
 use Rattle.abi_base.specs.declared.grant.Grant.{Grant}
 use Rattle.abi_base.specs.declared.signal.Signal.TheVariants.{Xcpu}
 use Rattle.abi_base.specs.Grants.{AreGrants}
+use Rattle.abi_types.specs.declared.call.Call.{Call}
 use Rattle.abi_types.specs.declared.descriptor.Descriptor.{Descriptor}
 use Rattle.abi_types.specs.declared.status.Status.TheVariants.{Killed}
 use Rattle.abi_types.specs.declared.who.Who.{Who}
@@ -11,13 +12,18 @@ use Rattle.run_types.specs.declared.history.Act.{Act}
 use Rattle.run_types.specs.declared.history.Act.TheVariants as act
 use Rattle.run_types.specs.declared.history.Entry.{Entry}
 use Rattle.run_types.specs.declared.launch.Launch.{Launch}
-use Rattle.kernel_model.specs.State.{State, Table}
+use Rattle.kernel_model.specs.Calls.{need}
+use Rattle.kernel_model.specs.Laws.{IsReachedBy}
+use Rattle.kernel_model.specs.Sight.{own_parts}
+use Rattle.kernel_model.specs.State.{State, Table, Part, has_part}
+use Rattle.kernel_model.specs.Step.{sight}
 use Rattle.kernel_model.specs.Valid.{IsValid}
+use Rattle.kernel_model.proofs.Reaches.{sight_is_reached}
 use Rattle.run_model.specs.Legal.{FitsAct, Fits, FollowsFrom, Legal}
 use Rattle.run_model.specs.World.{World, Guest, start_world, guest_of, called_state, turned, acted, who_of, apply, apply_all, world}
 use Rattle.run_model.proofs.Histories.{apply_is, first_state}
 use Rattle.run_model.proofs.Worlds.{world_is_valid}
-use Rattle.authority_laws.specs.Laws.{Tells, ComesFrom}
+use Rattle.authority_laws.specs.Laws.{Tells, ComesFrom, IsReachedByHeld}
 use Rattle.authority_laws.specs.Ledger.{Ledger, with_row, launch_ledger}
 use Rattle.authority_laws.specs.Origins.{ComesFromGrant}
 use Rattle.authority_laws.specs.Recorded.{acted_row, noted, noted_all, ledger}
@@ -99,3 +105,23 @@ pub tables_are_recorded : (launch : Launch) (history : List Entry) → AreGrants
 tables_are_recorded launch history grants legal p n table d there here =
     let recorded : (ledger launch history).held p n ≡ Some d = sym ((ledger_tells launch history grants legal).tables p table there n) ∙ here in
     (recorded, held_is_granted launch history p n d recorded)
+
+-- ---- what a call may read
+
+by_held : (launch : Launch) (history : List Entry) → AreGrants launch.grants → Legal launch history → (who : Who) (call : Call) (part : Part)
+    → IsReachedBy (world launch history).state who call part
+    → IsReachedByHeld (world launch history).state (ledger launch history) launch.grants who.pid (need call) part
+by_held launch history grants legal who call part by =
+    let r = by.3 in
+    let at = tables_are_recorded launch history grants legal who.pid r.row.fd by.0 r.d by.1 r.there in
+    record { row = r.row; asked = r.asked; d = r.d; held = at.0; has = r.has; granted = at.1; reached = r.part }
+
+pub sight_is_recorded : (launch : Launch) (history : List Entry) → AreGrants launch.grants → Legal launch history → (who : Who) (call : Call) (part : Part)
+    → has_part (sight (world launch history).state who call) part ≡ true
+    → (has_part (own_parts who.pid) part ≡ true)
+    ⊎ IsReachedByHeld (world launch history).state (ledger launch history) launch.grants who.pid (need call) part
+sight_is_recorded launch history grants legal who call part seen =
+    elim (sight_is_reached (world launch history).state who call part seen) [
+      | inl own ↦ inl own
+      | inr by ↦ inr (by_held launch history grants legal who call part by)
+    ]

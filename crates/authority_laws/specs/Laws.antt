@@ -1,12 +1,21 @@
 -- What the ledger tells of every legal history: the statements that are the contracts of the functions of src/laws.rt.
-use Rattle.std.specs.Prelude.{◌≡◌, ◌≢◌, ℕ, List, [], ◌∷◌, ◌++◌, None, Some}
+use Rattle.std.specs.Prelude.{◌≡◌, ◌≢◌, ◌⊎◌, ℕ, true, List, [], ◌∷◌, ◌++◌, None, Some}
 use Rattle.std.specs.FinMap.{get}
+use Rattle.abi_base.specs.declared.grant.Grant.{Grant}
 use Rattle.abi_base.specs.Grants.{AreGrants}
+use Rattle.abi_types.specs.declared.call.Call.{Call}
 use Rattle.abi_types.specs.declared.descriptor.Descriptor.{Descriptor}
+use Rattle.abi_types.specs.declared.needed.Needed.{Needed}
 use Rattle.abi_types.specs.declared.status.Status.TheVariants.{Live}
+use Rattle.abi_types.specs.declared.who.Who.{Who}
 use Rattle.run_types.specs.declared.history.Entry.{Entry}
 use Rattle.run_types.specs.declared.launch.Launch.{Launch}
-use Rattle.kernel_model.specs.State.{State, Table}
+use Rattle.kernel_model.specs.Calls.{need}
+use Rattle.kernel_model.specs.Need.{has_needed}
+use Rattle.kernel_model.specs.Proper.{IsIn}
+use Rattle.kernel_model.specs.Sight.{own_parts, behind}
+use Rattle.kernel_model.specs.State.{State, Table, Part, at_open, has_part}
+use Rattle.kernel_model.specs.Step.{sight}
 use Rattle.run_model.specs.Legal.{Legal}
 use Rattle.run_model.specs.World.{world}
 use Rattle.authority_laws.specs.Ledger.{Ledger, launch_ledger}
@@ -67,3 +76,25 @@ TablesAreRecorded =
     (launch : Launch) (history : List Entry) → AreGrants launch.grants → Legal launch history
     → (p n : ℕ) (table : Table) (d : Descriptor) → get (world launch history).state.tables p ≡ Some table → get table n ≡ Some d
     → ((ledger launch history).held p n ≡ Some d) × ComesFromGrant launch.grants d
+
+-- ---- what a call may read
+
+-- the part is the open of a descriptor which the ledger says that process p holds, which has all rights that a row of the
+-- call's needs asks of it, and which is no more than one of the grants; or it stands behind that open
+pub record IsReachedByHeld (S : State) (l : Ledger) (grants : List Grant) (p : ℕ) (rows : List Needed) (part : Part) : Type 0 where
+  pub row : Needed
+  pub asked : IsIn row rows
+  pub d : Descriptor
+  pub held : l.held p row.fd ≡ Some d
+  pub has : has_needed d row ≡ true
+  pub granted : ComesFromGrant grants d
+  pub reached : has_part (at_open d.id ∷ behind (get S.opens d.id)) part ≡ true
+
+-- What a call sees in the world of a legal history is the clock, its process's own and its status, or it is reached by what
+-- the ledger says that its process holds.
+abbrev pub SightIsRecorded : Type 0
+SightIsRecorded =
+    (launch : Launch) (history : List Entry) → AreGrants launch.grants → Legal launch history
+    → (who : Who) (call : Call) (part : Part) → has_part (sight (world launch history).state who call) part ≡ true
+    → (has_part (own_parts who.pid) part ≡ true)
+    ⊎ IsReachedByHeld (world launch history).state (ledger launch history) launch.grants who.pid (need call) part

@@ -1,5 +1,5 @@
 //! Laws of the ledger. The statements are in `specs/Laws.antt`, and each holds of every launch and history.
-ghost use Rattle.authority_laws.specs.Laws.{LedgerBegins, LedgerGoesOn, LedgerTells, RightsNeverGrow, HeldIsGranted, TablesAreRecorded};
+ghost use Rattle.authority_laws.specs.Laws.{LedgerBegins, LedgerGoesOn, LedgerTells, RightsNeverGrow, HeldIsGranted, TablesAreRecorded, SightIsRecorded};
 
 /// The ledger of no entry is the launch's, and that of one more entry is the ledger before it with the entry noted.
 pub fn ledger_goes_on()
@@ -25,4 +25,11 @@ pub fn rights_never_grow()
 pub fn held_is_granted()
     ensures ledger { HeldIsGranted }
     ensures tables { TablesAreRecorded }
+{}
+
+/// What a call may read in the world of a legal history is the clock, what is its process's own and its status, or it is
+/// reached by a descriptor which the ledger says that its process holds. That has the rights needed, and is no more than one
+/// of the launch's grants.
+pub fn sight_is_recorded()
+    ensures { SightIsRecorded }
 {}

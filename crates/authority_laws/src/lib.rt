@@ -5,4 +5,4 @@
 
 pub mod laws;
 
-pub use laws::{held_is_granted, ledger_goes_on, ledger_tells, rights_never_grow};
+pub use laws::{held_is_granted, ledger_goes_on, ledger_tells, rights_never_grow, sight_is_recorded};
