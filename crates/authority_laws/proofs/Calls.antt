@@ -18,14 +18,12 @@ use Rattle.abi_types.specs.declared.place.Place.TheVariants as place
 use Rattle.abi_types.specs.declared.place.Place.TheVariants.{At}
 use Rattle.abi_types.specs.declared.who.Who.{Who}
 use Rattle.kernel_model.specs.Calls.{meaning_of, named, need, refusal_of}
-use Rattle.kernel_model.specs.Meaning.{Meaning}
 use Rattle.kernel_model.specs.Need.{some_absent, first_lack, denied_by}
-use Rattle.kernel_model.specs.Outcome.{Outcome, OnReply, replies}
+use Rattle.kernel_model.specs.Outcome.{Outcome, replies}
 use Rattle.kernel_model.specs.Reply.{refused, denied}
 use Rattle.kernel_model.specs.State.{State, Table, put_all}
-use Rattle.kernel_model.specs.StreamCalls.{write_term, write_open, write_to, fd_write}
-use Rattle.kernel_model.specs.MemoryCalls.{mem_map, decided}
-use Rattle.kernel_model.specs.ProcessCalls.{end_updates, proc_exit}
+use Rattle.kernel_model.specs.StreamCalls.{write_term, write_open, write_to}
+use Rattle.kernel_model.specs.MemoryCalls.{mem_map}
 use Rattle.kernel_model.specs.View.{View}
 use Rattle.kernel_model.proofs.Tests.{none_is_no, same_some}
 use Rattle.authority_laws.specs.Ledger.{Row, granted_row, by_success, answered_row}

@@ -1,5 +1,5 @@
 -- The ledger of a history, beside its world.
-use Rattle.std.proofs.Common.{◌≡◌, ◌≢◌, ◌⊎◌, inl, inr, ℕ, true, List, [], ◌∷◌, ◌++◌, Some, None, refl, sym, ap, subst, ◌∙◌}
+use Rattle.std.proofs.Common.{◌≡◌, ◌⊎◌, inl, inr, ℕ, true, List, [], ◌∷◌, ◌++◌, Some, refl, sym, ap, subst, ◌∙◌}
 use Rattle.std.specs.FinMap.{get}
 use Rattle.abi_base.specs.declared.grant.Grant.{Grant}
 use Rattle.abi_base.specs.declared.signal.Signal.TheVariants.{Xcpu}
@@ -28,7 +28,7 @@ use Rattle.authority_laws.specs.Ledger.{Ledger, with_row, launch_ledger}
 use Rattle.authority_laws.specs.Origins.{ComesFromGrant}
 use Rattle.authority_laws.specs.Recorded.{acted_row, noted, noted_all, ledger}
 use Rattle.authority_laws.proofs.Origins.{AllGranted, noted_from, noted_granted, launch_granted}
-use Rattle.authority_laws.proofs.Rows.{row_in, row_of}
+use Rattle.authority_laws.proofs.Rows.{row_in}
 use Rattle.authority_laws.proofs.States.{HasRows, step_rows, end_rows, start_rows, ended_row, row_is_held}
 
 -- ---- the ledger of one more entry

@@ -1,5 +1,5 @@
 -- What is held after an entry was held before it, and what is held at all comes from a grant.
-use Rattle.std.proofs.Common.{◌≡◌, ◌⊎◌, inl, inr, ℕ, ◌==◌, cond, List, Option, Some, None, refl, sym, ap, subst, ◌∙◌}
+use Rattle.std.proofs.Common.{◌≡◌, inl, inr, ℕ, cond, List, Option, Some, None, refl, sym, subst}
 use Rattle.std.proofs.lemmas.Bool.Decides.{eqb_tells}
 use Rattle.std.specs.Prelude.{option_map, slice_get}
 use Rattle.abi_base.specs.declared.errno.Errno.{Errno}

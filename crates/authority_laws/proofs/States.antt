@@ -1,5 +1,5 @@
 -- An entry leaves in the kernel's tables what it leaves in the ledger.
-use Rattle.std.proofs.Common.{◌≡◌, ◌≢◌, inl, inr, ℕ, ◌==◌, false, cond, List, Option, Some, None, IsSome, is_some, refl, sym, ap, ◌∙◌, arith}
+use Rattle.std.proofs.Common.{◌≡◌, ◌≢◌, inl, inr, ℕ, false, cond, List, Option, Some, None, is_some, refl, sym, ap, ◌∙◌, arith}
 use Rattle.std.proofs.lemmas.Bool.Decides.{eqb_tells}
 use Rattle.std.specs.Ordering.{nat_cmp}
 use Rattle.std.specs.Cmp.{nat_cmp_total}
@@ -13,11 +13,10 @@ use Rattle.abi_types.specs.declared.descriptor.Descriptor.{Descriptor}
 use Rattle.abi_types.specs.declared.status.Status.{Status}
 use Rattle.abi_types.specs.declared.status.Status.TheVariants.{Live, Exit, Killed}
 use Rattle.abi_types.specs.declared.who.Who.{Who}
-use Rattle.kernel_model.specs.Outcome.{Outcome}
 use Rattle.number_map.specs.Maps.{get-insert-same, get-insert-other}
 use Rattle.kernel_model.specs.Start.{granted_descriptor, granted_table, start_state}
 use Rattle.kernel_model.specs.State.{State, Table}
-use Rattle.kernel_model.specs.Step.{tick, outcome, step_state, IsStep, end_state}
+use Rattle.kernel_model.specs.Step.{tick, outcome, IsStep, end_state}
 use Rattle.kernel_model.specs.Valid.{IsValid}
 use Rattle.kernel_model.specs.View.{whole}
 use Rattle.kernel_model.proofs.Outcomes.{outcome_holds}

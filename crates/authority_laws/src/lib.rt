@@ -5,4 +5,6 @@
 
 pub mod laws;
 
-pub use laws::{held_is_granted, ledger_goes_on, ledger_tells, rights_never_grow, sight_is_recorded};
+pub use laws::{
+    held_is_granted, ledger_goes_on, ledger_tells, rights_never_grow, sight_is_recorded,
+};
