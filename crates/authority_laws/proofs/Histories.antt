@@ -1,5 +1,5 @@
 -- The ledger of a history, beside its world.
-use Rattle.std.proofs.Common.{◌≡◌, ◌⊎◌, inl, inr, ℕ, true, List, [], ◌∷◌, ◌++◌, Some, refl, sym, ap, subst, ◌∙◌}
+use Rattle.std.proofs.Common.{◌≡◌, inl, inr, ℕ, List, [], ◌∷◌, ◌++◌, Some, refl, sym, ap, subst, ◌∙◌}
 use Rattle.std.specs.FinMap.{get}
 use Rattle.abi_base.specs.declared.grant.Grant.{Grant}
 use Rattle.abi_base.specs.declared.signal.Signal.TheVariants.{Xcpu}
@@ -14,20 +14,18 @@ use Rattle.run_types.specs.declared.history.Entry.{Entry}
 use Rattle.run_types.specs.declared.launch.Launch.{Launch}
 use Rattle.kernel_model.specs.Calls.{need}
 use Rattle.kernel_model.specs.Laws.{IsReachedBy}
-use Rattle.kernel_model.specs.Sight.{own_parts}
-use Rattle.kernel_model.specs.State.{State, Table, Part, has_part}
-use Rattle.kernel_model.specs.Step.{sight}
+use Rattle.kernel_model.specs.State.{State, Table, Part}
 use Rattle.kernel_model.specs.Valid.{IsValid}
 use Rattle.kernel_model.proofs.Reaches.{sight_is_reached}
 use Rattle.run_model.specs.Legal.{FitsAct, Fits, FollowsFrom, Legal}
 use Rattle.run_model.specs.World.{World, Guest, start_world, guest_of, called_state, turned, acted, who_of, apply, apply_all, world}
-use Rattle.run_model.proofs.Histories.{apply_is, first_state}
+use Rattle.run_model.proofs.Histories.{legal_front, apply_is, first_state}
 use Rattle.run_model.proofs.Worlds.{world_is_valid}
-use Rattle.authority_laws.specs.Laws.{Tells, ComesFrom, IsReachedByHeld}
+use Rattle.authority_laws.specs.Laws.{Tells, IsReachedByHeld, SeesByHeld, IsRecordedAt, IsRecorded}
 use Rattle.authority_laws.specs.Ledger.{Ledger, with_row, launch_ledger}
-use Rattle.authority_laws.specs.Origins.{ComesFromGrant}
+use Rattle.authority_laws.specs.Origins.{ComesFrom, ComesFromGrant, AllComeFromGrants}
 use Rattle.authority_laws.specs.Recorded.{acted_row, noted, noted_all, ledger}
-use Rattle.authority_laws.proofs.Origins.{AllGranted, noted_from, noted_granted, launch_granted}
+use Rattle.authority_laws.proofs.Origins.{noted_from, noted_granted, launch_granted}
 use Rattle.authority_laws.proofs.Rows.{row_in}
 use Rattle.authority_laws.proofs.States.{HasRows, step_rows, end_rows, start_rows, ended_row, row_is_held}
 
@@ -89,12 +87,12 @@ ledger_tells launch history grants legal =
 pub rights_never_grow : (launch : Launch) (front : List Entry) (e : Entry) → ComesFrom (ledger launch front) (ledger launch (front ++ e ∷ []))
 rights_never_grow launch front e = subst (ComesFrom (ledger launch front)) (sym (ledger_more launch front e)) (noted_from (ledger launch front) e)
 
-follows_granted : (grants : List Grant) (l : Ledger) (history : List Entry) → AllGranted grants l → AllGranted grants (noted_all l history)
+follows_granted : (grants : List Grant) (l : Ledger) (history : List Entry) → AllComeFromGrants grants l → AllComeFromGrants grants (noted_all l history)
 unfolding noted_all
 follows_granted grants l [] before = before
 follows_granted grants l (e ∷ history) before = follows_granted grants (noted l e) history (noted_granted grants l e before)
 
-pub held_is_granted : (launch : Launch) (history : List Entry) → AllGranted launch.grants (ledger launch history)
+pub held_is_granted : (launch : Launch) (history : List Entry) → AllComeFromGrants launch.grants (ledger launch history)
 unfolding ledger
 held_is_granted launch history = follows_granted launch.grants (launch_ledger launch.grants) history (launch_granted launch.grants)
 
@@ -116,12 +114,23 @@ by_held launch history grants legal who call part by =
     let at = tables_are_recorded launch history grants legal who.pid r.row.fd by.0 r.d by.1 r.there in
     record { row = r.row; asked = r.asked; d = r.d; held = at.0; has = r.has; granted = at.1; reached = r.part }
 
-pub sight_is_recorded : (launch : Launch) (history : List Entry) → AreGrants launch.grants → Legal launch history → (who : Who) (call : Call) (part : Part)
-    → has_part (sight (world launch history).state who call) part ≡ true
-    → (has_part (own_parts who.pid) part ≡ true)
-    ⊎ IsReachedByHeld (world launch history).state (ledger launch history) launch.grants who.pid (need call) part
+pub sight_is_recorded : (launch : Launch) (history : List Entry) → AreGrants launch.grants → Legal launch history
+    → SeesByHeld (world launch history).state (ledger launch history) launch.grants
 sight_is_recorded launch history grants legal who call part seen =
     elim (sight_is_reached (world launch history).state who call part seen) [
       | inl own ↦ inl own
       | inr by ↦ inr (by_held launch history grants legal who call part by)
     ]
+
+-- ---- each point of a history
+
+recorded_at : (launch : Launch) (front : List Entry) → Legal launch front → AreGrants launch.grants → IsRecordedAt launch front
+recorded_at launch front legal grants = record {
+  tells = ledger_tells launch front grants legal;
+  granted = held_is_granted launch front;
+  sees = sight_is_recorded launch front grants legal;
+}
+
+pub legal_is_recorded : (launch : Launch) (history : List Entry) → Legal launch history → AreGrants launch.grants → IsRecorded launch history
+legal_is_recorded launch history legal grants front rest is =
+    recorded_at launch front (legal_front launch front rest (subst (Legal launch) is legal)) grants

@@ -17,8 +17,7 @@ use Rattle.run_types.specs.declared.history.Entry.{Entry}
 use Rattle.kernel_model.specs.Start.{granted_descriptor}
 use Rattle.kernel_model.proofs.Tests.{none_is_no, same_some}
 use Rattle.authority_laws.specs.Ledger.{Row, no_row, Ledger, with_row, launch_row, launch_ledger, granted_row, by_success, answered_row}
-use Rattle.authority_laws.specs.Laws.{ComesFrom}
-use Rattle.authority_laws.specs.Origins.{Origin, was_held, IsNoMoreThan, ComesFromGrant}
+use Rattle.authority_laws.specs.Origins.{Origin, was_held, ComesFrom, IsNoMoreThan, ComesFromGrant, AllComeFromGrants}
 use Rattle.authority_laws.specs.Recorded.{acted_row, noted}
 
 -- each descriptor of the row has its origin in the ledger
@@ -62,14 +61,10 @@ noted_from l e = one_of l e.pid (acted_row (l.held e.pid) e.act) (acted_from l e
 
 -- ---- grants
 
--- all that is held is no more than one of the grants
-abbrev pub AllGranted : List Grant → Ledger → Type 0
-AllGranted grants l = (p n : ℕ) (d : Descriptor) → l.held p n ≡ Some d → ComesFromGrant grants d
-
-of_origin : (grants : List Grant) (l : Ledger) (d : Descriptor) → AllGranted grants l → Origin l d → ComesFromGrant grants d
+of_origin : (grants : List Grant) (l : Ledger) (d : Descriptor) → AllComeFromGrants grants l → Origin l d → ComesFromGrant grants d
 of_origin grants l d before (was_held q m there) = before q m d there
 
-pub noted_granted : (grants : List Grant) (l : Ledger) (e : Entry) → AllGranted grants l → AllGranted grants (noted l e)
+pub noted_granted : (grants : List Grant) (l : Ledger) (e : Entry) → AllComeFromGrants grants l → AllComeFromGrants grants (noted l e)
 noted_granted grants l e before p n d here = of_origin grants l d before (noted_from l e p n d here)
 
 itself : (d : Descriptor) → IsNoMoreThan d d
@@ -86,7 +81,7 @@ by_grant grants n d (Some grant) is here = record {
 }
 
 -- the grants themselves
-pub launch_granted : (grants : List Grant) → AllGranted grants (launch_ledger grants)
+pub launch_granted : (grants : List Grant) → AllComeFromGrants grants (launch_ledger grants)
 launch_granted grants p =
     elim (eqb_tells p 0) [
       | inl is ↦ subst (λ b. (n : ℕ) (d : Descriptor) → cond b (launch_row grants) no_row n ≡ Some d → ComesFromGrant grants d) (sym is.0)

@@ -19,7 +19,7 @@ use Rattle.kernel_model.specs.Step.{sight}
 use Rattle.run_model.specs.Legal.{Legal}
 use Rattle.run_model.specs.World.{world}
 use Rattle.authority_laws.specs.Ledger.{Ledger, launch_ledger}
-use Rattle.authority_laws.specs.Origins.{Origin, ComesFromGrant}
+use Rattle.authority_laws.specs.Origins.{ComesFrom, ComesFromGrant, AllComeFromGrants}
 use Rattle.authority_laws.specs.Recorded.{noted, ledger}
 
 -- ---- the ledger of one more entry
@@ -52,22 +52,16 @@ LedgerTells =
 
 -- ---- where descriptors come from
 
--- each descriptor that the one ledger says is held has an origin in the other
-abbrev pub ComesFrom : Ledger → Ledger → Type 0
-ComesFrom before after = (p n : ℕ) (d : Descriptor) → after.held p n ≡ Some d → Origin before d
-
 -- What is held after an entry of a legal history has its origin in what was held before it.
 abbrev pub RightsNeverGrow : Type 0
 RightsNeverGrow =
     (launch : Launch) (front : List Entry) (e : Entry) (rest : List Entry) → AreGrants launch.grants → Legal launch (front ++ e ∷ rest)
     → ComesFrom (ledger launch front) (ledger launch (front ++ e ∷ []))
 
--- What the ledger of a legal history says is held, by any process under any number, is no more than one of the launch's
--- grants.
+-- What the ledger of a legal history says is held is no more than one of the launch's grants.
 abbrev pub HeldIsGranted : Type 0
 HeldIsGranted =
-    (launch : Launch) (history : List Entry) → AreGrants launch.grants → Legal launch history
-    → (p n : ℕ) (d : Descriptor) → (ledger launch history).held p n ≡ Some d → ComesFromGrant launch.grants d
+    (launch : Launch) (history : List Entry) → AreGrants launch.grants → Legal launch history → AllComeFromGrants launch.grants (ledger launch history)
 
 -- Each descriptor in a table of a legal history's world is there by the ledger, and is no more than one of the launch's
 -- grants.
@@ -90,11 +84,32 @@ pub record IsReachedByHeld (S : State) (l : Ledger) (grants : List Grant) (p : �
   pub granted : ComesFromGrant grants d
   pub reached : has_part (at_open d.id ∷ behind (get S.opens d.id)) part ≡ true
 
--- What a call sees in the world of a legal history is the clock, its process's own and its status, or it is reached by what
--- the ledger says that its process holds.
+-- what a call sees is the clock, its process's own and its status, or it is reached by what the ledger says that its process
+-- holds
+abbrev pub SeesByHeld : State → Ledger → List Grant → Type 0
+SeesByHeld S l grants =
+    (who : Who) (call : Call) (part : Part) → has_part (sight S who call) part ≡ true
+    → (has_part (own_parts who.pid) part ≡ true) ⊎ IsReachedByHeld S l grants who.pid (need call) part
+
+-- So it is in the world of a legal history.
 abbrev pub SightIsRecorded : Type 0
 SightIsRecorded =
     (launch : Launch) (history : List Entry) → AreGrants launch.grants → Legal launch history
-    → (who : Who) (call : Call) (part : Part) → has_part (sight (world launch history).state who call) part ≡ true
-    → (has_part (own_parts who.pid) part ≡ true)
-    ⊎ IsReachedByHeld (world launch history).state (ledger launch history) launch.grants who.pid (need call) part
+    → SeesByHeld (world launch history).state (ledger launch history) launch.grants
+
+-- ---- all of it, at each point of a history
+
+-- after these entries the ledger tells who holds what, all that is held is no more than one of the launch's grants, and what
+-- a call may read is reached by it
+pub record IsRecordedAt (launch : Launch) (front : List Entry) : Type 0 where
+  pub tells : Tells (world launch front).state (ledger launch front)
+  pub granted : AllComeFromGrants launch.grants (ledger launch front)
+  pub sees : SeesByHeld (world launch front).state (ledger launch front) launch.grants
+
+-- so it is at each point of the history
+abbrev pub IsRecorded : Launch → List Entry → Type 0
+IsRecorded launch history = (front rest : List Entry) → history ≡ front ++ rest → IsRecordedAt launch front
+
+-- A legal history of a launch with proper grants is recorded.
+abbrev pub LegalIsRecorded : Type 0
+LegalIsRecorded = (launch : Launch) (history : List Entry) → Legal launch history → AreGrants launch.grants → IsRecorded launch history

@@ -1,5 +1,5 @@
 //! Laws of the ledger. The statements are in `specs/Laws.antt`, and each holds of every launch and history.
-ghost use Rattle.authority_laws.specs.Laws.{LedgerBegins, LedgerGoesOn, LedgerTells, RightsNeverGrow, HeldIsGranted, TablesAreRecorded, SightIsRecorded};
+ghost use Rattle.authority_laws.specs.Laws.{LedgerBegins, LedgerGoesOn, LedgerTells, RightsNeverGrow, HeldIsGranted, TablesAreRecorded, SightIsRecorded, LegalIsRecorded};
 
 /// The ledger of no entry is the launch's, and that of one more entry is the ledger before it with the entry noted.
 pub fn ledger_goes_on()
@@ -32,4 +32,9 @@ pub fn held_is_granted()
 /// of the launch's grants.
 pub fn sight_is_recorded()
     ensures { SightIsRecorded }
+{}
+
+/// At each point of a legal history of a launch with proper grants all of this holds.
+pub fn legal_is_recorded()
+    ensures { LegalIsRecorded }
 {}
