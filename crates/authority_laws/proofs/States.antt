@@ -3,7 +3,7 @@ use Rattle.std.proofs.Common.{◌≡◌, ◌≢◌, inl, inr, ℕ, false, cond, 
 use Rattle.std.proofs.lemmas.Bool.Decides.{eqb_tells}
 use Rattle.std.specs.Ordering.{nat_cmp}
 use Rattle.std.specs.Cmp.{nat_cmp_total}
-use Rattle.std.specs.FinMap.{get, get-empty, get-from_entries, empty}
+use Rattle.std.specs.FinMap.{FinMap, get, get-empty, get-from_entries, empty, insert}
 use Rattle.abi_base.specs.declared.grant.Grant.{Grant}
 use Rattle.abi_base.specs.declared.signal.Signal.{Signal}
 use Rattle.abi_types.specs.declared.call.Answer.{Answer}
@@ -14,7 +14,7 @@ use Rattle.abi_types.specs.declared.status.Status.{Status}
 use Rattle.abi_types.specs.declared.status.Status.TheVariants.{Live, Exit, Killed}
 use Rattle.abi_types.specs.declared.who.Who.{Who}
 use Rattle.number_map.specs.Maps.{get-insert-same, get-insert-other}
-use Rattle.kernel_model.specs.Start.{granted_descriptor, granted_table, start_state}
+use Rattle.kernel_model.specs.Start.{granted_descriptor, granted_table}
 use Rattle.kernel_model.specs.State.{State, Table}
 use Rattle.kernel_model.specs.Step.{tick, outcome, IsStep, end_state}
 use Rattle.kernel_model.specs.Valid.{IsValid}
@@ -80,11 +80,15 @@ end_rows S p status l before =
 granted_row_is : (grants : List Grant) (n : ℕ) → get (granted_table grants) n ≡ launch_row grants n
 granted_row_is grants n = get-from_entries nat_cmp_total _ n ∙ find_numbered granted_descriptor 0 grants n n (omega arith)
 
-pub start_rows : (grants : List Grant) → HasRows (start_state grants) (launch_ledger grants)
+-- no other process has a table
+abbrev pub first_tables : List Grant → FinMap nat_cmp Table
+first_tables grants = insert empty 0 (granted_table grants)
+
+pub start_rows : (grants : List Grant) (p : ℕ) → row_in (get (first_tables grants) p) ≡ (launch_ledger grants).held p
 start_rows grants p =
     elim (eqb_tells p 0) [
-      | inl is ↦ ap row_in (ap (get (start_state grants).tables) is.1 ∙ get-insert-same empty 0 (granted_table grants)) ∙ (λ i n. granted_row_is grants n i)
-          ∙ sym (ap (λ b. cond b (launch_row grants) no_row) is.0)
+      | inl is ↦ ap row_in (ap (get (first_tables grants)) is.1 ∙ get-insert-same empty 0 (granted_table grants))
+          ∙ (λ i n. granted_row_is grants n i) ∙ sym (ap (λ b. cond b (launch_row grants) no_row) is.0)
       | inr other ↦ ap row_in (get-insert-other empty 0 (granted_table grants) p other.1 ∙ get-empty nat_cmp p)
           ∙ sym (ap (λ b. cond b (launch_row grants) no_row) other.0)
     ]
