@@ -9,6 +9,7 @@ use Rattle.run_types.specs.declared.history.Record.{Record}
 use Rattle.run_types.specs.declared.launch.Launch.{Launch}
 use Rattle.abi_base.specs.Grants.{AreGrants}
 use Rattle.run_model.proofs.Confinements.{legal_is_confined}
+use Rattle.authority_laws.proofs.Histories.{legal_is_recorded}
 use Rattle.launch_words.specs.Settings.{Settings}
 use Rattle.launch_reading.specs.Launch.{Spelled, untold, refuses, spells, words_spell, inputs_with, history_with, AnswersSpelled, IsToldAs, IsBuiltBy}
 use Rattle.launch_reading.specs.Lines.{words_line, memory_line, status_of}
@@ -24,9 +25,11 @@ use Rattle.launch_run.specs.TopCall.{Wrote, IsRecordOf, IsRunOf, IsTopEnd, IsTol
 is_kept : (given : Option Settings) (spelled : Spelled) (launch : Launch) (r : Record) → IsRecordOf launch r → IsToldAs spelled (spells launch) →
     IsBuiltBy given launch → AreGrants launch.grants → IsKept given spelled r
 is_kept given spelled launch r of told built grants =
+    let proper : AreGrants r.launch.grants = subst (λ (l : Launch). AreGrants l.grants) (sym of.0) grants in
     record {
       legal = of.1;
-      confined = legal_is_confined r.launch r.history of.1 (subst (λ (l : Launch). AreGrants l.grants) (sym of.0) grants);
+      confined = legal_is_confined r.launch r.history of.1 proper;
+      recorded = legal_is_recorded r.launch r.history of.1 proper;
       launch_spelled = subst (λ (l : Launch). IsToldAs spelled (spells l)) (sym of.0) told;
       built = subst (IsBuiltBy given) (sym of.0) built;
     }

@@ -15,6 +15,7 @@ use Rattle.run_model.specs.Confined.{IsConfined}
 use Rattle.run_model.specs.Ends.{Ended}
 use Rattle.run_model.specs.Legal.{Legal}
 use Rattle.run_model.specs.World.{world}
+use Rattle.authority_laws.specs.Laws.{IsRecorded}
 use Rattle.launch_words.specs.Settings.{Settings}
 use Rattle.launch_reading.specs.Launch.{Spelled, untold, refuses, spells, words_spell, inputs_with, history_with, IsToldAs, IsBuiltBy, IfInput, IfTooLong, IsOfTexts, AnswersSpelled}
 use Rattle.elf_image.specs.declared.fault.ElfFault.{ElfFault}
@@ -160,11 +161,13 @@ pub record HasFailed (lines : Bool) (before after : Option (List ℕ)) (r : Reco
   pub prefix : GrewByPrefix before after (record_report lines r)
 
 -- What every record that is kept is: its history is legal, each entry is confined to what its process's descriptors
--- reach with the rights needed, and its launch is the one that is spelled, where anything is told of it, and in any case
--- one of these settings.
+-- reach with the rights needed, who holds which descriptors is told by the entries, and no descriptor is more than one of the
+-- launch's grants; and its launch is the one that is spelled, where anything is told of it, and in any case one of these
+-- settings.
 pub record IsKept (given : Option Settings) (spelled : Spelled) (r : Record) : Type 0 where
   pub legal : Legal r.launch r.history
   pub confined : IsConfined r.launch r.history
+  pub recorded : IsRecorded r.launch r.history
   pub launch_spelled : IsToldAs spelled (spells r.launch)
   pub built : IsBuiltBy given r.launch
 

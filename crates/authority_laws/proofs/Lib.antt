@@ -1,0 +1,5 @@
+pub mod Rows
+pub mod Calls
+pub mod States
+pub mod Origins
+pub mod Histories

@@ -1,0 +1,115 @@
+-- What the ledger tells of every legal history: the statements that are the contracts of the functions of src/laws.rt.
+use Rattle.std.specs.Prelude.{◌≡◌, ◌≢◌, ◌⊎◌, ℕ, true, List, [], ◌∷◌, ◌++◌, None, Some}
+use Rattle.std.specs.FinMap.{get}
+use Rattle.abi_base.specs.declared.grant.Grant.{Grant}
+use Rattle.abi_base.specs.Grants.{AreGrants}
+use Rattle.abi_types.specs.declared.call.Call.{Call}
+use Rattle.abi_types.specs.declared.descriptor.Descriptor.{Descriptor}
+use Rattle.abi_types.specs.declared.needed.Needed.{Needed}
+use Rattle.abi_types.specs.declared.status.Status.TheVariants.{Live}
+use Rattle.abi_types.specs.declared.who.Who.{Who}
+use Rattle.run_types.specs.declared.history.Entry.{Entry}
+use Rattle.run_types.specs.declared.launch.Launch.{Launch}
+use Rattle.kernel_model.specs.Calls.{need}
+use Rattle.kernel_model.specs.Need.{has_needed}
+use Rattle.kernel_model.specs.Proper.{IsIn}
+use Rattle.kernel_model.specs.Sight.{own_parts, behind}
+use Rattle.kernel_model.specs.State.{State, Table, Part, at_open, has_part}
+use Rattle.kernel_model.specs.Step.{sight}
+use Rattle.run_model.specs.Legal.{Legal}
+use Rattle.run_model.specs.World.{world}
+use Rattle.authority_laws.specs.Ledger.{Ledger, launch_ledger}
+use Rattle.authority_laws.specs.Origins.{ComesFrom, ComesFromGrant, AllComeFromGrants}
+use Rattle.authority_laws.specs.Recorded.{noted, ledger}
+
+-- ---- the ledger of one more entry
+
+-- The ledger of no entry is the launch's.
+abbrev pub LedgerBegins : Type 0
+LedgerBegins = (launch : Launch) → ledger launch [] ≡ launch_ledger launch.grants
+
+-- The ledger of one more entry is the ledger before it, with that entry noted.
+abbrev pub LedgerGoesOn : Type 0
+LedgerGoesOn = (launch : Launch) (history : List Entry) (e : Entry) → ledger launch (history ++ e ∷ []) ≡ noted (ledger launch history) e
+
+-- ---- the kernel's tables
+
+-- process p is live, and its table has the descriptor under number n
+abbrev pub Holds : State → ℕ → ℕ → Descriptor → Type 0
+Holds S p n d = (get S.statuses p ≡ Some Live) × (table : Table) × (get S.tables p ≡ Some table) × (get table n ≡ Some d)
+
+-- The ledger tells who holds what in this state: a process's table has under each number what the ledger says, what the
+-- ledger says is held stands in the table of a live process, and a process that is not live holds nothing.
+pub record Tells (S : State) (l : Ledger) : Type 0 where
+  pub tables : (p : ℕ) (table : Table) → get S.tables p ≡ Some table → (n : ℕ) → get table n ≡ l.held p n
+  pub held : (p n : ℕ) (d : Descriptor) → l.held p n ≡ Some d → Holds S p n d
+  pub ended : (p : ℕ) → get S.statuses p ≢ Some Live → (n : ℕ) → l.held p n ≡ None
+
+-- The ledger of a legal history tells who holds what in its world.
+abbrev pub LedgerTells : Type 0
+LedgerTells =
+    (launch : Launch) (history : List Entry) → AreGrants launch.grants → Legal launch history → Tells (world launch history).state (ledger launch history)
+
+-- ---- where descriptors come from
+
+-- What is held after an entry of a legal history has its origin in what was held before it.
+abbrev pub RightsNeverGrow : Type 0
+RightsNeverGrow =
+    (launch : Launch) (front : List Entry) (e : Entry) (rest : List Entry) → AreGrants launch.grants → Legal launch (front ++ e ∷ rest)
+    → ComesFrom (ledger launch front) (ledger launch (front ++ e ∷ []))
+
+-- What the ledger of a legal history says is held is no more than one of the launch's grants.
+abbrev pub HeldIsGranted : Type 0
+HeldIsGranted =
+    (launch : Launch) (history : List Entry) → AreGrants launch.grants → Legal launch history → AllComeFromGrants launch.grants (ledger launch history)
+
+-- Each descriptor in a table of a legal history's world is there by the ledger, and is no more than one of the launch's
+-- grants.
+abbrev pub TablesAreRecorded : Type 0
+TablesAreRecorded =
+    (launch : Launch) (history : List Entry) → AreGrants launch.grants → Legal launch history
+    → (p n : ℕ) (table : Table) (d : Descriptor) → get (world launch history).state.tables p ≡ Some table → get table n ≡ Some d
+    → ((ledger launch history).held p n ≡ Some d) × ComesFromGrant launch.grants d
+
+-- ---- what a call may read
+
+-- the part is the open of a descriptor which the ledger says that process p holds, which has all rights that a row of the
+-- call's needs asks of it, and which is no more than one of the grants; or it stands behind that open
+pub record IsReachedByHeld (S : State) (l : Ledger) (grants : List Grant) (p : ℕ) (rows : List Needed) (part : Part) : Type 0 where
+  pub row : Needed
+  pub asked : IsIn row rows
+  pub d : Descriptor
+  pub held : l.held p row.fd ≡ Some d
+  pub has : has_needed d row ≡ true
+  pub granted : ComesFromGrant grants d
+  pub reached : has_part (at_open d.id ∷ behind (get S.opens d.id)) part ≡ true
+
+-- what a call sees is the clock, its process's own and its status, or it is reached by what the ledger says that its process
+-- holds
+abbrev pub SeesByHeld : State → Ledger → List Grant → Type 0
+SeesByHeld S l grants =
+    (who : Who) (call : Call) (part : Part) → has_part (sight S who call) part ≡ true
+    → (has_part (own_parts who.pid) part ≡ true) ⊎ IsReachedByHeld S l grants who.pid (need call) part
+
+-- So it is in the world of a legal history.
+abbrev pub SightIsRecorded : Type 0
+SightIsRecorded =
+    (launch : Launch) (history : List Entry) → AreGrants launch.grants → Legal launch history
+    → SeesByHeld (world launch history).state (ledger launch history) launch.grants
+
+-- ---- all of it, at each point of a history
+
+-- after these entries the ledger tells who holds what, all that is held is no more than one of the launch's grants, and what
+-- a call may read is reached by it
+pub record IsRecordedAt (launch : Launch) (front : List Entry) : Type 0 where
+  pub tells : Tells (world launch front).state (ledger launch front)
+  pub granted : AllComeFromGrants launch.grants (ledger launch front)
+  pub sees : SeesByHeld (world launch front).state (ledger launch front) launch.grants
+
+-- so it is at each point of the history
+abbrev pub IsRecorded : Launch → List Entry → Type 0
+IsRecorded launch history = (front rest : List Entry) → history ≡ front ++ rest → IsRecordedAt launch front
+
+-- A legal history of a launch with proper grants is recorded.
+abbrev pub LegalIsRecorded : Type 0
+LegalIsRecorded = (launch : Launch) (history : List Entry) → Legal launch history → AreGrants launch.grants → IsRecorded launch history

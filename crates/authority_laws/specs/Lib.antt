@@ -1,0 +1,4 @@
+pub mod Ledger
+pub mod Recorded
+pub mod Origins
+pub mod Laws

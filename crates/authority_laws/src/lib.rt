@@ -1,0 +1,11 @@
+//! Who holds which descriptors by the launch and the recorded entries alone (`specs/Recorded.antt`), how that agrees with
+//! the kernel's tables, and where descriptors come from. The functions here are laws over these definitions: they do
+//! nothing, and their contracts say the law.
+#![tactic(auto)]
+
+pub mod laws;
+
+pub use laws::{
+    held_is_granted, ledger_goes_on, ledger_tells, legal_is_recorded, rights_never_grow,
+    sight_is_recorded,
+};
