@@ -1,5 +1,5 @@
 -- A run that has not begun stands at the start of its launch's world.
-use Rattle.std.proofs.Common.{◌≡◌, ℕ, List, [], Some, IsSome, refl, sym, ap, subst, ◌∙◌, arith}
+use Rattle.std.proofs.Common.{◌≡◌, ℕ, List, [], IsSome, refl, sym, ap, subst, ◌∙◌, arith}
 use Rattle.std.specs.Ordering.{nat_cmp}
 use Rattle.std.specs.FinMap.{FinMap, empty, get, insert}
 use Rattle.run_types.specs.declared.history.Entry.{Entry}
@@ -13,7 +13,7 @@ use Rattle.call_codec.specs.Start.{first_registers}
 use Rattle.run_model.proofs.Histories.{world_none, legal_none, first_guest_is, first_state, first_thread}
 use Rattle.plain_run.specs.declared.run.Run.{Run}
 use Rattle.call_codec.specs.Bounded.{IsBounded}
-use Rattle.plain_run.specs.Run.{IsBetween, guest_now}
+use Rattle.plain_run.specs.Run.{IsBetween}
 use Rattle.plain_run.proofs.Runs.{guest_put}
 
 -- a run with nothing done

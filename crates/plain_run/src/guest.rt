@@ -2,8 +2,8 @@
 ghost use Rattle.std.specs.Prelude.{◌≡◌, ◌<◌, IsSome, IfOk, OnOk, OnErr, slice_index};
 ghost use Rattle.std.specs.FinMap as map;
 ghost use Rattle.call_codec.specs.Args.{args_of, IsCopied};
-ghost use Rattle.call_codec.specs.Bounded.{IsBounded};
 ghost use Rattle.call_codec.specs.MemoryCalls.{IsMapping};
+ghost use Rattle.call_codec.specs.Start.{MayStart, canary};
 ghost use Rattle.run_model.specs.World.{first_guest, registers_of, turned_guest, turn_end, called_guest};
 
 use abi_types::{Answer, Call, Pid, Regs, Tid};
@@ -46,11 +46,18 @@ impl Model for Guest {
 impl Guest {
     /// Process 0 as a launch starts it: its first thread stands at the entry, and every turn is left.
     pub fn start(alloc: Global, launch: &Launch) -> Result<Guest, AllocError>
-        requires { IsBounded launch.now }
+        requires { MayStart launch.now.elf launch.now.argdata canary }
         ensures { IfOk result (λ guest. guest ≡ first_guest launch.now) }
     {
         let argdata = launch.argdata.as_slice();
-        let (memory, first) = start_memory(alloc, &launch.elf, argdata, &CANARY, FIRST, FIRST_THREAD)?;
+        let (memory, first) = start_memory(
+            alloc,
+            &launch.elf,
+            argdata,
+            &CANARY,
+            FIRST,
+            FIRST_THREAD,
+        )?;
         let mut regs = NumMap::new(alloc);
         regs.insert(u64::from(FIRST_THREAD.0), first)?;
         Ok(Guest {
@@ -77,7 +84,8 @@ impl Guest {
         ensures ok { IfOk result (λ call. call ≡ args_of self.now.memory (registers_of self.now tid)) }
         ensures only { OnErr result (IsCopied (slice_index (registers_of self.now tid).x 17)) }
     {
-        args(alloc, self.regs.get(u64::from(tid.0)).unwrap(), &self.memory)
+        let regs = self.regs.get(u64::from(tid.0)).unwrap();
+        args(alloc, regs, &self.memory)
     }
 
     /// Gives a thread the answer to the call that it spells. Want of memory, which only mem_map meets, changes nothing.

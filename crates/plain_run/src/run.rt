@@ -125,7 +125,12 @@ impl Run {
         match self.guests.get_mut(key_of(who.pid)).turn(who.tid) {
             TurnEnd::Quantum => Ok(()),
             TurnEnd::Ecall => self.call(alloc, who),
-            TurnEnd::Trap(signal) => self.stop(alloc, who, Act::Trap(signal), Status::Killed(signal)),
+            TurnEnd::Trap(signal) => self.stop(
+                alloc,
+                who,
+                Act::Trap(signal),
+                Status::Killed(signal),
+            ),
         }
     }
 

@@ -62,7 +62,7 @@ returns-clause-left c =
     let a = (goal.at.returns-clause-left c).After-enter in
     ap (λ (x : Run). (guest_now x c.args.who.now.pid).left) c.enter.ensures.rest
     ∙ call_left c.args.self.now c.args.who.now c.in_ok-call.call c.step-answer.result c.step-answer.new.self c.requires (spelled a) c.step-answer.ensures.step
-        (guests a) (put a) c.enter.new.self.history
+    (guests a) (put a) c.enter.new.self.history
 
 pub returns-clause-legal : goal.returns-clause-legal
 returns-clause-legal c =

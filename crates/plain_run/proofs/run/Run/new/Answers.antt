@@ -1,5 +1,5 @@
 use Rattle.std.proofs.Common.{◌∙◌}
-use Rattle.std.specs.FinMap.{empty, insert}
+use Rattle.std.specs.FinMap.{insert}
 use Rattle.plain_run.proofs.Begins.{begins}
 use Rattle.plain_run.proofs.run.Run.new.Goals as goal
 
