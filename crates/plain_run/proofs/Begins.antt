@@ -1,5 +1,5 @@
 -- A run that has not begun stands at the start of its launch's world.
-use Rattle.std.proofs.Common.{◌≡◌, ℕ, List, [], IsSome, refl, sym, ap, subst, ◌∙◌, arith}
+use Rattle.std.proofs.Common.{◌≡◌, ℕ, List, [], IsSome, refl, sym, ap, subst, ◌∙◌}
 use Rattle.std.specs.Ordering.{nat_cmp}
 use Rattle.std.specs.FinMap.{FinMap, empty, get, insert}
 use Rattle.run_types.specs.declared.history.Entry.{Entry}
@@ -32,8 +32,6 @@ begins launch kernel guests turns history bounded state first none fresh =
     let there : world launch history ≡ start_world launch = ap (world launch) fresh ∙ world_none launch in
     let now : or_no_guest (get guests 0) ≡ first_guest launch =
     ap (λ (m : FinMap nat_cmp Guest). or_no_guest (get m 0)) first ∙ guest_put empty 0 (first_guest launch) in
-    let early : kernel.clock ≡ 0 = ap (λ (S : State). S.clock) state in
-    let all : (or_no_guest (get guests 0)).left ≡ launch.turns = ap (λ (g : Guest). g.left) now in
     record {
       at = record {
         bounded = bounded;
@@ -46,6 +44,5 @@ begins launch kernel guests turns history bounded state first none fresh =
         runnable = subst (λ (S : State). IsRunnable S 0 1) (first_state launch ∙ sym state) (first_thread launch);
         registers = subst (λ (g : Guest). IsSome (get g.regs 1)) (sym now)
             (subst IsSome (sym (get-insert-same empty 1 (first_registers launch.elf.entry))) refl);
-        clock = omega (arith, early, all);
       };
     }

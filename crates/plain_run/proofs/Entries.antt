@@ -1,5 +1,5 @@
 -- How a run's parts follow its world as an entry comes.
-use Rattle.std.proofs.Common.{◌≡◌, ◌≢◌, ℕ, List, [], ◌∷◌, ◌++◌, Option, Some, None, IsSome, Result, Ok, Err, OnOk, OnErr, refl, sym, ap, subst, ◌∙◌, arith}
+use Rattle.std.proofs.Common.{◌≡◌, ◌≢◌, ℕ, List, [], ◌∷◌, ◌++◌, Option, Some, None, IsSome, Result, Ok, Err, OnOk, OnErr, refl, sym, ap, subst, ◌∙◌}
 use Rattle.std.specs.Ordering.{nat_cmp}
 use Rattle.std.specs.FinMap.{FinMap, get, insert}
 use Rattle.abi_types.specs.declared.call.Answer.{Answer}
@@ -176,13 +176,12 @@ module _ (r : Run) (who : Who) (call : Call) (given : Answer) (kernel : State) (
     -- while the process is live after the call, its thread is runnable
     still_on : IsLiveProcess (entered r kernel guests history) who.pid → GoesOn (entered r kernel guests history) who
     still_on live =
-        let thread = stopped.runnable in
+        let thread = stopped.goes_on.runnable in
         let moves = step_moves_only r.launch.constants r.kernel who call given kernel step in
         record {
           runnable = (thread.0, moves.threads live ∙ thread.1, thread.2);
           registers = subst (λ (g : Guest). IsSome (get g.regs who.tid)) (sym called_now)
               (subst IsSome (sym (get-insert-same (guest_now r who.pid).regs who.tid _)) refl);
-          clock = omega (arith, moves.clock, stopped.clock, call_left);
         }
 
     pub call_between : history ≡ r.history ++ entry_of r who kernel (act.Call call given) ∷ [] → IsBetweenTurns (entered r kernel guests history) who

@@ -1,16 +1,19 @@
 -- How a run's guests follow its world as turns are taken.
-use Rattle.std.proofs.Common.{◌≡◌, ℕ, ◌-◌, ◌<◌, ◌≤◌, List, [], ◌∷◌, ◌++◌, Option, Some, None, IsSome, refl, sym, ap, subst, ◌∙◌, arith}
+use Rattle.std.proofs.Common.{◌≡◌, ℕ, ◌+◌, ◌-◌, ◌*◌, ◌^◌, ◌<◌, ◌≤◌, List, [], ◌∷◌, ◌++◌, length, Option, Some, None, IsSome, refl, sym, ap, subst, ◌∙◌, arith}
 use Rattle.std.specs.Ordering.{nat_cmp}
 use Rattle.std.specs.FinMap.{FinMap, get, insert}
 use Rattle.abi_types.specs.declared.status.Status.{Status}
 use Rattle.abi_types.specs.declared.status.Status.TheVariants.{Live, Exit, Killed}
 use Rattle.abi_types.specs.declared.who.Who.{Who}
+use Rattle.kernel_model.specs.State.{State}
 use Rattle.number_map.specs.Maps.{get-insert-same, insert-again}
 use Rattle.rv_interp.specs.declared.turns.TurnEnd.{TurnEnd}
 use Rattle.rv_interp.specs.declared.turns.TurnEnd.TheVariants as turn_end_is
 use Rattle.run_model.specs.Legal.{AreWhole, LastEnds, MayTurn}
 use Rattle.run_model.specs.World.{Guest, or_no_guest, world, turned_guest, turned_guest_by, turn_end}
+use Rattle.run_model.proofs.Ends.{history_is_short}
 use Rattle.run_model.proofs.Histories.{guest_turned, turned_more, whole_more}
+use Rattle.run_model.proofs.Worlds.{clock_counts}
 use Rattle.plain_run.specs.declared.run.Run.{Run}
 use Rattle.plain_run.specs.Run.{IsAt, IsLiveProcess, IsBetweenTurns, IsStopped, GoesOn, settled, guest_now, live_number, ahead}
 
@@ -39,6 +42,13 @@ pub guest_there : (r : Run) (p : ℕ) → IsAt r p → IsSome (get r.guests p)
 guest_there r p at =
     subst (λ (m : FinMap nat_cmp Guest). IsSome (get m p)) (sym at.guests)
     (subst IsSome (sym (get-insert-same (world r.launch r.history).guests p (turned_guest_by r.turns (settled r p)))) refl)
+
+-- the clock of a run is far from its end, since its history is legal and so it is short
+pub early : (r : Run) (p : ℕ) → IsAt r p → r.kernel.clock < 2 ^ 63
+early r p at =
+    let moment : r.kernel.clock ≡ 1000 * length r.history = ap (λ (S : State). S.clock) at.state ∙ clock_counts r.launch r.history at.legal in
+    let short : length r.history ≤ r.launch.turns + 1 = history_is_short r.launch r.history at.legal in
+    omega (arith, moment, short, at.bounded.turns)
 
 -- ---- a turn
 
@@ -78,9 +88,8 @@ module _ (r : Run) (who : Who) (guests : FinMap nat_cmp Guest) (turns : List ℕ
       subst (λ (g : Guest). IsSome (get g.regs who.tid)) (sym turned_now)
       (subst IsSome (sym (get-insert-same (guest_now r who.pid).regs who.tid _)) refl)
 
-  -- a turn leaves the bound on the clock true
-  pub goes_on_turn : GoesOn r who → GoesOn (after_turn r guests turns) who
-  goes_on_turn on = record { runnable = on.runnable; registers = registers_turn; clock = omega (arith, on.clock, left_turn) }
+  goes_on_turn : GoesOn r who → GoesOn (after_turn r guests turns) who
+  goes_on_turn on = record { runnable = on.runnable; registers = registers_turn }
 
   may_turn : IsAt r who.pid → GoesOn r who → 0 < (guest_now r who.pid).left → MayTurn r.kernel who.pid (turned_guest_by r.turns (settled r who.pid)) who.tid
   may_turn at on some = (on.runnable, subst (λ (g : Guest). 0 < g.left) (now_is r who.pid at) some)
@@ -101,9 +110,7 @@ module _ (r : Run) (who : Who) (guests : FinMap nat_cmp Guest) (turns : List ℕ
     at = at_turn b.at;
     last = last_turn end ends b live some;
     live = live;
-    runnable = (b.goes_on live).runnable;
-    registers = registers_turn;
-    clock = omega (arith, (b.goes_on live).clock, left_turn);
+    goes_on = goes_on_turn (b.goes_on live);
   }
 
   -- the run after a whole turn

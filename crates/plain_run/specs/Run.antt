@@ -1,5 +1,5 @@
 -- What a run's parts are at each moment of it: those of the world of its history.
-use Rattle.std.specs.Prelude.{◌≡◌, ℕ, ◌+◌, ◌*◌, ◌≤◌, Option, Some, None, IsSome}
+use Rattle.std.specs.Prelude.{◌≡◌, ℕ, ◌+◌, Option, Some, None, IsSome}
 use Rattle.std.specs.FinMap.{get}
 use Rattle.abi_types.specs.declared.status.Status.{Status}
 use Rattle.abi_types.specs.declared.status.Status.TheVariants.{Live, Exit, Killed}
@@ -42,11 +42,10 @@ IsLiveProcess r p = get r.kernel.statuses p ≡ Some Live
 abbrev pub IsLive : Run → Type 0
 IsLive r = IsLiveProcess r 0
 
--- while its process is live the thread is runnable and has registers, and each entry so far took a turn
+-- the thread is runnable, and its guest has registers of it
 pub record GoesOn (r : Run) (who : Who) : Type 0 where
   pub runnable : IsRunnable r.kernel who.pid who.tid
   pub registers : IsSome (get (guest_now r who.pid).regs who.tid)
-  pub clock : r.kernel.clock + 1000 * (guest_now r who.pid).left ≤ 1000 * r.launch.turns
 
 -- the run stands between two turns, and the turns that no entry has yet are of this thread's process
 pub record IsBetweenTurns (r : Run) (who : Who) : Type 0 where
@@ -63,9 +62,7 @@ pub record IsStopped (r : Run) (who : Who) (end : TurnEnd) : Type 0 where
   pub at : IsAt r who.pid
   pub last : LastEnds r.kernel who.pid (settled r who.pid) r.turns who.tid end
   pub live : IsLiveProcess r who.pid
-  pub runnable : IsRunnable r.kernel who.pid who.tid
-  pub registers : IsSome (get (guest_now r who.pid).regs who.tid)
-  pub clock : r.kernel.clock + 1000 * ((guest_now r who.pid).left + 1) ≤ 1000 * r.launch.turns
+  pub goes_on : GoesOn r who
 
 -- 1 while a process with this status is live
 abbrev pub live_number : Option Status → ℕ

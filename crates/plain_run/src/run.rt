@@ -3,7 +3,7 @@ ghost use Rattle.std.specs.Prelude.{◌≡◌, ◌<◌, [], ◌∷◌, ◌++◌,
 ghost use Rattle.run_model.specs.Legal.{Legal, FitsAct};
 ghost use Rattle.rv_interp.specs.declared.turns.TurnEnd.TheVariants as turn_end;
 ghost use Rattle.call_codec.specs.Bounded.{IsBounded};
-ghost use Rattle.plain_run.specs.Run.{IsAt, IsBetween, IsBetweenTurns, IsStopped, IsLive, IsLiveProcess, GoesOn, EndsBy, settled, guest_now, ahead, entry_now};
+ghost use Rattle.plain_run.specs.Run.{IsAt, IsBetween, IsBetweenTurns, IsStopped, IsLive, IsLiveProcess, EndsBy, settled, guest_now, ahead, entry_now};
 
 use crate::guest::{FIRST, FIRST_THREAD, Guest};
 use abi_types::{Pid, Signal, Status, TidList, Who};
@@ -82,7 +82,6 @@ impl Run {
     fn stop(&mut self, alloc: Global, who: &Who, act: Act, status: Status) -> Result<(), AllocError>
         requires at { IsAt self.old who.now.pid }
         requires live { IsLiveProcess self.old who.now.pid }
-        requires goes_on { GoesOn self.old who.now }
         requires fits { FitsAct self.old.launch.constants self.old.kernel who.now (settled self.old who.now.pid) self.old.turns act }
         requires status { EndsBy act status }
         ensures ok { OnOk result (IsBetweenTurns self.new who.now × ¬ IsLiveProcess self.new who.now.pid) }

@@ -8,7 +8,7 @@ use Rattle.run_model.specs.World.{Guest, registers_of, called_guest}
 use Rattle.plain_run.specs.Run.{IsBetweenTurns, guest_now}
 use Rattle.plain_run.specs.declared.run.Run.{Run}
 use Rattle.plain_run.proofs.Entries.{legal_after, call_fits, call_between, call_left}
-use Rattle.plain_run.proofs.Runs.{guest_found, guest_there, left_put}
+use Rattle.plain_run.proofs.Runs.{early, guest_found, guest_there, left_put}
 use Rattle.plain_run.proofs.run.Run.call.Goals as goal
 use Rattle.plain_run.proofs.run.Run.call.Goals.{After-enter}
 
@@ -29,6 +29,9 @@ returns-in_err-answer-clause-left c =
     let key = c.key_of.ensures in
     left_put r c.args.who.now.pid c.key_of.result c.answer.new.self key
     (ap (λ (g : Guest). g.left) (c.in_err-answer.ensures.err ∙ guest_found r c.args.who.now.pid c.key_of.result _ key c.get_mut-guest.ensures.value))
+
+pub step-answer-requires-clause-early : goal.step-answer-requires-clause-early
+step-answer-requires-clause-early c = early c.args.self.now c.args.who.now.pid c.requires.at
 
 -- the process's guest before the call
 found : (c : After-enter) → c.get_mut-guest.result.now ≡ guest_now c.args.self.now c.args.who.now.pid

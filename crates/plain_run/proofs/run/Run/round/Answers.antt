@@ -5,12 +5,9 @@ use Rattle.std.specs.FinMap.{FinMap, get, insert}
 use Rattle.run_model.specs.World.{Guest, or_no_guest, turned_guest, turn_end}
 use Rattle.plain_run.specs.declared.run.Run.{Run}
 use Rattle.plain_run.specs.Run.{guest_now}
-use Rattle.plain_run.proofs.Runs.{guest_found, now_is, after_turn, at_turn, left_turn, goes_on_turn, last_turn, stopped_turn, between_turn, fewer}
+use Rattle.plain_run.proofs.Runs.{guest_found, now_is, after_turn, at_turn, left_turn, last_turn, stopped_turn, between_turn, fewer}
 use Rattle.plain_run.proofs.run.Run.round.Goals as goal
 use Rattle.plain_run.proofs.run.Run.round.Goals.{After-turn}
-
-pub stop-requires-clause-goes_on : goal.stop-requires-clause-goes_on
-stop-requires-clause-goes_on c = c.requires.between.goes_on c.requires.live
 
 pub stop-requires-clause-fits : goal.stop-requires-clause-fits
 stop-requires-clause-fits c =
@@ -45,11 +42,6 @@ pub stop-requires-in-Trap-clause-at : goal.stop-requires-in-Trap-clause-at
 stop-requires-in-Trap-clause-at c =
     let a = (goal.at.stop-requires-in-Trap-clause-at c).After-turn in
     at_turn c.args.self.now c.args.who.now _ c.push.new.self (did a) c.in_ok-push.ensures.ok c.requires.between.at
-
-pub stop-requires-in-Trap-clause-goes_on : goal.stop-requires-in-Trap-clause-goes_on
-stop-requires-in-Trap-clause-goes_on c =
-    let a = (goal.at.stop-requires-in-Trap-clause-goes_on c).After-turn in
-    goes_on_turn c.args.self.now c.args.who.now _ c.push.new.self (did a) c.in_ok-push.ensures.ok (c.requires.between.goes_on c.requires.live)
 
 pub stop-requires-in-Trap-clause-fits : goal.stop-requires-in-Trap-clause-fits
 stop-requires-in-Trap-clause-fits c =

@@ -4,8 +4,12 @@ use Rattle.run_model.specs.Legal.{Fits, Legal}
 use Rattle.plain_run.specs.Run.{IsBetweenTurns, IsLiveProcess}
 use Rattle.plain_run.specs.declared.run.Run.{Run}
 use Rattle.plain_run.proofs.Entries.{legal_after, world_now, entry_of, stop_fits, stop_between}
+use Rattle.plain_run.proofs.Runs.{early}
 use Rattle.plain_run.proofs.run.Run.stop.Goals as goal
 use Rattle.plain_run.proofs.run.Run.stop.Goals.{After-enter}
+
+pub end-requires-clause-early : goal.end-requires-clause-early
+end-requires-clause-early c = early c.args.self.now c.args.who.now.pid c.requires.at
 
 -- the entry fits
 fits : (c : After-enter) → Fits (world_now c.args.self.now) (entry_of c.args.self.now c.args.who.now c.end.new.self c.args.act)
