@@ -42,7 +42,7 @@ IsLiveProcess r p = get r.kernel.statuses p ≡ Some Live
 abbrev pub IsLive : Run → Type 0
 IsLive r = IsLiveProcess r 0
 
--- the thread is runnable, and its guest has registers of it
+-- the thread is runnable, and its process's guest has registers for it
 pub record GoesOn (r : Run) (who : Who) : Type 0 where
   pub runnable : IsRunnable r.kernel who.pid who.tid
   pub registers : IsSome (get (guest_now r who.pid).regs who.tid)

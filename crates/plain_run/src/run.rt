@@ -82,7 +82,8 @@ impl Run {
     fn stop(&mut self, alloc: Global, who: &Who, act: Act, status: Status) -> Result<(), AllocError>
         requires at { IsAt self.old who.now.pid }
         requires live { IsLiveProcess self.old who.now.pid }
-        requires fits { FitsAct self.old.launch.constants self.old.kernel who.now (settled self.old who.now.pid) self.old.turns act }
+        requires fits { FitsAct self.old.launch.constants self.old.kernel who.now (settled self.old who.now.pid)
+            self.old.turns act }
         requires status { EndsBy act status }
         ensures ok { OnOk result (IsBetweenTurns self.new who.now × ¬ IsLiveProcess self.new who.now.pid) }
         ensures guests { self.new.guests ≡ self.old.guests }
@@ -108,7 +109,8 @@ impl Run {
         self.enter(alloc, who, Act::Call { call, answer })
     }
 
-    // A turn of a thread, and the entry that it asks for, if it asks for one; or the end of a process that has no turn left.
+    // A turn of a thread, and the entry that it asks for, if it asks for one; or the end of its process, where no turn is
+    // left.
     fn round(&mut self, alloc: Global, who: &Who) -> Result<(), AllocError>
         requires between { IsBetweenTurns self.old who.now }
         requires live { IsLiveProcess self.old who.now.pid }
