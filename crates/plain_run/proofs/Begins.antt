@@ -1,41 +1,48 @@
 -- A run that has not begun stands at the start of its launch's world.
-use Rattle.std.proofs.Common.{◌≡◌, ℕ, List, [], sym, ap, subst, ◌∙◌, arith}
-use Rattle.abi_base.specs.Registers.{Registers}
+use Rattle.std.proofs.Common.{◌≡◌, ℕ, List, [], IsSome, refl, sym, ap, subst, ◌∙◌}
+use Rattle.std.specs.Ordering.{nat_cmp}
+use Rattle.std.specs.FinMap.{FinMap, empty, get, insert}
 use Rattle.run_types.specs.declared.history.Entry.{Entry}
 use Rattle.run_types.specs.declared.launch.Launch.{Launch}
 use Rattle.kernel_model.specs.Start.{start_state}
 use Rattle.kernel_model.specs.State.{State}
-use Rattle.guest_memory.specs.Page.{Pages}
+use Rattle.number_map.specs.Maps.{get-insert-same, insert-again}
 use Rattle.run_model.specs.Legal.{Legal, AreWhole, IsRunnable}
-use Rattle.run_model.specs.World.{World, Guest, world, start_world, guest_of, registers_of, first_guest, turned_guest_by}
-use Rattle.call_codec.specs.Start.{canary, first_registers, start_pages}
-use Rattle.run_model.proofs.Histories.{world_none, legal_none, first_guest_is, first_state, first_registers_are, first_thread}
+use Rattle.run_model.specs.World.{World, Guest, world, start_world, guest_of, or_no_guest, first_guest, turned}
+use Rattle.call_codec.specs.Start.{first_registers}
+use Rattle.run_model.proofs.Histories.{world_none, legal_none, first_guest_is, first_state, first_thread}
 use Rattle.plain_run.specs.declared.run.Run.{Run}
 use Rattle.call_codec.specs.Bounded.{IsBounded}
 use Rattle.plain_run.specs.Run.{IsBetween}
+use Rattle.plain_run.proofs.Runs.{guest_put}
 
 -- a run with nothing done
-abbrev begun : Launch → State → Pages → Registers → List ℕ → List Entry → Run
-begun launch kernel memory regs turns history = record { launch = launch; kernel = kernel; memory = memory; regs = regs; left = launch.turns; turns = turns; history = history }
+abbrev begun : Launch → State → FinMap nat_cmp Guest → List ℕ → List Entry → Run
+begun launch kernel guests turns history = record { launch = launch; kernel = kernel; guests = guests; turns = turns; history = history }
 
-pub begins : (launch : Launch) (kernel : State) (memory : Pages) (regs : Registers) (turns : List ℕ) (history : List Entry) → IsBounded launch
-    → kernel ≡ start_state launch.grants launch.stdin → memory ≡ start_pages launch.elf launch.argdata canary 0 1 → regs ≡ first_registers launch.elf.entry
-    → turns ≡ [] → history ≡ [] → IsBetween (begun launch kernel memory regs turns history)
-begins launch kernel memory regs turns history bounded state pages registers none fresh =
+-- the guests of a launch's start, of which process 0's is the first
+first_guests : (launch : Launch) → (turned (start_world launch) 0 []).guests ≡ insert empty 0 (first_guest launch)
+unfolding start_world
+first_guests launch = ap (insert (insert empty 0 (first_guest launch)) 0) (first_guest_is launch) ∙ insert-again empty 0 _ _
+
+pub begins : (launch : Launch) (kernel : State) (guests : FinMap nat_cmp Guest) (turns : List ℕ) (history : List Entry) → IsBounded launch
+    → kernel ≡ start_state launch.grants launch.stdin → guests ≡ insert empty 0 (first_guest launch) → turns ≡ [] → history ≡ []
+    → IsBetween (begun launch kernel guests turns history)
+begins launch kernel guests turns history bounded state first none fresh =
     let there : world launch history ≡ start_world launch = ap (world launch) fresh ∙ world_none launch in
-    let now : turned_guest_by turns (guest_of (world launch history) 0) ≡ first_guest launch =
-    ap (λ (ts : List ℕ). turned_guest_by ts (guest_of (world launch history) 0)) none ∙ ap (λ (w : World). guest_of w 0) there ∙ first_guest_is launch in
-    let thread : IsRunnable kernel 0 1 = subst (λ (S : State). IsRunnable S 0 1) (first_state launch ∙ sym state) (first_thread launch) in
-    let early : kernel.clock ≡ 0 = ap (λ (S : State). S.clock) state in
+    let now : or_no_guest (get guests 0) ≡ first_guest launch =
+    ap (λ (m : FinMap nat_cmp Guest). or_no_guest (get m 0)) first ∙ guest_put empty 0 (first_guest launch) in
     record {
       at = record {
         bounded = bounded;
         legal = subst (Legal launch) (sym fresh) (legal_none launch);
         state = state ∙ sym (first_state launch) ∙ sym (ap (λ (w : World). w.state) there);
-        memory = ap (λ (g : Guest). g.memory) now ∙ sym pages;
-        regs = ap (λ (g : Guest). registers_of g 1) now ∙ first_registers_are launch ∙ sym registers;
-        left = ap (λ (g : Guest). g.left) now;
+        guests = first ∙ sym (first_guests launch) ∙ sym (λ i. (turned (there i) 0 (none i)).guests);
       };
       whole = subst (AreWhole kernel 0 (guest_of (world launch history) 0)) (sym none) tt;
-      goes_on = λ live. record { runnable = thread; clock = omega (arith, early) };
+      goes_on = λ live. record {
+        runnable = subst (λ (S : State). IsRunnable S 0 1) (first_state launch ∙ sym state) (first_thread launch);
+        registers = subst (λ (g : Guest). IsSome (get g.regs 1)) (sym now)
+            (subst IsSome (sym (get-insert-same empty 1 (first_registers launch.elf.entry))) refl);
+      };
     }

@@ -1,62 +1,140 @@
--- How a run's parts follow its world as turns are taken and entries come.
-use Rattle.std.proofs.Common.{◌≡◌, ℕ, ◌-◌, ◌<◌, List, [], ◌∷◌, ◌++◌, sym, ap, subst, ◌∙◌, arith}
-use Rattle.abi_base.specs.Registers.{Registers}
-use Rattle.guest_memory.specs.Page.{Pages}
-use Rattle.number_map.specs.Maps.{get-insert-same}
+-- How a run's guests follow its world as turns are taken.
+use Rattle.std.proofs.Common.{◌≡◌, ℕ, ◌+◌, ◌-◌, ◌*◌, ◌^◌, ◌<◌, ◌≤◌, List, [], ◌∷◌, ◌++◌, length, Option, Some, None, IsSome, refl, sym, ap, subst, ◌∙◌, arith}
+use Rattle.std.specs.Ordering.{nat_cmp}
+use Rattle.std.specs.FinMap.{FinMap, get, insert}
+use Rattle.abi_types.specs.declared.status.Status.{Status}
+use Rattle.abi_types.specs.declared.status.Status.TheVariants.{Live, Exit, Killed}
+use Rattle.abi_types.specs.declared.who.Who.{Who}
+use Rattle.kernel_model.specs.State.{State}
+use Rattle.number_map.specs.Maps.{get-insert-same, insert-again}
 use Rattle.rv_interp.specs.declared.turns.TurnEnd.{TurnEnd}
 use Rattle.rv_interp.specs.declared.turns.TurnEnd.TheVariants as turn_end_is
-use Rattle.rv_interp.specs.Turns.{Turn, turn_of}
 use Rattle.run_model.specs.Legal.{AreWhole, LastEnds, MayTurn}
-use Rattle.run_model.specs.World.{Guest, registers_of, or_no_registers, turned_guest, turned_guest_by, turn_end}
-use Rattle.run_model.proofs.Histories.{turned_more, whole_more}
+use Rattle.run_model.specs.World.{Guest, or_no_guest, world, turned_guest, turned_guest_by, turn_end}
+use Rattle.run_model.proofs.Potentials.{history_is_short}
+use Rattle.run_model.proofs.Histories.{guest_turned, turned_more, whole_more}
+use Rattle.run_model.proofs.Worlds.{clock_counts}
 use Rattle.plain_run.specs.declared.run.Run.{Run}
-use Rattle.plain_run.specs.Run.{IsAt, GoesOn, settled, turned_now}
+use Rattle.plain_run.specs.Run.{IsAt, IsLiveProcess, IsBetweenTurns, IsStopped, GoesOn, settled, guest_now, live_number, ahead}
 
--- the thread's registers after a turn
-turned_registers : (guest : Guest) (t : ℕ) → registers_of (turned_guest guest t) t ≡ (turn_of guest.memory (registers_of guest t)).regs
-turned_registers guest t = ap or_no_registers (get-insert-same guest.regs t _)
+-- ---- guests
+
+-- a guest that was just put into the guests is there
+pub guest_put : (guests : FinMap nat_cmp Guest) (p : ℕ) (guest : Guest) → or_no_guest (get (insert guests p guest) p) ≡ guest
+guest_put guests p guest = ap or_no_guest (get-insert-same guests p guest)
+
+-- the guest that a look-up finds at the number of process p is p's
+pub guest_found : (r : Run) (p key : ℕ) (guest : Guest) → key ≡ p → Some guest ≡ get r.guests key → guest ≡ guest_now r p
+guest_found r p key guest same found = ap or_no_guest (found ∙ ap (get r.guests) same)
+
+-- how many turns process p has left, where a guest was put at its number
+pub left_put : (r : Run) (p key : ℕ) (guest : Guest) → key ≡ p → guest.left ≡ (guest_now r p).left
+    → (or_no_guest (get (insert r.guests key guest) p)).left ≡ (guest_now r p).left
+left_put r p key guest same left =
+    (λ i. (or_no_guest (get (insert r.guests (same i) guest) p)).left) ∙ ap (λ (g : Guest). g.left) (guest_put r.guests p guest) ∙ left
+
+-- process p's guest now is the settled one after the turns that no entry has yet
+pub now_is : (r : Run) (p : ℕ) → IsAt r p → guest_now r p ≡ turned_guest_by r.turns (settled r p)
+now_is r p at = ap (λ (m : FinMap nat_cmp Guest). or_no_guest (get m p)) at.guests ∙ guest_turned (world r.launch r.history) p r.turns
+
+-- the process whose turns no entry has yet has a guest
+pub guest_there : (r : Run) (p : ℕ) → IsAt r p → IsSome (get r.guests p)
+guest_there r p at =
+    subst (λ (m : FinMap nat_cmp Guest). IsSome (get m p)) (sym at.guests)
+    (subst IsSome (sym (get-insert-same (world r.launch r.history).guests p (turned_guest_by r.turns (settled r p)))) refl)
+
+-- the clock of a run is far from its end, since its history is legal and so it is short
+pub early : (r : Run) (p : ℕ) → IsAt r p → r.kernel.clock < 2 ^ 63
+early r p at =
+    let moment : r.kernel.clock ≡ 1000 * length r.history = ap (λ (S : State). S.clock) at.state ∙ clock_counts r.launch r.history at.legal in
+    let short : length r.history ≤ r.launch.turns + 1 = history_is_short r.launch r.history at.legal in
+    omega (arith, moment, short, at.bounded.turns)
+
+-- ---- a turn
 
 -- the run after a turn
-abbrev pub after_turn : Run → Registers → Pages → List ℕ → Run
-after_turn r regs memory turns = record r { regs = regs; memory = memory; left = r.left - 1; turns = turns }
+abbrev pub after_turn : Run → FinMap nat_cmp Guest → List ℕ → Run
+after_turn r guests turns = record r { guests = guests; turns = turns }
 
--- what the machine does on from the run's parts is what it does in the world
-turn_there : (r : Run) → IsAt r → turn_of (turned_now r).memory (registers_of (turned_now r) 1) ≡ turn_of r.memory r.regs
-turn_there r at = λ i. turn_of (at.memory i) (at.regs i)
+module _ (r : Run) (who : Who) (guests : FinMap nat_cmp Guest) (turns : List ℕ)
+    (did : guests ≡ insert r.guests who.pid (turned_guest (guest_now r who.pid) who.tid)) (one : turns ≡ r.turns ++ who.tid ∷ []) where
+  -- the process's guest after the turn
+  turned_now : guest_now (after_turn r guests turns) who.pid ≡ turned_guest (guest_now r who.pid) who.tid
+  turned_now =
+      ap (λ (m : FinMap nat_cmp Guest). or_no_guest (get m who.pid)) did
+      ∙ guest_put r.guests who.pid (turned_guest (guest_now r who.pid) who.tid)
 
-pub at_turn : (r : Run) (regs : Registers) (memory : Pages) (turns : List ℕ) (end : TurnEnd) → turns ≡ r.turns ++ 1 ∷ []
-    → turn_of r.memory r.regs ≡ record { end = end; regs = regs; memory = memory } → IsAt r → IsAt (after_turn r regs memory turns)
-at_turn r regs memory turns end one did at =
-    let now : turned_guest_by turns (settled r) ≡ turned_guest (turned_now r) 1 = ap (λ (ts : List ℕ). turned_guest_by ts (settled r)) one ∙ turned_more r.turns 1 (settled r) in
-    record {
-      bounded = at.bounded;
-      legal = at.legal;
-      state = at.state;
-      memory = ap (λ (g : Guest). g.memory) now ∙ ap (λ (t : Turn). t.memory) (turn_there r at ∙ did);
-      regs = ap (λ (g : Guest). registers_of g 1) now ∙ turned_registers (turned_now r) 1 ∙ ap (λ (t : Turn). t.regs) (turn_there r at ∙ did);
-      left = ap (λ (g : Guest). g.left) now ∙ ap (λ (n : ℕ). n - 1) at.left;
-    }
+  pub left_turn : (guest_now (after_turn r guests turns) who.pid).left ≡ (guest_now r who.pid).left - 1
+  left_turn = ap (λ (g : Guest). g.left) turned_now
 
--- a turn leaves the bound on the clock true
-pub goes_on_turn : (r : Run) (regs : Registers) (memory : Pages) (turns : List ℕ) → GoesOn r → GoesOn (after_turn r regs memory turns)
-goes_on_turn r regs memory turns on = record { runnable = on.runnable; clock = omega (arith, on.clock) }
+  -- the turns after this one, of the settled guest
+  turns_more : turned_guest_by turns (settled r who.pid) ≡ turned_guest (turned_guest_by r.turns (settled r who.pid)) who.tid
+  turns_more = ap (λ (ts : List ℕ). turned_guest_by ts (settled r who.pid)) one ∙ turned_more r.turns who.tid (settled r who.pid)
 
-may_turn : (r : Run) → IsAt r → GoesOn r → 0 < r.left → MayTurn r.kernel 0 (turned_now r) 1
-may_turn r at on some = (on.runnable, subst (λ (n : ℕ). 0 < n) (sym at.left) some)
+  pub at_turn : IsAt r who.pid → IsAt (after_turn r guests turns) who.pid
+  at_turn at = record {
+    bounded = at.bounded;
+    legal = at.legal;
+    state = at.state;
+    guests = did
+        ∙ (λ i. insert (at.guests i) who.pid (turned_guest (now_is r who.pid at i) who.tid))
+        ∙ insert-again (world r.launch r.history).guests who.pid _ _
+        ∙ ap (insert (world r.launch r.history).guests who.pid) (sym turns_more);
+  }
 
-ends_there : (r : Run) (regs : Registers) (memory : Pages) (end : TurnEnd) → turn_of r.memory r.regs ≡ record { end = end; regs = regs; memory = memory } → IsAt r → turn_end (turned_now r) 1 ≡ end
-ends_there r regs memory end did at = ap (λ (t : Turn). t.end) (turn_there r at ∙ did)
+  -- the thread keeps registers
+  registers_turn : IsSome (get (guest_now (after_turn r guests turns) who.pid).regs who.tid)
+  registers_turn =
+      subst (λ (g : Guest). IsSome (get g.regs who.tid)) (sym turned_now)
+      (subst IsSome (sym (get-insert-same (guest_now r who.pid).regs who.tid _)) refl)
 
--- the turn's end is that of the last of the turns
-pub last_turn : (r : Run) (regs : Registers) (memory : Pages) (turns : List ℕ) (end : TurnEnd) → turns ≡ r.turns ++ 1 ∷ []
-    → turn_of r.memory r.regs ≡ record { end = end; regs = regs; memory = memory } → IsAt r → GoesOn r → 0 < r.left → AreWhole r.kernel 0 (settled r) r.turns
-    → LastEnds r.kernel 0 (settled r) turns 1 end
-last_turn r regs memory turns end one did at on some whole =
-    (r.turns, one, whole, may_turn r at on some, ends_there r regs memory end did at)
+  goes_on_turn : GoesOn r who → GoesOn (after_turn r guests turns) who
+  goes_on_turn on = record { runnable = on.runnable; registers = registers_turn }
 
-pub whole_turn : (r : Run) (regs : Registers) (memory : Pages) (turns : List ℕ) → turns ≡ r.turns ++ 1 ∷ []
-    → turn_of r.memory r.regs ≡ record { end = turn_end_is.Quantum; regs = regs; memory = memory } → IsAt r → GoesOn r → 0 < r.left → AreWhole r.kernel 0 (settled r) r.turns
-    → AreWhole r.kernel 0 (settled r) turns
-whole_turn r regs memory turns one did at on some whole =
-    subst (AreWhole r.kernel 0 (settled r)) (sym one)
-    (whole_more r.kernel 0 r.turns 1 (settled r) whole (may_turn r at on some) (ends_there r regs memory turn_end_is.Quantum did at))
+  may_turn : IsAt r who.pid → GoesOn r who → 0 < (guest_now r who.pid).left → MayTurn r.kernel who.pid (turned_guest_by r.turns (settled r who.pid)) who.tid
+  may_turn at on some = (on.runnable, subst (λ (g : Guest). 0 < g.left) (now_is r who.pid at) some)
+
+  ends_there : (end : TurnEnd) → end ≡ turn_end (guest_now r who.pid) who.tid → IsAt r who.pid
+      → turn_end (turned_guest_by r.turns (settled r who.pid)) who.tid ≡ end
+  ends_there end ends at = sym (ends ∙ ap (λ (g : Guest). turn_end g who.tid) (now_is r who.pid at))
+
+  -- the turn's end is that of the last of the turns
+  pub last_turn : (end : TurnEnd) → end ≡ turn_end (guest_now r who.pid) who.tid → IsBetweenTurns r who → IsLiveProcess r who.pid
+      → 0 < (guest_now r who.pid).left → LastEnds r.kernel who.pid (settled r who.pid) turns who.tid end
+  last_turn end ends b live some = (r.turns, one, b.whole, may_turn b.at (b.goes_on live) some, ends_there end ends b.at)
+
+  -- the run after a turn that an entry must follow
+  pub stopped_turn : (end : TurnEnd) → end ≡ turn_end (guest_now r who.pid) who.tid → IsBetweenTurns r who → IsLiveProcess r who.pid
+      → 0 < (guest_now r who.pid).left → IsStopped (after_turn r guests turns) who end
+  stopped_turn end ends b live some = record {
+    at = at_turn b.at;
+    last = last_turn end ends b live some;
+    live = live;
+    goes_on = goes_on_turn (b.goes_on live);
+  }
+
+  -- the run after a whole turn
+  pub between_turn : turn_end_is.Quantum ≡ turn_end (guest_now r who.pid) who.tid → IsBetweenTurns r who → IsLiveProcess r who.pid
+      → 0 < (guest_now r who.pid).left → IsBetweenTurns (after_turn r guests turns) who
+  between_turn ends b live some = record {
+    at = at_turn b.at;
+    whole = subst (AreWhole r.kernel who.pid (settled r who.pid)) (sym one)
+        (whole_more r.kernel who.pid r.turns who.tid (settled r who.pid) b.whole (may_turn b.at (b.goes_on live) some) (ends_there turn_end_is.Quantum ends b.at));
+    goes_on = λ _. goes_on_turn (b.goes_on live);
+  }
+
+-- ---- how much is ahead
+
+live_at_most : (status : Option Status) → live_number status ≤ 1
+live_at_most None = omega arith
+live_at_most (Some Live) = omega arith
+live_at_most (Some (Exit code)) = omega arith
+live_at_most (Some (Killed signal)) = omega arith
+
+-- a turn less is ahead, whatever the process comes to
+pub fewer : (old new : Run) (p : ℕ) → IsLiveProcess old p → 0 < (guest_now old p).left → (guest_now new p).left ≡ (guest_now old p).left - 1
+    → ahead new p < ahead old p
+fewer old new p live some less =
+    let most : live_number (get new.kernel.statuses p) ≤ 1 = live_at_most (get new.kernel.statuses p) in
+    let one : live_number (get old.kernel.statuses p) ≡ 1 = ap live_number live in
+    omega (arith, most, one, some, less)

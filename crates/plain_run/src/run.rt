@@ -3,37 +3,33 @@ ghost use Rattle.std.specs.Prelude.{◌≡◌, ◌<◌, [], ◌∷◌, ◌++◌,
 ghost use Rattle.run_model.specs.Legal.{Legal, FitsAct};
 ghost use Rattle.rv_interp.specs.declared.turns.TurnEnd.TheVariants as turn_end;
 ghost use Rattle.call_codec.specs.Bounded.{IsBounded};
-ghost use Rattle.plain_run.specs.Run.{IsAt, IsBetween, IsStopped, IsLive, GoesOn, EndsBy, first_thread, settled, ahead, entry_now};
+ghost use Rattle.plain_run.specs.Run.{IsAt, IsBetween, IsBetweenTurns, IsStopped, IsLive, IsLiveProcess, EndsBy, settled, guest_now, ahead, entry_now};
 
-use abi_types::{Pid, Regs, Signal, Status, Tid, TidList, Who};
-use call_codec::{args, put_answer, start_memory};
-use guest_memory::GuestMemory;
+use crate::guest::{FIRST, FIRST_THREAD, Guest};
+use abi_types::{Pid, Signal, Status, TidList, Who};
 use kernel_core::Kernel;
+use number_map::NumMap;
 use run_types::{Act, Entry, History, Launch, Record};
-use rv_interp::{TurnEnd, turn};
+use rv_interp::TurnEnd;
 use std::alloc::{AllocError, Global};
 use std::mem;
 
-/// The launched process.
-pub const FIRST: Pid = Pid(0);
-
-// Its thread.
-const THREAD: Tid = Tid(1);
-
-// The canary of a start, which has no random bytes yet.
-const CANARY: [u8; 64] = [0; 64];
-
-/// A run of a launch, as far as it has come: the kernel's state, process 0's memory, its thread's registers, the turns
-/// that it has left, the turns that no entry has yet, and the entries.
+/// A run of a launch, as far as it has come: the kernel's state, the guests by their processes' numbers, the turns that
+/// no entry has yet, and the entries.
 #[derive(Drop)]
 pub struct Run {
     pub launch: Launch,
     pub kernel: Kernel,
-    pub memory: GuestMemory,
-    pub regs: Regs,
-    pub left: u64,
+    pub guests: NumMap<Guest>,
     pub turns: TidList,
     pub history: History,
+}
+
+// The key of a process's guest.
+fn key_of(pid: Pid) -> u64
+    ensures { result ≡ pid }
+{
+    u64::from(pid.0)
 }
 
 impl Run {
@@ -45,99 +41,113 @@ impl Run {
         ensures empty { IfOk result (λ run. run.history ≡ []) }
     {
         let kernel = Kernel::start(alloc, &launch)?;
-        let argdata = launch.argdata.as_slice();
-        let (memory, regs) = start_memory(alloc, &launch.elf, argdata, &CANARY, FIRST, THREAD)?;
+        let mut guests = NumMap::new(alloc);
+        guests.insert(key_of(FIRST), Guest::start(alloc, &launch)?)?;
         Ok(Run {
             kernel,
-            memory,
-            regs,
-            left: launch.turns,
+            guests,
             turns: TidList::new(alloc),
             history: History::new(alloc),
             launch,
         })
     }
 
-    // Adds an entry: what was done up to this moment, after the turns that no entry has yet.
-    fn enter(&mut self, alloc: Global, act: Act) -> Result<(), AllocError>
+    // How many turns a process has left.
+    fn left(&self, pid: Pid) -> u64
+        ensures { result ≡ (guest_now self.now pid).left }
+    {
+        match self.guests.get(key_of(pid)) {
+            Some(guest) => guest.left,
+            None => 0,
+        }
+    }
+
+    // Adds an entry: what a thread did up to this moment, after the turns that no entry has yet.
+    fn enter(&mut self, alloc: Global, who: &Who, act: Act) -> Result<(), AllocError>
         ensures rest { self.new ≡ record self.old { turns = []; history = self.new.history } }
-        ensures ok { OnOk result (self.new.history ≡ self.old.history ++ entry_now self.old act ∷ []) }
+        ensures ok { OnOk result (self.new.history ≡ self.old.history ++ entry_now self.old who.now act ∷ []) }
         ensures err { OnErr result (self.new.history ≡ self.old.history) }
     {
         let turns = mem::replace(&mut self.turns, TidList::new(alloc));
         self.history.push(Entry {
             moment: self.kernel.moment(),
-            pid: FIRST,
-            tid: THREAD,
+            pid: who.pid,
+            tid: who.tid,
             turns,
             act,
         })
     }
 
-    // Ends process 0 from outside, with an entry that says so.
-    fn stop(&mut self, alloc: Global, act: Act, status: Status) -> Result<(), AllocError>
-        requires at { IsAt self.old }
-        requires live { IsLive self.old }
-        requires goes_on { GoesOn self.old }
-        requires fits { FitsAct self.old.launch.constants self.old.kernel first_thread (settled self.old) self.old.turns act }
+    // Ends a thread's process from outside, with an entry that says so.
+    fn stop(&mut self, alloc: Global, who: &Who, act: Act, status: Status) -> Result<(), AllocError>
+        requires at { IsAt self.old who.now.pid }
+        requires live { IsLiveProcess self.old who.now.pid }
+        requires fits { FitsAct self.old.launch.constants self.old.kernel who.now (settled self.old who.now.pid)
+            self.old.turns act }
         requires status { EndsBy act status }
-        ensures ok { OnOk result (IsBetween self.new × ¬ IsLive self.new) }
-        ensures left { self.new.left ≡ self.old.left }
+        ensures ok { OnOk result (IsBetweenTurns self.new who.now × ¬ IsLiveProcess self.new who.now.pid) }
+        ensures guests { self.new.guests ≡ self.old.guests }
         ensures launch { self.new.launch ≡ self.old.launch }
         ensures legal { Legal self.new.launch self.new.history }
     {
-        self.kernel.end(FIRST, status);
-        self.enter(alloc, act)
+        self.kernel.end(who.pid, status);
+        self.enter(alloc, who, act)
     }
 
-    // The call at which the last turn ended: its answer, and an entry.
-    fn call(&mut self, alloc: Global) -> Result<(), AllocError>
-        requires { IsStopped self.old turn_end.Ecall }
-        ensures ok { OnOk result (IsBetween self.new) }
-        ensures left { self.new.left ≡ self.old.left }
+    // The call at which a thread's last turn ended: its answer, and an entry.
+    fn call(&mut self, alloc: Global, who: &Who) -> Result<(), AllocError>
+        requires { IsStopped self.old who.now turn_end.Ecall }
+        ensures ok { OnOk result (IsBetweenTurns self.new who.now) }
+        ensures left { (guest_now self.new who.now.pid).left ≡ (guest_now self.old who.now.pid).left }
         ensures launch { self.new.launch ≡ self.old.launch }
         ensures legal { Legal self.new.launch self.new.history }
     {
-        let call = args(alloc, &self.regs, &self.memory)?;
-        let who = Who {
-            pid: FIRST,
-            tid: THREAD,
-        };
-        let answer = self.kernel.step(&self.launch.constants, &who, &call);
-        put_answer(alloc, &mut self.regs, &mut self.memory, &call, &answer)?;
-        self.enter(alloc, Act::Call { call, answer })
+        let guest = self.guests.get_mut(key_of(who.pid));
+        let call = guest.call(alloc, who.tid)?;
+        let answer = self.kernel.step(&self.launch.constants, who, &call);
+        guest.answer(alloc, who.tid, &call, &answer)?;
+        self.enter(alloc, who, Act::Call { call, answer })
     }
 
-    // One turn, and the entry that it asks for, if it asks for one; or the end of a process that has no turn left.
-    fn round(&mut self, alloc: Global) -> Result<(), AllocError>
-        requires between { IsBetween self.old }
-        requires live { IsLive self.old }
-        ensures ok { OnOk result (IsBetween self.new) }
-        ensures fewer { OnOk result (ahead self.new < ahead self.old) }
+    // A turn of a thread, and the entry that it asks for, if it asks for one; or the end of its process, where no turn is
+    // left.
+    fn round(&mut self, alloc: Global, who: &Who) -> Result<(), AllocError>
+        requires between { IsBetweenTurns self.old who.now }
+        requires live { IsLiveProcess self.old who.now.pid }
+        ensures ok { OnOk result (IsBetweenTurns self.new who.now) }
+        ensures fewer { OnOk result (ahead self.new who.now.pid < ahead self.old who.now.pid) }
         ensures launch { self.new.launch ≡ self.old.launch }
         ensures legal { Legal self.new.launch self.new.history }
     {
-        if self.left == 0 {
-            return self.stop(alloc, Act::Expire, Status::Killed(Signal::Xcpu));
+        if self.left(who.pid) == 0 {
+            return self.stop(alloc, who, Act::Expire, Status::Killed(Signal::Xcpu));
         }
-        self.turns.push(THREAD)?;
-        self.left -= 1;
-        match turn(&mut self.regs, &mut self.memory) {
+        self.turns.push(who.tid)?;
+        match self.guests.get_mut(key_of(who.pid)).turn(who.tid) {
             TurnEnd::Quantum => Ok(()),
-            TurnEnd::Ecall => self.call(alloc),
-            TurnEnd::Trap(signal) => self.stop(alloc, Act::Trap(signal), Status::Killed(signal)),
+            TurnEnd::Ecall => self.call(alloc, who),
+            TurnEnd::Trap(signal) => self.stop(
+                alloc,
+                who,
+                Act::Trap(signal),
+                Status::Killed(signal),
+            ),
         }
     }
 
-    /// Rounds until process 0 has ended.
+    /// Rounds of process 0's thread until the process has ended.
     pub fn go_on(&mut self, alloc: Global) -> Result<(), AllocError>
         requires { IsBetween self.old }
         ensures ok { OnOk result (IsBetween self.new × ¬ IsLive self.new) }
         ensures launch { self.new.launch ≡ self.old.launch }
         ensures legal { Legal self.new.launch self.new.history }
     {
+        let who = Who {
+            pid: FIRST,
+            tid: FIRST_THREAD,
+        };
         while self.kernel.live(FIRST) {
-            self.round(alloc)?;
+            self.round(alloc, &who)?;
         }
         Ok(())
     }

@@ -7,4 +7,4 @@ abbrev pub invariant-loop-alloc : goal.invariant-loop-alloc
 invariant-loop-alloc l = IsBetween l.self × (l.self.launch ≡ l.fn.self.launch)
 
 abbrev pub decreases-loop-alloc : goal.decreases-loop-alloc
-decreases-loop-alloc l = ahead l.self
+decreases-loop-alloc l = ahead l.self 0

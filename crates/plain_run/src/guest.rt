@@ -1,0 +1,109 @@
+//! A process as the machine has it: its memory, its threads' registers, and the turns that it has left.
+ghost use Rattle.std.specs.Prelude.{◌≡◌, ◌<◌, IsSome, IfOk, OnOk, OnErr, slice_index};
+ghost use Rattle.std.specs.FinMap as map;
+ghost use Rattle.call_codec.specs.Args.{args_of, IsCopied};
+ghost use Rattle.call_codec.specs.MemoryCalls.{IsMapping};
+ghost use Rattle.call_codec.specs.Start.{MayStart, canary};
+ghost use Rattle.run_model.specs.World.{first_guest, registers_of, turned_guest, turn_end, called_guest};
+
+use abi_types::{Answer, Call, Pid, Regs, Tid};
+use call_codec::{args, put_answer, start_memory};
+use guest_memory::GuestMemory;
+use number_map::NumMap;
+use run_types::Launch;
+use rv_interp::{TurnEnd, turn};
+use std::alloc::{AllocError, Global};
+use std::marker::Model;
+
+/// The launched process.
+pub const FIRST: Pid = Pid(0);
+
+/// Its first thread.
+pub const FIRST_THREAD: Tid = Tid(1);
+
+// The canary of a start, which has no random bytes yet.
+const CANARY: [u8; 64] = [0; 64];
+
+/// A process's memory, the registers of its threads by their numbers, and the turns that it has left.
+#[derive(Drop)]
+pub struct Guest {
+    pub memory: GuestMemory,
+    pub regs: NumMap<Regs>,
+    pub left: u64,
+}
+
+impl Model for Guest {
+    ghost use Rattle.run_model.specs.World.{Guest};
+    ghost use Rattle.plain_run.specs.Codes.{guest_code};
+
+    ghost Value = { Guest };
+
+    ghost coded = { guest_code };
+
+    ghost view = { λ g. record { memory = g.memory; regs = g.regs; left = g.left } };
+}
+
+impl Guest {
+    /// Process 0 as a launch starts it: its first thread stands at the entry, and every turn is left.
+    pub fn start(alloc: Global, launch: &Launch) -> Result<Guest, AllocError>
+        requires { MayStart launch.now.elf launch.now.argdata canary }
+        ensures { IfOk result (λ guest. guest ≡ first_guest launch.now) }
+    {
+        let argdata = launch.argdata.as_slice();
+        let (memory, first) = start_memory(
+            alloc,
+            &launch.elf,
+            argdata,
+            &CANARY,
+            FIRST,
+            FIRST_THREAD,
+        )?;
+        let mut regs = NumMap::new(alloc);
+        regs.insert(u64::from(FIRST_THREAD.0), first)?;
+        Ok(Guest {
+            memory,
+            regs,
+            left: launch.turns,
+        })
+    }
+
+    /// A turn of one of its threads, which takes one of the turns that are left.
+    pub fn turn(&mut self, tid: Tid) -> TurnEnd
+        requires thread { IsSome (map.get self.old.regs tid) }
+        requires left { 0 < self.old.left }
+        ensures guest { self.new ≡ turned_guest self.old tid }
+        ensures end { result ≡ turn_end self.old tid }
+    {
+        self.left -= 1;
+        turn(self.regs.get_mut(u64::from(tid.0)), &mut self.memory)
+    }
+
+    /// The call that a thread spells as it stands at an ECALL.
+    pub fn call(&self, alloc: Global, tid: Tid) -> Result<Call, AllocError>
+        requires thread { IsSome (map.get self.now.regs tid) }
+        ensures ok { IfOk result (λ call. call ≡ args_of self.now.memory (registers_of self.now tid)) }
+        ensures only { OnErr result (IsCopied (slice_index (registers_of self.now tid).x 17)) }
+    {
+        let regs = self.regs.get(u64::from(tid.0)).unwrap();
+        args(alloc, regs, &self.memory)
+    }
+
+    /// Gives a thread the answer to the call that it spells. Want of memory, which only mem_map meets, changes nothing.
+    #[tactic(auto, using(number_map::specs::Maps::number_laws))]
+    pub fn answer(
+        &mut self,
+        alloc: Global,
+        tid: Tid,
+        call: &Call,
+        answer: &Answer,
+    ) -> Result<(), AllocError>
+        requires thread { IsSome (map.get self.old.regs tid) }
+        requires spelled { call.now ≡ args_of self.old.memory (registers_of self.old tid) }
+        ensures ok { OnOk result (self.new ≡ called_guest self.old tid call.now answer.now) }
+        ensures err { OnErr result (self.new ≡ self.old) }
+        ensures only { OnErr result (IsMapping call.now) }
+    {
+        let regs = self.regs.get_mut(u64::from(tid.0));
+        put_answer(alloc, regs, &mut self.memory, call, answer)
+    }
+}
