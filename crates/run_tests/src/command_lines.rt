@@ -76,7 +76,12 @@ fn kept_settings(finished: &Finished, stdin: &[u8]) -> Option<(u8, u8, u64, u64)
         return None;
     }
     let constants = &launch.constants;
-    Some((constants.key[30], constants.key[31], constants.epoch, launch.turns))
+    Some((
+        constants.key[30],
+        constants.key[31],
+        constants.epoch,
+        launch.turns,
+    ))
 }
 
 // Words that give each setting.
