@@ -5,7 +5,7 @@
 --     holds_all, lowered      whether a descriptor has these rights;  the table where it has exactly these
 --     first_absent, IsPicked      the first number of a list that has no descriptor;  a table by a list's places
 --     picked_unique      there is one such table
-use Rattle.std.proofs.Common.{◌≡◌, ℕ, ◌<◌, ◌≤◌, ◌&&◌, not, Bool, false, inl, inr, List, find, slice_get, Option, None, Some, option_and_then, sym, ◌∙◌, arith}
+use Rattle.std.proofs.Common.{◌≡◌, ℕ, ◌<◌, ◌&&◌, not, Bool, false, inl, inr, List, find, slice_get, Option, None, Some, option_and_then, sym, ◌∙◌, arith}
 use Rattle.std.proofs.lemmas.Bool.Decides.{leb_tells}
 use Rattle.std.specs.Ordering.{nat_cmp}
 use Rattle.std.specs.Coded.{Coded, coded_ℕ}

@@ -1,7 +1,7 @@
 use Rattle.std.proofs.Common.{◌≡◌, ◌<◌, ℕ, Option, Some, None, is_some, true, false, T, refl, sym, ap, subst, ◌∙◌, arith}
 use Rattle.abi_base.specs.declared.limits.TheConstants.{MOST_DESCRIPTORS}
 use Rattle.std.specs.FinMap.{get}
-use Rattle.fd_table.specs.Sizes.{TakesBelow, len_less, full_if_taken}
+use Rattle.fd_table.specs.Sizes.{len_less, full_if_taken}
 use Rattle.fd_table.specs.Table.{Table, IsTable, IsFull}
 use Rattle.fd_table.proofs.table.FdTable.lowest.Goals as goal
 

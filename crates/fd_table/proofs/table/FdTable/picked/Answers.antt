@@ -1,4 +1,4 @@
-use Rattle.std.proofs.Common.{◌≡◌, ◌+◌, sym, subst, ◌∙◌, arith}
+use Rattle.std.proofs.Common.{◌+◌, sym, subst, ◌∙◌, arith}
 use Rattle.fd_table.proofs.Picks.{PicksBelow, wanted_at, picks_none, picks_one, picks_no_one, picks_all}
 use Rattle.fd_table.proofs.table.FdTable.picked.Goals as goal
 use Rattle.fd_table.proofs.table.FdTable.picked.Goals.{in-Some+in_ok-insert_at, in_default}

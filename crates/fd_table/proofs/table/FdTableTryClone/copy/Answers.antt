@@ -1,4 +1,4 @@
-use Rattle.std.proofs.Common.{◌≡◌, ◌<◌, ◌+◌, Some, None, sym, subst, ◌∙◌, arith}
+use Rattle.std.proofs.Common.{◌<◌, ◌+◌, sym, subst, ◌∙◌, arith}
 use Rattle.abi_base.specs.declared.limits.TheConstants.{MOST_DESCRIPTORS}
 use Rattle.fd_table.proofs.Copies.{CopiesBelow, copies_none, number_least, number_there, copies_one, no_gap, copies_all}
 use Rattle.fd_table.proofs.table.FdTableTryClone.copy.Goals as goal
