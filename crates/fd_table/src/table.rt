@@ -99,11 +99,13 @@ impl FdTable {
         Ok(number)
     }
 
-    /// Puts a descriptor at this number, in the place of the one that had it, if any. An error changes nothing.
+    /// Puts a descriptor at this number, in the place of the one that had it, if any. An error changes nothing, and a
+    /// number that has a descriptor needs no memory.
     pub fn insert_at(&mut self, fd: u32, descriptor: Descriptor) -> Result<(), AllocError>
         requires { fd < MOST_DESCRIPTORS }
         ensures ok { OnOk result (self.new ≡ map.insert self.old fd descriptor) }
         ensures err { OnErr result (self.new ≡ self.old) }
+        ensures absent { OnErr result (map.get self.old fd ≡ None) }
     {
         self.slots.insert(u64::from(fd), descriptor)?;
         Ok(())
