@@ -4,7 +4,8 @@
 --     len_at_most      where each key is below n, there are at most n
 --     len_at_least      where each number below n is a key, there are at least n
 --     len_less      where each key is below n, and a number below n is none, there are fewer than n
---     taken_if_full      where each key is below n, and there are n, each number below n is a key;  full_if_taken      the converse
+--     taken_if_full      where each key is below n, and there are n, each number below n is a key
+--     full_if_taken      where each key is below n, and each number below n is a key, there are n
 use Rattle.std.proofs.Common.{◌≡◌, ◌≢◌, ℕ, zero, suc, ◌+◌, ◌<◌, ◌≤◌, true, false, T, inl, inr, Option, Some, None, IsSome, is_some, refl, sym, ap, subst, ◌∙◌, arith}
 use Rattle.std.proofs.lemmas.Bool.Decides.{eqb_tells}
 use Rattle.std.specs.Ordering.{nat_cmp}

@@ -1,5 +1,6 @@
 -- A process's descriptors by number, and the words of the contracts on them.
---     Table, table_code      a process's descriptors by number, and their code;  IsTable m      each number is one that a descriptor may have
+--     Table, table_code      a process's descriptors by number, and their code
+--     IsTable m      each number is one that a descriptor may have
 --     IsLowestFree m n, IsFull m      the lowest free number;  whether none is free
 --     lowest_unique, lowest_unless_full      there is one lowest free number, and where the table is full none
 --     holds_all, lowered      whether a descriptor has these rights;  the table where it has exactly these

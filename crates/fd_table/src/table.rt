@@ -198,8 +198,9 @@ impl FdTable {
         Ok(made)
     }
 
-    /// Takes out the descriptor of the lowest number that has one, and returns both. `None` is the answer of a table with
-    /// no descriptors.
+    /// Takes out the descriptor of the lowest number that has one, and returns both.
+    ///
+    /// `None` is the answer of a table with no descriptors.
     pub fn pop_first(&mut self) -> Option<(u32, Descriptor)>
         ensures none { IsNone result ↔ (self.old ≡ map.empty) }
         ensures unchanged { IfNone result (self.new ≡ self.old) }
