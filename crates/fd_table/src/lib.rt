@@ -1,0 +1,12 @@
+//! A process's descriptors: a finite map from numbers below [`MOST_DESCRIPTORS`](abi_base::MOST_DESCRIPTORS) to
+//! descriptors.
+//!
+//! [`FdTable`] is that map. `specs/Table.antt` has the words that its contracts cite, and `specs/Sizes.antt` says what
+//! the size of such a map tells of its free numbers.
+#![tactic(auto)]
+
+pub use faults::{InsertFault, PickFault};
+pub use table::FdTable;
+
+mod faults;
+mod table;
