@@ -1,5 +1,3 @@
-pub mod Undo
-pub mod Unheld
 pub mod Counts
 pub mod Ends
 pub mod Lives

@@ -9,7 +9,7 @@ use Rattle.abi_base.specs.declared.grant.Grant.{Grant}
 use Rattle.abi_types.specs.declared.open_kind.OpenKind.{OpenKind}
 use Rattle.number_map.specs.Maps.{number, get-insert-same, get-insert-other, insert-again, total, total-empty, total-insert_new}
 use Rattle.kernel_core.specs.Kernel.{IsKept}
-use Rattle.kernel_core.specs.Objects.{Held}
+use Rattle.object_store.specs.Objects.{Held}
 use Rattle.kernel_core.specs.Start.{granted_objects}
 use Rattle.kernel_model.specs.Release.{names_open, count_in, holders}
 use Rattle.abi_base.specs.Grants.{AreGrants}

@@ -2,7 +2,7 @@
 use Rattle.std.specs.Prelude.{List}
 use Rattle.std.specs.FinMap.{from_entries}
 use Rattle.abi_base.specs.declared.grant.Grant.{Grant}
-use Rattle.kernel_core.specs.Objects.{Held}
+use Rattle.object_store.specs.Objects.{Held}
 use Rattle.kernel_model.specs.Start.{launch_object, numbered, granted_open}
 
 -- the opens of the granted descriptors, each held once

@@ -18,7 +18,6 @@ ghost use Rattle.kernel_model.specs.Valid.{IsValid};
 ghost use Rattle.kernel_model.specs.View.{whole};
 
 use crate::needs::{named, need, placed, refusal, refused, success};
-use crate::objects::Objects;
 use crate::own::Own;
 use crate::start::{granted, single, streams};
 use crate::table::{Table as Descriptors, let_go_all};
@@ -27,6 +26,7 @@ use abi_types::{
     Status, Stream, Thread, Tid, Who,
 };
 use number_map::NumMap;
+use object_store::Objects;
 use run_types::Launch;
 use std::alloc::{AllocError, Global};
 use std::marker::Model;

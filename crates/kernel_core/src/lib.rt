@@ -6,7 +6,6 @@ pub use run_types::{Act, Entry, History, Launch, Record};
 
 mod kernel;
 mod needs;
-mod objects;
 mod own;
 mod start;
 mod table;

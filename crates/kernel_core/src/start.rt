@@ -4,11 +4,11 @@ ghost use Rattle.std.specs.FinMap as map;
 ghost use Rattle.kernel_model.specs.Start.{launch_object, open_of, granted_descriptor, granted_open, granted_table, unwritten};
 ghost use Rattle.kernel_core.specs.Start.{granted_objects};
 
-use crate::objects::Objects;
 use crate::table::Table;
 use abi_base::MOST_DESCRIPTORS;
 use abi_types::{Bytes, Descriptor, Grant, GrantTarget, ObjId, OpenKind, Stream, TryClone};
 use number_map::NumMap;
+use object_store::Objects;
 use std::alloc::{AllocError, Global};
 
 // The process number that stands in the numbers of the objects that the launch makes.

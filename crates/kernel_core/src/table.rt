@@ -4,9 +4,9 @@ ghost use Rattle.std.specs.FinMap as map;
 ghost use Rattle.number_map.specs.Maps.{number};
 ghost use Rattle.kernel_model.specs.Release.{count_in};
 
-use crate::objects::Objects;
 use abi_types::Descriptor;
 use number_map::NumMap;
+use object_store::Objects;
 
 /// A process's descriptors by number.
 pub type Table = NumMap<Descriptor>;

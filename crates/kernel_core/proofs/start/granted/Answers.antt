@@ -1,7 +1,7 @@
 use Rattle.std.proofs.Common.{◌+◌, ap, sym, ◌∙◌, take}
 use Rattle.std.proofs.lemmas.List.{length-take-le}
 use Rattle.std.specs.FinMap.{get}
-use Rattle.kernel_core.specs.Objects.{Held}
+use Rattle.object_store.specs.Objects.{Held}
 use Rattle.kernel_model.specs.Start.{launch_object}
 use Rattle.kernel_core.proofs.Starts.{next_free, table_next, objects_next}
 use Rattle.kernel_core.proofs.start.granted.Goals as goal

@@ -2,7 +2,7 @@ use Rattle.std.proofs.Common.{◌≡◌, ℕ, ◌+◌, ◌<◌, ap, refl, ◌∙
 use Rattle.std.specs.FinMap.{get}
 use Rattle.number_map.specs.Maps.{number, total-empty}
 use Rattle.kernel_model.specs.Release.{names_open, count_in}
-use Rattle.kernel_core.specs.Objects.{Held}
+use Rattle.object_store.specs.Objects.{Held}
 use Rattle.kernel_model.specs.State.{Table}
 use Rattle.kernel_core.proofs.Counts.{count_in-remove, counted_at_own, number-let_go}
 use Rattle.kernel_core.proofs.table.let_go_all.Goals as goal
@@ -19,11 +19,11 @@ loop-descriptor-preserved c =
     let own = counted_at_own _ _ _ c.in-Some.ensures.value in
     let held : 0 < number (get objects.counts d.id) = omega (arith, own, c.loop-descriptor.invariant.covered d.id) in
     let less : (o : ℕ) → number (get c.let_go.new.self.counts o) + names_open o d ≡ number (get objects.counts o) = λ o.
-    ap (λ (h : Held). number (get h.counts o) + names_open o d) c.let_go.ensures ∙ number-let_go objects.counts d o held in
+    ap (λ (h : Held). number (get h.counts o) + names_open o d) c.let_go.ensures.new ∙ number-let_go objects.counts d o held in
     let left : (o : ℕ) → count_in o c.pop_first.new.self + names_open o d ≡ count_in o c.loop-descriptor.table = λ o.
     ap (λ (t : Table). count_in o t + names_open o d) c.in-Some.ensures.new ∙ count_in-remove o _ _ _ c.in-Some.ensures.value in
     record {
-      kinds = ap (λ (h : Held). h.kinds) c.let_go.ensures ∙ c.loop-descriptor.invariant.kinds;
+      kinds = ap (λ (h : Held). h.kinds) c.let_go.ensures.new ∙ c.loop-descriptor.invariant.kinds;
       covered = λ o. omega (arith, less o, left o, c.loop-descriptor.invariant.covered o);
       counts = λ o. omega (arith, less o, left o, c.loop-descriptor.invariant.counts o);
     }

@@ -3,7 +3,7 @@ use Rattle.std.specs.Ordering.{nat_cmp}
 use Rattle.std.specs.FinMap.{FinMap, get, insert, empty, retain_keys}
 use Rattle.abi_types.specs.declared.open_kind.OpenKind.{OpenKind}
 use Rattle.number_map.specs.Maps.{number, total}
-use Rattle.kernel_core.specs.Objects.{Held, is_held}
+use Rattle.object_store.specs.Objects.{Held, is_held}
 use Rattle.kernel_model.specs.ProcessCalls.{ended_own, end_updates}
 use Rattle.kernel_model.specs.Release.{count_in, holders, release}
 use Rattle.kernel_model.specs.State.{State, put_all}

@@ -1,7 +1,8 @@
 use Rattle.std.proofs.Common.{◌≡◌, sym, ap, subst, ◌∙◌}
 use Rattle.std.specs.Ordering.{nat_cmp}
 use Rattle.std.specs.FinMap.{insert, empty}
-use Rattle.kernel_core.specs.Objects.{Held}
+use Rattle.object_store.specs.Objects.{Held}
+use Rattle.object_store.specs.contracts.objects.Objects.{the_view}
 use Rattle.kernel_core.specs.Start.{granted_objects}
 use Rattle.kernel_model.specs.Start.{granted_table, start_state}
 use Rattle.kernel_model.specs.State.{State, Table, Own}
@@ -18,13 +19,13 @@ fields c = record {
   tables = c.in_ok-single.field-0;
   own = c.in_ok-single-2.field-0;
   statuses = c.in_ok-single-3.field-0;
-  opens = c.objects.inside.kinds;
+  opens = (the_view c.objects.inside).kinds;
   nodes = empty;
   names = empty;
   terms = c.in_ok-streams.field-0;
 }
 
-held : (c : In_ok-streams) → record { kinds = c.objects.inside.kinds; counts = c.objects.inside.counts } ≡ granted_objects c.args.launch.now.grants
+held : (c : In_ok-streams) → the_view c.objects.inside ≡ granted_objects c.args.launch.now.grants
 held c = c.objects.view_is ∙ c.in_ok-table.ensures.1 ∙ ap granted_objects c.as_slice.ensures
 
 made : (c : In_ok-streams) → fields c ≡ start_state c.args.launch.now.grants c.args.launch.now.stdin
@@ -38,7 +39,7 @@ made c =
     λ i. record { clock = 0; tables = tables i; own = own i; statuses = statuses i; opens = opens i; nodes = empty; names = empty; terms = terms i }
 
 pub invariant_of-result-2 : goal.invariant_of-result-2
-invariant_of-result-2 c = start_kept c.args.launch.now.grants c.args.launch.now.stdin (fields c) c.objects.inside.counts c.requires (made c) (ap (λ (h : Held). h.counts) (held c))
+invariant_of-result-2 c = start_kept c.args.launch.now.grants c.args.launch.now.stdin (fields c) (the_view c.objects.inside).counts c.requires (made c) (ap (λ (h : Held). h.counts) (held c))
 
 pub returns-clause-valid : goal.returns-clause-valid
 returns-clause-valid c = subst IsValid (sym (made c)) (start_valid c.args.launch.now.grants c.args.launch.now.stdin c.requires)

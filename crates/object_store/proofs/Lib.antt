@@ -1,0 +1,4 @@
+pub mod Views
+pub mod Places
+pub mod Kept
+pub mod Unheld

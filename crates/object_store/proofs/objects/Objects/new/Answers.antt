@@ -1,0 +1,9 @@
+use Rattle.object_store.proofs.Kept.{kept_new}
+use Rattle.object_store.proofs.Views.{view_new}
+use Rattle.object_store.proofs.objects.Objects.new.Goals as goal
+
+pub invariant_of-result : goal.invariant_of-result
+invariant_of-result c = rw (c.new.ensures, c.new-2.ensures.items) (kept_new _)
+
+pub returns : goal.returns
+returns c = rw c.new.ensures view_new
