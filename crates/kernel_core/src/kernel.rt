@@ -20,11 +20,12 @@ ghost use Rattle.kernel_model.specs.View.{whole};
 use crate::needs::{named, need, placed, refusal, refused, success};
 use crate::own::Own;
 use crate::start::{granted, single, streams};
-use crate::table::{Table as Descriptors, let_go_all};
+use crate::table::let_go_all;
 use abi_types::{
     Answer, Bytes, Call, Constants, Denial, Descriptor, Errno, Needed, OpenKind, Pid, Reply,
     Status, Stream, Thread, Tid, Who,
 };
+use fd_table::FdTable;
 use number_map::NumMap;
 use object_store::Objects;
 use run_types::Launch;
@@ -38,7 +39,7 @@ const STEP_TIME: u64 = 1000;
 #[derive(Drop)]
 pub struct Kernel {
     clock: u64,
-    tables: NumMap<Descriptors>,
+    tables: NumMap<FdTable>,
     own: NumMap<Own>,
     statuses: NumMap<Status>,
     objects: Objects,
@@ -125,7 +126,7 @@ impl Kernel {
         let Some(table) = self.tables.get(u64::from(pid.0)) else {
             return Ok(Answer::Reply(refused(Errno::Badf)));
         };
-        let Some(descriptor) = table.get(u64::from(fd)) else {
+        let Some(descriptor) = table.get(fd) else {
             return Ok(Answer::Reply(refused(Errno::Badf)));
         };
         match self.objects.get(descriptor.id) {

@@ -6,9 +6,9 @@ ghost use Rattle.kernel_model.specs.Need.{refusal, some_absent, first_lack, lack
 ghost use Rattle.kernel_model.specs.Reply.{success, refused, denied};
 ghost use Rattle.std.specs.FinMap as map;
 
-use crate::table::Table;
 use abi_types::{Call, Denial, Descriptor, Errno, Needed, Place, Reply, Rights};
 use arrayvec::ArrayVec;
+use fd_table::FdTable;
 
 /// A call that is done, with its results.
 pub fn success(r1: u64, r2: u64) -> Reply
@@ -71,11 +71,11 @@ pub fn need(call: &Call) -> ArrayVec<Needed, 2>
 }
 
 // Whether some of these descriptors is absent.
-fn some_absent(table: &Table, fds: &[u32]) -> bool
+fn some_absent(table: &FdTable, fds: &[u32]) -> bool
     ensures { result ≡ some_absent table.now fds.now }
 {
     for fd in fds {
-        if !table.contains(u64::from(*fd)) {
+        if !table.contains(*fd) {
             return true;
         }
     }
@@ -99,11 +99,11 @@ fn lack_at(held: &Descriptor, row: &Needed) -> Option<Denial>
 }
 
 // The denial of the first descriptor that lacks a right.
-fn first_lack(table: &Table, rows: &[Needed]) -> Option<Denial>
+fn first_lack(table: &FdTable, rows: &[Needed]) -> Option<Denial>
     ensures { result ≡ first_lack table.now rows.now }
 {
     for row in rows {
-        if let Some(held) = table.get(u64::from(row.fd)) {
+        if let Some(held) = table.get(row.fd) {
             let lack = lack_at(held, row);
             if lack.is_some() {
                 return lack;
@@ -114,7 +114,7 @@ fn first_lack(table: &Table, rows: &[Needed]) -> Option<Denial>
 }
 
 /// The refusal for want of a descriptor that is named, and where all are there for want of rights.
-pub fn refusal(table: &Table, named: &[u32], rows: &[Needed]) -> Option<Reply>
+pub fn refusal(table: &FdTable, named: &[u32], rows: &[Needed]) -> Option<Reply>
     ensures { result ≡ refusal table.now named.now rows.now }
 {
     if some_absent(table, named) {

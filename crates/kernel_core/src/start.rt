@@ -4,9 +4,9 @@ ghost use Rattle.std.specs.FinMap as map;
 ghost use Rattle.kernel_model.specs.Start.{launch_object, open_of, granted_descriptor, granted_open, granted_table, unwritten};
 ghost use Rattle.kernel_core.specs.Start.{granted_objects};
 
-use crate::table::Table;
 use abi_base::MOST_DESCRIPTORS;
 use abi_types::{Bytes, Descriptor, Grant, GrantTarget, ObjId, OpenKind, Stream, TryClone};
+use fd_table::FdTable;
 use number_map::NumMap;
 use object_store::Objects;
 use std::alloc::{AllocError, Global};
@@ -66,7 +66,7 @@ fn open_of(target: GrantTarget) -> OpenKind
 
 // Puts a granted descriptor at its number, and its open, which it alone holds.
 fn put_grant(
-    table: &mut Table,
+    table: &mut FdTable,
     objects: &mut Objects,
     number: u64,
     grant: &Grant,
@@ -87,16 +87,16 @@ fn put_grant(
         base: grant.base,
         inheriting: grant.inheriting,
     };
-    table.insert(number, descriptor)?;
+    table.insert_at(number as u32, descriptor)?;
     Ok(())
 }
 
 /// The table of the granted descriptors, and their opens, each held once.
-pub fn granted(alloc: Global, grants: &[Grant]) -> Result<(Table, Objects), AllocError>
+pub fn granted(alloc: Global, grants: &[Grant]) -> Result<(FdTable, Objects), AllocError>
     requires { length grants.now ≤ MOST_DESCRIPTORS }
     ensures { IfOk result (λ made. (made.0 ≡ granted_table grants.now) × (made.1 ≡ granted_objects grants.now)) }
 {
-    let mut table = Table::new(alloc);
+    let mut table = FdTable::new(alloc);
     let mut objects = Objects::new(alloc);
     for (number, grant) in grants.iter().enumerate() {
         put_grant(&mut table, &mut objects, number as u64, grant)?;

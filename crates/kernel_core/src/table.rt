@@ -4,15 +4,11 @@ ghost use Rattle.std.specs.FinMap as map;
 ghost use Rattle.number_map.specs.Maps.{number};
 ghost use Rattle.kernel_model.specs.Release.{count_in};
 
-use abi_types::Descriptor;
-use number_map::NumMap;
+use fd_table::FdTable;
 use object_store::Objects;
 
-/// A process's descriptors by number.
-pub type Table = NumMap<Descriptor>;
-
 /// Empties a table: each open has as many holders less as the table named it.
-pub fn let_go_all(table: &mut Table, objects: &mut Objects)
+pub fn let_go_all(table: &mut FdTable, objects: &mut Objects)
     requires { (o : ℕ) → count_in o table.old ≤ number (map.get objects.old.counts o) }
     ensures empty { table.new ≡ map.empty }
     ensures kinds { objects.new.kinds ≡ objects.old.kinds }

@@ -9,16 +9,13 @@ use Rattle.abi_types.specs.declared.status.Status.{Status}
 use Rattle.abi_types.specs.declared.counts.Counts.{Counts}
 use Rattle.abi_types.specs.declared.stream.Stream.{Stream}
 use Rattle.abi_types.specs.contracts.counts.Counts as counts
-use Rattle.abi_types.specs.contracts.descriptor.Descriptor as descriptor
 use Rattle.abi_types.specs.contracts.node.Node as node
 use Rattle.abi_types.specs.contracts.open_kind.OpenKind as open_kind
 use Rattle.abi_types.specs.contracts.status.Status as status
 use Rattle.abi_types.specs.contracts.stream.Stream as stream
 use Rattle.abi_types.specs.contracts.thread.Thread as thread
+use Rattle.fd_table.specs.Table.{table_code}
 use Rattle.kernel_model.specs.State.{State, Table, Threads, Own, Names}
-
-abbrev pub table_code : Coded Table
-table_code = code coded_ℕ descriptor.the_row.coded
 
 abbrev pub threads_code : Coded Threads
 threads_code = code coded_ℕ thread.the_row.coded

@@ -5,16 +5,12 @@ use Rattle.std.specs.Ordering.{nat_cmp}
 use Rattle.std.specs.FinMap.{FinMap, get, insert}
 use Rattle.std.specs.Option.{option_map}
 use Rattle.abi_types.specs.declared.counts.Counts.{Counts}
-use Rattle.abi_types.specs.declared.descriptor.Descriptor.{Descriptor}
 use Rattle.abi_types.specs.declared.node.Node.{Node}
 use Rattle.abi_types.specs.declared.open_kind.OpenKind.{OpenKind}
 use Rattle.abi_types.specs.declared.status.Status.{Status}
 use Rattle.abi_types.specs.declared.stream.Stream.{Stream}
 use Rattle.abi_types.specs.declared.thread.Thread.{Thread}
-
--- a process's descriptors by number
-abbrev pub Table : Type 0
-Table = FinMap nat_cmp Descriptor
+pub use Rattle.fd_table.specs.Table.{Table}
 
 -- a process's live threads by number
 abbrev pub Threads : Type 0
