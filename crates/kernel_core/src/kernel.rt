@@ -17,7 +17,7 @@ ghost use Rattle.kernel_model.specs.StreamCalls.{write_term, write_to};
 ghost use Rattle.kernel_model.specs.Valid.{IsValid};
 ghost use Rattle.kernel_model.specs.View.{whole};
 
-use crate::needs::{named, need, placed, refusal, refused, success};
+use crate::memory_calls::placed;
 use crate::own::Own;
 use crate::start::{granted, single, streams};
 use crate::table::let_go_all;
@@ -28,6 +28,7 @@ use abi_types::{
 use fd_table::FdTable;
 use number_map::NumMap;
 use object_store::Objects;
+use right_rules::{refusal, refused, success};
 use run_types::Launch;
 use std::alloc::{AllocError, Global};
 use std::marker::Model;
@@ -145,7 +146,7 @@ impl Kernel {
         let Some(table) = self.tables.get(u64::from(who.pid.0)) else {
             return Ok(Answer::Reply(refused(Errno::Badf)));
         };
-        if let Some(reply) = refusal(table, named(call).as_slice(), need(call).as_slice()) {
+        if let Some(reply) = refusal(table, call) {
             return Ok(Answer::Reply(reply));
         }
         match call {

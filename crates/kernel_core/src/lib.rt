@@ -5,7 +5,7 @@ pub use kernel::Kernel;
 pub use run_types::{Act, Entry, History, Launch, Record};
 
 mod kernel;
-mod needs;
+mod memory_calls;
 mod own;
 mod start;
 mod table;

@@ -5,9 +5,8 @@ use Rattle.abi_types.specs.declared.call.Answer.{Answer}
 use Rattle.abi_types.specs.declared.call.Answer.TheVariants as answer
 use Rattle.abi_types.specs.declared.call.Reply.{Reply}
 use Rattle.abi_types.specs.declared.who.Who.{Who}
-use Rattle.kernel_model.specs.Calls.{meaning_of, need, refusal}
+use Rattle.kernel_model.specs.Calls.{meaning_of, refusal}
 use Rattle.kernel_model.specs.MemoryCalls.{placed}
-use Rattle.kernel_model.specs.Need as needs
 use Rattle.kernel_model.specs.Outcome.{replies}
 use Rattle.kernel_model.specs.Reply.{refused}
 use Rattle.kernel_model.specs.Release.{release}
@@ -34,9 +33,7 @@ valid c = subst IsValid c.self.view_is c.self.invariant.valid
 -- the refusal is of what the call names and needs
 rows : (c : After-refusal) → refusal c.in-Some.table.now c.args.call.now ≡ c.refusal.result
 rows c =
-    ap (λ fds. needs.refusal c.in-Some.table.now fds (need c.args.call.now)) (sym (c.as_slice.ensures.value ∙ c.named.ensures))
-    ∙ ap (needs.refusal c.in-Some.table.now c.as_slice.result.now) (sym (c.as_slice-2.ensures.value ∙ c.need.ensures))
-    ∙ sym c.refusal.ensures
+    sym c.refusal.ensures
 
 -- what is said of a call's answer, where the call changes nothing
 abbrev IsAnswered : After-refusal → Answer → Type 0

@@ -1,0 +1,29 @@
+//! Replies of calls.
+ghost use Rattle.std.specs.Prelude.{◌≡◌};
+ghost use Rattle.kernel_model.specs.Reply.{success, refused};
+
+use abi_types::{Errno, Reply};
+
+/// A call that is done, with its results.
+pub fn success(r1: u64, r2: u64) -> Reply
+    ensures { result ≡ success r1 r2 }
+{
+    Reply {
+        errno: Errno::Success,
+        r1,
+        r2,
+        denial: None,
+    }
+}
+
+/// A call that is refused by an error.
+pub fn refused(errno: Errno) -> Reply
+    ensures { result ≡ refused errno }
+{
+    Reply {
+        errno,
+        r1: 0,
+        r2: 0,
+        denial: None,
+    }
+}
