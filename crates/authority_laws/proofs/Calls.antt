@@ -1,15 +1,14 @@
 -- What each call leaves of its process's table is what its line of `granted_row` says.
-use Rattle.std.proofs.Common.{◌≡◌, ◌≢◌, ℕ, Bool, true, false, cond, List, Option, Some, None, refl, sym, ap, ◌∙◌}
+use Rattle.std.proofs.Common.{◌≡◌, ℕ, List, Option, Some, None, refl, sym, ap, ◌∙◌}
 use Rattle.std.specs.FinMap.{get}
 use Rattle.abi_base.specs.declared.errno.Errno.{Errno}
-use Rattle.abi_base.specs.declared.errno.Errno.TheVariants.{Success, Badf, Notcapable}
+use Rattle.abi_base.specs.declared.errno.Errno.TheVariants.{Success}
 use Rattle.abi_types.specs.declared.call.Answer.{Answer}
 use Rattle.abi_types.specs.declared.call.Answer.TheVariants as answer
 use Rattle.abi_types.specs.declared.call.Call.{Call}
 use Rattle.abi_types.specs.declared.call.Call.TheVariants.{FdWrite, MemMap, Memory, ProcExit, Refused}
 use Rattle.abi_types.specs.declared.call.Reply.{Reply}
 use Rattle.abi_types.specs.declared.constants.Constants.{Constants}
-use Rattle.abi_types.specs.declared.descriptor.Denial.{Denial}
 use Rattle.abi_types.specs.declared.descriptor.Descriptor.{Descriptor}
 use Rattle.abi_types.specs.declared.open_kind.OpenKind.{OpenKind}
 use Rattle.abi_types.specs.declared.open_kind.OpenKind.TheVariants.{Terminal}
@@ -18,15 +17,14 @@ use Rattle.abi_types.specs.declared.place.Place.TheVariants as place
 use Rattle.abi_types.specs.declared.place.Place.TheVariants.{At}
 use Rattle.abi_types.specs.declared.stream.Stream.{Stream}
 use Rattle.abi_types.specs.declared.who.Who.{Who}
-use Rattle.kernel_model.specs.Calls.{meaning_of, named, need, refusal_of}
-use Rattle.kernel_model.specs.Need.{some_absent, first_lack, denied_by}
+use Rattle.kernel_model.specs.Calls.{meaning_of, refusal_of}
 use Rattle.kernel_model.specs.Outcome.{Outcome, replies}
-use Rattle.kernel_model.specs.Reply.{refused, denied}
+use Rattle.kernel_model.specs.Reply.{refused}
 use Rattle.kernel_model.specs.State.{State, Table, put_all}
 use Rattle.kernel_model.specs.StreamCalls.{write_term, write_open, write_to}
 use Rattle.kernel_model.specs.MemoryCalls.{mem_map}
 use Rattle.kernel_model.specs.View.{View}
-use Rattle.kernel_model.proofs.Tests.{none_is_no, same_some}
+use Rattle.kernel_model.proofs.Refusals.{refusal_is_other}
 use Rattle.authority_laws.specs.Ledger.{Row, granted_row, by_success, answered_row}
 use Rattle.authority_laws.proofs.Rows.{row_in, row_of, row_emptied, by_error, by_either}
 
@@ -98,21 +96,6 @@ told (Refused number errno) = λ constants S v who table. decided_told (Refused 
 
 -- ---- refusals for want of a descriptor or of rights
 
-badf_is_error : Badf ≢ Success
-badf_is_error e = cc
-
-notcapable_is_error : Notcapable ≢ Success
-notcapable_is_error e = cc
-
-error_of : (absent : Bool) (lack : Option Denial) (reply : Reply) → cond absent (Some (refused Badf)) (denied_by lack) ≡ Some reply → reply.errno ≢ Success
-error_of true lack reply is errno = badf_is_error (ap (λ (r : Reply). r.errno) (same_some (refused Badf) reply is) ∙ errno)
-error_of false None reply is errno = none_is_no reply is
-error_of false (Some x) reply is errno = notcapable_is_error (ap (λ (r : Reply). r.errno) (same_some (denied x) reply is) ∙ errno)
-
-error_on : (call : Call) (t : Option Table) (reply : Reply) → refusal_of call t ≡ Some reply → reply.errno ≢ Success
-error_on call None reply is errno = badf_is_error (ap (λ (r : Reply). r.errno) (same_some (refused Badf) reply is) ∙ errno)
-error_on call (Some table) reply is errno = error_of (some_absent table (named call)) (first_lack table (need call)) reply is errno
-
 pub refusal_told : (S : State) (p : ℕ) (call : Call) (t : Option Table) (reply : Reply) → refusal_of call t ≡ Some reply
     → LeavesRow S p call (replies reply)
-refusal_told S p call t reply is = sym (by_error reply.errno (granted_row (row_of S p) call reply) (row_of S p) (error_on call t reply is))
+refusal_told S p call t reply is = sym (by_error reply.errno (granted_row (row_of S p) call reply) (row_of S p) (refusal_is_other Success (λ e. cc) (λ e. cc) call t reply is))

@@ -19,8 +19,8 @@ use Rattle.kernel_model.specs.StreamCalls.{write_term, write_open, write_to}
 use Rattle.kernel_model.specs.Valid.{IsValid}
 use Rattle.kernel_model.specs.View.{whole}
 use Rattle.kernel_model.proofs.Outcomes.{outcome_reads}
-use Rattle.kernel_model.proofs.Valids.{release_valid}
-use Rattle.kernel_core.proofs.Streams.{some_stays, written_valid}
+use Rattle.kernel_model.proofs.Valids.{some_inserted, release_valid}
+use Rattle.kernel_core.proofs.Streams.{written_valid}
 
 -- a refused call answers the refusal alone
 pub act_refused : (constants : Constants) (S : State) (who : Who) (call : Call) (table : Table) (reply : Reply) → get S.tables who.pid ≡ Some table
@@ -38,7 +38,7 @@ act_allowed constants S who call table there is =
 written_released : (S : State) (bytes : List ℕ) (which : ℕ) (stream : Option Stream) → IsValid S
     → release (put_all (write_term bytes which stream).updates S) ≡ put_all (write_term bytes which stream).updates S
 written_released S bytes which None v = release_valid S v
-written_released S bytes which (Some stream) v = release_valid _ (written_valid S (insert S.terms which _) (some_stays S.terms which _) v)
+written_released S bytes which (Some stream) v = release_valid _ (written_valid S (insert S.terms which _) (some_inserted S.terms which _) v)
 
 opened_released : (S : State) (bytes : List ℕ) (open_kind : Option OpenKind) → IsValid S
     → release (put_all (write_open (whole S) bytes open_kind).updates S) ≡ put_all (write_open (whole S) bytes open_kind).updates S

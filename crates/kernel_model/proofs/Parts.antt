@@ -1,11 +1,13 @@
 -- Parts of states, and what updates leave of them.
-use Rattle.std.proofs.Common.{◌≡◌, ◌≢◌, ℕ, ◌==◌, ◌||◌, Bool, true, false, T, List, [], ◌∷◌, ◌++◌, map, inl, inr, refl, sym, ap, subst, ◌∙◌}
+use Rattle.std.proofs.Common.{◌≡◌, ◌≢◌, ℕ, ◌==◌, ◌||◌, Bool, true, false, T, List, [], ◌∷◌, ◌++◌, map, Some, inl, inr, refl, sym, ap, subst, ◌∙◌}
 use Rattle.std.proofs.lemmas.Bool.Decides.{eqb_tells}
 use Rattle.std.specs.Ordering.{nat_cmp}
 use Rattle.std.specs.FinMap.{FinMap, get, insert}
 use Rattle.number_map.specs.Maps.{get-insert-same, get-insert-other}
+use Rattle.abi_types.specs.declared.status.Status.TheVariants.{Live}
+use Rattle.kernel_model.specs.Outcome.{Outcome}
 use Rattle.kernel_model.specs.Sight.{own_parts}
-use Rattle.kernel_model.specs.State.{State, Part, at_clock, at_proc, at_status, at_open, at_node, at_names, at_term, same_part, has_part, Agree, AgreeOn, Update, set_table, set_own, set_status, set_node, set_names, set_term, part_of, put_one, put_all}
+use Rattle.kernel_model.specs.State.{State, Part, at_clock, at_proc, at_status, at_open, at_node, at_names, at_term, same_part, has_part, Agree, AgreeOn, Update, set_table, set_own, set_status, set_node, set_names, set_term, part_of, put_one, put_all, threads_of}
 use Rattle.kernel_model.proofs.Tests.{not_true, either_false, either_true}
 
 -- ---- lists of parts
@@ -113,3 +115,9 @@ put_one_same u S T q h = h
 pub put_same : (us : List Update) (S T : State) (q : Part) → Agree S T q → Agree (put_all us S) (put_all us T) q
 put_same [] S T q h = h
 put_same (u ∷ us) S T q h = put_same us (put_one u S) (put_one u T) q (put_one_same u S T q h)
+
+-- ---- threads
+
+-- a process that is live after the outcome has the threads that it had
+abbrev pub KeepsThreads : State → ℕ → Outcome → Type 0
+KeepsThreads S p o = get (put_all o.updates S).statuses p ≡ Some Live → threads_of (put_all o.updates S) p ≡ threads_of S p

@@ -10,6 +10,7 @@ use Rattle.abi_types.specs.declared.call.Reply.{Reply}
 use Rattle.abi_types.specs.declared.constants.Constants.{Constants}
 use Rattle.abi_types.specs.declared.descriptor.Denial.{Denial}
 use Rattle.abi_types.specs.declared.descriptor.Descriptor.{Descriptor}
+use Rattle.abi_base.specs.declared.errno.Errno.{Errno}
 use Rattle.abi_base.specs.declared.errno.Errno.TheVariants.{Success, Badf, Nomem, Notcapable}
 use Rattle.abi_types.specs.declared.needed.Needed.{Needed}
 use Rattle.abi_types.specs.declared.who.Who.{Who}
@@ -256,6 +257,30 @@ replies_are_listed constants S who call reply T (inl done) =
 replies_are_listed constants S who call reply T (inr lacking) =
     inr (inr (inr (lacking.0.0, lacking.0.1, same_reply reply (refused Nomem) lacking.1)))
 
+-- ---- what a refusal is
+
+-- BADF, or a denial
+abbrev IsRefusal : Reply → Type 0
+IsRefusal reply = (reply ≡ refused Badf) ⊎ ((denial : Denial) × (reply ≡ denied denial))
+
+refusal_by : (absent : Bool) (lack : Option Denial) (reply : Reply) → cond absent (Some (refused Badf)) (denied_by lack) ≡ Some reply → IsRefusal reply
+refusal_by true lack reply is = inl (sym (same_some (refused Badf) reply is))
+refusal_by false None reply is = absurd (none_is_no reply is)
+refusal_by false (Some denial) reply is = inr (denial, sym (same_some (denied denial) reply is))
+
+refusal_is : (call : Call) (t : Option Table) (reply : Reply) → refusal_of call t ≡ Some reply → IsRefusal reply
+refusal_is call None reply is = inl (sym (same_some (refused Badf) reply is))
+refusal_is call (Some table) reply is = refusal_by (some_absent table (named call)) (first_lack table (need call)) reply is
+
+-- no refusal answers any other error
+pub refusal_is_other : (errno : Errno) → Badf ≢ errno → Notcapable ≢ errno → (call : Call) (t : Option Table) (reply : Reply) → refusal_of call t ≡ Some reply
+    → reply.errno ≢ errno
+refusal_is_other errno badf notcapable call t reply is e =
+    elim (refusal_is call t reply is) [
+      | inl absent ↦ badf (sym (ap (λ (r : Reply). r.errno) absent) ∙ e)
+      | inr lacks ↦ notcapable (sym (ap (λ (r : Reply). r.errno) lacks.1) ∙ e)
+    ]
+
 -- ---- NOTCAPABLE
 
 badf_is_other : Badf ≢ Notcapable
@@ -265,15 +290,12 @@ success_is_other : Success ≢ Notcapable
 success_is_other e = cc
 
 -- a refusal with NOTCAPABLE says what is missing
-notcapable_of : (absent : Bool) (lack : Option Denial) (reply : Reply) → cond absent (Some (refused Badf)) (denied_by lack) ≡ Some reply
-    → reply.errno ≡ Notcapable → IsSome reply.denial
-notcapable_of true lack reply is errno = absurd (badf_is_other (ap (λ (r : Reply). r.errno) (same_some (refused Badf) reply is) ∙ errno))
-notcapable_of false None reply is errno = absurd (none_is_no reply is)
-notcapable_of false (Some x) reply is errno = ap (λ (r : Reply). is_some r.denial) (sym (same_some (denied x) reply is))
-
 notcapable_on : (call : Call) (t : Option Table) (reply : Reply) → refusal_of call t ≡ Some reply → reply.errno ≡ Notcapable → IsSome reply.denial
-notcapable_on call None reply is errno = absurd (badf_is_other (ap (λ (r : Reply). r.errno) (same_some (refused Badf) reply is) ∙ errno))
-notcapable_on call (Some table) reply is errno = notcapable_of (some_absent table (named call)) (first_lack table (need call)) reply is errno
+notcapable_on call t reply is errno =
+    elim (refusal_is call t reply is) [
+      | inl absent ↦ absurd (badf_is_other (sym (ap (λ (r : Reply). r.errno) absent) ∙ errno))
+      | inr lacks ↦ ap (λ (r : Reply). is_some r.denial) lacks.1
+    ]
 
 pub notcapable_is_denied : (constants : Constants) (S : State) (who : Who) (call : Call) (reply : Reply) → IsNotDeniedEarly call
     → step_answer constants S who call ≡ answer.Reply reply → reply.errno ≡ Notcapable → IsSome reply.denial
@@ -288,24 +310,8 @@ notcapable_is_denied constants S who call reply early is errno =
 
 -- ---- no answer but the allowed one is want of memory
 
-badf_is_no_lack : Badf ≢ Nomem
-badf_is_no_lack e = cc
-
 success_is_no_lack : Success ≢ Nomem
 success_is_no_lack e = cc
-
-notcapable_is_no_lack : Notcapable ≢ Nomem
-notcapable_is_no_lack e = cc
-
--- no refusal is want of memory
-no_lack_of : (absent : Bool) (lack : Option Denial) (reply : Reply) → cond absent (Some (refused Badf)) (denied_by lack) ≡ Some reply → reply.errno ≢ Nomem
-no_lack_of true lack reply is errno = badf_is_no_lack (ap (λ (r : Reply). r.errno) (same_some (refused Badf) reply is) ∙ errno)
-no_lack_of false None reply is errno = none_is_no reply is
-no_lack_of false (Some x) reply is errno = notcapable_is_no_lack (ap (λ (r : Reply). r.errno) (same_some (denied x) reply is) ∙ errno)
-
-no_lack_on : (call : Call) (t : Option Table) (reply : Reply) → refusal_of call t ≡ Some reply → reply.errno ≢ Nomem
-no_lack_on call None reply is errno = badf_is_no_lack (ap (λ (r : Reply). r.errno) (same_some (refused Badf) reply is) ∙ errno)
-no_lack_on call (Some table) reply is errno = no_lack_of (some_absent table (named call)) (first_lack table (need call)) reply is errno
 
 -- none of the errors that the call answers of its own is want of memory
 abbrev pub IsNoLackOf : Call → Type 0
@@ -315,7 +321,7 @@ pub reply_no_lack : (constants : Constants) (S : State) (who : Who) (call : Call
     → step_answer constants S who call ≡ answer.Reply reply → reply.errno ≢ Nomem
 reply_no_lack constants S who call reply none is errno =
     elim (reply_from constants S who call reply is) [
-      | inl refuses ↦ no_lack_on call (get S.tables who.pid) reply refuses.0 errno
+      | inl refuses ↦ refusal_is_other Nomem (λ e. cc) (λ e. cc) call (get S.tables who.pid) reply refuses.0 errno
       | inr own ↦ elim own.1 [
         | inl success ↦ success_is_no_lack (sym success ∙ errno)
         | inr error ↦ in_all (λ e. e ≢ Nomem) reply.errno (errors_of call) none error.1 errno

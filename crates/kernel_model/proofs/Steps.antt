@@ -18,7 +18,7 @@ use Rattle.kernel_model.specs.Valid.{IsNearlyValid, IsValid}
 use Rattle.kernel_model.specs.View.{whole}
 use Rattle.kernel_model.proofs.Calls.{proper}
 use Rattle.kernel_model.proofs.Outcomes.{outcome_holds}
-use Rattle.kernel_model.proofs.Parts.{put_keeps}
+use Rattle.kernel_model.proofs.Parts.{KeepsThreads, put_keeps}
 use Rattle.kernel_model.proofs.ProcessCalls.{end_others}
 use Rattle.kernel_model.proofs.Valids.{release_restores, tick_nearly_valid, tick_valid, end_nearly_valid}
 
@@ -76,10 +76,6 @@ step_others constants S who call q apart =
     put_others (outcome constants S who call).updates (tick S) q unset.0 unset.1
 
 -- ---- threads
-
--- a process that is live after the outcome has the threads that it had
-abbrev KeepsThreads : State → ℕ → Outcome → Type 0
-KeepsThreads S p o = get (put_all o.updates S).statuses p ≡ Some Live → threads_of (put_all o.updates S) p ≡ threads_of S p
 
 step_threads : (constants : Constants) (S : State) (who : Who) (call : Call) → get (step_state constants S who call).statuses who.pid ≡ Some Live
     → threads_of (step_state constants S who call) who.pid ≡ threads_of S who.pid

@@ -8,18 +8,17 @@ use Rattle.abi_types.specs.declared.needed.Needed.{Needed}
 use Rattle.abi_types.specs.declared.open_kind.OpenKind.{OpenKind}
 use Rattle.abi_types.specs.declared.open_kind.OpenKind.TheVariants.{Terminal}
 use Rattle.abi_base.specs.declared.rights.TheConstants.Rights.{FD_WRITE, NONE}
-use Rattle.abi_types.specs.declared.status.Status.TheVariants.{Live}
 use Rattle.abi_types.specs.declared.stream.Stream.{Stream}
 use Rattle.kernel_model.specs.Outcome.{Outcome, replies}
 use Rattle.kernel_model.specs.Proper.{IsUnset, IsPlain, IsProper}
 use Rattle.kernel_model.specs.Reply.{success, refused}
 use Rattle.kernel_model.specs.Sight.{own_parts, behind, reached_by}
-use Rattle.kernel_model.specs.State.{State, Part, at_proc, at_status, at_open, at_term, same_part, has_part, put_all, set_term, threads_of}
+use Rattle.kernel_model.specs.State.{State, Part, at_proc, at_status, at_open, at_term, same_part, has_part, put_all, set_term}
 use Rattle.kernel_model.specs.Step.{tick}
 use Rattle.kernel_model.specs.StreamCalls.{write_term, write_open, write_to, fd_write}
 use Rattle.kernel_model.specs.Valid.{IsNearlyValid}
 use Rattle.kernel_model.specs.View.{View, restrict, whole}
-use Rattle.kernel_model.proofs.Parts.{outside_cons, has_of_both, beyond_own}
+use Rattle.kernel_model.proofs.Parts.{KeepsThreads, outside_cons, has_of_both, beyond_own}
 use Rattle.kernel_model.proofs.Sights.{first_seen}
 use Rattle.kernel_model.proofs.Tests.{or_false}
 use Rattle.kernel_model.proofs.Valids.{set_term_nearly_valid}
@@ -86,10 +85,6 @@ one_reached S d q h = has_of_both (reached_by S d) [] q ∙ or_false (has_part (
 
 badf_is_no_lack : Badf ≢ Nomem
 badf_is_no_lack e = cc
-
--- the process lives on with the threads that it had
-abbrev KeepsThreads : State → ℕ → Outcome → Type 0
-KeepsThreads S p o = get (put_all o.updates S).statuses p ≡ Some Live → threads_of (put_all o.updates S) p ≡ threads_of S p
 
 abbrev row_of : ℕ → Needed
 row_of fd = record { fd = fd; base = FD_WRITE; inheriting = NONE }

@@ -162,7 +162,8 @@ tick_valid S v = record { nearly = tick_nearly_valid S v.nearly; held = v.held }
 
 -- ---- one part set
 
-some_inserted : {X : Type 0} (m : FinMap nat_cmp X) (k : ℕ) (x : X) (q : ℕ) → IsSome (get m q) → IsSome (get (insert m k x) q)
+-- what is at a key stays there when a value is put at any key
+pub some_inserted : {X : Type 0} (m : FinMap nat_cmp X) (k : ℕ) (x : X) (q : ℕ) → IsSome (get m q) → IsSome (get (insert m k x) q)
 some_inserted m k x q h =
     elim (eqb_tells q k) [
       | inl is ↦ subst (λ j. IsSome (get (insert m k x) j)) (sym is.1) (ap is_some (get-insert-same m k x))
@@ -179,16 +180,21 @@ same_keys_inserted m n k x y same q =
       | inr other ↦ ap is_some (get-insert-other m k x q other.1) ∙ same q ∙ sym (ap is_some (get-insert-other n k y q other.1))
     ]
 
-pub set_term_nearly_valid : (S : State) (k : ℕ) (stream : Stream) → IsNearlyValid S → IsNearlyValid (put_one (set_term k stream) S)
-set_term_nearly_valid S k stream v = record {
+-- other streams, where none is missing that was there
+pub streams_nearly_valid : (S : State) (terms : FinMap nat_cmp Stream) → ((k : ℕ) → IsSome (get S.terms k) → IsSome (get terms k)) → IsNearlyValid S
+    → IsNearlyValid (record S { terms = terms })
+streams_nearly_valid S terms more v = record {
   named = v.named;
-  behind = λ o kind e. behind_same S (put_one (set_term k stream) S) (some_inserted S.terms k stream) kind (v.behind o kind e);
+  behind = λ o kind e. behind_same S (record S { terms = terms }) more kind (v.behind o kind e);
   tables = v.tables;
   owns = v.owns;
   ended = v.ended;
   numbered = v.numbered;
   made = v.made;
 }
+
+pub set_term_nearly_valid : (S : State) (k : ℕ) (stream : Stream) → IsNearlyValid S → IsNearlyValid (put_one (set_term k stream) S)
+set_term_nearly_valid S k stream v = streams_nearly_valid S (insert S.terms k stream) (some_inserted S.terms k stream) v
 
 -- ---- the end of a process
 
