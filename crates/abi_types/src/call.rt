@@ -1,19 +1,203 @@
-//! Calls of the kernel and what it answers.
-use crate::descriptor::Denial;
+//! Calls of the kernel.
+ghost use Rattle.std.specs.Prelude.{◌≡◌};
+ghost use Rattle.abi_types.specs.Numbers.{number_of};
+
+use crate::copied::{FdList, SubscriptionList};
 use crate::place::Place;
 use abi_base::Errno;
-use lists::{Bytes, TryClone};
-use std::alloc::AllocError;
+use abi_structures::{FdStat, FileStat, ThreadAttr};
+use lists::Bytes;
 
-/// A call, as the registers and the memory of its thread spell it (docs/ABI.md has the numbers).
+/// Where a path begins that a call treats: a descriptor, and lookup flags, of which 1 is SYMLINK_FOLLOW.
+#[derive(Clone, Copy, Debug, PartialEq, Eq)]
+pub struct Lookup {
+    pub fd: u32,
+    pub flags: u32,
+}
+
+/// A call, as the registers and the memory of its thread spell it, with its arguments in their order (docs/ABI.md has the
+/// numbers). In place of an address and a length of input it has the bytes, of which a path of over 1024 is 1025 zeros; in
+/// place of an array of iovecs the bytes to write, or the length to read, of at most 65,536; in place of a structure's
+/// address its fields; beside the address of a lock or a condition variable the word that was read there; and no address
+/// of output.
 #[derive(Drop)]
 pub enum Call {
-    /// Writes the bytes, at most 65,536, to the descriptor.
+    /// The resolution of a clock.
+    ClockResGet {
+        clock: u32,
+    },
+    /// The time of a clock.
+    ClockTimeGet {
+        clock: u32,
+        precision: u64,
+    },
+    /// Wakes up to `n` threads that wait at a condition variable.
+    CondvarSignal {
+        condvar: u64,
+        word: u32,
+        scope: u32,
+        n: u32,
+    },
+    /// Takes a descriptor away.
+    FdClose {
+        fd: u32,
+    },
+    /// Makes an open of a type that has one descriptor.
+    FdCreate1 {
+        kind: u32,
+    },
+    /// Makes two opens: the ends of a pipe or of a pair of streams.
+    FdCreate2 {
+        kind: u32,
+    },
+    /// Waits until written bytes are stored.
+    FdDatasync {
+        fd: u32,
+    },
+    /// A second number for a descriptor.
+    FdDup {
+        fd: u32,
+    },
+    /// Reads at most so many bytes of a file from an offset on.
+    FdPread {
+        fd: u32,
+        length: u64,
+        offset: u64,
+    },
+    /// Writes the bytes to a file from an offset on.
+    FdPwrite {
+        fd: u32,
+        bytes: Bytes,
+        offset: u64,
+    },
+    /// Reads at most so many bytes.
+    FdRead {
+        fd: u32,
+        length: u64,
+    },
+    /// Gives the number `to` what `from` stands for.
+    FdReplace {
+        from: u32,
+        to: u32,
+    },
+    /// Moves a file's offset, from its start, from where it is or from the file's end on.
+    FdSeek {
+        fd: u32,
+        offset: u64,
+        whence: u32,
+    },
+    /// What a descriptor is and may do.
+    FdStatGet {
+        fd: u32,
+    },
+    /// Sets a descriptor's flags, or lowers its rights.
+    FdStatPut {
+        fd: u32,
+        stat: FdStat,
+        flags: u32,
+    },
+    /// Waits until written bytes and times are stored.
+    FdSync {
+        fd: u32,
+    },
+    /// Writes the bytes.
     FdWrite {
         fd: u32,
         bytes: Bytes,
     },
-    /// Maps so many bytes of zeros at a place.
+    /// Tells how a part of a file will be used.
+    FileAdvise {
+        fd: u32,
+        offset: u64,
+        length: u64,
+        advice: u32,
+    },
+    /// Makes a file at least so long.
+    FileAllocate {
+        fd: u32,
+        offset: u64,
+        length: u64,
+    },
+    /// Makes a directory.
+    FileCreate {
+        fd: u32,
+        path: Bytes,
+        kind: u32,
+    },
+    /// Gives a file another name.
+    FileLink {
+        lookup: Lookup,
+        path: Bytes,
+        new_fd: u32,
+        new_path: Bytes,
+    },
+    /// Opens a file or a directory, with the flags and the rights that `stat` asks.
+    FileOpen {
+        lookup: Lookup,
+        path: Bytes,
+        oflags: u32,
+        stat: FdStat,
+    },
+    /// The entries of a directory from a place on, in at most so many bytes.
+    FileReaddir {
+        fd: u32,
+        length: u64,
+        cookie: u64,
+    },
+    /// A symbolic link's text, of which at most so many bytes.
+    FileReadlink {
+        fd: u32,
+        path: Bytes,
+        length: u64,
+    },
+    /// Gives a file another name in place of its name.
+    FileRename {
+        fd: u32,
+        path: Bytes,
+        new_fd: u32,
+        new_path: Bytes,
+    },
+    /// What a descriptor's file is.
+    FileStatFget {
+        fd: u32,
+    },
+    /// Sets the size or the times of a descriptor's file.
+    FileStatFput {
+        fd: u32,
+        stat: FileStat,
+        flags: u32,
+    },
+    /// What the file at a path is.
+    FileStatGet {
+        lookup: Lookup,
+        path: Bytes,
+    },
+    /// Sets the times of the file at a path.
+    FileStatPut {
+        lookup: Lookup,
+        path: Bytes,
+        stat: FileStat,
+        flags: u32,
+    },
+    /// Makes a symbolic link with this text.
+    FileSymlink {
+        text: Bytes,
+        fd: u32,
+        path: Bytes,
+    },
+    /// Takes a name away.
+    FileUnlink {
+        fd: u32,
+        path: Bytes,
+        flags: u32,
+    },
+    /// Lets a lock go.
+    LockUnlock {
+        lock: u64,
+        word: u32,
+        scope: u32,
+    },
+    /// Maps so many bytes at a place: zeros, or those of a file from an offset on.
     MemMap {
         place: Place,
         length: u64,
@@ -27,10 +211,64 @@ pub enum Call {
         number: u32,
         errno: Errno,
     },
+    /// Waits until one of the things comes about. At most 256.
+    Poll {
+        subscriptions: SubscriptionList,
+    },
+    /// Puts the program that the descriptor stands for in the process's place, with argument data and with these descriptors,
+    /// at most 1024.
+    ProcExec {
+        fd: u32,
+        bytes: Bytes,
+        fds: FdList,
+    },
     /// Ends the process with a code.
     ProcExit {
         code: u32,
     },
+    /// Makes a second process of this one, which has so many turns left.
+    ProcFork {
+        left: u64,
+    },
+    /// Sends the process a signal.
+    ProcRaise {
+        signal: u32,
+    },
+    /// So many random bytes.
+    RandomGet {
+        length: u64,
+    },
+    /// Receives at most so many bytes and at most `fds` descriptors.
+    SockRecv {
+        fd: u32,
+        length: u64,
+        fds: u64,
+        flags: u16,
+    },
+    /// Sends the bytes and the descriptors, at most 16.
+    SockSend {
+        fd: u32,
+        bytes: Bytes,
+        fds: FdList,
+        flags: u16,
+    },
+    /// Shuts one direction of a socket, or both.
+    SockShutdown {
+        fd: u32,
+        how: u32,
+    },
+    /// Makes a thread.
+    ThreadCreate {
+        attributes: ThreadAttr,
+    },
+    /// Lets a lock go and ends the thread.
+    ThreadExit {
+        lock: u64,
+        word: u32,
+        scope: u32,
+    },
+    /// Ends the thread's turn.
+    ThreadYield,
     /// A call of this number that is refused before the kernel looks at it.
     Refused {
         number: u64,
@@ -38,59 +276,59 @@ pub enum Call {
     },
 }
 
-/// What a call answers: an error, two results that are 0 unless the error is `Success`, and why it was denied.
-#[derive(Clone, Copy, Debug, PartialEq, Eq)]
-pub struct Reply {
-    pub errno: Errno,
-    pub r1: u64,
-    pub r2: u64,
-    pub denial: Option<Denial>,
-}
-
-/// What the kernel answers to a call at once.
-#[derive(Clone, Copy)]
-pub enum Answer {
-    /// The call is done, with this reply.
-    Reply(Reply),
-}
-
-impl TryClone for Call {
-    fn copy(&self) -> Result<Self, AllocError> {
+impl Call {
+    /// The call's number, 0 to 48; for `Refused` any number that a7 may have.
+    pub fn number(&self) -> u64
+        ensures { result ≡ number_of self.now }
+    {
         match self {
-            Call::FdWrite { fd, bytes } => Ok(Call::FdWrite {
-                fd: *fd,
-                bytes: bytes.copy()?,
-            }),
-            Call::MemMap {
-                place,
-                length,
-                prot,
-                flags,
-                fd,
-                offset,
-            } => Ok(Call::MemMap {
-                place: *place,
-                length: *length,
-                prot: *prot,
-                flags: *flags,
-                fd: *fd,
-                offset: *offset,
-            }),
-            Call::Memory { number, errno } => Ok(Call::Memory {
-                number: *number,
-                errno: *errno,
-            }),
-            Call::ProcExit { code } => Ok(Call::ProcExit { code: *code }),
-            Call::Refused { number, errno } => Ok(Call::Refused {
-                number: *number,
-                errno: *errno,
-            }),
+            Call::ClockResGet { .. } => 0,
+            Call::ClockTimeGet { .. } => 1,
+            Call::CondvarSignal { .. } => 2,
+            Call::FdClose { .. } => 3,
+            Call::FdCreate1 { .. } => 4,
+            Call::FdCreate2 { .. } => 5,
+            Call::FdDatasync { .. } => 6,
+            Call::FdDup { .. } => 7,
+            Call::FdPread { .. } => 8,
+            Call::FdPwrite { .. } => 9,
+            Call::FdRead { .. } => 10,
+            Call::FdReplace { .. } => 11,
+            Call::FdSeek { .. } => 12,
+            Call::FdStatGet { .. } => 13,
+            Call::FdStatPut { .. } => 14,
+            Call::FdSync { .. } => 15,
+            Call::FdWrite { .. } => 16,
+            Call::FileAdvise { .. } => 17,
+            Call::FileAllocate { .. } => 18,
+            Call::FileCreate { .. } => 19,
+            Call::FileLink { .. } => 20,
+            Call::FileOpen { .. } => 21,
+            Call::FileReaddir { .. } => 22,
+            Call::FileReadlink { .. } => 23,
+            Call::FileRename { .. } => 24,
+            Call::FileStatFget { .. } => 25,
+            Call::FileStatFput { .. } => 26,
+            Call::FileStatGet { .. } => 27,
+            Call::FileStatPut { .. } => 28,
+            Call::FileSymlink { .. } => 29,
+            Call::FileUnlink { .. } => 30,
+            Call::LockUnlock { .. } => 31,
+            Call::MemMap { .. } => 33,
+            Call::Memory { number, .. } => u64::from(*number),
+            Call::Poll { .. } => 37,
+            Call::ProcExec { .. } => 38,
+            Call::ProcExit { .. } => 39,
+            Call::ProcFork { .. } => 40,
+            Call::ProcRaise { .. } => 41,
+            Call::RandomGet { .. } => 42,
+            Call::SockRecv { .. } => 43,
+            Call::SockSend { .. } => 44,
+            Call::SockShutdown { .. } => 45,
+            Call::ThreadCreate { .. } => 46,
+            Call::ThreadExit { .. } => 47,
+            Call::ThreadYield => 48,
+            Call::Refused { number, .. } => *number,
         }
-    }
-}
-
-impl TryClone for Answer {
-    fn copy(&self) -> Result<Self, AllocError> {
-        Ok(*self)
     }
 }

@@ -19,4 +19,8 @@ pub enum Denial {
         base: Rights,
         inheriting: Rights,
     },
+    /// A component of a path, counted from 0, would leave the directory from which the path begins.
+    Outside {
+        component: u32,
+    },
 }

@@ -11,8 +11,9 @@ pub use abi_structures::{
     Dirent, Event, EventType, FdStat, FileStat, Iovec, RecvIn, RecvOut, SendIn, SendOut,
     Subscription, ThreadAttr, What,
 };
-pub use call::{Answer, Call, Reply};
+pub use call::{Call, Lookup};
 pub use constants::Constants;
+pub use copied::{Copied, EventList, FdList, SubscriptionList};
 pub use counts::Counts;
 pub use descriptor::{Denial, Descriptor};
 pub use input_output as outside;
@@ -21,20 +22,26 @@ pub use needed::Needed;
 pub use node::{Node, NodeKind, Times};
 pub use open_kind::OpenKind;
 pub use place::Place;
+pub use reply::{Answer, Payload, Reply, WordWrite, WordWrites};
 pub use status::Status;
 pub use stream::Stream;
 pub use thread::Thread;
+pub use wake::WakeIn;
 pub use who::Who;
 
 mod call;
+mod call_copy;
 mod constants;
+mod copied;
 mod counts;
 mod descriptor;
 mod needed;
 mod node;
 mod open_kind;
 mod place;
+mod reply;
 mod status;
 mod stream;
 mod thread;
+mod wake;
 mod who;

@@ -1,8 +1,32 @@
 //! What a descriptor's open is.
+use abi_base::{ObjId, Pid};
 
-/// An open: what the descriptors that share it stand for.
+/// An open: what the descriptors that share it stand for. Flags are the descriptor's: APPEND 1, DSYNC 2, NONBLOCK 4,
+/// RSYNC 8, SYNC 16.
 #[derive(Clone, Copy)]
 pub enum OpenKind {
-    /// A standard stream, with the descriptor flags: 0 is stdin, 1 is stdout, 2 is stderr.
-    Terminal { which: u32, flags: u16 },
+    /// A node of the file tree that is a file, and the offset at which it is read and written.
+    File {
+        node: ObjId,
+        offset: u64,
+        flags: u16,
+    },
+    /// A node of the file tree that is a directory.
+    Directory {
+        node: ObjId,
+        flags: u16,
+    },
+    /// An end of channels: the one that it reads, and the one that it writes.
+    End {
+        reads: Option<ObjId>,
+        writes: Option<ObjId>,
+        flags: u16,
+    },
+    /// A standard stream: 0 is stdin, 1 is stdout, 2 is stderr.
+    Terminal {
+        which: u32,
+        flags: u16,
+    },
+    /// A process.
+    Process(Pid),
 }
