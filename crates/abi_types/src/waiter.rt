@@ -1,0 +1,9 @@
+//! Threads that wait for a lock.
+use abi_base::Tid;
+
+/// A thread that waits for a lock, which it will have for writing or for reading.
+#[derive(Clone, Copy, Debug, PartialEq, Eq)]
+pub struct Waiter {
+    pub tid: Tid,
+    pub writer: bool,
+}
