@@ -1,11 +1,11 @@
 -- What a call's reply leaves of the caller's registers and memory. a0 has the error, on SUCCESS a1 and a2 have the call's
 -- results, and the pc goes on after the ECALL; every other register stays. On SUCCESS the calls about memory change it.
 use Rattle.std.specs.Prelude.{◌+◌, ◌%◌, ◌^◌}
-use Rattle.abi_types.specs.declared.call.Answer.{Answer}
-use Rattle.abi_types.specs.declared.call.Answer.TheVariants as answer
+use Rattle.abi_types.specs.declared.reply.Answer.{Answer}
+use Rattle.abi_types.specs.declared.reply.Answer.TheVariants as answer
 use Rattle.abi_types.specs.declared.call.Call.{Call}
 use Rattle.abi_types.specs.declared.call.Call.TheVariants.{FdWrite, MemMap, Memory, ProcExit, Refused}
-use Rattle.abi_types.specs.declared.call.Reply.{Reply}
+use Rattle.abi_types.specs.declared.reply.Reply.{Reply}
 use Rattle.abi_base.specs.Errno.{number_of}
 use Rattle.abi_base.specs.Registers.{Registers, with_pc, with_x}
 use Rattle.guest_memory.specs.Page.{Pages}

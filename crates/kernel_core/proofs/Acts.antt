@@ -1,9 +1,9 @@
 -- What a call does, by the table of its process.
 use Rattle.std.proofs.Common.{◌≡◌, ℕ, List, Option, None, Some, inl, sym, ap, ◌∙◌}
 use Rattle.std.specs.FinMap.{get, insert}
-use Rattle.abi_types.specs.declared.call.Answer.{Answer}
+use Rattle.abi_types.specs.declared.reply.Answer.{Answer}
 use Rattle.abi_types.specs.declared.call.Call.{Call}
-use Rattle.abi_types.specs.declared.call.Reply.{Reply}
+use Rattle.abi_types.specs.declared.reply.Reply.{Reply}
 use Rattle.abi_types.specs.declared.constants.Constants.{Constants}
 use Rattle.abi_types.specs.declared.descriptor.Descriptor.{Descriptor}
 use Rattle.abi_types.specs.declared.open_kind.OpenKind.{OpenKind}

@@ -1,15 +1,60 @@
 -- The meaning of each call is proper.
+use Rattle.std.proofs.Common.{[], ◌∷◌}
 use Rattle.abi_types.specs.declared.call.Call.{Call}
-use Rattle.abi_types.specs.declared.call.Call.TheVariants.{FdWrite, MemMap, Memory, ProcExit, Refused}
+use Rattle.abi_types.specs.declared.call.Call.TheVariants as call
 use Rattle.kernel_model.specs.Calls.{meaning_of}
 use Rattle.kernel_model.specs.Proper.{IsProper}
+use Rattle.kernel_model.specs.WaitCalls.{wait_rows}
+use Rattle.kernel_model.proofs.Answering.{each_row_is_proper, listing_is_proper, naming_is_proper, row_is_proper, rows_are_proper}
 use Rattle.kernel_model.proofs.MemoryCalls.{decided_is_proper, mem_map_is_proper}
 use Rattle.kernel_model.proofs.ProcessCalls.{proc_exit_is_proper}
 use Rattle.kernel_model.proofs.StreamCalls.{fd_write_is_proper}
 
 pub proper : (call : Call) → IsProper (meaning_of call)
-proper (FdWrite fd bytes) = fd_write_is_proper fd bytes
-proper (MemMap place length prot flags fd offset) = mem_map_is_proper place
-proper (Memory number errno) = decided_is_proper errno
-proper (ProcExit code) = proc_exit_is_proper code
-proper (Refused number errno) = decided_is_proper errno
+proper (call.ClockResGet clock) = naming_is_proper []
+proper (call.ClockTimeGet clock precision) = naming_is_proper []
+proper (call.CondvarSignal condvar word scope n) = naming_is_proper []
+proper (call.FdClose fd) = naming_is_proper (fd ∷ [])
+proper (call.FdCreate1 kind) = naming_is_proper []
+proper (call.FdCreate2 kind) = naming_is_proper []
+proper (call.FdDatasync fd) = row_is_proper _
+proper (call.FdDup fd) = naming_is_proper (fd ∷ [])
+proper (call.FdPread fd length offset) = row_is_proper _
+proper (call.FdPwrite fd bytes offset) = row_is_proper _
+proper (call.FdRead fd length) = row_is_proper _
+proper (call.FdReplace from to) = naming_is_proper (from ∷ to ∷ [])
+proper (call.FdSeek fd offset whence) = row_is_proper _
+proper (call.FdStatGet fd) = naming_is_proper (fd ∷ [])
+proper (call.FdStatPut fd stat flags) = row_is_proper _
+proper (call.FdSync fd) = row_is_proper _
+proper (call.FdWrite fd bytes) = fd_write_is_proper fd bytes
+proper (call.FileAdvise fd offset length advice) = row_is_proper _
+proper (call.FileAllocate fd offset length) = row_is_proper _
+proper (call.FileCreate fd path kind) = row_is_proper _
+proper (call.FileLink lookup path new_fd new_path) = rows_are_proper _ _
+proper (call.FileOpen lookup path oflags stat) = row_is_proper _
+proper (call.FileReaddir fd length cookie) = row_is_proper _
+proper (call.FileReadlink fd path length) = row_is_proper _
+proper (call.FileRename fd path new_fd new_path) = rows_are_proper _ _
+proper (call.FileStatFget fd) = row_is_proper _
+proper (call.FileStatFput fd stat flags) = row_is_proper _
+proper (call.FileStatGet lookup path) = row_is_proper _
+proper (call.FileStatPut lookup path stat flags) = row_is_proper _
+proper (call.FileSymlink text fd path) = row_is_proper _
+proper (call.FileUnlink fd path flags) = row_is_proper _
+proper (call.LockUnlock lock word scope) = naming_is_proper []
+proper (call.MemMap place length prot flags fd offset) = mem_map_is_proper place prot flags fd
+proper (call.Memory number errno) = decided_is_proper errno
+proper (call.Poll subscriptions) = each_row_is_proper (wait_rows subscriptions)
+proper (call.ProcExec fd bytes fds) = listing_is_proper _ fds
+proper (call.ProcExit code) = proc_exit_is_proper code
+proper (call.ProcFork left) = naming_is_proper []
+proper (call.ProcRaise signal) = naming_is_proper []
+proper (call.RandomGet length) = naming_is_proper []
+proper (call.SockRecv fd length fds flags) = row_is_proper _
+proper (call.SockSend fd bytes fds flags) = listing_is_proper _ fds
+proper (call.SockShutdown fd how) = row_is_proper _
+proper (call.ThreadCreate attributes) = naming_is_proper []
+proper (call.ThreadExit lock word scope) = naming_is_proper []
+proper call.ThreadYield = naming_is_proper []
+proper (call.Refused number errno) = decided_is_proper errno

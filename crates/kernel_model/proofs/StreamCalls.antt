@@ -1,17 +1,17 @@
 -- The meanings of the calls on opens that bytes are read from and written to are proper.
 use Rattle.std.proofs.Common.{◌≡◌, ◌≢◌, inl, inr, ℕ, ◌||◌, true, false, List, [], ◌∷◌, ◌++◌, length, Option, Some, None, refl, ap, ◌∙◌}
 use Rattle.std.specs.FinMap.{get}
-use Rattle.abi_types.specs.declared.call.Answer.TheVariants as answer
+use Rattle.abi_types.specs.declared.reply.Answer.TheVariants as answer
 use Rattle.abi_types.specs.declared.descriptor.Descriptor.{Descriptor}
 use Rattle.abi_base.specs.declared.errno.Errno.TheVariants.{Badf, Nomem}
-use Rattle.abi_types.specs.declared.needed.Needed.{Needed}
 use Rattle.abi_types.specs.declared.open_kind.OpenKind.{OpenKind}
-use Rattle.abi_types.specs.declared.open_kind.OpenKind.TheVariants.{Terminal}
-use Rattle.abi_base.specs.declared.rights.TheConstants.Rights.{FD_WRITE, NONE}
+use Rattle.abi_types.specs.declared.open_kind.OpenKind.TheVariants.{File, Directory, End, Terminal, Process}
+use Rattle.abi_base.specs.declared.rights.TheConstants.Rights.{FD_WRITE}
 use Rattle.abi_types.specs.declared.stream.Stream.{Stream}
 use Rattle.kernel_model.specs.Outcome.{Outcome, replies}
 use Rattle.kernel_model.specs.Proper.{IsUnset, IsPlain, IsProper}
 use Rattle.kernel_model.specs.Reply.{success, refused}
+use Rattle.kernel_model.specs.Rows.{base_row}
 use Rattle.kernel_model.specs.Sight.{own_parts, behind, reached_by}
 use Rattle.kernel_model.specs.State.{State, Part, at_proc, at_status, at_open, at_term, same_part, has_part, put_all, set_term}
 use Rattle.kernel_model.specs.Step.{tick}
@@ -41,6 +41,10 @@ open_holds : (P : Outcome → Type 0) (v : View) (bytes : List ℕ) (kind : Opti
     → ((which : ℕ) (stream : Stream) → P (written_out bytes which stream)) → P (write_open v bytes kind)
 open_holds P v bytes None absent done = absent
 open_holds P v bytes (Some (Terminal which flags)) absent done = term_holds P bytes which (v.term which) absent done
+open_holds P v bytes (Some (File node offset flags)) absent done = absent
+open_holds P v bytes (Some (Directory node flags)) absent done = absent
+open_holds P v bytes (Some (End reads writes flags)) absent done = absent
+open_holds P v bytes (Some (Process p)) absent done = absent
 
 write_holds : (P : Outcome → Type 0) (v : View) (bytes : List ℕ) (d : Option Descriptor) → P (replies (refused Badf))
     → ((which : ℕ) (stream : Stream) → P (written_out bytes which stream)) → P (write_to v bytes d)
@@ -53,6 +57,10 @@ open_reads : (S : State) (p o : ℕ) (bytes : List ℕ) (k : Option OpenKind)
     → write_open (restrict S (own_parts p ++ at_open o ∷ (behind k ++ []))) bytes k ≡ write_open (whole S) bytes k
 open_reads S p o bytes None = refl
 open_reads S p o bytes (Some (Terminal which flags)) = ap (write_term bytes which) (first_seen which false (get S.terms which))
+open_reads S p o bytes (Some (File node offset flags)) = refl
+open_reads S p o bytes (Some (Directory node flags)) = refl
+open_reads S p o bytes (Some (End reads writes flags)) = refl
+open_reads S p o bytes (Some (Process q)) = refl
 
 write_reads : (S : State) (p : ℕ) (bytes : List ℕ) (d : Option Descriptor)
     → write_to (restrict S (own_parts p ++ (reached_by S d ++ []))) bytes d ≡ write_to (whole S) bytes d
@@ -71,6 +79,10 @@ term_unset bytes which (Some stream) q h = ap (λ b. b || false) h
 open_unset : (v : View) (bytes : List ℕ) (kind : Option OpenKind) (q : Part) → has_part (behind kind) q ≡ false → IsUnset (write_open v bytes kind) q
 open_unset v bytes None q h = refl
 open_unset v bytes (Some (Terminal which flags)) q h = term_unset bytes which (v.term which) q (outside_cons (at_term which) [] q h).0
+open_unset v bytes (Some (File node offset flags)) q h = refl
+open_unset v bytes (Some (Directory node flags)) q h = refl
+open_unset v bytes (Some (End reads writes flags)) q h = refl
+open_unset v bytes (Some (Process p)) q h = refl
 
 write_unset : (S : State) (bytes : List ℕ) (d : Option Descriptor) (q : Part) → has_part (reached_by S d) q ≡ false
     → IsUnset (write_to (whole (tick S)) bytes d) q
@@ -86,13 +98,10 @@ one_reached S d q h = has_of_both (reached_by S d) [] q ∙ or_false (has_part (
 badf_is_no_lack : Badf ≢ Nomem
 badf_is_no_lack e = cc
 
-abbrev row_of : ℕ → Needed
-row_of fd = record { fd = fd; base = FD_WRITE; inheriting = NONE }
-
 pub fd_write_is_proper : (fd : ℕ) (bytes : List ℕ) → IsProper (fd_write fd bytes)
 fd_write_is_proper fd bytes = record {
   names = (([], [], refl), tt);
-  sees = ((row_of fd, ([], [], refl), refl), tt);
+  sees = ((base_row fd FD_WRITE, ([], [], refl), refl), tt);
   reads = λ constants S who table. write_reads S who.pid bytes (get table fd);
   sets = λ constants S who table part h. write_unset S bytes (get table fd) part (beyond_own who.pid (reached_by S (get table fd)) part h).1;
   changes = λ S table part h. one_reached S (get table fd) part h;

@@ -8,7 +8,7 @@ use Rattle.std.specs.Option.{option_map}
 use Rattle.abi_types.specs.declared.counts.Counts.{Counts}
 use Rattle.abi_types.specs.declared.descriptor.Descriptor.{Descriptor}
 use Rattle.abi_types.specs.declared.open_kind.OpenKind.{OpenKind}
-use Rattle.abi_types.specs.declared.open_kind.OpenKind.TheVariants.{Terminal}
+use Rattle.abi_types.specs.declared.open_kind.OpenKind.TheVariants.{File, Directory, End, Terminal, Process}
 use Rattle.abi_types.specs.declared.status.Status.{Status}
 use Rattle.abi_types.specs.declared.status.Status.TheVariants.{Live}
 use Rattle.abi_types.specs.declared.stream.Stream.{Stream}
@@ -77,6 +77,10 @@ left_is_held S o false stays there =
 -- what stands behind an open does not depend on the other parts
 behind_same : (S T : State) → ((k : ℕ) → IsSome (get S.terms k) → IsSome (get T.terms k)) → (kind : OpenKind) → HasBehind S kind → HasBehind T kind
 behind_same S T more (Terminal which flags) h = more which h
+behind_same S T more (File node offset flags) h = absurd h
+behind_same S T more (Directory node flags) h = absurd h
+behind_same S T more (End reads writes flags) h = absurd h
+behind_same S T more (Process p) h = absurd h
 
 none_left : {X : Type 0} (b : Bool) (o : Option X) → o ≡ None → cond (not b) o None ≡ None
 none_left true o h = refl

@@ -3,23 +3,70 @@ use Rattle.std.specs.Prelude.{ℕ, Bool, List, Option, None, Some}
 use Rattle.abi_base.specs.declared.errno.Errno.{Errno}
 use Rattle.abi_base.specs.declared.errno.Errno.TheVariants.{Badf}
 use Rattle.abi_types.specs.declared.call.Call.{Call}
-use Rattle.abi_types.specs.declared.call.Call.TheVariants.{FdWrite, MemMap, Memory, ProcExit, Refused}
-use Rattle.abi_types.specs.declared.call.Reply.{Reply}
+use Rattle.abi_types.specs.declared.call.Call.TheVariants as call
+use Rattle.abi_types.specs.declared.reply.Reply.{Reply}
 use Rattle.abi_types.specs.declared.needed.Needed.{Needed}
+use Rattle.kernel_model.specs.ClockCalls.{clock_res_get, clock_time_get, random_get}
+use Rattle.kernel_model.specs.DescriptorCalls.{fd_close, fd_datasync, fd_dup, fd_replace, fd_seek, fd_stat_get, fd_stat_put, fd_sync}
+use Rattle.kernel_model.specs.FileCalls.{file_advise, file_allocate, file_create, file_link, file_open, file_readdir, file_readlink, file_rename, file_stat_fget, file_stat_fput, file_stat_get, file_stat_put, file_symlink, file_unlink}
+use Rattle.kernel_model.specs.MemoryCalls.{decided, mem_map}
+use Rattle.kernel_model.specs.ProcessCalls.{proc_exec, proc_exit, proc_fork, proc_raise, thread_create, thread_exit, thread_yield}
+use Rattle.kernel_model.specs.SocketCalls.{fd_create1, fd_create2, sock_recv, sock_send, sock_shutdown}
+use Rattle.kernel_model.specs.StreamCalls.{fd_pread, fd_pwrite, fd_read, fd_write}
+use Rattle.kernel_model.specs.WaitCalls.{condvar_signal, lock_unlock, poll}
 use Rattle.kernel_model.specs.Meaning.{Meaning}
-use Rattle.kernel_model.specs.MemoryCalls.{mem_map, decided}
 use Rattle.kernel_model.specs.Need as needs
-use Rattle.kernel_model.specs.ProcessCalls.{proc_exit}
 use Rattle.kernel_model.specs.Reply.{refused}
 use Rattle.kernel_model.specs.State.{Table}
-use Rattle.kernel_model.specs.StreamCalls.{fd_write}
 
 abbrev pub meaning_of : Call → Meaning
-meaning_of (FdWrite fd bytes) = fd_write fd bytes
-meaning_of (MemMap place length prot flags fd offset) = mem_map place
-meaning_of (Memory number errno) = decided errno
-meaning_of (ProcExit code) = proc_exit code
-meaning_of (Refused number errno) = decided errno
+meaning_of (call.ClockResGet clock) = clock_res_get
+meaning_of (call.ClockTimeGet clock precision) = clock_time_get
+meaning_of (call.CondvarSignal condvar word scope n) = condvar_signal
+meaning_of (call.FdClose fd) = fd_close fd
+meaning_of (call.FdCreate1 kind) = fd_create1
+meaning_of (call.FdCreate2 kind) = fd_create2
+meaning_of (call.FdDatasync fd) = fd_datasync fd
+meaning_of (call.FdDup fd) = fd_dup fd
+meaning_of (call.FdPread fd length offset) = fd_pread fd
+meaning_of (call.FdPwrite fd bytes offset) = fd_pwrite fd
+meaning_of (call.FdRead fd length) = fd_read fd
+meaning_of (call.FdReplace from to) = fd_replace from to
+meaning_of (call.FdSeek fd offset whence) = fd_seek fd offset whence
+meaning_of (call.FdStatGet fd) = fd_stat_get fd
+meaning_of (call.FdStatPut fd stat flags) = fd_stat_put fd stat flags
+meaning_of (call.FdSync fd) = fd_sync fd
+meaning_of (call.FdWrite fd bytes) = fd_write fd bytes
+meaning_of (call.FileAdvise fd offset length advice) = file_advise fd
+meaning_of (call.FileAllocate fd offset length) = file_allocate fd
+meaning_of (call.FileCreate fd path kind) = file_create fd
+meaning_of (call.FileLink lookup path new_fd new_path) = file_link lookup new_fd
+meaning_of (call.FileOpen lookup path oflags stat) = file_open lookup oflags stat
+meaning_of (call.FileReaddir fd length cookie) = file_readdir fd
+meaning_of (call.FileReadlink fd path length) = file_readlink fd
+meaning_of (call.FileRename fd path new_fd new_path) = file_rename fd new_fd
+meaning_of (call.FileStatFget fd) = file_stat_fget fd
+meaning_of (call.FileStatFput fd stat flags) = file_stat_fput fd flags
+meaning_of (call.FileStatGet lookup path) = file_stat_get lookup
+meaning_of (call.FileStatPut lookup path stat flags) = file_stat_put lookup
+meaning_of (call.FileSymlink text fd path) = file_symlink fd
+meaning_of (call.FileUnlink fd path flags) = file_unlink fd
+meaning_of (call.LockUnlock lock word scope) = lock_unlock
+meaning_of (call.MemMap place length prot flags fd offset) = mem_map place prot flags fd
+meaning_of (call.Memory number errno) = decided errno
+meaning_of (call.Poll subscriptions) = poll subscriptions
+meaning_of (call.ProcExec fd bytes fds) = proc_exec fd fds
+meaning_of (call.ProcExit code) = proc_exit code
+meaning_of (call.ProcFork left) = proc_fork
+meaning_of (call.ProcRaise signal) = proc_raise
+meaning_of (call.RandomGet length) = random_get
+meaning_of (call.SockRecv fd length fds flags) = sock_recv fd
+meaning_of (call.SockSend fd bytes fds flags) = sock_send fd fds
+meaning_of (call.SockShutdown fd how) = sock_shutdown fd
+meaning_of (call.ThreadCreate attributes) = thread_create
+meaning_of (call.ThreadExit lock word scope) = thread_exit
+meaning_of call.ThreadYield = thread_yield
+meaning_of (call.Refused number errno) = decided errno
 
 -- the descriptors that the call names
 abbrev pub named : Call → List ℕ

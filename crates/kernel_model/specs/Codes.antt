@@ -1,5 +1,5 @@
 -- The code of a state, by which proofs tell states apart: the tuple of its fields.
-use Rattle.std.specs.Prelude.{ℕ, refl}
+use Rattle.std.specs.Prelude.{ℕ, List, refl}
 use Rattle.std.specs.Ordering.{nat_cmp}
 use Rattle.std.specs.FinMap.{FinMap, code}
 use Rattle.std.specs.Coded.{Coded, code_by, coded×, coded_list, coded_ℕ}
@@ -14,8 +14,10 @@ use Rattle.abi_types.specs.contracts.open_kind.OpenKind as open_kind
 use Rattle.abi_types.specs.contracts.status.Status as status
 use Rattle.abi_types.specs.contracts.stream.Stream as stream
 use Rattle.abi_types.specs.contracts.thread.Thread as thread
+use Rattle.abi_types.specs.contracts.waiter.Waiter as waiter
+use Rattle.abi_types.specs.declared.waiter.Waiter.{Waiter}
 use Rattle.fd_table.specs.Table.{table_code}
-use Rattle.kernel_model.specs.State.{State, Table, Threads, Own, Names}
+use Rattle.kernel_model.specs.State.{State, Table, Threads, Locks, Own, Names}
 
 abbrev pub threads_code : Coded Threads
 threads_code = code coded_ℕ thread.the_row.coded
@@ -23,10 +25,23 @@ threads_code = code coded_ℕ thread.the_row.coded
 abbrev pub names_code : Coded Names
 names_code = code (coded_list coded_ℕ) coded_ℕ
 
+abbrev LockFields : Type 0
+LockFields = FinMap nat_cmp (List Waiter) × (FinMap nat_cmp (List ℕ) × (List ℕ × (List ℕ × List ℕ)))
+
+abbrev lock_fields_code : Coded LockFields
+lock_fields_code =
+    coded× (code coded_ℕ (coded_list waiter.the_row.coded))
+    (coded× (code coded_ℕ (coded_list coded_ℕ)) (coded× (coded_list coded_ℕ) (coded× (coded_list coded_ℕ) (coded_list coded_ℕ))))
+
+abbrev pub locks_code : Coded Locks
+locks_code =
+    code_by LockFields lock_fields_code (λ l. (l.waiting, (l.at_conditions, (l.granted, (l.signalled, l.late)))))
+    (λ f. record { waiting = f.0; at_conditions = f.1.0; granted = f.1.1.0; signalled = f.1.1.1.0; late = f.1.1.1.1 }) (λ _. refl)
+
 abbrev pub own_code : Coded Own
 own_code =
-    code_by (Threads × Counts) (coded× threads_code counts.the_row.coded) (λ own. (own.threads, own.counts))
-    (λ f. record { threads = f.0; counts = f.1 }) (λ _. refl)
+    code_by (Threads × (Counts × Locks)) (coded× threads_code (coded× counts.the_row.coded locks_code))
+    (λ own. (own.threads, (own.counts, own.locks))) (λ f. record { threads = f.0; counts = f.1.0; locks = f.1.1 }) (λ _. refl)
 
 -- the fields as nested pairs
 abbrev Fields : Type 0

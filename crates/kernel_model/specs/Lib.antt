@@ -6,7 +6,13 @@ pub mod Reply
 pub mod Outcome
 pub mod Need
 pub mod Sight
+pub mod Rows
 pub mod Meaning
+pub mod ClockCalls
+pub mod DescriptorCalls
+pub mod FileCalls
+pub mod SocketCalls
+pub mod WaitCalls
 pub mod StreamCalls
 pub mod MemoryCalls
 pub mod ProcessCalls

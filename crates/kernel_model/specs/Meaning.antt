@@ -1,11 +1,13 @@
 -- What a call means. Each call has one value of this record (`Calls.antt`), and all that is said of calls is read from it.
-use Rattle.std.specs.Prelude.{ℕ, Bool, false, List, []}
+use Rattle.std.specs.Prelude.{ℕ, Bool, false, List, [], ◌∷◌}
 use Rattle.abi_base.specs.declared.errno.Errno.{Errno}
-use Rattle.abi_types.specs.declared.call.Reply.{Reply}
+use Rattle.abi_base.specs.declared.errno.Errno.TheVariants.{Nosys}
+use Rattle.abi_types.specs.declared.reply.Reply.{Reply}
 use Rattle.abi_types.specs.declared.constants.Constants.{Constants}
 use Rattle.abi_types.specs.declared.needed.Needed.{Needed}
 use Rattle.abi_types.specs.declared.who.Who.{Who}
 use Rattle.kernel_model.specs.Outcome.{Outcome, replies}
+use Rattle.kernel_model.specs.Reply.{refused}
 use Rattle.kernel_model.specs.State.{State, Table, Part}
 use Rattle.kernel_model.specs.View.{View}
 
@@ -37,3 +39,25 @@ answering errors reply = record {
   errors = errors;
   takes_memory = false;
 }
+
+-- ---- calls that aren't built yet: where no descriptor and no right is missing they answer NOSYS, and nothing changes
+
+-- one that names, needs and sees this
+abbrev pub unbuilt : List ℕ → List Needed → List ℕ → Meaning
+unbuilt named need seen = record (answering (Nosys ∷ []) (refused Nosys)) { named = named; need = need; seen = seen }
+
+-- one that names these descriptors, and needs no right
+abbrev pub unbuilt_naming : List ℕ → Meaning
+unbuilt_naming fds = unbuilt fds [] []
+
+-- one that needs this of one descriptor
+abbrev pub unbuilt_row : Needed → Meaning
+unbuilt_row row = unbuilt (row.fd ∷ []) (row ∷ []) (row.fd ∷ [])
+
+-- one that needs this of two
+abbrev pub unbuilt_rows : Needed → Needed → Meaning
+unbuilt_rows first second = unbuilt (first.fd ∷ second.fd ∷ []) (first ∷ second ∷ []) (first.fd ∷ second.fd ∷ [])
+
+-- one that needs this of one descriptor, and names others behind it
+abbrev pub unbuilt_listing : Needed → List ℕ → Meaning
+unbuilt_listing row fds = unbuilt (row.fd ∷ fds) (row ∷ []) (row.fd ∷ [])

@@ -1,20 +1,24 @@
 -- The refusals for want of a descriptor or of rights. They come before what a call does, and are the same for all calls.
 use Rattle.std.specs.Prelude.{ℕ, ◌==◌, ◌&&◌, ◌||◌, not, Bool, false, List, [], ◌∷◌, Option, None, Some, if◌then◌else◌}
 use Rattle.std.specs.FinMap.{get, contains_key}
-use Rattle.abi_types.specs.declared.call.Reply.{Reply}
+use Rattle.abi_types.specs.declared.reply.Reply.{Reply}
 use Rattle.abi_types.specs.declared.descriptor.Denial.{Denial}
 use Rattle.abi_types.specs.declared.descriptor.Denial.TheVariants.{Missing}
 use Rattle.abi_types.specs.declared.descriptor.Descriptor.{Descriptor}
 use Rattle.abi_base.specs.declared.errno.Errno.TheVariants.{Badf}
 use Rattle.abi_types.specs.declared.needed.Needed.{Needed}
 use Rattle.abi_base.specs.declared.rights.Rights.{Rights}
-use Rattle.abi_base.specs.Rights.{minus_of}
+use Rattle.abi_base.specs.Rights.{minus_of, has_all}
 use Rattle.kernel_model.specs.Reply.{refused, denied}
 use Rattle.kernel_model.specs.State.{Table}
 
+-- whether the descriptor has rights that stand for the base rights that are needed
+abbrev pub has_instead : Descriptor → Needed → Bool
+has_instead d row = not (row.instead.0 == 0) && has_all d.base.0 row.instead.0
+
 -- the base rights and the inheriting rights that are needed and that the descriptor lacks
 abbrev pub lack_base : Descriptor → Needed → Rights
-lack_base d row = record { 0 = minus_of row.base.0 d.base.0 }
+lack_base d row = record { 0 = if has_instead d row then 0 else minus_of row.base.0 d.base.0 }
 
 abbrev pub lack_inheriting : Descriptor → Needed → Rights
 lack_inheriting d row = record { 0 = minus_of row.inheriting.0 d.inheriting.0 }

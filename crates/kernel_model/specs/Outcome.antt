@@ -1,8 +1,8 @@
 -- What a call comes to.
 use Rattle.std.specs.Prelude.{List, []}
-use Rattle.abi_types.specs.declared.call.Answer.{Answer}
-use Rattle.abi_types.specs.declared.call.Answer.TheVariants as answer
-use Rattle.abi_types.specs.declared.call.Reply.{Reply}
+use Rattle.abi_types.specs.declared.reply.Answer.{Answer}
+use Rattle.abi_types.specs.declared.reply.Answer.TheVariants as answer
+use Rattle.abi_types.specs.declared.reply.Reply.{Reply}
 use Rattle.kernel_model.specs.State.{Update}
 
 -- an answer, and the parts that the call sets, one after another

@@ -1,18 +1,20 @@
 -- Replies of calls.
 use Rattle.std.specs.Prelude.{ℕ, None, Some}
-use Rattle.abi_types.specs.declared.call.Reply.{Reply}
+use Rattle.abi_types.specs.declared.reply.Reply.{Reply}
+use Rattle.abi_types.specs.declared.reply.Payload.TheVariants.{Nothing}
+use Rattle.abi_types.specs.declared.reply.WordWrites.TheVariants.{Zero}
 use Rattle.abi_types.specs.declared.descriptor.Denial.{Denial}
 use Rattle.abi_base.specs.declared.errno.Errno.{Errno}
 use Rattle.abi_base.specs.declared.errno.Errno.TheVariants.{Success, Notcapable}
 
--- the call is done, with these two results
+-- the call is done, with these two results, and nothing beside them
 abbrev pub success : ℕ → ℕ → Reply
-success r1 r2 = record { errno = Success; r1 = r1; r2 = r2; denial = None }
+success r1 r2 = record { errno = Success; r1 = r1; r2 = r2; payload = Nothing; writes = Zero; denial = None }
 
 -- the call is refused by this error
 abbrev pub refused : Errno → Reply
-refused errno = record { errno = errno; r1 = 0; r2 = 0; denial = None }
+refused errno = record { errno = errno; r1 = 0; r2 = 0; payload = Nothing; writes = Zero; denial = None }
 
 -- the call is refused for want of rights
 abbrev pub denied : Denial → Reply
-denied denial = record { errno = Notcapable; r1 = 0; r2 = 0; denial = Some denial }
+denied denial = record (refused Notcapable) { denial = Some denial }

@@ -10,7 +10,7 @@ use Rattle.abi_types.specs.declared.open_kind.OpenKind.TheVariants as kind
 use Rattle.abi_types.specs.declared.status.Status.TheVariants.{Live}
 use Rattle.abi_types.specs.declared.stream.Stream.{Stream}
 use Rattle.abi_types.specs.declared.thread.Thread.TheVariants.{Runnable}
-use Rattle.kernel_model.specs.State.{State, Table, Own}
+use Rattle.kernel_model.specs.State.{State, Table, Own, no_locks}
 
 -- Objects that the launch makes have numbers of process 0xffffffff: 1 to 3 are the standard streams, 4 is the root of
 -- the file tree, and from 5 on come the opens of the granted descriptors.
@@ -37,9 +37,9 @@ granted_open n grant = open_of grant.target
 abbrev pub granted_table : List Grant → Table
 granted_table grants = from_entries (numbered granted_descriptor 0 grants)
 
--- what process 0 starts with beside its descriptors: thread 1, the one thread that it has numbered
+-- what process 0 starts with beside its descriptors: thread 1, the one thread that it has numbered, and nobody who waits
 abbrev pub first_own : Own
-first_own = record { threads = insert empty 1 Runnable; counts = record { objects = 0; threads = 1; forks = 0; words = 0 } }
+first_own = record { threads = insert empty 1 Runnable; counts = record { objects = 0; threads = 1; forks = 0; words = 0 }; locks = no_locks }
 
 -- a standard stream of which so much can be read
 abbrev pub unwritten : List ℕ → Stream

@@ -2,7 +2,7 @@
 use Rattle.std.specs.Prelude.{◌≡◌, ℕ, ◌==◌, ◌||◌, Bool, true, false, List, [], ◌∷◌, Option, None, Some}
 use Rattle.std.specs.Cmp.Lexicographic.{slice_cmp}
 use Rattle.std.specs.Ordering.{nat_cmp}
-use Rattle.std.specs.FinMap.{FinMap, get, insert}
+use Rattle.std.specs.FinMap.{FinMap, empty, get, insert}
 use Rattle.std.specs.Option.{option_map}
 use Rattle.abi_types.specs.declared.counts.Counts.{Counts}
 use Rattle.abi_types.specs.declared.node.Node.{Node}
@@ -10,16 +10,32 @@ use Rattle.abi_types.specs.declared.open_kind.OpenKind.{OpenKind}
 use Rattle.abi_types.specs.declared.status.Status.{Status}
 use Rattle.abi_types.specs.declared.stream.Stream.{Stream}
 use Rattle.abi_types.specs.declared.thread.Thread.{Thread}
+use Rattle.abi_types.specs.declared.waiter.Waiter.{Waiter}
 pub use Rattle.fd_table.specs.Table.{Table}
 
 -- a process's live threads by number
 abbrev pub Threads : Type 0
 Threads = FinMap nat_cmp Thread
 
--- what a process has of its own beside its descriptors: its threads, and what it has made so far
+-- Who waits in a process: for each address of a lock the threads that wait for it, in order; for each address of a condition
+-- variable those that wait there, in order; the threads to which a lock was given and those that were signalled, until they go
+-- on; and those whose wait at a condition variable was over before they were signalled, while they wait for its lock.
+pub record Locks : Type 0 where
+  pub waiting : FinMap nat_cmp (List Waiter)
+  pub at_conditions : FinMap nat_cmp (List ℕ)
+  pub granted : List ℕ
+  pub signalled : List ℕ
+  pub late : List ℕ
+
+abbrev pub no_locks : Locks
+no_locks = record { waiting = empty; at_conditions = empty; granted = []; signalled = []; late = [] }
+
+-- what a process has of its own beside its descriptors: its threads, what it has made so far, and who waits. No call makes a
+-- thread wait yet.
 pub record Own : Type 0 where
   pub threads : Threads
   pub counts : Counts
+  pub locks : Locks
 
 -- the names in a directory, in the order of their bytes, each with the number of its node
 abbrev pub Names : Type 0

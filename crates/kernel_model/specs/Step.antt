@@ -1,10 +1,10 @@
 -- One step of the kernel: a call of a thread, or the end of a process from outside.
 use Rattle.std.specs.Prelude.{◌≡◌, ◌⊎◌, ℕ, ◌+◌, true, false, List, [], ◌++◌, Option, None, Some}
 use Rattle.std.specs.FinMap.{get}
-use Rattle.abi_types.specs.declared.call.Answer.{Answer}
-use Rattle.abi_types.specs.declared.call.Answer.TheVariants as answer
+use Rattle.abi_types.specs.declared.reply.Answer.{Answer}
+use Rattle.abi_types.specs.declared.reply.Answer.TheVariants as answer
 use Rattle.abi_types.specs.declared.call.Call.{Call}
-use Rattle.abi_types.specs.declared.call.Reply.{Reply}
+use Rattle.abi_types.specs.declared.reply.Reply.{Reply}
 use Rattle.abi_types.specs.declared.constants.Constants.{Constants}
 use Rattle.abi_base.specs.declared.errno.Errno.TheVariants.{Badf, Nomem}
 use Rattle.abi_types.specs.declared.status.Status.{Status}

@@ -1,16 +1,17 @@
 -- Calls on opens that bytes are read from and written to.
 use Rattle.std.specs.Prelude.{ℕ, true, List, [], ◌∷◌, ◌++◌, length, Option, None, Some}
 use Rattle.std.specs.FinMap.{get}
-use Rattle.abi_types.specs.declared.call.Answer.TheVariants as answer
+use Rattle.abi_types.specs.declared.reply.Answer.TheVariants as answer
 use Rattle.abi_types.specs.declared.descriptor.Descriptor.{Descriptor}
 use Rattle.abi_base.specs.declared.errno.Errno.TheVariants.{Badf}
 use Rattle.abi_types.specs.declared.open_kind.OpenKind.{OpenKind}
 use Rattle.abi_types.specs.declared.open_kind.OpenKind.TheVariants.{Terminal}
 use Rattle.abi_types.specs.declared.stream.Stream.{Stream}
-use Rattle.abi_base.specs.declared.rights.TheConstants.Rights.{FD_WRITE, NONE}
-use Rattle.kernel_model.specs.Meaning.{Meaning}
+use Rattle.abi_base.specs.declared.rights.TheConstants.Rights.{FD_READ, FD_SEEK, FD_WRITE}
+use Rattle.kernel_model.specs.Meaning.{Meaning, unbuilt_row}
 use Rattle.kernel_model.specs.Outcome.{Outcome, replies}
 use Rattle.kernel_model.specs.Reply.{success, refused}
+use Rattle.kernel_model.specs.Rows.{base_row, both}
 use Rattle.kernel_model.specs.Sight.{reached_by}
 use Rattle.kernel_model.specs.State.{set_term}
 use Rattle.kernel_model.specs.View.{View}
@@ -23,10 +24,11 @@ write_term bytes which (Some stream) = record {
   updates = set_term which (record stream { written = stream.written ++ bytes }) ∷ [];
 }
 
--- bytes written to an open
+-- bytes written to an open. Of a valid state each is a standard stream.
 abbrev pub write_open : View → List ℕ → Option OpenKind → Outcome
 write_open v bytes None = replies (refused Badf)
 write_open v bytes (Some (Terminal which flags)) = write_term bytes which (v.term which)
+write_open v bytes (Some _) = replies (refused Badf)
 
 -- bytes written to a descriptor
 abbrev pub write_to : View → List ℕ → Option Descriptor → Outcome
@@ -36,10 +38,21 @@ write_to v bytes (Some d) = write_open v bytes (v.opened d.id)
 abbrev pub fd_write : ℕ → List ℕ → Meaning
 fd_write fd bytes = record {
   named = fd ∷ [];
-  need = record { fd = fd; base = FD_WRITE; inheriting = NONE } ∷ [];
+  need = base_row fd FD_WRITE ∷ [];
   seen = fd ∷ [];
   does = λ constants v who table. write_to v bytes (get table fd);
   changes = λ S table. reached_by S (get table fd);
   errors = Badf ∷ [];
   takes_memory = true;
 }
+
+-- ---- not built yet
+
+abbrev pub fd_pread : ℕ → Meaning
+fd_pread fd = unbuilt_row (base_row fd (both FD_READ FD_SEEK))
+
+abbrev pub fd_pwrite : ℕ → Meaning
+fd_pwrite fd = unbuilt_row (base_row fd (both FD_WRITE FD_SEEK))
+
+abbrev pub fd_read : ℕ → Meaning
+fd_read fd = unbuilt_row (base_row fd FD_READ)

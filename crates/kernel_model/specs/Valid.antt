@@ -3,7 +3,10 @@ use Rattle.std.specs.Prelude.{◌≡◌, ◌≢◌, ℕ, ◌+◌, ◌*◌, ◌^�
 use Rattle.std.specs.FinMap.{get, empty}
 use Rattle.abi_types.specs.declared.descriptor.Descriptor.{Descriptor}
 use Rattle.abi_types.specs.declared.open_kind.OpenKind.{OpenKind}
-use Rattle.abi_types.specs.declared.open_kind.OpenKind.TheVariants.{Terminal}
+use Rattle.abi_types.specs.declared.open_kind.OpenKind.TheVariants as kind
+use Rattle.abi_types.specs.declared.open_type.OpenType.{OpenType}
+use Rattle.abi_types.specs.declared.open_type.OpenType.TheVariants as type
+use Rattle.abi_types.specs.OpenTypes.{rights_of, inheriting_of}
 use Rattle.abi_types.specs.declared.status.Status.{Status}
 use Rattle.abi_types.specs.declared.status.Status.TheVariants.{Live}
 use Rattle.abi_base.specs.Grants.{stream_rights}
@@ -11,12 +14,23 @@ use Rattle.abi_base.specs.Rights.{has_all}
 use Rattle.kernel_model.specs.Release.{holders}
 use Rattle.kernel_model.specs.State.{State, Table, threads_of, thread_of, counts_in}
 
+-- the type of an end of channels, by those that it reads and writes
+abbrev pub end_type : Option ℕ → Option ℕ → OpenType
+end_type (Some reads) (Some writes) = type.Stream
+end_type (Some reads) None = type.Reading
+end_type None writes = type.Writing
+
 -- the base rights that a descriptor of the open may have, and the inheriting rights
 abbrev pub fits : OpenKind → ℕ
-fits (Terminal which flags) = stream_rights which
+fits (kind.File node offset flags) = rights_of type.File
+fits (kind.Directory node flags) = rights_of type.Directory
+fits (kind.End reads writes flags) = rights_of (end_type reads writes)
+fits (kind.Terminal which flags) = stream_rights which
+fits (kind.Process p) = rights_of type.Process
 
 abbrev pub fits_inheriting : OpenKind → ℕ
-fits_inheriting (Terminal which flags) = 0
+fits_inheriting (kind.Directory node flags) = inheriting_of type.Directory
+fits_inheriting _ = 0
 
 -- the descriptor's rights are among those of its open's type
 abbrev pub HasRightsOf : Descriptor → OpenKind → Type 0
@@ -27,9 +41,11 @@ abbrev pub IsNamed : Option OpenKind → Descriptor → Type 0
 IsNamed None d = ⊥
 IsNamed (Some kind) d = HasRightsOf d kind
 
--- what stands behind the open is there
+-- What stands behind the open is there. Files and directories come with the file tree, ends with channels, and opens of
+-- processes with forks, so none of these is there yet.
 abbrev pub HasBehind : State → OpenKind → Type 0
-HasBehind S (Terminal which flags) = IsSome (get S.terms which)
+HasBehind S (kind.Terminal which flags) = IsSome (get S.terms which)
+HasBehind S _ = ⊥
 
 -- the object that a process numbers so
 abbrev pub object_of : ℕ → ℕ → ℕ

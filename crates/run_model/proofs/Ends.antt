@@ -3,8 +3,8 @@ use Rattle.std.proofs.Common.{◌≡◌, ◌≢◌, ◌⊎◌, inl, inr, ℕ, �
 use Rattle.std.proofs.lemmas.Bool.Decides.{eqb_tells}
 use Rattle.std.specs.Ordering.{nat_cmp}
 use Rattle.std.specs.FinMap.{empty, get, get-empty}
-use Rattle.abi_types.specs.declared.call.Answer.{Answer}
-use Rattle.abi_types.specs.declared.call.Answer.TheVariants as answer
+use Rattle.abi_types.specs.declared.reply.Answer.{Answer}
+use Rattle.abi_types.specs.declared.reply.Answer.TheVariants as answer
 use Rattle.abi_types.specs.declared.call.Call.{Call}
 use Rattle.abi_types.specs.declared.constants.Constants.{Constants}
 use Rattle.abi_base.specs.declared.signal.Signal.{Signal}

@@ -2,7 +2,7 @@
 use Rattle.std.specs.Prelude.{ℕ, ◌-◌, false, ◌++◌, List, [], ◌∷◌, Option, None, codes, length, replicate, map, filter, option_map}
 use Rattle.std.specs.Fmt.{decimal, digits}
 use Rattle.std.specs.List.{join_by, filter_map, concat}
-use Rattle.abi_types.specs.declared.call.Answer.TheVariants.{Reply}
+use Rattle.abi_types.specs.declared.reply.Answer.TheVariants.{Reply}
 use Rattle.abi_types.specs.declared.call.Call.{Call}
 use Rattle.abi_types.specs.declared.descriptor.Denial.{Denial}
 use Rattle.abi_types.specs.declared.descriptor.Denial.TheVariants.{Missing}

@@ -1,9 +1,9 @@
 use Rattle.std.proofs.Common.{◌≡◌, Some, None, refl, sym, ap, subst, ◌∙◌}
 use Rattle.std.proofs.lemmas.Result.{IfOk-weaker}
 use Rattle.std.specs.FinMap.{get}
-use Rattle.abi_types.specs.declared.call.Answer.{Answer}
-use Rattle.abi_types.specs.declared.call.Answer.TheVariants as answer
-use Rattle.abi_types.specs.declared.call.Reply.{Reply}
+use Rattle.abi_types.specs.declared.reply.Answer.{Answer}
+use Rattle.abi_types.specs.declared.reply.Answer.TheVariants as answer
+use Rattle.abi_types.specs.declared.reply.Reply.{Reply}
 use Rattle.abi_types.specs.declared.who.Who.{Who}
 use Rattle.kernel_model.specs.Calls.{meaning_of, refusal}
 use Rattle.kernel_model.specs.MemoryCalls.{placed}
