@@ -1,12 +1,17 @@
 //! Which descriptors a call names, which rights it needs of them, and the refusals for want of these. They come before what
-//! a call does, and are the same for all calls. What a call names and needs is read place by place from the call itself, so
-//! no list is built of it.
+//! a call does, and are the same for all calls. What a call names and needs is lent from the call itself, so no list is made
+//! of it.
 #![tactic(auto)]
 
-pub use needs::{named_at, named_count, need_at, need_count};
+pub use descriptors_named::{NamedList, named};
+pub use open_types::fits;
 pub use refusing::refusal;
 pub use replies::{refused, success};
+pub use rights_needed::{Needs, need};
 
-mod needs;
+mod descriptors_named;
+mod open_types;
 mod refusing;
 mod replies;
+mod rights_needed;
+mod rows;

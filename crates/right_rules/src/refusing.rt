@@ -1,30 +1,88 @@
 //! The refusals of a call for want of a descriptor or of rights.
 ghost use Rattle.std.specs.Prelude.{◌≡◌, Some};
-ghost use Rattle.kernel_model.specs.Calls.{named, need, refusal};
-ghost use Rattle.kernel_model.specs.Need.{some_absent, first_lack, lack_at};
+ghost use Rattle.std.specs.FinMap as map;
+ghost use Rattle.kernel_model.specs.Calls.{refusal};
+ghost use Rattle.kernel_model.specs.Need.{some_absent, first_lack, lack_at, has_instead, lack_base};
+ghost use Rattle.kernel_model.specs.WaitCalls.{fds_of, wait_rows};
+ghost use Rattle.right_rules.specs.Lists.{named_in, of_option, rows_in};
 
-use crate::needs::{named_at, named_count, need_at, need_count};
+use crate::descriptors_named::{NamedList, named};
 use crate::replies::refused;
-use abi_types::{Call, Denial, Descriptor, Errno, Needed, Reply};
+use crate::rights_needed::{Needs, need};
+use crate::rows::wait_row;
+use abi_types::{Call, Denial, Descriptor, Errno, Needed, Reply, Rights, Subscription};
 use fd_table::FdTable;
 
-// Whether some descriptor that the call names is absent.
-fn some_absent(table: &FdTable, call: &Call) -> bool
-    ensures { result ≡ some_absent table.now (named call.now) }
+// Whether the descriptor is absent, if one is named.
+fn is_absent(table: &FdTable, fd: Option<u32>) -> bool
+    ensures { result ≡ some_absent table.now (of_option fd) }
 {
-    for place in 0..named_count(call) {
-        if !table.contains(named_at(call, place)) {
+    match fd {
+        Some(fd) => !table.contains(fd),
+        None => false,
+    }
+}
+
+// Whether one of these descriptors is absent.
+fn is_one_absent(table: &FdTable, fds: &[u32]) -> bool
+    ensures { result ≡ some_absent table.now fds.now }
+{
+    for fd in fds {
+        if !table.contains(*fd) {
             return true;
         }
     }
     false
 }
 
+// Whether one of the descriptors that are waited for is absent.
+fn is_waited_absent(table: &FdTable, subscriptions: &[Subscription]) -> bool
+    ensures { result ≡ some_absent table.now (fds_of (wait_rows subscriptions.now)) }
+{
+    for subscription in subscriptions {
+        if let Some(row) = wait_row(&subscription.what) {
+            if !table.contains(row.fd) {
+                return true;
+            }
+        }
+    }
+    false
+}
+
+// Whether some descriptor of those named is absent.
+fn some_absent(table: &FdTable, named: NamedList<'_>) -> bool
+    ensures { result ≡ some_absent table.now (named_in named.entry) }
+{
+    match named {
+        NamedList::Few { first, second } => is_absent(table, first) || is_absent(table, second),
+        NamedList::Listed { first, rest } => !table.contains(first) || is_one_absent(table, rest),
+        NamedList::Waited(subscriptions) => is_waited_absent(table, subscriptions),
+    }
+}
+
+// Whether the descriptor has rights that stand for the base rights that are needed.
+fn has_instead(held: &Descriptor, row: &Needed) -> bool
+    ensures { result ≡ has_instead held.now row.now }
+{
+    row.instead.0 != 0 && held.base.contains(row.instead)
+}
+
+// The base rights that are needed and that a descriptor lacks.
+fn lack_base(held: &Descriptor, row: &Needed) -> Rights
+    ensures { result ≡ lack_base held.now row.now }
+{
+    if has_instead(held, row) {
+        Rights::NONE
+    } else {
+        row.base.minus(held.base)
+    }
+}
+
 // Exactly the rights that a descriptor lacks of those needed, if it lacks any.
 fn lack_at(held: &Descriptor, row: &Needed) -> Option<Denial>
     ensures { result ≡ lack_at (Some held.now) row.now }
 {
-    let base = row.base.minus(held.base);
+    let base = lack_base(held, row);
     let inheriting = row.inheriting.minus(held.inheriting);
     if base.0 == 0 && inheriting.0 == 0 {
         return None;
@@ -36,14 +94,33 @@ fn lack_at(held: &Descriptor, row: &Needed) -> Option<Denial>
     })
 }
 
-// The denial of the first descriptor that lacks a right.
-fn first_lack(table: &FdTable, call: &Call) -> Option<Denial>
-    ensures { result ≡ first_lack table.now (need call.now) }
+// The denial of a row's descriptor, if it is there and lacks a right.
+fn row_lack(table: &FdTable, row: &Needed) -> Option<Denial>
+    ensures { result ≡ lack_at (map.get table.now row.now.fd) row.now }
 {
-    for place in 0..need_count(call) {
-        let row = need_at(call, place);
-        if let Some(held) = table.get(row.fd) {
-            let lack = lack_at(held, &row);
+    match table.get(row.fd) {
+        Some(held) => lack_at(held, row),
+        None => None,
+    }
+}
+
+// The denial of the row's descriptor, if there is a row, and it lacks a right.
+fn option_lack(table: &FdTable, row: Option<Needed>) -> Option<Denial>
+    ensures { result ≡ first_lack table.now (of_option row) }
+{
+    match row {
+        Some(row) => row_lack(table, &row),
+        None => None,
+    }
+}
+
+// The denial of the first descriptor that is waited for and lacks a right.
+fn waited_lack(table: &FdTable, subscriptions: &[Subscription]) -> Option<Denial>
+    ensures { result ≡ first_lack table.now (wait_rows subscriptions.now) }
+{
+    for subscription in subscriptions {
+        if let Some(row) = wait_row(&subscription.what) {
+            let lack = row_lack(table, &row);
             if lack.is_some() {
                 return lack;
             }
@@ -52,15 +129,28 @@ fn first_lack(table: &FdTable, call: &Call) -> Option<Denial>
     None
 }
 
+// The denial of the first descriptor that lacks a right.
+fn first_lack(table: &FdTable, needs: Needs<'_>) -> Option<Denial>
+    ensures { result ≡ first_lack table.now (rows_in needs.entry) }
+{
+    match needs {
+        Needs::Few { first, second } => match option_lack(table, first) {
+            Some(denial) => Some(denial),
+            None => option_lack(table, second),
+        },
+        Needs::Waited(subscriptions) => waited_lack(table, subscriptions),
+    }
+}
+
 /// The refusal of a call by its process's table: for want of a descriptor that it names, and where all are there for want
 /// of rights.
 pub fn refusal(table: &FdTable, call: &Call) -> Option<Reply>
     ensures { result ≡ refusal table.now call.now }
 {
-    if some_absent(table, call) {
+    if some_absent(table, named(call)) {
         return Some(refused(Errno::Badf));
     }
-    first_lack(table, call).map(|denial| Reply {
+    first_lack(table, need(call)).map(|denial| Reply {
         denial: Some(denial),
         ..refused(Errno::Notcapable)
     })

@@ -2,7 +2,7 @@
 ghost use Rattle.std.specs.Prelude.{◌≡◌};
 ghost use Rattle.kernel_model.specs.Reply.{success, refused};
 
-use abi_types::{Errno, Reply};
+use abi_types::{Errno, Payload, Reply, WordWrites};
 
 /// A call that is done, with its results.
 pub fn success(r1: u64, r2: u64) -> Reply
@@ -12,6 +12,8 @@ pub fn success(r1: u64, r2: u64) -> Reply
         errno: Errno::Success,
         r1,
         r2,
+        payload: Payload::Nothing,
+        writes: WordWrites::Zero,
         denial: None,
     }
 }
@@ -24,6 +26,8 @@ pub fn refused(errno: Errno) -> Reply
         errno,
         r1: 0,
         r2: 0,
+        payload: Payload::Nothing,
+        writes: WordWrites::Zero,
         denial: None,
     }
 }
