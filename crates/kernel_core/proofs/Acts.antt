@@ -7,7 +7,7 @@ use Rattle.abi_types.specs.declared.reply.Reply.{Reply}
 use Rattle.abi_types.specs.declared.constants.Constants.{Constants}
 use Rattle.abi_types.specs.declared.descriptor.Descriptor.{Descriptor}
 use Rattle.abi_types.specs.declared.open_kind.OpenKind.{OpenKind}
-use Rattle.abi_types.specs.declared.open_kind.OpenKind.TheVariants.{Terminal}
+use Rattle.abi_types.specs.declared.open_kind.OpenKind.TheVariants.{File, Directory, End, Terminal, Process}
 use Rattle.abi_types.specs.declared.stream.Stream.{Stream}
 use Rattle.abi_types.specs.declared.who.Who.{Who}
 use Rattle.kernel_model.specs.Calls.{meaning_of, refusal}
@@ -44,6 +44,10 @@ opened_released : (S : State) (bytes : List ℕ) (open_kind : Option OpenKind) �
     → release (put_all (write_open (whole S) bytes open_kind).updates S) ≡ put_all (write_open (whole S) bytes open_kind).updates S
 opened_released S bytes None v = release_valid S v
 opened_released S bytes (Some (Terminal which flags)) v = written_released S bytes which (get S.terms which) v
+opened_released S bytes (Some (File node offset flags)) v = release_valid S v
+opened_released S bytes (Some (Directory node flags)) v = release_valid S v
+opened_released S bytes (Some (End reads writes flags)) v = release_valid S v
+opened_released S bytes (Some (Process p)) v = release_valid S v
 
 pub write_released : (S : State) (bytes : List ℕ) (d : Option Descriptor) → IsValid S
     → release (put_all (write_to (whole S) bytes d).updates S) ≡ put_all (write_to (whole S) bytes d).updates S

@@ -10,7 +10,8 @@ use number_map::NumMap;
 use std::alloc::{AllocError, Global};
 use std::marker::Model;
 
-/// What a process has of its own beside its descriptors: its live threads by number, and what it has made so far.
+/// What a process has of its own beside its descriptors: its live threads by number, and what it has made so far. No thread waits
+/// yet, so there is nothing to keep of that.
 #[derive(Drop)]
 pub struct Own {
     threads: NumMap<Thread>,
@@ -18,14 +19,14 @@ pub struct Own {
 }
 
 impl Model for Own {
-    ghost use Rattle.kernel_model.specs.State.{Own};
+    ghost use Rattle.kernel_model.specs.State.{Own, no_locks};
     ghost use Rattle.kernel_model.specs.Codes.{own_code};
 
     ghost Value = { Own };
 
     ghost coded = { own_code };
 
-    ghost view = { λ own. record { threads = own.threads; counts = own.counts } };
+    ghost view = { λ own. record { threads = own.threads; counts = own.counts; locks = no_locks } };
 }
 
 impl Own {

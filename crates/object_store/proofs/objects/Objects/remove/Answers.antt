@@ -5,6 +5,7 @@ use Rattle.object_store.proofs.Kept.{kept_as, kept_gone, kept_without}
 use Rattle.object_store.proofs.Places.{listed_gone, place_within}
 use Rattle.object_store.proofs.Views.{seen_kind, seen_no_kind, seen_remove}
 use Rattle.object_store.proofs.objects.Objects.remove.Goals as goal
+use Rattle.object_store.proofs.objects.Objects.remove.Goals.{then-entry-eq0, else-entry-eq0}
 
 pub invariant_of-self : goal.invariant_of-self
 invariant_of-self c =
@@ -39,17 +40,14 @@ invariant_of-self-else-entry-eq0 c =
     kept_as _ _ _ _ _ _ c.in_ok-entry.ensures.new refl refl
     (kept_without _ _ _ _ c.in_ok-entry.entry (sym c.in_ok-entry.ensures.value) (omega (arith, c.if-entry-eq0.false)) c.self.invariant)
 
-pub returns-then-entry-eq0-clause-value : goal.returns-then-entry-eq0-clause-value
-returns-then-entry-eq0-clause-value c = seen_kind _ _ _ _ c.self.view_is c.id.view_is c.in_ok-entry.entry c.in_ok-entry.ensures.value
+pub returns-clause-value : goal.returns-clause-value
+returns-clause-value c = seen_kind _ _ _ _ c.self.view_is c.id.view_is c.in_ok-entry.entry c.in_ok-entry.ensures.value
 
-pub returns-then-entry-eq0-clause-new : goal.returns-then-entry-eq0-clause-new
-returns-then-entry-eq0-clause-new c =
-    (λ i. record { kinds = c.unlist.ensures.kinds i; counts = c.unlist.ensures.counts i })
-    ∙ ap held_of c.in_ok-entry.ensures.new
-    ∙ seen_remove _ _ _ _ c.self.view_is c.id.view_is
-
-pub returns-else-entry-eq0-clause-value : goal.returns-else-entry-eq0-clause-value
-returns-else-entry-eq0-clause-value c = seen_kind _ _ _ _ c.self.view_is c.id.view_is c.in_ok-entry.entry c.in_ok-entry.ensures.value
-
-pub returns-else-entry-eq0-clause-new : goal.returns-else-entry-eq0-clause-new
-returns-else-entry-eq0-clause-new c = ap held_of c.in_ok-entry.ensures.new ∙ seen_remove _ _ _ _ c.self.view_is c.id.view_is
+pub returns-clause-new : goal.returns-clause-new
+returns-clause-new c =
+    elim c.if-entry-eq0.branch [
+      | then-entry-eq0 w ↦
+          w.self-is ∙ (λ i. record { kinds = w.unlist.ensures.kinds i; counts = w.unlist.ensures.counts i }) ∙ ap held_of c.in_ok-entry.ensures.new
+          ∙ seen_remove _ _ _ _ c.self.view_is c.id.view_is
+      | else-entry-eq0 w ↦ w.self-is ∙ ap held_of c.in_ok-entry.ensures.new ∙ seen_remove _ _ _ _ c.self.view_is c.id.view_is
+    ]
