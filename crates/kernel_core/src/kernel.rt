@@ -17,7 +17,7 @@ ghost use Rattle.kernel_model.specs.StreamCalls.{write_term, write_to};
 ghost use Rattle.kernel_model.specs.Valid.{IsValid};
 ghost use Rattle.kernel_model.specs.View.{whole};
 
-use crate::memory_calls::mapped;
+use crate::answering::answer_of;
 use crate::own::Own;
 use crate::start::{granted, single, streams};
 use crate::table::let_go_all;
@@ -161,51 +161,7 @@ impl Kernel {
                 self.end_process(who.pid, Status::Exit(*code));
                 Ok(Answer::Reply(success(0, 0)))
             }
-            Call::MemMap { place, flags, .. } => Ok(Answer::Reply(mapped(*place, *flags))),
-            Call::Memory { errno, .. } => Ok(Answer::Reply(refused(*errno))),
-            Call::Refused { errno, .. } => Ok(Answer::Reply(refused(*errno))),
-            Call::ClockResGet { .. }
-            | Call::ClockTimeGet { .. }
-            | Call::CondvarSignal { .. }
-            | Call::FdClose { .. }
-            | Call::FdCreate1 { .. }
-            | Call::FdCreate2 { .. }
-            | Call::FdDatasync { .. }
-            | Call::FdDup { .. }
-            | Call::FdPread { .. }
-            | Call::FdPwrite { .. }
-            | Call::FdRead { .. }
-            | Call::FdReplace { .. }
-            | Call::FdSeek { .. }
-            | Call::FdStatGet { .. }
-            | Call::FdStatPut { .. }
-            | Call::FdSync { .. }
-            | Call::FileAdvise { .. }
-            | Call::FileAllocate { .. }
-            | Call::FileCreate { .. }
-            | Call::FileLink { .. }
-            | Call::FileOpen { .. }
-            | Call::FileReaddir { .. }
-            | Call::FileReadlink { .. }
-            | Call::FileRename { .. }
-            | Call::FileStatFget { .. }
-            | Call::FileStatFput { .. }
-            | Call::FileStatGet { .. }
-            | Call::FileStatPut { .. }
-            | Call::FileSymlink { .. }
-            | Call::FileUnlink { .. }
-            | Call::LockUnlock { .. }
-            | Call::Poll { .. }
-            | Call::ProcExec { .. }
-            | Call::ProcFork { .. }
-            | Call::ProcRaise { .. }
-            | Call::RandomGet { .. }
-            | Call::SockRecv { .. }
-            | Call::SockSend { .. }
-            | Call::SockShutdown { .. }
-            | Call::ThreadCreate { .. }
-            | Call::ThreadExit { .. }
-            | Call::ThreadYield => Ok(Answer::Reply(refused(Errno::Nosys))),
+            other => Ok(Answer::Reply(answer_of(other))),
         }
     }
 

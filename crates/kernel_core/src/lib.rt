@@ -4,8 +4,8 @@
 pub use kernel::Kernel;
 pub use run_types::{Act, Entry, History, Launch, Record};
 
+mod answering;
 mod kernel;
-mod memory_calls;
 mod own;
 mod start;
 mod table;

@@ -6,9 +6,7 @@ use Rattle.abi_types.specs.declared.reply.Answer.TheVariants as answer
 use Rattle.abi_types.specs.declared.reply.Reply.{Reply}
 use Rattle.abi_types.specs.declared.who.Who.{Who}
 use Rattle.kernel_model.specs.Calls.{meaning_of, refusal}
-use Rattle.kernel_model.specs.MemoryCalls.{placed}
 use Rattle.kernel_model.specs.Outcome.{replies}
-use Rattle.kernel_model.specs.Reply.{refused}
 use Rattle.kernel_model.specs.Release.{release}
 use Rattle.kernel_model.specs.State.{State, put_all}
 use Rattle.kernel_model.specs.Step.{act}
@@ -16,6 +14,7 @@ use Rattle.kernel_model.specs.StreamCalls.{write_to}
 use Rattle.kernel_model.specs.Valid.{IsValid}
 use Rattle.kernel_model.specs.View.{whole}
 use Rattle.kernel_model.proofs.Valids.{release_valid}
+use Rattle.kernel_core.proofs.Answers.{no_more}
 use Rattle.kernel_core.proofs.Acts.{act_refused, act_allowed, by_outcome, write_released}
 use Rattle.kernel_core.proofs.kernel.Kernel.act.Goals as goal
 use Rattle.kernel_core.proofs.kernel.Kernel.act.Goals.{After-refusal}
@@ -80,20 +79,10 @@ returns-in-FdWrite-clause-ok c =
     ((done table (there a)).0, (done table (there a)).1 ∙ sym (write_released S c.in-FdWrite.bytes found (valid a))))
     c.fd_write.ensures.ok
 
-pub returns-in-Refused-clause-ok : goal.returns-in-Refused-clause-ok
-returns-in-Refused-clause-ok c =
-    answered (goal.at.returns-in-Refused-clause-ok c).After-refusal c.refused-in-Refused.result (refused c.in-Refused.errno) c.in_default-refusal.is
-    (ap (λ call. (meaning_of call).does c.args.constants.now (whole c.args.self.now) c.args.who.now c.in-Some.table.now) c.in-Refused.is)
-    c.refused-in-Refused.ensures
+pub answer_of-requires : goal.answer_of-requires
+answer_of-requires c = no_more c.args.call.now c.in_default-call.not-FdWrite c.in_default-call.not-ProcExit
 
-pub returns-in-MemMap-clause-ok : goal.returns-in-MemMap-clause-ok
-returns-in-MemMap-clause-ok c =
-    answered (goal.at.returns-in-MemMap-clause-ok c).After-refusal c.placed.result (placed c.in-MemMap.place) c.in_default-refusal.is
-    (ap (λ call. (meaning_of call).does c.args.constants.now (whole c.args.self.now) c.args.who.now c.in-Some.table.now) c.in-MemMap.is)
-    c.placed.ensures
-
-pub returns-in-Memory-clause-ok : goal.returns-in-Memory-clause-ok
-returns-in-Memory-clause-ok c =
-    answered (goal.at.returns-in-Memory-clause-ok c).After-refusal c.refused-in-Memory.result (refused c.in-Memory.errno) c.in_default-refusal.is
-    (ap (λ call. (meaning_of call).does c.args.constants.now (whole c.args.self.now) c.args.who.now c.in-Some.table.now) c.in-Memory.is)
-    c.refused-in-Memory.ensures
+pub returns-in_default-call-clause-ok : goal.returns-in_default-call-clause-ok
+returns-in_default-call-clause-ok c =
+    answered (goal.at.returns-in_default-call-clause-ok c).After-refusal c.answer_of.result c.answer_of.result c.in_default-refusal.is
+    (c.answer_of.ensures c.args.constants.now (whole c.args.self.now) c.args.who.now c.in-Some.table.now) refl
