@@ -2,7 +2,7 @@
 use Rattle.std.specs.Prelude.{ℕ, List, [], ◌∷◌, codes, slice_get, unwrap_or}
 use Rattle.std.specs.Fmt.{decimal}
 use Rattle.abi_types.specs.declared.call.Call.{Call}
-use Rattle.abi_types.specs.declared.call.Call.TheVariants.{FdWrite, MemMap, Memory, ProcExit, Refused}
+use Rattle.abi_types.specs.Numbers.{number_of}
 
 -- CloudABI's names of the calls, each at its number
 unfoldable pub call_names : List (List ℕ)
@@ -64,8 +64,4 @@ name_of_number number = unwrap_or (slice_get call_names number) (decimal number)
 
 -- the name of a call
 abbrev pub call_name : Call → List ℕ
-call_name (FdWrite fd bytes) = codes "fd_write"
-call_name (MemMap place length prot flags fd offset) = codes "mem_map"
-call_name (Memory number errno) = name_of_number number
-call_name (ProcExit code) = codes "proc_exit"
-call_name (Refused number errno) = name_of_number number
+call_name call = name_of_number (number_of call)

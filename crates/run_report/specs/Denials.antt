@@ -5,7 +5,7 @@ use Rattle.std.specs.List.{join_by, filter_map, concat}
 use Rattle.abi_types.specs.declared.reply.Answer.TheVariants.{Reply}
 use Rattle.abi_types.specs.declared.call.Call.{Call}
 use Rattle.abi_types.specs.declared.descriptor.Denial.{Denial}
-use Rattle.abi_types.specs.declared.descriptor.Denial.TheVariants.{Missing}
+use Rattle.abi_types.specs.declared.descriptor.Denial.TheVariants.{Missing, Outside}
 use Rattle.abi_base.specs.declared.rights.Rights.{Rights}
 use Rattle.abi_base.specs.Rights.{names, has_all}
 use Rattle.run_types.specs.declared.history.Act.{Act}
@@ -42,6 +42,7 @@ missing_text fd base inheriting =
 -- why a call was denied
 abbrev pub denial_text : Denial → List ℕ
 denial_text (Missing fd base inheriting) = missing_text fd base inheriting
+denial_text (Outside component) = codes "outside " ++ decimal component
 
 -- the line of a call that was denied to a process's thread
 unfoldable pub denial_line : ℕ → ℕ → Call → Denial → List ℕ

@@ -95,11 +95,5 @@ fn name_of_number(alloc: Global, number: u64) -> Result<String, AllocError>
 pub fn call_name(alloc: Global, call: &Call) -> Result<String, AllocError>
     ensures { IfOk result (λ name. string_bytes name ≡ call_name call.now) }
 {
-    match call {
-        Call::FdWrite { .. } => String::from_str(alloc, "fd_write"),
-        Call::MemMap { .. } => String::from_str(alloc, "mem_map"),
-        Call::Memory { number, .. } => name_of_number(alloc, u64::from(*number)),
-        Call::ProcExit { .. } => String::from_str(alloc, "proc_exit"),
-        Call::Refused { number, .. } => name_of_number(alloc, *number),
-    }
+    name_of_number(alloc, call.number())
 }

@@ -78,6 +78,7 @@ fn denial_text(alloc: Global, denial: Denial) -> Result<String, AllocError>
             base,
             inheriting,
         } => missing_text(alloc, fd, base, inheriting),
+        Denial::Outside { component } => format!(in alloc; "outside {component}"),
     }
 }
 
