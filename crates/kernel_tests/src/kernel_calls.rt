@@ -1,6 +1,6 @@
 //! The kernel's calls by example.
 use crate::stdout_kernel::{Deed, PID, TID, answer_to, call_of, expire, stdout_kernel};
-use abi_types::{Answer, Denial, Errno, Reply, Rights, Signal, Status, Thread};
+use abi_types::{Answer, Denial, Errno, Rights, Signal, Status, Thread};
 use kernel_core::Kernel;
 use std::alloc::{AllocError, Global};
 use std::test::Fail;
@@ -8,11 +8,20 @@ use std::test::Fail;
 // What the accessors say of the process: the moment, its status, whether it is live, and its first thread.
 type Stand = (u64, Option<Status>, bool, Option<Thread>);
 
+// What is compared of a reply: its error, its results, and why it was denied.
+#[derive(Clone, Copy, Debug, PartialEq, Eq)]
+struct Told {
+    errno: Errno,
+    r1: u64,
+    r2: u64,
+    denial: Option<Denial>,
+}
+
 // A call, its reply, how the process stands after it, and what was written to stdout until then.
-type Row = (Deed, Reply, Stand, &'static str);
+type Row = (Deed, Told, Stand, &'static str);
 
 // The reply of a call that is done and gives no number.
-const DONE: Reply = Reply {
+const DONE: Told = Told {
     errno: Errno::Success,
     r1: 0,
     r2: 0,
@@ -26,13 +35,13 @@ const RUNNABLE: Option<Thread> = Some(Thread::Runnable);
 const WRITES: &[Row] = &[
     (
         Deed::Write(0, "hi"),
-        Reply { r1: 2, ..DONE },
+        Told { r1: 2, ..DONE },
         (1000, LIVE, true, RUNNABLE),
         "hi",
     ),
     (
         Deed::Write(1, "hi"),
-        Reply {
+        Told {
             errno: Errno::Badf,
             ..DONE
         },
@@ -41,7 +50,7 @@ const WRITES: &[Row] = &[
     ),
     (
         Deed::Unknown(999),
-        Reply {
+        Told {
             errno: Errno::Nosys,
             ..DONE
         },
@@ -52,7 +61,7 @@ const WRITES: &[Row] = &[
 
 const WITHOUT_RIGHT: &[Row] = &[(
     Deed::Write(0, "hi"),
-    Reply {
+    Told {
         errno: Errno::Notcapable,
         denial: Some(Denial::Missing {
             fd: 0,
@@ -86,9 +95,14 @@ fn reply_to(
     alloc: Global,
     kernel: &mut Kernel,
     deed: &Deed,
-) -> Result<(Option<Reply>, Stand), AllocError> {
+) -> Result<(Option<Told>, Stand), AllocError> {
     let call = call_of(alloc, deed)?;
-    let reply = answer_to(kernel, &call).map(|Answer::Reply(reply)| reply);
+    let reply = answer_to(kernel, &call).map(|Answer::Reply(reply)| Told {
+        errno: reply.errno,
+        r1: reply.r1,
+        r2: reply.r2,
+        denial: reply.denial,
+    });
     Ok((reply, stand(kernel)))
 }
 

@@ -1,8 +1,10 @@
-//! Tests of number maps, of inputs and outputs in memory, of the kernel's calls and of reports, by what these crates offer.
+//! Tests of number maps, of inputs and outputs in memory, of what calls need, of the kernel's calls and of reports, by what these crates offer.
 #![tactic(auto)]
 
 #[cfg(test)]
 mod kernel_calls;
+#[cfg(test)]
+mod needs;
 #[cfg(test)]
 mod number_maps;
 #[cfg(test)]

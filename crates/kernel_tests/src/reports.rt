@@ -1,6 +1,9 @@
 //! Reports by example.
 use crate::stdout_kernel::{Deed, PID, TID, answer_to, call_of, expire, stdout_kernel};
-use abi_types::{Answer, Bytes, Call, Denial, Errno, Pid, Reply, Rights, Signal, Tid, TidList};
+use abi_types::{
+    Answer, Bytes, Call, Denial, Errno, Payload, Pid, Reply, Rights, Signal, Tid, TidList,
+    WordWrites,
+};
 use kernel_core::Kernel;
 use run_report::report;
 use run_types::{Act, Entry, History};
@@ -109,6 +112,8 @@ fn denied(alloc: Global, number: u64, base: Rights, inheriting: Rights) -> Entry
         errno: Errno::Notcapable,
         r1: 0,
         r2: 0,
+        payload: Payload::Nothing,
+        writes: WordWrites::Zero,
         denial: Some(Denial::Missing {
             fd: 3,
             base,

@@ -82,6 +82,11 @@ pub fn stdout_kernel(alloc: Global, may_write: bool) -> Result<Kernel, AllocErro
     Kernel::start(alloc, &launch_with(alloc, grants))
 }
 
+/// A kernel whose process has no descriptor.
+pub fn bare_kernel(alloc: Global) -> Result<Kernel, AllocError> {
+    Kernel::start(alloc, &launch_with(alloc, GrantList::new(alloc)))
+}
+
 /// The call of a deed.
 pub fn call_of(alloc: Global, deed: &Deed) -> Result<Call, AllocError> {
     match deed {
