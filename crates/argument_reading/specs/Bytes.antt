@@ -5,9 +5,8 @@ use Rattle.abi_layout.specs.Layout.{number_from}
 use Rattle.guest_memory.specs.declared.access.Access.TheVariants.{Write}
 use Rattle.guest_memory.specs.Bytes.{bytes_at, bytes_from}
 use Rattle.guest_memory.specs.Page.{Pages}
-use Rattle.refusals.specs.Results.{◌>>=◌}
 use Rattle.argument_reading.specs.Arrays.{array_at}
-use Rattle.argument_reading.specs.Reading.{or_fault}
+use Rattle.argument_reading.specs.Reading.{◌>>=◌, or_fault}
 use Rattle.argument_reading.specs.declared.bytes.TheConstants.{MOST_OF_PATH}
 
 -- n bytes from an address on

@@ -3,18 +3,26 @@ use Rattle.std.specs.Prelude.{◌≡◌, Bool, Result, Ok, Err, if◌then◌else
 use Rattle.abi_base.specs.declared.errno.Errno.{Errno}
 use Rattle.abi_base.specs.declared.errno.Errno.TheVariants.{Fault}
 use Rattle.guest_memory.specs.declared.fault.MemFault.{MemFault}
-use Rattle.refusals.specs.declared.refusal.Refusal.{Refusal}
-use Rattle.refusals.specs.Results.{Gives}
+use Rattle.argument_reading.specs.declared.refusal.Refusal.{Refusal}
+use Rattle.argument_reading.specs.declared.refusal.Refusal.TheVariants as refusal
+
+-- one step of reading after another: the first error refuses the call
+infixl 10 ◌>>=◌
+abbrev pub ◌>>=◌ : {A B : Type 0} → Result A Errno → (A → Result B Errno) → Result B Errno
+(Ok x) >>= f = f x
+(Err errno) >>= f = Err errno
 
 -- what is read of memory; memory that can't be had is FAULT
 abbrev pub or_fault : {X : Type 0} → Result X MemFault → Result X Errno
 or_fault (Ok x) = Ok x
 or_fault (Err fault) = Err Fault
 
--- refused with the error where the test holds, and else the rest
-abbrev pub refuse_when : {X : Type 0} → Bool → Errno → Result X Errno → Result X Errno
-refuse_when test errno rest = if test then Err errno else rest
+-- refused with the error where the test holds
+abbrev pub refuse_when : Bool → Errno → Result (Unit {0}) Errno
+refuse_when test errno = if test then Err errno else Ok tt
 
 -- What a function returned is what the reading gives, unless memory ran out.
-abbrev pub Reads : {X : Type 0} → Result X (Refusal Errno) → Result X Errno → Type 0
-Reads result reading = Gives (λ x. x) result reading
+abbrev pub Reads : {X : Type 0} → Result X Refusal → Result X Errno → Type 0
+Reads (Ok x) reading = reading ≡ Ok x
+Reads (Err (refusal.Errno errno)) reading = reading ≡ Err errno
+Reads (Err refusal.NoMemory) reading = Unit {0}

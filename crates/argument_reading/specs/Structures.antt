@@ -8,8 +8,8 @@ use Rattle.abi_structures.specs.declared.structures.RecvIn.{RecvIn}
 use Rattle.abi_structures.specs.declared.structures.SendIn.{SendIn}
 use Rattle.abi_structures.specs.declared.structures.ThreadAttr.{ThreadAttr}
 use Rattle.guest_memory.specs.Page.{Pages}
-use Rattle.refusals.specs.Results.{◌>>=◌}
 use Rattle.argument_reading.specs.Bytes.{bytes_in}
+use Rattle.argument_reading.specs.Reading.{◌>>=◌}
 
 -- a descriptor's state
 abbrev pub fdstat_of : List ℕ → FdStat

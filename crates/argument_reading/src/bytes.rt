@@ -4,12 +4,12 @@ ghost use Rattle.abi_layout.specs.Layout.{number_from};
 ghost use Rattle.argument_reading.specs.Bytes.{bytes_in, descriptors_in, number_in, path_in, unread_path, word_at, writable};
 ghost use Rattle.argument_reading.specs.Reading.{Reads};
 
+use crate::refusal::Refusal;
 use abi_base::Errno;
 use abi_types::FdList;
 use byteorder::{ByteOrder, LittleEndian};
 use guest_memory::{Access, GuestMemory};
 use lists::Bytes;
-use refusals::Refusal;
 use std::alloc::{AllocError, Global};
 
 /// The most bytes of a path that are read.
@@ -32,11 +32,11 @@ pub fn read_bytes(
     memory: &GuestMemory,
     at: u64,
     count: u64,
-) -> Result<Bytes, Refusal<Errno>>
+) -> Result<Bytes, Refusal>
     ensures { Reads result (bytes_in memory.now at count) }
 {
     let mut bytes = vec![in alloc; 0u8; count as usize]?;
-    fill(memory, at, &mut bytes).map_err(Refusal::At)?;
+    fill(memory, at, &mut bytes)?;
     Ok(Bytes::from_vec(bytes))
 }
 
@@ -56,7 +56,7 @@ pub fn read_path(
     memory: &GuestMemory,
     at: u64,
     count: u64,
-) -> Result<Bytes, Refusal<Errno>>
+) -> Result<Bytes, Refusal>
     ensures { Reads result (path_in memory.now at count) }
 {
     if count <= MOST_OF_PATH {
@@ -89,7 +89,7 @@ pub fn read_descriptors(
     memory: &GuestMemory,
     at: u64,
     count: u64,
-) -> Result<FdList, Refusal<Errno>>
+) -> Result<FdList, Refusal>
     ensures { Reads result (descriptors_in memory.now at count) }
 {
     let mut fds = FdList::new(alloc);
@@ -97,7 +97,7 @@ pub fn read_descriptors(
     for _ in 0..count {
         match read_number(memory, next) {
             Ok(fd) => fds.push(fd)?,
-            Err(errno) => return Err(Refusal::At(errno)),
+            Err(errno) => return Err(Refusal::Errno(errno)),
         }
         next = next.wrapping_add(4);
     }

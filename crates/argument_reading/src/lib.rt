@@ -9,9 +9,11 @@ pub use bytes::{
 };
 pub use halves::{high, low};
 pub use ranges::{MOST_IOVECS, MOST_TRANSFERRED, gather, read_ranges, read_room, read_written};
+pub use refusal::{Refusal, refuse_when};
 pub use structures::{read_fdstat, read_filestat, read_recv_in, read_send_in, read_threadattr};
 
 mod bytes;
 mod halves;
 mod ranges;
+mod refusal;
 mod structures;

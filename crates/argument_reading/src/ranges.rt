@@ -5,12 +5,12 @@ ghost use Rattle.argument_reading.specs.Ranges.{gathered, range_in, ranges_at, r
 ghost use Rattle.argument_reading.specs.Reading.{Reads};
 ghost use Rattle.guest_memory.specs.Bytes.{bytes_at};
 
+use crate::refusal::Refusal;
 use abi_base::Errno;
 use abi_layout::read_iovec;
 use abi_structures::Iovec;
 use guest_memory::{Access, GuestMemory};
 use lists::Bytes;
-use refusals::Refusal;
 use std::alloc::{AllocError, Global};
 
 /// The most iovecs of a call.
@@ -94,16 +94,16 @@ pub fn read_written(
     memory: &GuestMemory,
     at: u64,
     count: u64,
-) -> Result<Bytes, Refusal<Errno>>
+) -> Result<Bytes, Refusal>
     requires { count ≤ MOST_IOVECS }
     ensures { Reads result (written_in memory.now at count) }
 {
     let Some(ranges) = read_ranges(alloc, memory, at, count)? else {
-        return Err(Refusal::At(Errno::Fault));
+        return Err(Refusal::Errno(Errno::Fault));
     };
     match gather(alloc, memory, ranges.as_slice())? {
         Some(bytes) => Ok(bytes),
-        None => Err(Refusal::At(Errno::Fault)),
+        None => Err(Refusal::Errno(Errno::Fault)),
     }
 }
 
@@ -114,15 +114,15 @@ pub fn read_room(
     memory: &GuestMemory,
     at: u64,
     count: u64,
-) -> Result<u64, Refusal<Errno>>
+) -> Result<u64, Refusal>
     requires { count ≤ MOST_IOVECS }
     ensures { Reads result (room_in memory.now at count) }
 {
     let Some(ranges) = read_ranges(alloc, memory, at, count)? else {
-        return Err(Refusal::At(Errno::Fault));
+        return Err(Refusal::Errno(Errno::Fault));
     };
     match count_room(memory, ranges.as_slice()) {
         Some(room) => Ok(room),
-        None => Err(Refusal::At(Errno::Fault)),
+        None => Err(Refusal::Errno(Errno::Fault)),
     }
 }
