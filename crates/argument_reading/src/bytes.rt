@@ -16,7 +16,7 @@ use std::alloc::{AllocError, Global};
 pub const MOST_OF_PATH: u64 = 1024;
 
 /// Fills `out` with the bytes from an address on. FAULT exactly where one of them can't be read.
-pub(crate) fn fill(memory: &GuestMemory, at: u64, out: &mut [u8]) -> Result<(), Errno>
+pub fn fill(memory: &GuestMemory, at: u64, out: &mut [u8]) -> Result<(), Errno>
     ensures ok { OnOk result (bytes_in memory.now at (length out.old) ≡ Ok out.new) }
     ensures err { IfErr result (λ errno. bytes_in memory.now at (length out.old) ≡ Err errno) }
 {

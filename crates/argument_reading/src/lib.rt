@@ -5,7 +5,7 @@
 #![tactic(auto)]
 
 pub use bytes::{
-    MOST_OF_PATH, check_writable, read_bytes, read_descriptors, read_path, read_word,
+    MOST_OF_PATH, check_writable, fill, read_bytes, read_descriptors, read_path, read_word,
 };
 pub use halves::{high, low};
 pub use ranges::{MOST_IOVECS, MOST_TRANSFERRED, gather, read_ranges, read_room, read_written};

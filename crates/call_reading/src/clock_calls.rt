@@ -6,14 +6,14 @@ use abi_types::{Call, Errno, Regs};
 use argument_reading::{low, refuse_when};
 
 /// Whether a clock is one of a processor's time: 2 or 4.
-pub(crate) fn is_cpu_clock(clock: u32) -> bool
+pub fn is_cpu_clock(clock: u32) -> bool
     ensures { result ≡ is_cpu_clock clock }
 {
     clock == 2 || clock == 4
 }
 
 /// Whether a clock is one of the time that passes: MONOTONIC, which is 1, or REALTIME, which is 3.
-pub(crate) fn is_time_clock(clock: u32) -> bool
+pub fn is_time_clock(clock: u32) -> bool
     ensures { result ≡ is_time_clock clock }
 {
     clock == 1 || clock == 3

@@ -204,7 +204,7 @@ pub fn fd_stat_get(regs: &Regs, memory: &GuestMemory) -> Result<Call, Errno>
 }
 
 /// Whether a state asks for a flag or a right that there isn't.
-pub(crate) fn asks_unknown(stat: &FdStat) -> bool
+pub fn asks_unknown(stat: &FdStat) -> bool
     ensures { result ≡ asks_unknown stat.now }
 {
     has_unknown(u32::from(stat.flags), KNOWN_FLAGS)

@@ -3,7 +3,7 @@ ghost use Rattle.std.specs.Prelude.{◌≡◌};
 ghost use Rattle.call_reading.specs.Flags.{has_unknown};
 
 /// Whether the flags hold a bit that is none of the known ones.
-pub(crate) fn has_unknown(flags: u32, known: u32) -> bool
+pub fn has_unknown(flags: u32, known: u32) -> bool
     ensures { result ≡ has_unknown flags known }
 {
     flags & known != flags

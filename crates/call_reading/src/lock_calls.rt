@@ -13,14 +13,14 @@ pub const PRIVATE: u32 = 4;
 pub const SHARED: u32 = 8;
 
 /// Whether no lock and no condition variable has an address, since it isn't a multiple of 4.
-pub(crate) fn is_misaligned(at: u64) -> bool
+pub fn is_misaligned(at: u64) -> bool
     ensures { result ≡ is_misaligned at }
 {
     at % 4 != 0
 }
 
 /// Whether a scope is supported: NOTSUP for SHARED, INVAL for another but PRIVATE.
-pub(crate) fn check_scope(scope: u32) -> Result<(), Errno>
+pub fn check_scope(scope: u32) -> Result<(), Errno>
     ensures { result ≡ scope_known scope }
 {
     refuse_when(scope == SHARED, Errno::Notsup)?;
