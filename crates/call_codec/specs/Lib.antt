@@ -1,4 +1,3 @@
-pub mod Arguments
 pub mod Args
 pub mod MemoryCalls
 pub mod Put

@@ -5,7 +5,7 @@ use Rattle.abi_base.specs.declared.address_space.TheConstants.{GUEST_BEGIN, GUES
 use Rattle.std.specs.Int.RustNames.{bit_and}
 use Rattle.std.specs.FinMap.{len}
 use Rattle.abi_types.specs.declared.call.Call.{Call}
-use Rattle.abi_types.specs.declared.call.Call.TheVariants.{FdWrite, MemMap, Memory, ProcExit, Refused}
+use Rattle.abi_types.specs.declared.call.Call.TheVariants.{MemMap, Memory, Refused}
 use Rattle.abi_base.specs.declared.errno.Errno.{Errno}
 use Rattle.abi_base.specs.declared.errno.Errno.TheVariants.{Success, Fault, Inval, Nobufs, Nosys, Notsup}
 use Rattle.abi_types.specs.declared.place.Place.{Place}
@@ -17,7 +17,7 @@ use Rattle.guest_memory.specs.Changes.{all_there, lowest_gap, mapped, protected,
 use Rattle.guest_memory.specs.Mapping.{page_limit}
 use Rattle.guest_memory.specs.Page.{Pages}
 use Rattle.guest_memory.specs.Ranges.{IsPageAddress}
-use Rattle.call_codec.specs.Arguments.{argument, low}
+use Rattle.argument_reading.specs.Arguments.{argument, low}
 
 -- ---- arguments
 
@@ -171,16 +171,11 @@ IsSomewhere (place.Refused errno) = ⊥
 
 -- the call maps pages: only such a mem_map takes memory for its answer
 abbrev pub IsMapping : Call → Type 0
-IsMapping (FdWrite fd bytes) = ⊥
 IsMapping (MemMap place length prot flags fd offset) = IsSomewhere place
-IsMapping (Memory number errno) = ⊥
-IsMapping (ProcExit code) = ⊥
-IsMapping (Refused number errno) = ⊥
+IsMapping other = ⊥
 
 -- the memory after the call of these registers, which was answered with SUCCESS
 abbrev pub memory_with : Pages → Registers → Call → Pages
-memory_with m r (FdWrite fd bytes) = m
 memory_with m r (MemMap place length prot flags fd offset) = with_mapping m place (pages_in length) (prot_of prot)
 memory_with m r (Memory number errno) = on_success errno (with_change m r number) m
-memory_with m r (ProcExit code) = m
-memory_with m r (Refused number errno) = m
+memory_with m r other = m
