@@ -42,8 +42,8 @@ pub fn args(alloc: Global, regs: &Regs, memory: &GuestMemory) -> Result<Call, Al
     }
 }
 
-// fd_write, by its descriptor, the address of its iovecs and their count.
-fn fd_write(alloc: Global, regs: &Regs, memory: &GuestMemory) -> Result<Call, AllocError>
+/// fd_write, by its descriptor, the address of its iovecs and their count.
+pub(crate) fn fd_write(alloc: Global, regs: &Regs, memory: &GuestMemory) -> Result<Call, AllocError>
     ensures { IfOk result (λ call. call ≡ fd_write_of memory.now regs.now) }
 {
     let count = regs.get(12);
