@@ -26,3 +26,9 @@ abbrev pub Reads : {X : Type 0} → Result X Refusal → Result X Errno → Type
 Reads (Ok x) reading = reading ≡ Ok x
 Reads (Err (refusal.Errno errno)) reading = reading ≡ Err errno
 Reads (Err refusal.NoMemory) reading = Unit {0}
+
+-- A function returned nothing, since the host has no memory for the call's arguments.
+abbrev pub LacksMemory : {X : Type 0} → Result X Refusal → Type 0
+LacksMemory (Ok x) = ⊥
+LacksMemory (Err (refusal.Errno errno)) = ⊥
+LacksMemory (Err refusal.NoMemory) = Unit {0}

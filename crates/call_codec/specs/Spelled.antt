@@ -116,3 +116,11 @@ or_refused number (Err errno) = Refused number errno
 -- the call that the registers and the memory of a process spell that has so many turns left
 abbrev pub spelled_of : Pages → Registers → ℕ → Call
 spelled_of m r left = or_refused (slice_index r.x 17) (numbered m r left (slice_index r.x 17))
+
+-- the numbers of the calls whose bytes, descriptors, iovecs or subscriptions are copied from the caller's memory, for which the
+-- host needs memory: fd_pread, fd_pwrite, fd_read, fd_write; file_create, file_link, file_open, file_readlink, file_rename,
+-- file_stat_get, file_stat_put, file_symlink, file_unlink; poll, proc_exec, sock_recv, sock_send
+abbrev pub is_copied : ℕ → Bool
+is_copied number =
+    is_among 8 10 number || number == 16 || is_among 19 21 number || number == 23 || number == 24 || is_among 27 30 number
+    || number == 37 || number == 38 || number == 43 || number == 44

@@ -1,7 +1,7 @@
 //! From registers and memory to a call, for every call that there is.
-ghost use Rattle.std.specs.Prelude.{◌≡◌, IfOk};
-ghost use Rattle.argument_reading.specs.Reading.{Reads};
-ghost use Rattle.call_codec.specs.Spelled.{descriptor_call, file_call, is_among, memory_call, numbered, process_call, spelled_of, thread_call};
+ghost use Rattle.std.specs.Prelude.{◌≡◌, IfOk, IsTrue, OnErr, slice_index};
+ghost use Rattle.argument_reading.specs.Reading.{LacksMemory, Reads};
+ghost use Rattle.call_codec.specs.Spelled.{descriptor_call, file_call, is_copied, memory_call, numbered, process_call, spelled_of, thread_call};
 
 use crate::arguments::fd_write;
 use crate::memory_calls::{mapping, mem_advise, mem_protect, mem_sync, mem_unmap};
@@ -25,7 +25,8 @@ fn descriptor_call(
     memory: &GuestMemory,
     number: u64,
 ) -> Result<Call, Refusal>
-    ensures { Reads result (descriptor_call memory.now regs.now number) }
+    ensures reads { Reads result (descriptor_call memory.now regs.now number) }
+    ensures only { LacksMemory result → IsTrue (is_copied number) }
 {
     match number {
         3 => Ok(fd_close(regs)),
@@ -54,7 +55,8 @@ fn file_call(
     memory: &GuestMemory,
     number: u64,
 ) -> Result<Call, Refusal>
-    ensures { Reads result (file_call memory.now regs.now number) }
+    ensures reads { Reads result (file_call memory.now regs.now number) }
+    ensures only { LacksMemory result → IsTrue (is_copied number) }
 {
     match number {
         17 => Ok(file_advise(regs)?),
@@ -103,7 +105,8 @@ fn process_call(
     left: u64,
     number: u64,
 ) -> Result<Call, Refusal>
-    ensures { Reads result (process_call memory.now regs.now left number) }
+    ensures reads { Reads result (process_call memory.now regs.now left number) }
+    ensures only { LacksMemory result → IsTrue (is_copied number) }
 {
     match number {
         38 => proc_exec(alloc, regs, memory),
@@ -128,7 +131,8 @@ fn thread_call(
     memory: &GuestMemory,
     number: u64,
 ) -> Result<Call, Refusal>
-    ensures { Reads result (thread_call memory.now regs.now number) }
+    ensures reads { Reads result (thread_call memory.now regs.now number) }
+    ensures only { LacksMemory result → IsTrue (is_copied number) }
 {
     match number {
         0 => Ok(clock_res_get(regs)?),
@@ -151,7 +155,8 @@ fn numbered(
     left: u64,
     number: u64,
 ) -> Result<Call, Refusal>
-    ensures { Reads result (numbered memory.now regs.now left number) }
+    ensures reads { Reads result (numbered memory.now regs.now left number) }
+    ensures only { LacksMemory result → IsTrue (is_copied number) }
 {
     match number {
         3..=16 => descriptor_call(alloc, regs, memory, number),
@@ -170,7 +175,8 @@ pub fn read_call(
     memory: &GuestMemory,
     left: u64,
 ) -> Result<Call, AllocError>
-    ensures { IfOk result (λ call. call ≡ spelled_of memory.now regs.now left) }
+    ensures ok { IfOk result (λ call. call ≡ spelled_of memory.now regs.now left) }
+    ensures only { OnErr result (IsTrue (is_copied (slice_index regs.now.x 17))) }
 {
     let number = regs.get(17);
     match numbered(alloc, regs, memory, left, number) {
