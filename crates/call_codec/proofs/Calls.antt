@@ -6,7 +6,7 @@ use Rattle.abi_types.specs.declared.call.Call.TheVariants.{ProcExit, Refused}
 use Rattle.abi_base.specs.declared.errno.Errno.TheVariants.{Nosys}
 use Rattle.abi_base.specs.Registers.{Registers}
 use Rattle.guest_memory.specs.Page.{Pages}
-use Rattle.call_codec.specs.Arguments.{argument, low}
+use Rattle.argument_reading.specs.Arguments.{argument, low}
 use Rattle.call_codec.specs.Args.{fd_write_of, call_of, args_of}
 use Rattle.call_codec.specs.MemoryCalls.{mem_advise_of, mem_map_of, mem_protect_of, mem_sync_of, mem_unmap_of}
 

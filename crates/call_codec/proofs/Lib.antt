@@ -1,5 +1,4 @@
 pub mod Calls
-pub mod Gathering
 pub mod Images
 pub mod MemoryCalls
 pub mod Puts

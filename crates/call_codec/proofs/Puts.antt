@@ -25,20 +25,19 @@ use Rattle.guest_memory.specs.Page.{Page, Pages}
 use Rattle.guest_memory.specs.Ranges.{IsPageAddress, in_range}
 use Rattle.guest_memory.proofs.Changes.{are_there, gap_of_lowest, protected_is, unmapped_is, without_free, without_none}
 use Rattle.guest_memory.proofs.PageRanges.{first_true, second_true, inside, is_inside, not_both, no_page_unless, none_changed}
-use Rattle.call_codec.specs.declared.arguments.TheConstants.{MOST_IOVECS}
+use Rattle.argument_reading.specs.declared.ranges.TheConstants.{MOST_IOVECS}
 use Rattle.call_codec.proofs.Calls.{args_hold}
-use Rattle.call_codec.specs.Arguments.{argument, low}
-use Rattle.call_codec.specs.Args.{fd_write_of, fd_write_with, gathered_in, ranges_at, args_of}
+use Rattle.argument_reading.specs.Arguments.{argument, low}
+use Rattle.argument_reading.specs.Ranges.{gathered_in, ranges_at}
+use Rattle.call_codec.specs.Args.{fd_write_of, fd_write_with, args_of}
 use Rattle.call_codec.specs.MemoryCalls.{has_bits, is_aligned, is_guests, is_range, is_sync, pages_in, if_mapped, mem_advise_of, mem_map_of, mem_protect_of, mem_sync_of, mem_unmap_of, map_refusal, protect_refusal, unless_refused, place_at, place_in, place_in_gap, place_of, writes_and_executes, has_one, MayMapAt, MayMapThere}
 
 -- what these registers and this memory are like where they spell the call
 abbrev pub Suits : Pages → Registers → Call → Type 0
-Suits m r (FdWrite fd bytes) = Unit {0}
 Suits m r (MemMap place length prot flags fd offset) = MayMapThere m place (pages_in length)
 Suits m r (Memory number errno) =
     IsPageAddress (argument r 0) × (number ≡ 34 → errno ≡ Success → AreThere m (argument r 0 / 4096) (pages_in (argument r 1)))
-Suits m r (ProcExit code) = Unit {0}
-Suits m r (Refused number errno) = Unit {0}
+Suits m r other = Unit {0}
 
 either_suits : (m : Pages) (r : Registers) (b : Bool) (x y : Call) → (b ≡ true → Suits m r x) → Suits m r y → Suits m r (cond b x y)
 either_suits m r true x y h k = h refl

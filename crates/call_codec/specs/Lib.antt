@@ -1,6 +1,6 @@
-pub mod Arguments
 pub mod Args
 pub mod MemoryCalls
+pub mod Spelled
 pub mod Put
 pub mod Image
 pub mod Start

@@ -5,7 +5,7 @@ use Rattle.abi_base.specs.declared.address_space.TheConstants.{GUEST_BEGIN, GUES
 use Rattle.std.specs.Int.RustNames.{bit_and}
 use Rattle.std.specs.FinMap.{len}
 use Rattle.abi_types.specs.declared.call.Call.{Call}
-use Rattle.abi_types.specs.declared.call.Call.TheVariants.{FdWrite, MemMap, Memory, ProcExit, Refused}
+use Rattle.abi_types.specs.declared.call.Call.TheVariants.{MemMap, Memory, Refused}
 use Rattle.abi_base.specs.declared.errno.Errno.{Errno}
 use Rattle.abi_base.specs.declared.errno.Errno.TheVariants.{Success, Fault, Inval, Nobufs, Nosys, Notsup}
 use Rattle.abi_types.specs.declared.place.Place.{Place}
@@ -17,7 +17,7 @@ use Rattle.guest_memory.specs.Changes.{all_there, lowest_gap, mapped, protected,
 use Rattle.guest_memory.specs.Mapping.{page_limit}
 use Rattle.guest_memory.specs.Page.{Pages}
 use Rattle.guest_memory.specs.Ranges.{IsPageAddress}
-use Rattle.call_codec.specs.Arguments.{argument, low}
+use Rattle.argument_reading.specs.Arguments.{argument, low}
 
 -- ---- arguments
 
@@ -101,15 +101,19 @@ mem_unmap_of r =
 
 -- ---- mem_map
 
--- Why mem_map is refused by its address, length, prot, flags and offset. ANON is 1, FIXED is 2, PRIVATE is 4 and SHARED
--- is 8. There are no files yet, so without ANON it is no call.
-abbrev pub map_refusal : ℕ → ℕ → ℕ → ℕ → ℕ → Option Errno
-map_refusal a bytes prot flags offset =
-    if not (has_bits flags 1) then Some Nosys
-    else if nat_lt 7 prot || nat_lt 15 flags || bytes == 0 || not (has_one flags 4 8) || not (is_aligned offset) then Some Inval
+-- Why mem_map is refused by its address, length, prot, flags and offset, with a file or without one. ANON is 1, FIXED is 2,
+-- PRIVATE is 4 and SHARED is 8.
+abbrev pub mapping_refusal : ℕ → ℕ → ℕ → ℕ → ℕ → Option Errno
+mapping_refusal a bytes prot flags offset =
+    if nat_lt 7 prot || nat_lt 15 flags || bytes == 0 || not (has_one flags 4 8) || not (is_aligned offset) then Some Inval
     else if has_bits flags 8 || writes_and_executes prot then Some Notsup
     else if has_bits flags 2 && not (is_aligned a && is_guests a (pages_in bytes)) then Some Inval
     else None
+
+-- Why it is refused while no file can be mapped: then it is no call without ANON.
+abbrev pub map_refusal : ℕ → ℕ → ℕ → ℕ → ℕ → Option Errno
+map_refusal a bytes prot flags offset =
+    if not (has_bits flags 1) then Some Nosys else mapping_refusal a bytes prot flags offset
 
 -- FIXED: k pages at the address, in place of those that are there; NOBUFS where that would be too many
 abbrev pub place_at : Pages → ℕ → ℕ → Place
@@ -127,11 +131,20 @@ place_in_gap m k = if nat_le (len m + k) page_limit then place_in (lowest_gap m 
 abbrev pub place_of : Pages → ℕ → ℕ → ℕ → Place
 place_of m a flags k = if has_bits flags 2 then place_at m a k else place_in_gap m k
 
+-- a mem_map that isn't refused: its place and its other arguments
+abbrev pub placed_map : Pages → Registers → Call
+placed_map m r =
+    MemMap (place_of m (argument r 0) (low (argument r 3)) (pages_in (argument r 1))) (argument r 1) (low (argument r 2)) (low (argument r 3)) (low (argument r 4)) (argument r 5)
+
 -- mem_map: an address, a length, a prot, flags, a descriptor and an offset
 abbrev pub mem_map_of : Pages → Registers → Call
 mem_map_of m r =
-    unless_refused 33 (map_refusal (argument r 0) (argument r 1) (low (argument r 2)) (low (argument r 3)) (argument r 5))
-    (MemMap (place_of m (argument r 0) (low (argument r 3)) (pages_in (argument r 1))) (argument r 1) (low (argument r 2)) (low (argument r 3)) (low (argument r 4)) (argument r 5))
+    unless_refused 33 (map_refusal (argument r 0) (argument r 1) (low (argument r 2)) (low (argument r 3)) (argument r 5)) (placed_map m r)
+
+-- the same where a file can be mapped too
+abbrev pub mapping_of : Pages → Registers → Call
+mapping_of m r =
+    unless_refused 33 (mapping_refusal (argument r 0) (argument r 1) (low (argument r 2)) (low (argument r 3)) (argument r 5)) (placed_map m r)
 
 -- ---- what they leave of the memory
 
@@ -171,16 +184,11 @@ IsSomewhere (place.Refused errno) = ⊥
 
 -- the call maps pages: only such a mem_map takes memory for its answer
 abbrev pub IsMapping : Call → Type 0
-IsMapping (FdWrite fd bytes) = ⊥
 IsMapping (MemMap place length prot flags fd offset) = IsSomewhere place
-IsMapping (Memory number errno) = ⊥
-IsMapping (ProcExit code) = ⊥
-IsMapping (Refused number errno) = ⊥
+IsMapping other = ⊥
 
 -- the memory after the call of these registers, which was answered with SUCCESS
 abbrev pub memory_with : Pages → Registers → Call → Pages
-memory_with m r (FdWrite fd bytes) = m
 memory_with m r (MemMap place length prot flags fd offset) = with_mapping m place (pages_in length) (prot_of prot)
 memory_with m r (Memory number errno) = on_success errno (with_change m r number) m
-memory_with m r (ProcExit code) = m
-memory_with m r (Refused number errno) = m
+memory_with m r other = m

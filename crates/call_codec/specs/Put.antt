@@ -4,7 +4,7 @@ use Rattle.std.specs.Prelude.{◌+◌, ◌%◌, ◌^◌}
 use Rattle.abi_types.specs.declared.reply.Answer.{Answer}
 use Rattle.abi_types.specs.declared.reply.Answer.TheVariants as answer
 use Rattle.abi_types.specs.declared.call.Call.{Call}
-use Rattle.abi_types.specs.declared.call.Call.TheVariants.{FdWrite, MemMap, Memory, ProcExit, Refused}
+use Rattle.abi_types.specs.declared.call.Call.TheVariants.{FdWrite, MemMap}
 use Rattle.abi_types.specs.declared.reply.Reply.{Reply}
 use Rattle.abi_base.specs.Errno.{number_of}
 use Rattle.abi_base.specs.Registers.{Registers, with_pc, with_x}
@@ -15,9 +15,7 @@ use Rattle.call_codec.specs.MemoryCalls.{memory_with, on_success}
 abbrev pub with_results : Registers → Call → Reply → Registers
 with_results r (FdWrite fd bytes) reply = with_x r 11 reply.r1
 with_results r (MemMap place length prot flags fd offset) reply = with_x r 11 reply.r1
-with_results r (Memory number errno) reply = r
-with_results r (ProcExit code) reply = r
-with_results r (Refused number errno) reply = r
+with_results r other reply = r
 
 abbrev pub put_of : Registers → Call → Reply → Registers
 put_of r call reply =

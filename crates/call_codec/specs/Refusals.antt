@@ -3,7 +3,7 @@
 use Rattle.std.specs.Prelude.{◌≡◌, ◌≢◌, ℕ, ◌+◌, ◌*◌, ◌/◌, ◌%◌, ◌^◌, ◌<◌, ◌⊎◌, true, None}
 use Rattle.std.specs.FinMap.{len}
 use Rattle.abi_types.specs.declared.call.Call.{Call}
-use Rattle.abi_types.specs.declared.call.Call.TheVariants.{FdWrite, MemMap, Memory, ProcExit, Refused}
+use Rattle.abi_types.specs.declared.call.Call.TheVariants.{MemMap, Memory, Refused}
 use Rattle.abi_types.specs.declared.place.Place.{Place}
 use Rattle.abi_types.specs.declared.place.Place.TheVariants as place
 use Rattle.abi_types.specs.declared.place.Place.TheVariants.{At}
@@ -14,7 +14,7 @@ use Rattle.abi_base.specs.Registers.{Registers}
 use Rattle.guest_memory.specs.Changes.{lowest_gap, without_pages}
 use Rattle.guest_memory.specs.Mapping.{AreThere}
 use Rattle.guest_memory.specs.Page.{Pages}
-use Rattle.call_codec.specs.Arguments.{argument, low}
+use Rattle.argument_reading.specs.Arguments.{argument, low}
 use Rattle.call_codec.specs.MemoryCalls.{has_bits, pages_in, mem_advise_of, mem_map_of, mem_protect_of, mem_sync_of, mem_unmap_of}
 
 -- conditions in an order, each with the error that it answers
@@ -33,11 +33,10 @@ placed_errno (At a) = Success
 placed_errno (place.Refused errno) = errno
 
 abbrev pub errno_of : Call → Errno
-errno_of (FdWrite fd bytes) = Success
 errno_of (MemMap place length prot flags fd offset) = placed_errno place
 errno_of (Memory number errno) = errno
-errno_of (ProcExit code) = Success
 errno_of (Refused number errno) = errno
+errno_of other = Success
 
 -- the address isn't a page's
 abbrev pub IsMisaligned : ℕ → Type 0

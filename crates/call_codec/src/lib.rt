@@ -5,6 +5,7 @@
 pub use arguments::args;
 pub use image::load;
 pub use laws::{refusals_are_listed, start_block_stands};
+pub use reading::read_call;
 pub use replies::put_answer;
 pub use start::start_memory;
 
@@ -12,5 +13,6 @@ mod arguments;
 mod image;
 mod laws;
 mod memory_calls;
+mod reading;
 mod replies;
 mod start;

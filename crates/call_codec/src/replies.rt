@@ -1,6 +1,6 @@
 //! From an answer back to the registers and the memory.
 ghost use Rattle.std.specs.Prelude.{◌≡◌, ◌≤◌, ◌/◌, ◌^◌, OnOk, OnErr};
-ghost use Rattle.call_codec.specs.Arguments.{argument};
+ghost use Rattle.argument_reading.specs.Arguments.{argument};
 ghost use Rattle.call_codec.specs.Args.{args_of};
 ghost use Rattle.call_codec.specs.MemoryCalls.{IsMapping, IsSomewhere, MayMapThere, memory_with, with_change, with_mapping, pages_in, prot_of};
 ghost use Rattle.call_codec.specs.Put.{answered_memory, answered_of, put_of, with_results};
@@ -8,10 +8,10 @@ ghost use Rattle.guest_memory.specs.Changes.{protected, without_pages};
 ghost use Rattle.guest_memory.specs.Mapping.{AreThere};
 ghost use Rattle.guest_memory.specs.Ranges.{IsPageAddress};
 
-use crate::arguments::low;
 use crate::memory_calls::{has_bits, pages_in};
 use abi_base::{GUEST_END, PAGE_SIZE};
 use abi_types::{Answer, Call, Errno, Place, Prot, Regs, Reply};
+use argument_reading::low;
 use guest_memory::GuestMemory;
 use std::alloc::{AllocError, Global};
 
@@ -60,7 +60,7 @@ fn put_results(regs: &mut Regs, call: &Call, reply: &Reply)
 {
     match call {
         Call::FdWrite { .. } | Call::MemMap { .. } => regs.set(11, reply.r1),
-        Call::Memory { .. } | Call::ProcExit { .. } | Call::Refused { .. } => {}
+        _ => {}
     }
 }
 
@@ -100,7 +100,7 @@ fn put_memory(
             }
             Ok(())
         }
-        Call::FdWrite { .. } | Call::ProcExit { .. } | Call::Refused { .. } => Ok(()),
+        _ => Ok(()),
     }
 }
 

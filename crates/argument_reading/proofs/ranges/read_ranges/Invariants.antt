@@ -1,8 +1,8 @@
 use Rattle.std.proofs.Common.{◌≡◌, ◌-◌}
 use Rattle.std.specs.Result.{result_ok}
-use Rattle.call_codec.specs.Args.{ranges_at}
-use Rattle.call_codec.proofs.Gathering.{after_front}
-use Rattle.call_codec.proofs.arguments.read_ranges.Given as goal
+use Rattle.argument_reading.specs.Ranges.{ranges_at}
+use Rattle.argument_reading.proofs.Gathering.{after_front}
+use Rattle.argument_reading.proofs.ranges.read_ranges.Given as goal
 
 -- the ranges so far, and those that are left, are all
 abbrev pub invariant-loop : goal.invariant-loop

@@ -1,9 +1,9 @@
 use Rattle.std.proofs.Common.{◌≡◌, ◌≤◌, drop}
 use Rattle.std.specs.Result.{result_ok}
-use Rattle.call_codec.specs.declared.arguments.TheConstants.{MOST_TRANSFERRED}
-use Rattle.call_codec.specs.Args.{gathered}
-use Rattle.call_codec.proofs.Gathering.{after_front}
-use Rattle.call_codec.proofs.arguments.gather.Given as goal
+use Rattle.argument_reading.specs.declared.ranges.TheConstants.{MOST_TRANSFERRED}
+use Rattle.argument_reading.specs.Ranges.{gathered}
+use Rattle.argument_reading.proofs.Gathering.{after_front}
+use Rattle.argument_reading.proofs.ranges.gather.Given as goal
 
 -- the bytes so far, and those of the ranges that are left, are all
 abbrev pub invariant-loop-range : goal.invariant-loop-range

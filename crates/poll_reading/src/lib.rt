@@ -1,0 +1,9 @@
+//! The poll that a thread's registers and memory spell: what it waits for, with the words of the locks and condition
+//! variables, or the error that refuses it.
+#![tactic(auto)]
+
+pub use polling::{MOST_SUBSCRIPTIONS, poll};
+
+mod found;
+mod polling;
+mod rules;
