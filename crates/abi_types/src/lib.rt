@@ -24,6 +24,7 @@ pub use place::Place;
 pub use status::Status;
 pub use stream::Stream;
 pub use thread::Thread;
+pub use wake::WakeIn;
 pub use who::Who;
 
 mod call;
@@ -37,4 +38,5 @@ mod place;
 mod status;
 mod stream;
 mod thread;
+mod wake;
 mod who;
