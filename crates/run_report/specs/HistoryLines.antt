@@ -12,10 +12,10 @@ use Rattle.run_types.specs.declared.history.Entry.{Entry}
 use Rattle.run_report.specs.CallNames.{call_name}
 use Rattle.run_report.specs.Denials.{thread_text}
 
--- a word for what was done of a call, the call, the name of its error, and the two numbers that it gave
+-- the word of an act, its call, the name of the error, and the two numbers that it gave
 abbrev pub call_text : List ℕ → Call → Answer → List ℕ
-call_text done call (Reply reply) =
-    done ++ (codes " " ++ (call_name call ++ (codes " " ++ (name_of reply.errno ++ (codes " " ++ (decimal reply.r1 ++ (codes " " ++ decimal reply.r2)))))))
+call_text word call (Reply reply) =
+    word ++ (codes " " ++ (call_name call ++ (codes " " ++ (name_of reply.errno ++ (codes " " ++ (decimal reply.r1 ++ (codes " " ++ decimal reply.r2)))))))
 
 -- what an entry did
 abbrev pub act_text : Act → List ℕ

@@ -10,14 +10,14 @@ use abi_types::{Answer, Bytes, Call};
 use run_types::{Act, Entry};
 use std::alloc::{AllocError, Global};
 
-// A word for what was done of a call, the call, its answer, and the two numbers that it gave.
-fn call_text(alloc: Global, done: &str, call: &Call, answer: &Answer) -> Result<String, AllocError>
-    ensures { IfOk result (λ text. string_bytes text ≡ call_text done.now call.now answer.now) }
+// The word of an act, its call, the answer, and the two numbers that it gave.
+fn call_text(alloc: Global, word: &str, call: &Call, answer: &Answer) -> Result<String, AllocError>
+    ensures { IfOk result (λ text. string_bytes text ≡ call_text word.now call.now answer.now) }
 {
     let Answer::Reply(reply) = answer;
     let call = call_name(alloc, call)?;
     let error = reply.errno.name();
-    format!(in alloc; "{done} {call} {error} {} {}", reply.r1, reply.r2)
+    format!(in alloc; "{word} {call} {error} {} {}", reply.r1, reply.r2)
 }
 
 // What an entry did.
