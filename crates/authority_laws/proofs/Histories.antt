@@ -50,8 +50,10 @@ acted_rows : (w : World) (who : Who) (guest : Guest) (ts : List ℕ) (a : Act) (
     → HasRows (acted w who a).state (with_row l who.pid (acted_row (l.held who.pid) a))
 acted_rows w who guest ts (act.Call call given) l fits before =
     step_rows w.constants w.state who call given (called_state w.constants w.state who call given) l fits.2 before
+acted_rows w who guest ts (act.Wake call given answered) l fits before = absurd fits
 acted_rows w who guest ts (act.Trap signal) l fits before = end_rows w.state who.pid (Killed signal) l before
 acted_rows w who guest ts act.Expire l fits before = end_rows w.state who.pid (Killed Xcpu) l before
+acted_rows w who guest ts act.Idle l fits before = absurd fits
 
 apply_rows : (w : World) (e : Entry) (l : Ledger) → Fits w e → HasRows w.state l → HasRows (apply w e).state (noted l e)
 apply_rows w e l fits before =

@@ -45,8 +45,10 @@ answered_from l p call (answer.Reply reply) =
 
 acted_from : (l : Ledger) (p : ℕ) (a : Act) → RowComesFrom l (acted_row (l.held p) a)
 acted_from l p (act.Call call given) = answered_from l p call given
+acted_from l p (act.Wake call given answered) = answered_from l p call answered
 acted_from l p (act.Trap signal) = nothing_from l
 acted_from l p act.Expire = nothing_from l
+acted_from l p act.Idle = own_from l p
 
 one_of : (l : Ledger) (p : ℕ) (row : Row) → RowComesFrom l row → ComesFrom l (with_row l p row)
 one_of l p row from q =

@@ -7,11 +7,14 @@ use Rattle.run_types.specs.declared.history.Entry.{Entry}
 use Rattle.run_types.specs.declared.launch.Launch.{Launch}
 use Rattle.authority_laws.specs.Ledger.{Row, no_row, Ledger, with_row, launch_ledger, answered_row}
 
--- what a process holds after an act of its thread: a process that ended holds nothing
+-- What a process holds after an act of its thread: a wake is answered as its call is, a process that ended holds nothing, and an
+-- idle jump leaves what each process held.
 abbrev pub acted_row : Row → Act → Row
 acted_row row (act.Call call given) = answered_row row call given
+acted_row row (act.Wake call given answered) = answered_row row call answered
 acted_row row (act.Trap signal) = no_row
 acted_row row act.Expire = no_row
+acted_row row act.Idle = row
 
 -- the ledger after an entry
 abbrev pub noted : Ledger → Entry → Ledger

@@ -1,7 +1,7 @@
 //! Reports by example.
 use crate::stdout_kernel::{Deed, PID, TID, answer_to, call_of, expire, stdout_kernel};
 use abi_types::{
-    Answer, Bytes, Call, Denial, Errno, Payload, Pid, Reply, Rights, Signal, Tid, TidList,
+    Answer, Bytes, Call, Denial, Errno, Payload, Pid, Reply, Rights, Signal, Tid, TidList, WakeIn,
     WordWrites,
 };
 use kernel_core::Kernel;
@@ -10,14 +10,20 @@ use run_types::{Act, Entry, History};
 use std::alloc::{AllocError, Global};
 use std::test::Fail;
 
-// An entry of another process.
+// An entry that the kernel isn't asked for.
 enum Other {
     // A call of this number that lacks these rights of descriptor 3.
     Denied(u64, Rights, Rights),
+    // A wake out of such a call.
+    DeniedWake(u64, Rights, Rights),
+    // A wake at this moment out of a call of this number, which gives this first number.
+    Wake { moment: u64, number: u64, r1: u64 },
     // A trap at this moment, after three turns.
     Trap(u64),
     // The end of its turns at this moment, after three turns.
     Expire(u64),
+    // An idle jump to this moment.
+    Idle(u64),
 }
 
 // A run, and the report that it comes to.
@@ -84,6 +90,22 @@ const RUNS: &[Run] = &[
         lines: true,
         report: "== stdout 0\n== stderr 0\n== status live\n== run stalled\n== denials 1\n0abcdef0.12 50 fd 3 base FD_READ inheriting -\n== tree 0\n== history 3\n0 0abcdef0.12 0 call 50 NOTCAPABLE 0 0\n4000 01000002.7 3 trap - - 0 0\n18446744073709551615 01000002.7 3 expire - - 0 0\n",
     },
+    Run {
+        may_write: true,
+        deeds: &[],
+        others: &[
+            Other::Idle(5_000_000),
+            Other::Wake {
+                moment: 5_001_000,
+                number: 37,
+                r1: 1,
+            },
+            Other::DeniedWake(10, Rights::FD_READ, Rights::NONE),
+        ],
+        expires: false,
+        lines: true,
+        report: "== stdout 0\n== stderr 0\n== status live\n== run stalled\n== denials 1\n0abcdef0.12 fd_read fd 3 base FD_READ inheriting -\n== tree 0\n== history 3\n5000000 00000000.0 0 idle - - 0 0\n5001000 00000000.1 0 wake poll SUCCESS 1 0\n0 0abcdef0.12 0 wake fd_read NOTCAPABLE 0 0\n",
+    },
 ];
 
 // Makes a call of the first thread, with its entry. Nothing where that thread can make no call.
@@ -106,8 +128,8 @@ fn make_call(
     }
 }
 
-// The entry of a call of this number that was denied.
-fn denied(alloc: Global, number: u64, base: Rights, inheriting: Rights) -> Entry {
+// The answer to a call that lacks these rights of descriptor 3.
+fn lacking(base: Rights, inheriting: Rights) -> Answer {
     let reply = Reply {
         errno: Errno::Notcapable,
         r1: 0,
@@ -120,19 +142,66 @@ fn denied(alloc: Global, number: u64, base: Rights, inheriting: Rights) -> Entry
             inheriting,
         }),
     };
+    Answer::Reply(reply)
+}
+
+// The answer to a call that succeeded and gives this first number.
+fn giving(r1: u64) -> Answer {
+    let reply = Reply {
+        errno: Errno::Success,
+        r1,
+        r2: 0,
+        denial: None,
+    };
+    Answer::Reply(reply)
+}
+
+// A call of this number.
+fn numbered(number: u64) -> Call {
+    Call::Refused {
+        number,
+        errno: Errno::Notcapable,
+    }
+}
+
+// A wake out of a call of this number, which waited for no lock.
+fn wake_of(number: u64, answer: Answer) -> Act {
+    Act::Wake {
+        call: numbered(number),
+        given: WakeIn::Plain { word: 0 },
+        answer,
+    }
+}
+
+// The entry of what a thread of another process did, at moment 0.
+fn of_another(alloc: Global, act: Act) -> Entry {
     Entry {
         moment: 0,
         pid: Pid(0xabc_def0),
         tid: Tid(12),
         turns: TidList::new(alloc),
-        act: Act::Call {
-            call: Call::Refused {
-                number,
-                errno: Errno::Notcapable,
-            },
-            answer: Answer::Reply(reply),
-        },
+        act,
     }
+}
+
+// The entry of what happened in process 0 at a moment, after no turn.
+fn of_first(alloc: Global, moment: u64, tid: Tid, act: Act) -> Entry {
+    Entry {
+        moment,
+        pid: PID,
+        tid,
+        turns: TidList::new(alloc),
+        act,
+    }
+}
+
+// The entry of a call of this number that was denied.
+fn denied(alloc: Global, number: u64, base: Rights, inheriting: Rights) -> Entry {
+    let act = Act::Call {
+        call: numbered(number),
+        answer: lacking(base, inheriting),
+    };
+    of_another(alloc, act)
 }
 
 // Three turns of a thread.
@@ -158,8 +227,15 @@ fn end_after_turns(alloc: Global, moment: u64, act: Act) -> Result<Entry, AllocE
 fn entry_of(alloc: Global, other: &Other) -> Result<Entry, AllocError> {
     match other {
         Other::Denied(number, base, inheriting) => Ok(denied(alloc, *number, *base, *inheriting)),
+        Other::DeniedWake(number, base, inheriting) => {
+            Ok(of_another(alloc, wake_of(*number, lacking(*base, *inheriting))))
+        }
+        Other::Wake { moment, number, r1 } => {
+            Ok(of_first(alloc, *moment, TID, wake_of(*number, giving(*r1))))
+        }
         Other::Trap(moment) => end_after_turns(alloc, *moment, Act::Trap(Signal::Segv)),
         Other::Expire(moment) => end_after_turns(alloc, *moment, Act::Expire),
+        Other::Idle(moment) => Ok(of_first(alloc, *moment, Tid(0), Act::Idle)),
     }
 }
 

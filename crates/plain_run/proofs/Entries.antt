@@ -65,16 +65,20 @@ at_entry r p kernel guests history e at fits more state same some =
 
 acted_stop : (w : World) (who : Who) (a : Act) (status : Status) → EndsBy a status → acted w who a ≡ record w { state = end_state w.state who.pid status }
 acted_stop w who (act.Call call given) status by = absurd by
+acted_stop w who (act.Wake call given answered) status by = absurd by
 acted_stop w who (act.Trap signal) status by = ap (λ (s : Status). record w { state = end_state w.state who.pid s }) (sym by)
 acted_stop w who act.Expire status by = ap (λ (s : Status). record w { state = end_state w.state who.pid s }) (sym by)
+acted_stop w who act.Idle status by = absurd by
 
 apply_stop : (w : World) (e : Entry) (status : Status) → EndsBy e.act status → apply w e ≡ record (turned w e.pid e.turns) { state = end_state w.state e.pid status }
 apply_stop w e status by = apply_is w e ∙ acted_stop (turned w e.pid e.turns) (who_of e) e.act status by
 
 not_live : (a : Act) (status : Status) → EndsBy a status → status ≢ Live
 not_live (act.Call call given) status by = absurd by
+not_live (act.Wake call given answered) status by = absurd by
 not_live (act.Trap signal) status by = λ e. cc
 not_live act.Expire status by = λ e. cc
+not_live act.Idle status by = absurd by
 
 -- the entry of an act of a thread that leaves the kernel in this state
 abbrev pub entry_of : Run → Who → State → Act → Entry

@@ -78,8 +78,10 @@ ahead r p = (guest_now r p).left + live_number (get r.kernel.statuses p)
 -- the status of a process that an act ends from outside
 abbrev pub EndsBy : Act → Status → Type 0
 EndsBy (act.Call call given) status = ⊥
+EndsBy (act.Wake call given answered) status = ⊥
 EndsBy (act.Trap signal) status = status ≡ Killed signal
 EndsBy act.Expire status = status ≡ Killed Xcpu
+EndsBy act.Idle status = ⊥
 
 -- the entry of an act that a thread did up to this moment, after the turns that no entry has yet
 abbrev pub entry_now : Run → Who → Act → Entry

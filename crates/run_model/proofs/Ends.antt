@@ -40,8 +40,10 @@ ended_is_final launch history e ended fits = ended e.pid fits.live
 fits_runnable : (constants : Constants) (S : State) (who : Who) (guest : Guest) (ts : List ℕ) (a : Act) → FitsAct constants S who guest ts a
     → IsRunnable S who.pid who.tid
 fits_runnable constants S who guest ts (act.Call call given) fits = fits.0.3.0
+fits_runnable constants S who guest ts (act.Wake call given answered) fits = absurd fits
 fits_runnable constants S who guest ts (act.Trap signal) fits = fits.3.0
 fits_runnable constants S who guest ts act.Expire fits = fits.1
+fits_runnable constants S who guest ts act.Idle fits = absurd fits
 
 pub stalled_is_final : (launch : Launch) (history : List Entry) (e : Entry) → Stalled launch history → Fits (world launch history) e → ⊥
 stalled_is_final launch history e stalled fits =
@@ -68,8 +70,10 @@ pub acted_status : (w : World) (who : Who) (guest : Guest) (ts : List ℕ) (a : 
     → get (acted w who a).state.statuses q ≡ get w.state.statuses q
 acted_status w who guest ts (act.Call call given) q fits n =
     ((step_moves_only w.constants w.state who call given (called_state w.constants w.state who call given) fits.2).others q n).2
+acted_status w who guest ts (act.Wake call given answered) q fits n = refl
 acted_status w who guest ts (act.Trap signal) q fits n = ((end_ends_only w.state who.pid (Killed signal)).others q n).2
 acted_status w who guest ts act.Expire q fits n = ((end_ends_only w.state who.pid (Killed Xcpu)).others q n).2
+acted_status w who guest ts act.Idle q fits n = refl
 
 pub apply_status : (w : World) (e : Entry) (q : ℕ) → Fits w e → q ≢ e.pid → get (apply w e).state.statuses q ≡ get w.state.statuses q
 apply_status w e q fits n =

@@ -70,6 +70,8 @@ act_is_one constants S who guest ts (act.Call call given) (act.Trap signal) fits
     absurd (ecall_is_no_trap signal (one_end S who.pid guest ts who.tid turn_end_is.Ecall (turn_end_is.Trap signal) fits.0 again))
 act_is_one constants S who guest ts (act.Call call given) act.Expire fits again plenty more =
     absurd (ecall_is_not_whole (whole_end S who.pid guest ts who.tid turn_end_is.Ecall fits.0 again.0))
+act_is_one constants S who guest ts (act.Wake call given answered) b fits again plenty more = absurd fits
+act_is_one constants S who guest ts a (act.Wake call given answered) fits again plenty more = absurd again
 act_is_one constants S who guest ts (act.Trap signal) (act.Call call given) fits again plenty more =
     absurd (ecall_is_no_trap signal (one_end S who.pid guest ts who.tid turn_end_is.Ecall (turn_end_is.Trap signal) again.0 fits))
 act_is_one constants S who guest ts (act.Trap signal) (act.Trap other) fits again plenty more =
@@ -81,6 +83,8 @@ act_is_one constants S who guest ts act.Expire (act.Call call given) fits again 
 act_is_one constants S who guest ts act.Expire (act.Trap signal) fits again plenty more =
     absurd (trap_is_not_whole signal (whole_end S who.pid guest ts who.tid (turn_end_is.Trap signal) again fits.0))
 act_is_one constants S who guest ts act.Expire act.Expire fits again plenty more = refl
+act_is_one constants S who guest ts act.Idle b fits again plenty more = absurd fits
+act_is_one constants S who guest ts a act.Idle fits again plenty more = absurd again
 
 -- ---- entries
 

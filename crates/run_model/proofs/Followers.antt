@@ -46,8 +46,10 @@ acted_first : (w : World) (who : Who) (guest : Guest) (ts : List ℕ) (a : Act) 
     → threads_of w.state who.pid ≡ Some first → HasFirst (acted w who a).state who.pid
 acted_first w who guest ts (act.Call call given) fits has live =
     (step_moves_only w.constants w.state who call given (called_state w.constants w.state who call given) fits.2).threads live ∙ has
+acted_first w who guest ts (act.Wake call given answered) fits has live = absurd fits
 acted_first w who guest ts (act.Trap signal) fits has live = absurd (ended_by w.state who.pid (Killed signal) (killed_is_not_live signal) live)
 acted_first w who guest ts act.Expire fits has live = absurd (ended_by w.state who.pid (Killed Xcpu) (killed_is_not_live Xcpu) live)
+acted_first w who guest ts act.Idle fits has live = absurd fits
 
 apply_first : (w : World) (e : Entry) → Fits w e → HasFirst w.state e.pid → HasFirst (apply w e).state e.pid
 apply_first w e fits has =

@@ -41,8 +41,10 @@ world_more launch history e = all_more (start_world launch) history e
 
 acted_constants : (w : World) (who : Who) (a : Act) → (acted w who a).constants ≡ w.constants
 acted_constants w who (act.Call call given) = refl
+acted_constants w who (act.Wake call given answered) = refl
 acted_constants w who (act.Trap signal) = refl
 acted_constants w who act.Expire = refl
+acted_constants w who act.Idle = refl
 
 -- what stays the same for the whole run does
 apply_constants : (w : World) (e : Entry) → (apply w e).constants ≡ w.constants

@@ -72,8 +72,10 @@ acted_all w who (act.Call call given) =
     let here = left_here (get w.guests who.pid) in
     let same = called_left (guest_of w who.pid) who.tid call given in
     omega (arith, sums, here, same)
+acted_all w who (act.Wake call given answered) = refl
 acted_all w who (act.Trap signal) = refl
 acted_all w who act.Expire = refl
+acted_all w who act.Idle = refl
 
 -- ---- the processes that live
 
@@ -122,6 +124,7 @@ act_falls w who ts (act.Call call given) live fits =
     let lives = acted_live (turned w who.pid ts) who (guest_of w who.pid) ts (act.Call call given) live fits in
     let less = last_takes w.state who.pid (guest_of w who.pid) ts who.tid Ecall fits.0 in
     omega (arith, turns, same, lives, less)
+act_falls w who ts (act.Wake call given answered) live fits = absurd fits
 act_falls w who ts (act.Trap signal) live fits =
     let turns = turned_all w who.pid ts in
     let same = acted_all (turned w who.pid ts) who (act.Trap signal) in
@@ -134,6 +137,7 @@ act_falls w who ts act.Expire live fits =
     let lives = expired_live w.state who.pid live in
     let most = turned_left ts (guest_of w who.pid) in
     omega (arith, turns, same, lives, most)
+act_falls w who ts act.Idle live fits = absurd fits
 
 -- each entry takes from what is left
 pub potential_falls : (w : World) (e : Entry) → Fits w e → potential (apply w e) < potential w

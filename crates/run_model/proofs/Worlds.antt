@@ -23,8 +23,10 @@ acted_valid : (w : World) (who : Who) (guest : Guest) (ts : List ℕ) (a : Act) 
     → IsValid (acted w who a).state
 acted_valid w who guest ts (act.Call call given) fits valid =
     step_keeps_valid w.constants w.state who call given (called_state w.constants w.state who call given) fits.2 valid
+acted_valid w who guest ts (act.Wake call given answered) fits valid = absurd fits
 acted_valid w who guest ts (act.Trap signal) fits valid = end_valid w.state who.pid (Killed signal) valid
 acted_valid w who guest ts act.Expire fits valid = end_valid w.state who.pid (Killed Xcpu) valid
+acted_valid w who guest ts act.Idle fits valid = absurd fits
 
 apply_valid : (w : World) (e : Entry) → Fits w e → IsValid w.state → IsValid (apply w e).state
 apply_valid w e fits valid =
@@ -50,8 +52,10 @@ acted_clock : (w : World) (who : Who) (guest : Guest) (ts : List ℕ) (a : Act) 
     → (acted w who a).state.clock ≡ w.state.clock + 1000
 acted_clock w who guest ts (act.Call call given) fits =
     (step_moves_only w.constants w.state who call given (called_state w.constants w.state who call given) fits.2).clock
+acted_clock w who guest ts (act.Wake call given answered) fits = absurd fits
 acted_clock w who guest ts (act.Trap signal) fits = (end_ends_only w.state who.pid (Killed signal)).clock
 acted_clock w who guest ts act.Expire fits = (end_ends_only w.state who.pid (Killed Xcpu)).clock
+acted_clock w who guest ts act.Idle fits = absurd fits
 
 -- an entry takes 1000 nanoseconds
 pub apply_clock : (w : World) (e : Entry) → Fits w e → (apply w e).state.clock ≡ w.state.clock + 1000
@@ -80,8 +84,10 @@ turned_others w p ts q n = ap or_no_guest (get-insert-other w.guests p (turned_g
 acted_others : (w : World) (who : Who) (a : Act) (q : ℕ) → q ≢ who.pid → guest_of (acted w who a) q ≡ guest_of w q
 acted_others w who (act.Call call given) q n =
     ap or_no_guest (get-insert-other w.guests who.pid (called_guest (guest_of w who.pid) who.tid call given) q n)
+acted_others w who (act.Wake call given answered) q n = refl
 acted_others w who (act.Trap signal) q n = refl
 acted_others w who act.Expire q n = refl
+acted_others w who act.Idle q n = refl
 
 pub others_stay : (w : World) (e : Entry) (q : ℕ) → q ≢ e.pid → guest_of (apply w e) q ≡ guest_of w q
 others_stay w e q n =

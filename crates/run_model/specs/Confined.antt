@@ -24,7 +24,7 @@ use Rattle.kernel_model.specs.Need.{missing}
 use Rattle.kernel_model.specs.Release.{is_released}
 use Rattle.kernel_model.specs.Reply.{denied}
 use Rattle.kernel_model.specs.Sight.{own_parts}
-use Rattle.kernel_model.specs.State.{State, Table, Part, has_part, Agree, AgreeOn}
+use Rattle.kernel_model.specs.State.{State, Table, Part, at_clock, same_part, has_part, Agree, AgreeOn}
 use Rattle.kernel_model.specs.Step.{sight, outcome, unreleased, failed, IsStep, IsUntouched, end_unreleased}
 use Rattle.run_model.specs.World.{World, who_of, apply, world}
 
@@ -59,11 +59,18 @@ abbrev pub EndIsConfined : State → ℕ → Status → State → Type 0
 EndIsConfined S p status T =
     (part : Part) → has_part (own_parts p) part ≡ false → is_released (end_unreleased S p status) part ≡ false → Agree T S part
 
--- what a thread does is confined
+-- Each part but the clock has the value it had.
+abbrev pub OnlyClockChanges : State → State → Type 0
+OnlyClockChanges S T = (part : Part) → same_part at_clock part ≡ false → Agree T S part
+
+-- What a thread does is confined. What a wake may change is not said yet: no call makes a thread wait, so no wake fits any world.
+-- An idle jump changes the clock alone.
 abbrev pub ActIsConfined : Constants → State → Who → Act → State → Type 0
 ActIsConfined constants S who (act.Call call given) T = CallIsConfined constants S who call given T
+ActIsConfined constants S who (act.Wake call given answered) T = Unit {0}
 ActIsConfined constants S who (act.Trap signal) T = EndIsConfined S who.pid (Killed signal) T
 ActIsConfined constants S who act.Expire T = EndIsConfined S who.pid (Killed Xcpu) T
+ActIsConfined constants S who act.Idle T = OnlyClockChanges S T
 
 -- what the entry does to this world is confined
 abbrev pub EntryIsConfined : World → Entry → Type 0

@@ -37,8 +37,10 @@ EachEntryFits =
 -- memory was not wanting where the act was done
 abbrev pub LacksNothing : Act → Type 0
 LacksNothing (act.Call call (answer.Reply reply)) = reply.errno ≢ Nomem
+LacksNothing (act.Wake call given (answer.Reply reply)) = reply.errno ≢ Nomem
 LacksNothing (act.Trap signal) = Unit {0}
 LacksNothing act.Expire = Unit {0}
+LacksNothing act.Idle = Unit {0}
 
 -- Where a thread and the turns before it are given, and memory is not wanting, at most one entry may follow.
 abbrev pub EntryIsOne : Type 0

@@ -38,14 +38,17 @@ LastEnds S p guest ts t end =
 -- What an act wants of the world before its entry, S being the kernel's state and guest the process's:
 -- A call is the one that the thread's registers and memory spell at the ECALL that ended the last turn, and its answer
 -- is the kernel's. A trap is the one that ended the last turn. A process expires where a runnable thread has no turn left.
+-- No call makes a thread wait, so neither a wake nor an idle jump fits.
 abbrev pub FitsAct : Constants → State → Who → Guest → List ℕ → Act → Type 0
 FitsAct constants S who guest ts (act.Call call given) =
     LastEnds S who.pid guest ts who.tid turn_end_is.Ecall
     × (call ≡ args_of (turned_guest_by ts guest).memory (registers_of (turned_guest_by ts guest) who.tid))
     × IsStep constants S who call given (called_state constants S who call given)
+FitsAct constants S who guest ts (act.Wake call given answered) = ⊥
 FitsAct constants S who guest ts (act.Trap signal) = LastEnds S who.pid guest ts who.tid (turn_end_is.Trap signal)
 FitsAct constants S who guest ts act.Expire =
     AreWhole S who.pid guest ts × IsRunnable S who.pid who.tid × ((turned_guest_by ts guest).left ≡ 0)
+FitsAct constants S who guest ts act.Idle = ⊥
 
 -- the entry may follow where the world is so
 pub record Fits (w : World) (e : Entry) : Type 0 where

@@ -122,14 +122,17 @@ called_guest guest t call given = record {
   left = guest.left;
 }
 
--- the world after an act of a thread
+-- The world after an act of a thread. No call makes a thread wait yet, so no wake and no idle jump fits any world, and each leaves
+-- the world as it is.
 abbrev pub acted : World → Who → Act → World
 acted w who (act.Call call given) = record w {
   state = called_state w.constants w.state who call given;
   guests = insert w.guests who.pid (called_guest (guest_of w who.pid) who.tid call given);
 }
+acted w who (act.Wake call given answered) = w
 acted w who (act.Trap signal) = record w { state = end_state w.state who.pid (Killed signal) }
 acted w who act.Expire = record w { state = end_state w.state who.pid (Killed Xcpu) }
+acted w who act.Idle = w
 
 -- who an entry is of
 abbrev pub who_of : Entry → Who

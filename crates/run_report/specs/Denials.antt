@@ -48,13 +48,15 @@ denial_text (Outside component) = codes "outside " ++ decimal component
 unfoldable pub denial_line : ℕ → ℕ → Call → Denial → List ℕ
 denial_line pid tid call denial = thread_text pid tid ++ (codes " " ++ (call_name call ++ (codes " " ++ (denial_text denial ++ 10 ∷ []))))
 
--- the line of an act that is a call with a denial
+-- the line of an act that is a call or a wake with a denial
 abbrev pub act_line : ℕ → ℕ → Act → Option (List ℕ)
 act_line pid tid (act.Call call (Reply reply)) = option_map (denial_line pid tid call) reply.denial
+act_line pid tid (act.Wake call given (Reply reply)) = option_map (denial_line pid tid call) reply.denial
 act_line pid tid (act.Trap signal) = None
 act_line pid tid act.Expire = None
+act_line pid tid act.Idle = None
 
--- the line of an entry whose act is a call with a denial
+-- the line of an entry whose act is a call or a wake with a denial
 abbrev pub entry_line : Entry → Option (List ℕ)
 entry_line entry = act_line entry.pid entry.tid entry.act
 

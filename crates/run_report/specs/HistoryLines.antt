@@ -12,16 +12,18 @@ use Rattle.run_types.specs.declared.history.Entry.{Entry}
 use Rattle.run_report.specs.CallNames.{call_name}
 use Rattle.run_report.specs.Denials.{thread_text}
 
--- a call, the name of its error, and the two numbers that it gave
-abbrev pub call_text : Call → Answer → List ℕ
-call_text call (Reply reply) =
-    codes "call " ++ (call_name call ++ (codes " " ++ (name_of reply.errno ++ (codes " " ++ (decimal reply.r1 ++ (codes " " ++ decimal reply.r2))))))
+-- the word of an act, its call, the name of the error, and the two numbers that it gave
+abbrev pub call_text : List ℕ → Call → Answer → List ℕ
+call_text word call (Reply reply) =
+    word ++ (codes " " ++ (call_name call ++ (codes " " ++ (name_of reply.errno ++ (codes " " ++ (decimal reply.r1 ++ (codes " " ++ decimal reply.r2)))))))
 
 -- what an entry did
 abbrev pub act_text : Act → List ℕ
-act_text (act.Call call answer) = call_text call answer
+act_text (act.Call call answer) = call_text (codes "call") call answer
+act_text (act.Wake call given answer) = call_text (codes "wake") call answer
 act_text (act.Trap signal) = codes "trap - - 0 0"
 act_text act.Expire = codes "expire - - 0 0"
+act_text act.Idle = codes "idle - - 0 0"
 
 -- The line of an entry: the moment after it, its process and thread, how many turns its process took since the process's
 -- last entry, and what it did.

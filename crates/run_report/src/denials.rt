@@ -107,14 +107,19 @@ fn denial_line(
     format!(in alloc; "{thread} {call} {denial}\n")
 }
 
-// The line of an entry whose call was denied.
+// The line of an entry whose call or wake was denied.
 fn entry_line(alloc: Global, entry: &Entry) -> Result<Option<String>, AllocError>
     ensures { IfOk result (λ line. option_map string_bytes line ≡ entry_line entry.now) }
 {
-    let Act::Call {
+    let (Act::Call {
         call,
         answer: Answer::Reply(reply),
-    } = &entry.act
+    }
+    | Act::Wake {
+        call,
+        answer: Answer::Reply(reply),
+        ..
+    }) = &entry.act
     else {
         return Ok(None);
     };

@@ -10,14 +10,14 @@ use abi_types::{Answer, Bytes, Call};
 use run_types::{Act, Entry};
 use std::alloc::{AllocError, Global};
 
-// A call, its answer, and the two numbers that it gave.
-fn call_text(alloc: Global, call: &Call, answer: &Answer) -> Result<String, AllocError>
-    ensures { IfOk result (λ text. string_bytes text ≡ call_text call.now answer.now) }
+// The word of an act, its call, the answer, and the two numbers that it gave.
+fn call_text(alloc: Global, word: &str, call: &Call, answer: &Answer) -> Result<String, AllocError>
+    ensures { IfOk result (λ text. string_bytes text ≡ call_text word.now call.now answer.now) }
 {
     let Answer::Reply(reply) = answer;
     let call = call_name(alloc, call)?;
     let error = reply.errno.name();
-    format!(in alloc; "call {call} {error} {} {}", reply.r1, reply.r2)
+    format!(in alloc; "{word} {call} {error} {} {}", reply.r1, reply.r2)
 }
 
 // What an entry did.
@@ -25,9 +25,11 @@ fn act_text(alloc: Global, act: &Act) -> Result<String, AllocError>
     ensures { IfOk result (λ text. string_bytes text ≡ act_text act.now) }
 {
     match act {
-        Act::Call { call, answer } => call_text(alloc, call, answer),
+        Act::Call { call, answer } => call_text(alloc, "call", call, answer),
+        Act::Wake { call, answer, .. } => call_text(alloc, "wake", call, answer),
         Act::Trap(_) => String::from_str(alloc, "trap - - 0 0"),
         Act::Expire => String::from_str(alloc, "expire - - 0 0"),
+        Act::Idle => String::from_str(alloc, "idle - - 0 0"),
     }
 }
 

@@ -1,16 +1,29 @@
 //! What a run keeps of itself.
 use crate::launch::Launch;
-use abi_types::{Answer, Call, Items, Pid, Signal, Tid, TidList};
+use abi_types::{Answer, Call, Items, Pid, Signal, Tid, TidList, WakeIn};
 
 /// What an entry of a history does.
 #[derive(Drop)]
 pub enum Act {
     /// A thread's call, and what the kernel answered.
-    Call { call: Call, answer: Answer },
+    Call {
+        call: Call,
+        answer: Answer,
+    },
+    /// A thread that waited in a call goes on: the call that it made when it began to wait, what the wake is given by its
+    /// memory, and what the kernel answered. No call makes a thread wait yet, so no legal history has a wake.
+    Wake {
+        call: Call,
+        given: WakeIn,
+        answer: Answer,
+    },
     /// A thread's instruction trapped, and its process ended by this signal.
     Trap(Signal),
     /// A thread's turn would have been next, and its process had no turn left.
     Expire,
+    /// All threads wait, and the time goes to the next deadline. No call makes a thread wait yet, so no legal history has an
+    /// idle jump.
+    Idle,
 }
 
 /// An entry: the moment after it in nanoseconds, the process and thread that it is of, the threads of the process that
