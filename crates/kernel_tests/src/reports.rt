@@ -151,6 +151,8 @@ fn giving(r1: u64) -> Answer {
         errno: Errno::Success,
         r1,
         r2: 0,
+        payload: Payload::Nothing,
+        writes: WordWrites::Zero,
         denial: None,
     };
     Answer::Reply(reply)

@@ -13,7 +13,8 @@ use Rattle.abi_types.specs.declared.place.Place.TheVariants.{At}
 use Rattle.abi_base.specs.Registers.{Registers}
 use Rattle.kernel_model.specs.Calls.{errors_of}
 use Rattle.kernel_model.specs.Laws.{IsNotDeniedEarly}
-use Rattle.kernel_model.specs.MemoryCalls.{place_errors}
+use Rattle.std.specs.Prelude.{bit_and}
+use Rattle.kernel_model.specs.MemoryCalls.{map_file, map_zeros, place_errors}
 use Rattle.kernel_model.proofs.Lists.{all_weaker}
 use Rattle.kernel_model.proofs.Refusals.{IsNoLackOf}
 use Rattle.guest_memory.specs.declared.fault.MemFault.{MemFault}
@@ -137,11 +138,16 @@ place_spelled m a flags k =
     (either_place (nat_le (_) page_limit) (At a) (place.Refused Nobufs) tt (nobufs_spelled, tt))
     (either_place (nat_le (_) page_limit) (place_in (lowest_gap m k)) (place.Refused Nobufs) (gap_spelled (lowest_gap m k)) (nobufs_spelled, tt))
 
+either_map : (zeros : Bool) (place : Place) (fd prot : ℕ) → IsSpelledPlace place → AllByRecursion IsSpelled (cond zeros (map_zeros place) (map_file fd prot)).errors
+either_map true place fd prot h = h
+either_map false place fd prot h = (nosys_spelled, tt)
+
 map_spelled : (m : Pages) (r : Registers) → IsSpelledCall (mem_map_of m r)
 map_spelled m r =
     unless_spelled 33 (map_refusal (argument r 0) (argument r 1) (low (argument r 2)) (low (argument r 3)) (argument r 5)) _
     (map_refusal_spelled (argument r 0) (argument r 1) (low (argument r 2)) (low (argument r 3)) (argument r 5))
-    (place_spelled m (argument r 0) (low (argument r 3)) (pages_in (argument r 1)))
+    (either_map (bit_and (low (argument r 3)) 1 == 1) (place_of m (argument r 0) (low (argument r 3)) (pages_in (argument r 1))) (low (argument r 4)) (low (argument r 2))
+    (place_spelled m (argument r 0) (low (argument r 3)) (pages_in (argument r 1))))
 
 -- ---- all of them
 
