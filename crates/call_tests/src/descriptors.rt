@@ -1,6 +1,6 @@
 //! Descriptors.
-use crate::showing::{ABC, ABSENT, DATA, DATA_END, READ_ONLY, Row, TOP, WRITE_ONLY, first_other};
 use crate::showing::Want::{No, Yes};
+use crate::showing::{ABC, ABSENT, DATA, DATA_END, READ_ONLY, Row, TOP, WRITE_ONLY, first_other};
 use abi_types::Errno;
 use std::test::Fail;
 
@@ -77,7 +77,12 @@ const ROWS: &[Row] = &[
     (13, &[1, READ_ONLY], &[], No(Errno::Fault)),
     // fd_stat_put
     (14, &[1, DATA, 3], STAT, Yes(&[1, 0x11, 4, 0x40, 2, 3])),
-    (14, &[1, DATA, 1], &[0x1f_0000, 0x81_5fff_f7ff, 0x81_5fff_f7ff], Yes(&[1, 0, 31, 0x81_5fff_f7ff, 0x81_5fff_f7ff, 1])),
+    (
+        14,
+        &[1, DATA, 1],
+        &[0x1f_0000, 0x81_5fff_f7ff, 0x81_5fff_f7ff],
+        Yes(&[1, 0, 31, 0x81_5fff_f7ff, 0x81_5fff_f7ff, 1]),
+    ),
     (14, &[1, ABSENT, 0], STAT, No(Errno::Inval)),
     (14, &[1, ABSENT, 4], STAT, No(Errno::Inval)),
     (14, &[1, ABSENT, 3], STAT, No(Errno::Fault)),

@@ -1,6 +1,6 @@
 //! Files, and the memory that may be mapped of them.
-use crate::showing::{ABC, ABSENT, DATA, DATA_END, READ_ONLY, Row, TOP, WRITE_ONLY, first_other};
 use crate::showing::Want::{No, Yes};
+use crate::showing::{ABC, ABSENT, DATA, DATA_END, READ_ONLY, Row, TOP, WRITE_ONLY, first_other};
 use abi_types::Errno;
 use std::test::Fail;
 
@@ -26,19 +26,44 @@ const ROWS: &[Row] = &[
     // file_create
     (19, &[1, DATA, 3, 32], PATH, Yes(&[1, 0, 3, 0x61, 32])),
     (19, &[1, ABSENT, 1025, 32], &[], Yes(&[1, 0, 1025, 0, 32])),
-    (19, &[1, DATA, u64::MAX, 32], PATH, Yes(&[1, 0, 1025, 0, 32])),
+    (
+        19,
+        &[1, DATA, u64::MAX, 32],
+        PATH,
+        Yes(&[1, 0, 1025, 0, 32]),
+    ),
     (19, &[1, ABSENT, 0, 32], &[], Yes(&[1, 0, 0, 0, 32])),
     (19, &[1, ABSENT, 1024, 32], &[], No(Errno::Fault)),
     (19, &[1, ABSENT, 3, 96], &[], No(Errno::Inval)),
     // file_link
-    (20, &[FOLLOW + 5, DATA, 3, 7, DATA + 1, 2], PATH, Yes(&[5, 1, 3, 0x61, 7, 2, 0x62])),
-    (20, &[2 * FOLLOW, ABSENT, 3, 7, DATA, 1], PATH, No(Errno::Inval)),
+    (
+        20,
+        &[FOLLOW + 5, DATA, 3, 7, DATA + 1, 2],
+        PATH,
+        Yes(&[5, 1, 3, 0x61, 7, 2, 0x62]),
+    ),
+    (
+        20,
+        &[2 * FOLLOW, ABSENT, 3, 7, DATA, 1],
+        PATH,
+        No(Errno::Inval),
+    ),
     (20, &[5, DATA, 3, 7, ABSENT, 1], PATH, No(Errno::Fault)),
     // file_open
-    (21, &[5, DATA, 3, 13, DATA + 8], PATH, Yes(&[5, 0, 3, 0x61, 13, 4, 2])),
+    (
+        21,
+        &[5, DATA, 3, 13, DATA + 8],
+        PATH,
+        Yes(&[5, 0, 3, 0x61, 13, 4, 2]),
+    ),
     (21, &[5, ABSENT, 3, 3, DATA + 8], PATH, No(Errno::Inval)),
     (21, &[5, ABSENT, 3, 16, DATA + 8], PATH, No(Errno::Inval)),
-    (21, &[2 * FOLLOW, ABSENT, 3, 0, DATA + 8], PATH, No(Errno::Inval)),
+    (
+        21,
+        &[2 * FOLLOW, ABSENT, 3, 0, DATA + 8],
+        PATH,
+        No(Errno::Inval),
+    ),
     (21, &[5, ABSENT, 3, 0, DATA + 32], PATH, No(Errno::Fault)),
     (21, &[5, DATA, 3, 0, ABSENT], PATH, No(Errno::Fault)),
     (21, &[5, DATA, 3, 0, DATA + 32], PATH, No(Errno::Inval)),
@@ -47,12 +72,27 @@ const ROWS: &[Row] = &[
     (22, &[1, ABSENT, 0, 9], &[], Yes(&[1, 0, 9])),
     (22, &[1, DATA_END - 8, 9, 0], &[], No(Errno::Fault)),
     // file_readlink
-    (23, &[1, DATA, 3, WRITE_ONLY, 4096], PATH, Yes(&[1, 0, 3, 0x61, 4096])),
-    (23, &[1, DATA, 3, DATA, u64::MAX], PATH, Yes(&[1, 0, 3, 0x61, u64::MAX])),
+    (
+        23,
+        &[1, DATA, 3, WRITE_ONLY, 4096],
+        PATH,
+        Yes(&[1, 0, 3, 0x61, 4096]),
+    ),
+    (
+        23,
+        &[1, DATA, 3, DATA, u64::MAX],
+        PATH,
+        Yes(&[1, 0, 3, 0x61, u64::MAX]),
+    ),
     (23, &[1, DATA, 3, READ_ONLY, 1], PATH, No(Errno::Fault)),
     (23, &[1, ABSENT, 3, DATA, 1], PATH, No(Errno::Fault)),
     // file_rename
-    (24, &[1, DATA, 3, 7, DATA + 1, 2], PATH, Yes(&[1, 0, 3, 0x61, 7, 2, 0x62])),
+    (
+        24,
+        &[1, DATA, 3, 7, DATA + 1, 2],
+        PATH,
+        Yes(&[1, 0, 3, 0x61, 7, 2, 0x62]),
+    ),
     (24, &[1, DATA, 3, 7, WRITE_ONLY, 1], PATH, No(Errno::Fault)),
     // file_stat_fget
     (25, &[1, DATA_END - 56], &[], Yes(&[1])),
@@ -66,18 +106,43 @@ const ROWS: &[Row] = &[
     (26, &[1, ABSENT, 33], STAT, No(Errno::Inval)),
     (26, &[1, WRITE_ONLY, 1], STAT, No(Errno::Fault)),
     // file_stat_get
-    (27, &[FOLLOW + 5, DATA, 3, WRITE_ONLY], PATH, Yes(&[5, 1, 3, 0x61])),
+    (
+        27,
+        &[FOLLOW + 5, DATA, 3, WRITE_ONLY],
+        PATH,
+        Yes(&[5, 1, 3, 0x61]),
+    ),
     (27, &[2 * FOLLOW, ABSENT, 3, DATA], PATH, No(Errno::Inval)),
     (27, &[5, DATA, 3, READ_ONLY], PATH, No(Errno::Fault)),
     // file_stat_put
-    (28, &[5, DATA + 56, 3, DATA, 5], STAT, Yes(&[5, 0, 3, 0x61, 0x444, 0x555, 5])),
+    (
+        28,
+        &[5, DATA + 56, 3, DATA, 5],
+        STAT,
+        Yes(&[5, 0, 3, 0x61, 0x444, 0x555, 5]),
+    ),
     (28, &[5, ABSENT, 3, DATA, 16], STAT, No(Errno::Inval)),
     (28, &[5, ABSENT, 3, DATA, 0], STAT, No(Errno::Inval)),
-    (28, &[2 * FOLLOW, ABSENT, 3, DATA, 1], STAT, No(Errno::Inval)),
+    (
+        28,
+        &[2 * FOLLOW, ABSENT, 3, DATA, 1],
+        STAT,
+        No(Errno::Inval),
+    ),
     (28, &[5, DATA + 56, 3, ABSENT, 1], STAT, No(Errno::Fault)),
     // file_symlink
-    (29, &[DATA, 3, 7, DATA + 1, 2], PATH, Yes(&[0, 0, 3, 0x61, 7, 2, 0x62])),
-    (29, &[DATA, 3, 7, ABSENT, 1025], PATH, Yes(&[0, 0, 3, 0x61, 7, 1025, 0])),
+    (
+        29,
+        &[DATA, 3, 7, DATA + 1, 2],
+        PATH,
+        Yes(&[0, 0, 3, 0x61, 7, 2, 0x62]),
+    ),
+    (
+        29,
+        &[DATA, 3, 7, ABSENT, 1025],
+        PATH,
+        Yes(&[0, 0, 3, 0x61, 7, 1025, 0]),
+    ),
     (29, &[ABSENT, 3, 7, DATA, 3], PATH, No(Errno::Fault)),
     // file_unlink
     (30, &[1, DATA, 3, 1], PATH, Yes(&[1, 0, 3, 0x61, 1])),
@@ -94,7 +159,12 @@ const ROWS: &[Row] = &[
     (36, &[ABSENT, 1], &[], Yes(&[36, 0])),
     (36, &[DATA, 0], &[], No(Errno::Inval)),
     // mem_map, of a file and without one
-    (33, &[1, 4097, 4, 4, 3, 4096], &[], Yes(&[0x20_0000_0000, 4097, 4, 4, 3, 4096])),
+    (
+        33,
+        &[1, 4097, 4, 4, 3, 4096],
+        &[],
+        Yes(&[0x20_0000_0000, 4097, 4, 4, 3, 4096]),
+    ),
     (33, &[DATA, 1, 6, 7, 3, 0], &[], Yes(&[DATA, 1, 6, 7, 3, 0])),
     (33, &[0, 1, 4, 0, 3, 0], &[], No(Errno::Inval)),
     (33, &[0, 1, 4, 12, 3, 0], &[], No(Errno::Inval)),

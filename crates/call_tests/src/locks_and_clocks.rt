@@ -1,6 +1,6 @@
 //! Clocks, locks and condition variables.
-use crate::showing::{ABSENT, DATA, DATA_END, READ_ONLY, Row, WRITE_ONLY, first_other};
 use crate::showing::Want::{No, Yes};
+use crate::showing::{ABSENT, DATA, DATA_END, READ_ONLY, Row, WRITE_ONLY, first_other};
 use abi_types::Errno;
 use std::test::Fail;
 
@@ -20,7 +20,12 @@ const ROWS: &[Row] = &[
     (1, &[4], &[], No(Errno::Notsup)),
     (1, &[9], &[], No(Errno::Inval)),
     // condvar_signal
-    (2, &[DATA + 8, 4, 0x1_0000_0005], WORD, Yes(&[DATA + 8, 0x4000_0001, 4, 5])),
+    (
+        2,
+        &[DATA + 8, 4, 0x1_0000_0005],
+        WORD,
+        Yes(&[DATA + 8, 0x4000_0001, 4, 5]),
+    ),
     (2, &[DATA_END - 4, 4, 1], &[], Yes(&[DATA_END - 4, 0, 4, 1])),
     (2, &[DATA + 2, 8, 1], &[], No(Errno::Inval)),
     (2, &[ABSENT, 8, 1], &[], No(Errno::Notsup)),

@@ -1,6 +1,6 @@
 //! Processes, threads and random bytes.
-use crate::showing::{ABC, ABSENT, DATA, DATA_END, LEFT, READ_ONLY, Row, first_other};
 use crate::showing::Want::{No, Yes};
+use crate::showing::{ABC, ABSENT, DATA, DATA_END, LEFT, READ_ONLY, Row, first_other};
 use abi_types::Errno;
 use std::test::Fail;
 
@@ -9,10 +9,25 @@ const PROGRAM: &[u64] = &[ABC, 0x2_0000_0005];
 
 const ROWS: &[Row] = &[
     // proc_exec
-    (38, &[1, DATA, 3, DATA + 8, 2], PROGRAM, Yes(&[1, 3, 0x61, 2, 5])),
+    (
+        38,
+        &[1, DATA, 3, DATA + 8, 2],
+        PROGRAM,
+        Yes(&[1, 3, 0x61, 2, 5]),
+    ),
     (38, &[1, ABSENT, 0, ABSENT, 0], &[], Yes(&[1, 0, 0, 0, 0])),
-    (38, &[1, DATA, 65_536, DATA, 1024], PROGRAM, Yes(&[1, 65_536, 0x61, 1024, 0x63_6261])),
-    (38, &[1, ABSENT, 65_537, ABSENT, 1025], &[], No(Errno::TooBig)),
+    (
+        38,
+        &[1, DATA, 65_536, DATA, 1024],
+        PROGRAM,
+        Yes(&[1, 65_536, 0x61, 1024, 0x63_6261]),
+    ),
+    (
+        38,
+        &[1, ABSENT, 65_537, ABSENT, 1025],
+        &[],
+        No(Errno::TooBig),
+    ),
     (38, &[1, ABSENT, 1, ABSENT, 1025], &[], No(Errno::Inval)),
     (38, &[1, ABSENT, 1, DATA, 1], &[], No(Errno::Fault)),
     (38, &[1, DATA, 1, DATA_END - 4, 2], &[], No(Errno::Fault)),
@@ -34,7 +49,12 @@ const ROWS: &[Row] = &[
     (42, &[READ_ONLY, 1], &[], No(Errno::Fault)),
     (42, &[ABSENT, 0], &[], Yes(&[0])),
     // thread_create
-    (46, &[DATA], &[0x10004, 0x1000, 0x2000, 7], Yes(&[0x10004, 0x1000, 0x2000, 7])),
+    (
+        46,
+        &[DATA],
+        &[0x10004, 0x1000, 0x2000, 7],
+        Yes(&[0x10004, 0x1000, 0x2000, 7]),
+    ),
     (46, &[DATA], &[4, u64::MAX, 0, 7], Yes(&[4, u64::MAX, 0, 7])),
     (46, &[DATA], &[4, u64::MAX, 1, 7], No(Errno::Inval)),
     (46, &[DATA], &[2, 0, 0, 7], No(Errno::Inval)),

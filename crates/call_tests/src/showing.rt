@@ -1,6 +1,4 @@
 //! Rows of calls: a number, arguments, what stands in memory, and what is wanted.
-ghost use Rattle.std.specs.Prelude.{◌<◌};
-
 use abi_types::{Bytes, Call, Errno, FdList, Lookup, Place, Prot, Regs, SubscriptionList, What};
 use call_codec::read_call;
 use guest_memory::{GuestMemory, MemFault};
@@ -67,8 +65,12 @@ fn memory_of(alloc: Global, content: &[u64]) -> Result<GuestMemory, MemFault> {
 fn registers_of(number: u64, arguments: &[u64]) -> Regs {
     let mut regs = Regs::new(0x10000);
     regs.set(17, number);
-    for (register, argument) in (10u32..16).zip(arguments) {
-        regs.set(register, *argument);
+    let mut register = 10;
+    for argument in arguments {
+        if register < 16 {
+            regs.set(register, *argument);
+            register += 1;
+        }
     }
     regs
 }
@@ -321,7 +323,14 @@ fn of_socket_call(call: &Call) -> [u64; 8] {
         } => {
             let (count, first) = of_bytes(bytes);
             let (fd_count, first_fd) = of_fds(fds);
-            padded(&[u64::from(*fd), count, first, fd_count, first_fd, u64::from(*flags)])
+            padded(&[
+                u64::from(*fd),
+                count,
+                first,
+                fd_count,
+                first_fd,
+                u64::from(*flags),
+            ])
         }
         Call::SockShutdown { fd, how } => padded(&[u64::from(*fd), u64::from(*how)]),
         _ => [0; 8],
@@ -331,9 +340,13 @@ fn of_socket_call(call: &Call) -> [u64; 8] {
 // Whether the call is the wanted one of this number.
 fn is_wanted(call: &Call, number: u64, want: Want) -> bool {
     match (call, want) {
-        (Call::Refused { number: refused, errno }, Want::No(error)) => {
-            *refused == number && *errno == error
-        }
+        (
+            Call::Refused {
+                number: refused,
+                errno,
+            },
+            Want::No(error),
+        ) => { *refused == number && *errno == error }
         (Call::Refused { .. }, Want::Yes(_)) => false,
         (_, Want::No(_)) => false,
         (_, Want::Yes(fields)) => {
