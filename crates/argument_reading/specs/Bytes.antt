@@ -1,5 +1,5 @@
 -- Bytes, paths, numbers of descriptors and words in a guest's memory, and ranges that may be written.
-use Rattle.std.specs.Prelude.{ℕ, ◌+◌, nat_le, List, replicate, Result, Ok, Err, if◌then◌else◌}
+use Rattle.std.specs.Prelude.{ℕ, ◌+◌, nat_le, List, replicate, Result, Ok, if◌then◌else◌}
 use Rattle.abi_base.specs.declared.errno.Errno.{Errno}
 use Rattle.abi_layout.specs.Layout.{number_from}
 use Rattle.guest_memory.specs.declared.access.Access.TheVariants.{Write}

@@ -1,5 +1,5 @@
 -- Arrays of iovecs, and the bytes of the ranges that they name, of which 65,536 count.
-use Rattle.std.specs.Prelude.{◌≡◌, ℕ, ◌+◌, ◌-◌, min, List, [], ◌∷◌, ◌++◌, Result, Ok, Err}
+use Rattle.std.specs.Prelude.{ℕ, ◌+◌, ◌-◌, min, List, [], ◌∷◌, ◌++◌, Result, Ok, Err}
 use Rattle.abi_base.specs.declared.errno.Errno.{Errno}
 use Rattle.abi_layout.specs.Layout.{number_from}
 use Rattle.abi_structures.specs.declared.structures.Iovec.{Iovec}

@@ -1,5 +1,5 @@
 -- Structures in a guest's memory.
-use Rattle.std.specs.Prelude.{ℕ, List, Result, Ok, Err}
+use Rattle.std.specs.Prelude.{ℕ, List, Result, Ok}
 use Rattle.abi_base.specs.declared.errno.Errno.{Errno}
 use Rattle.abi_layout.specs.Layout.{number_from}
 use Rattle.abi_structures.specs.declared.structures.FdStat.{FdStat}

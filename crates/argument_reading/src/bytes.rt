@@ -51,12 +51,7 @@ fn unread_path(alloc: Global) -> Result<Bytes, AllocError>
 
 /// A path of `count` bytes: 1025 zeros for one of over 1024 bytes, which isn't read. FAULT exactly where it is read and can't
 /// be.
-pub fn read_path(
-    alloc: Global,
-    memory: &GuestMemory,
-    at: u64,
-    count: u64,
-) -> Result<Bytes, Refusal>
+pub fn read_path(alloc: Global, memory: &GuestMemory, at: u64, count: u64) -> Result<Bytes, Refusal>
     ensures { Reads result (path_in memory.now at count) }
 {
     if count <= MOST_OF_PATH {

@@ -109,12 +109,7 @@ pub fn read_written(
 
 /// How many bytes the ranges have that an array of iovecs names, of which `MOST_TRANSFERRED` count. FAULT exactly where some
 /// of the array can't be read, or some of these bytes may not be written.
-pub fn read_room(
-    alloc: Global,
-    memory: &GuestMemory,
-    at: u64,
-    count: u64,
-) -> Result<u64, Refusal>
+pub fn read_room(alloc: Global, memory: &GuestMemory, at: u64, count: u64) -> Result<u64, Refusal>
     requires { count ≤ MOST_IOVECS }
     ensures { Reads result (room_in memory.now at count) }
 {

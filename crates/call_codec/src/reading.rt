@@ -8,10 +8,15 @@ use crate::memory_calls::{mapping, mem_advise, mem_protect, mem_sync, mem_unmap}
 use abi_types::{Call, Errno, Regs};
 use argument_reading::{Refusal, low};
 use call_reading::{
-    clock_res_get, clock_time_get, condvar_signal, fd_close, fd_create1, fd_create2, fd_datasync, fd_dup, fd_pread, fd_pwrite, fd_read, fd_replace, fd_seek, fd_stat_get, fd_stat_put, fd_sync, lock_unlock, proc_exec, proc_fork, proc_raise, random_get, sock_recv, sock_send, sock_shutdown, thread_create, thread_exit, thread_yield,
+    clock_res_get, clock_time_get, condvar_signal, fd_close, fd_create1, fd_create2, fd_datasync,
+    fd_dup, fd_pread, fd_pwrite, fd_read, fd_replace, fd_seek, fd_stat_get, fd_stat_put, fd_sync,
+    lock_unlock, proc_exec, proc_fork, proc_raise, random_get, sock_recv, sock_send, sock_shutdown,
+    thread_create, thread_exit, thread_yield,
 };
 use file_reading::{
-    file_advise, file_allocate, file_create, file_link, file_open, file_readdir, file_readlink, file_rename, file_stat_fget, file_stat_fput, file_stat_get, file_stat_put, file_symlink, file_unlink,
+    file_advise, file_allocate, file_create, file_link, file_open, file_readdir, file_readlink,
+    file_rename, file_stat_fget, file_stat_fput, file_stat_get, file_stat_put, file_symlink,
+    file_unlink,
 };
 use guest_memory::GuestMemory;
 use poll_reading::poll;
@@ -49,12 +54,7 @@ fn descriptor_call(
 
 // The calls about files, by number.
 #[tactic(auto, unfolding(crate::specs::Spelled::file_call))]
-fn file_call(
-    alloc: Global,
-    regs: &Regs,
-    memory: &GuestMemory,
-    number: u64,
-) -> Result<Call, Refusal>
+fn file_call(alloc: Global, regs: &Regs, memory: &GuestMemory, number: u64) -> Result<Call, Refusal>
     ensures reads { Reads result (file_call memory.now regs.now number) }
     ensures only { LacksMemory result → IsTrue (is_copied number) }
 {
@@ -79,11 +79,7 @@ fn file_call(
 
 // The calls about the caller's memory, by number.
 #[tactic(auto, unfolding(crate::specs::Spelled::memory_call))]
-fn memory_call(
-    regs: &Regs,
-    memory: &GuestMemory,
-    number: u64,
-) -> Result<Call, Errno>
+fn memory_call(regs: &Regs, memory: &GuestMemory, number: u64) -> Result<Call, Errno>
     ensures { result ≡ memory_call memory.now regs.now number }
 {
     match number {

@@ -1,5 +1,5 @@
 -- The calls about descriptors, but fd_write.
-use Rattle.std.specs.Prelude.{ℕ, ◌+◌, ◌^◌, Bool, not, ◌==◌, ◌&&◌, ◌||◌, nat_le, nat_lt, Result, Ok, if◌then◌else◌}
+use Rattle.std.specs.Prelude.{ℕ, ◌^◌, Bool, not, ◌==◌, ◌&&◌, ◌||◌, nat_le, nat_lt, Result, Ok, if◌then◌else◌}
 use Rattle.abi_base.specs.declared.errno.Errno.{Errno}
 use Rattle.abi_base.specs.declared.errno.Errno.TheVariants.{Inval, Notsup}
 use Rattle.abi_base.specs.Registers.{Registers}

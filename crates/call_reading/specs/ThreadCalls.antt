@@ -1,5 +1,5 @@
 -- The calls about threads, but thread_exit, which names a lock.
-use Rattle.std.specs.Prelude.{ℕ, ◌+◌, ◌%◌, ◌^◌, Bool, not, ◌==◌, nat_le, Result, Ok}
+use Rattle.std.specs.Prelude.{◌+◌, ◌%◌, ◌^◌, Bool, not, ◌==◌, nat_le, Result, Ok}
 use Rattle.abi_base.specs.declared.errno.Errno.{Errno}
 use Rattle.abi_base.specs.declared.errno.Errno.TheVariants.{Inval}
 use Rattle.abi_base.specs.Registers.{Registers}

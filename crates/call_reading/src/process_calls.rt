@@ -4,9 +4,7 @@ ghost use Rattle.argument_reading.specs.Reading.{Reads};
 ghost use Rattle.call_reading.specs.ProcessCalls.{is_signal, is_stop, proc_exec_of, proc_fork_of, proc_raise_of, random_get_of};
 
 use abi_types::{Call, Errno, Regs};
-use argument_reading::{
-    Refusal, check_writable, low, read_bytes, read_descriptors, refuse_when,
-};
+use argument_reading::{Refusal, check_writable, low, read_bytes, read_descriptors, refuse_when};
 use guest_memory::GuestMemory;
 use std::alloc::Global;
 

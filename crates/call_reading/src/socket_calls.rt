@@ -19,11 +19,7 @@ pub const MOST_SENT_DESCRIPTORS: u64 = 16;
 pub const RECEIVE_FLAGS: u32 = 20;
 
 // The room of an iovec array in memory; 0 for an array of over 1024, which isn't read.
-fn read_received_room(
-    alloc: Global,
-    memory: &GuestMemory,
-    given: &RecvIn,
-) -> Result<u64, Refusal>
+fn read_received_room(alloc: Global, memory: &GuestMemory, given: &RecvIn) -> Result<u64, Refusal>
     ensures { Reads result (received_room memory.now given.now) }
 {
     if given.iovs_count <= MOST_IOVECS {
@@ -41,9 +37,16 @@ pub fn sock_recv(alloc: Global, regs: &Regs, memory: &GuestMemory) -> Result<Cal
     let given = read_recv_in(memory, regs.get(11))?;
     check_writable(memory, regs.get(12), 24)?;
     let length = read_received_room(alloc, memory, &given)?;
-    check_writable(memory, given.fds, 4 * given.fds_count.min(MOST_SENT_DESCRIPTORS))?;
+    check_writable(
+        memory,
+        given.fds,
+        4 * given.fds_count.min(MOST_SENT_DESCRIPTORS),
+    )?;
     refuse_when(given.iovs_count > MOST_IOVECS, Errno::Inval)?;
-    refuse_when(has_unknown(u32::from(given.flags), RECEIVE_FLAGS), Errno::Inval)?;
+    refuse_when(
+        has_unknown(u32::from(given.flags), RECEIVE_FLAGS),
+        Errno::Inval,
+    )?;
     Ok(Call::SockRecv {
         fd: low(regs.get(10)),
         length,
@@ -53,11 +56,7 @@ pub fn sock_recv(alloc: Global, regs: &Regs, memory: &GuestMemory) -> Result<Cal
 }
 
 // The bytes of an iovec array in memory; none for an array of over 1024, which isn't read.
-fn read_sent_bytes(
-    alloc: Global,
-    memory: &GuestMemory,
-    given: &SendIn,
-) -> Result<Bytes, Refusal>
+fn read_sent_bytes(alloc: Global, memory: &GuestMemory, given: &SendIn) -> Result<Bytes, Refusal>
     ensures { Reads result (sent_bytes memory.now given.now) }
 {
     if given.iovs_count <= MOST_IOVECS {

@@ -4,7 +4,7 @@ ghost use Rattle.argument_reading.specs.Reading.{Reads};
 ghost use Rattle.file_reading.specs.NameCalls.{file_create_of, file_link_of, file_open_of, file_readlink_of, file_rename_of};
 ghost use Rattle.file_reading.specs.NameCalls.{file_symlink_of, file_unlink_of, opens_wrongly};
 
-use crate::lookups::{lookup_of, looks_unknown};
+use crate::lookups::{looks_unknown, lookup_of};
 use abi_types::{Call, Errno, Regs};
 use argument_reading::{
     MOST_TRANSFERRED, Refusal, check_writable, low, read_fdstat, read_path, refuse_when,

@@ -4,7 +4,7 @@ ghost use Rattle.argument_reading.specs.Reading.{Reads};
 ghost use Rattle.file_reading.specs.NodeCalls.{file_advise_of, file_allocate_of, file_readdir_of, file_stat_fget_of, file_stat_fput_of};
 ghost use Rattle.file_reading.specs.NodeCalls.{file_stat_get_of, file_stat_put_of, sets_wrongly};
 
-use crate::lookups::{lookup_of, looks_unknown};
+use crate::lookups::{looks_unknown, lookup_of};
 use abi_types::{Call, Errno, Regs};
 use argument_reading::{
     MOST_TRANSFERRED, Refusal, check_writable, low, read_filestat, read_path, refuse_when,

@@ -1,14 +1,13 @@
 -- What is read of a subscription's bytes is the definition's subscription.
-use Rattle.std.proofs.Common.{◌≡◌, ℕ, List, Option, None, Some, refl, sym, ap, ◌∙◌, arith}
+use Rattle.std.proofs.Common.{◌≡◌, ℕ, List, None, Some, arith}
 use Rattle.std.proofs.lemmas.Bool.Decides.{nat_tests}
 use Rattle.abi_structures.specs.declared.events.Subscription.{Subscription}
 use Rattle.abi_structures.specs.declared.events.EventType.TheVariants as types
 use Rattle.abi_structures.specs.declared.events.What.{What}
 use Rattle.abi_structures.specs.declared.events.What.TheVariants as what
-use Rattle.abi_structures.specs.Events.{IsOfNoType}
 use Rattle.abi_layout.specs.Layout.{number_from}
 use Rattle.abi_layout.specs.Events.{HasNoType, IsSubscriptionIn}
-use Rattle.poll_reading.specs.Found.{subscription_of, subscribed, what_of}
+use Rattle.poll_reading.specs.Found.{subscription_of}
 
 waits_for : (bytes : List ℕ) (userdata : ℕ) (waited : What) → IsSubscriptionIn bytes (record { userdata = userdata; what = waited })
     → Some (record { userdata = userdata; what = waited }) ≡ subscription_of bytes

@@ -1,5 +1,5 @@
 -- The subscriptions of a poll as they stand in memory, with the words of their locks and condition variables.
-use Rattle.std.specs.Prelude.{ℕ, ◌==◌, List, Option, Some, None, Result, Ok, Err, if◌then◌else◌}
+use Rattle.std.specs.Prelude.{ℕ, ◌==◌, List, Option, Some, None, Result, Ok, if◌then◌else◌}
 use Rattle.abi_base.specs.declared.errno.Errno.{Errno}
 use Rattle.abi_layout.specs.Layout.{number_from}
 use Rattle.abi_structures.specs.declared.events.Subscription.{Subscription}

@@ -1,5 +1,5 @@
 -- The poll that registers and memory spell.
-use Rattle.std.specs.Prelude.{ℕ, ◌*◌, not, ◌&&◌, nat_le, Result, Ok}
+use Rattle.std.specs.Prelude.{◌*◌, not, ◌&&◌, nat_le, Result, Ok}
 use Rattle.abi_base.specs.declared.errno.Errno.{Errno}
 use Rattle.abi_base.specs.declared.errno.Errno.TheVariants.{Inval}
 use Rattle.abi_base.specs.Registers.{Registers}

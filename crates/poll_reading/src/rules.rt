@@ -36,8 +36,7 @@ fn has_unknown_clock(subscription: &Subscription) -> bool
 {
     match subscription.what {
         What::Clock { clock, flags, .. } => {
-            !(is_cpu_clock(clock) || is_time_clock(clock))
-                || has_unknown(u32::from(flags), ABSTIME)
+            !(is_cpu_clock(clock) || is_time_clock(clock)) || has_unknown(u32::from(flags), ABSTIME)
         }
         _ => false,
     }

@@ -1,5 +1,5 @@
-use Rattle.std.proofs.Common.{◌≡◌, ◌-◌, ◌<◌, sym, ◌∙◌, arith}
-use Rattle.argument_reading.specs.Bytes.{descriptors_in, number_in}
+use Rattle.std.proofs.Common.{◌-◌, ◌<◌, sym, ◌∙◌, arith}
+use Rattle.argument_reading.specs.Bytes.{number_in}
 use Rattle.argument_reading.proofs.Gathering.{fault_left, next_left, none_left}
 use Rattle.argument_reading.proofs.bytes.read_descriptors.Goals as goal
 

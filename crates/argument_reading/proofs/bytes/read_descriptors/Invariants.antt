@@ -1,5 +1,4 @@
 use Rattle.std.proofs.Common.{◌≡◌, ◌-◌}
-use Rattle.std.specs.Result.{result_ok}
 use Rattle.argument_reading.specs.Bytes.{descriptors_in}
 use Rattle.argument_reading.proofs.Gathering.{after_read}
 use Rattle.argument_reading.proofs.bytes.read_descriptors.Given as goal

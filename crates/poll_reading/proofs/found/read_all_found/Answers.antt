@@ -1,4 +1,4 @@
-use Rattle.std.proofs.Common.{◌≡◌, ◌-◌, ◌<◌, sym, ◌∙◌, arith}
+use Rattle.std.proofs.Common.{◌-◌, ◌<◌, sym, ◌∙◌, arith}
 use Rattle.argument_reading.proofs.Gathering.{fault_left, next_left, none_left}
 use Rattle.poll_reading.specs.Found.{found_at}
 use Rattle.poll_reading.proofs.found.read_all_found.Goals as goal
