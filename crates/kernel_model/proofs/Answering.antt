@@ -7,7 +7,10 @@ use Rattle.abi_types.specs.declared.needed.Needed.{Needed}
 use Rattle.abi_types.specs.declared.reply.Reply.{Reply}
 use Rattle.kernel_model.specs.Meaning.{answering, unbuilt, unbuilt_listing, unbuilt_naming, unbuilt_row, unbuilt_rows}
 use Rattle.kernel_model.specs.Proper.{IsIn, IsProper, NeedsOf}
-use Rattle.kernel_model.specs.Reply.{refused}
+use Rattle.kernel_model.specs.DescriptorCalls.{needing}
+use Rattle.kernel_model.specs.Rows.{base_row}
+use Rattle.abi_base.specs.declared.rights.Rights.{Rights}
+use Rattle.kernel_model.specs.Reply.{refused, success}
 use Rattle.kernel_model.specs.WaitCalls.{fds_of}
 use Rattle.kernel_model.proofs.Lists.{all_weaker, in_more}
 use Rattle.kernel_model.proofs.Tests.{not_true}
@@ -25,7 +28,7 @@ replying_is_proper : (named : List ℕ) (need : List Needed) (seen : List ℕ) (
     → IsProper (record (answering errors reply) { named = named; need = need; seen = seen })
 replying_is_proper named need seen errors reply names sees plain listed = record {
   names = names;
-  sees = sees;
+  sees = all_weaker (NeedsOf need) _ (λ fd needs. inl needs) seen sees;
   reads = λ constants S who table. refl;
   sets = λ constants S who table part h. refl;
   changes = λ S table part h. absurd (not_true h);
@@ -33,7 +36,7 @@ replying_is_proper named need seen errors reply names sees plain listed = record
   lacks = λ h. absurd (not_true h);
   others = λ constants v who table q apart. (refl, refl);
   threads = λ constants S v who table live. refl;
-  valid = λ constants S who table nearly. nearly;
+  valid = λ constants S who table there nearly. nearly;
 }
 
 pub answering_is_proper : (errors : List Errno) (reply : Reply) → reply.denial ≡ None → (reply.errno ≡ Success) ⊎ IsIn reply.errno errors
@@ -81,3 +84,8 @@ fds_needed (row ∷ rows) = (
 
 pub each_row_is_proper : (rows : List Needed) → IsProper (unbuilt (fds_of rows) rows (fds_of rows))
 each_row_is_proper rows = unbuilt_is_proper (fds_of rows) rows (fds_of rows) (fds_named rows) (fds_needed rows)
+
+-- a call that needs base rights of one descriptor, and does no more
+pub needing_is_proper : (fd : ℕ) (base : Rights) → IsProper (needing fd base)
+needing_is_proper fd base =
+    replying_is_proper (fd ∷ []) (base_row fd base ∷ []) (fd ∷ []) [] (success 0 0) (([], [], refl), tt) ((base_row fd base, ([], [], refl), refl), tt) refl (inl refl)

@@ -1,32 +1,33 @@
 -- The meaning of each call is proper.
-use Rattle.std.proofs.Common.{[], ◌∷◌}
+use Rattle.std.proofs.Common.{[]}
 use Rattle.abi_types.specs.declared.call.Call.{Call}
 use Rattle.abi_types.specs.declared.call.Call.TheVariants as call
 use Rattle.kernel_model.specs.Calls.{meaning_of}
 use Rattle.kernel_model.specs.Proper.{IsProper}
 use Rattle.kernel_model.specs.WaitCalls.{wait_rows}
-use Rattle.kernel_model.proofs.Answering.{each_row_is_proper, listing_is_proper, naming_is_proper, row_is_proper, rows_are_proper}
+use Rattle.kernel_model.proofs.Answering.{each_row_is_proper, listing_is_proper, naming_is_proper, needing_is_proper, row_is_proper, rows_are_proper}
 use Rattle.kernel_model.proofs.MemoryCalls.{decided_is_proper, mem_map_is_proper}
 use Rattle.kernel_model.proofs.ProcessCalls.{proc_exit_is_proper}
-use Rattle.kernel_model.proofs.StreamCalls.{fd_write_is_proper}
+use Rattle.kernel_model.proofs.DescriptorCalls.{fd_close_is_proper, fd_dup_is_proper, fd_replace_is_proper, fd_stat_get_is_proper, fd_stat_put_is_proper}
+use Rattle.kernel_model.proofs.StreamCalls.{fd_read_is_proper, fd_write_is_proper}
 
 pub proper : (call : Call) → IsProper (meaning_of call)
 proper (call.ClockResGet clock) = naming_is_proper []
 proper (call.ClockTimeGet clock precision) = naming_is_proper []
 proper (call.CondvarSignal condvar word scope n) = naming_is_proper []
-proper (call.FdClose fd) = naming_is_proper (fd ∷ [])
+proper (call.FdClose fd) = fd_close_is_proper fd
 proper (call.FdCreate1 kind) = naming_is_proper []
 proper (call.FdCreate2 kind) = naming_is_proper []
-proper (call.FdDatasync fd) = row_is_proper _
-proper (call.FdDup fd) = naming_is_proper (fd ∷ [])
+proper (call.FdDatasync fd) = needing_is_proper fd _
+proper (call.FdDup fd) = fd_dup_is_proper fd
 proper (call.FdPread fd length offset) = row_is_proper _
 proper (call.FdPwrite fd bytes offset) = row_is_proper _
-proper (call.FdRead fd length) = row_is_proper _
-proper (call.FdReplace from to) = naming_is_proper (from ∷ to ∷ [])
+proper (call.FdRead fd length) = fd_read_is_proper fd length
+proper (call.FdReplace from to) = fd_replace_is_proper from to
 proper (call.FdSeek fd offset whence) = row_is_proper _
-proper (call.FdStatGet fd) = naming_is_proper (fd ∷ [])
-proper (call.FdStatPut fd stat flags) = row_is_proper _
-proper (call.FdSync fd) = row_is_proper _
+proper (call.FdStatGet fd) = fd_stat_get_is_proper fd
+proper (call.FdStatPut fd stat flags) = fd_stat_put_is_proper fd stat flags
+proper (call.FdSync fd) = needing_is_proper fd _
 proper (call.FdWrite fd bytes) = fd_write_is_proper fd bytes
 proper (call.FileAdvise fd offset length advice) = row_is_proper _
 proper (call.FileAllocate fd offset length) = row_is_proper _

@@ -5,6 +5,7 @@ pub mod Ends
 pub mod Valids
 pub mod Sights
 pub mod Answering
+pub mod DescriptorCalls
 pub mod StreamCalls
 pub mod MemoryCalls
 pub mod ProcessCalls

@@ -65,14 +65,14 @@ unless_holds P (Some reply) o refused done = refused reply refl
 
 act_holds : (P : Outcome → Type 0) (constants : Constants) (v : View) (who : Who) (call : Call) (t : Option Table)
     → ((reply : Reply) → refusal_of call t ≡ Some reply → P (replies reply))
-    → ((table : Table) → P ((meaning_of call).does constants v who table)) → P (act_on constants v who call t)
+    → ((table : Table) → t ≡ Some table → P ((meaning_of call).does constants v who table)) → P (act_on constants v who call t)
 act_holds P constants v who call None refused done = refused _ refl
 act_holds P constants v who call (Some table) refused done =
-    unless_holds P (refusal table call) ((meaning_of call).does constants v who table) refused (done table)
+    unless_holds P (refusal table call) ((meaning_of call).does constants v who table) refused (done table refl)
 
 -- what holds of each refusal, and of what the call does, holds of its outcome
 pub outcome_holds : (P : Outcome → Type 0) (constants : Constants) (S : State) (who : Who) (call : Call)
     → ((reply : Reply) → refusal_of call (get S.tables who.pid) ≡ Some reply → P (replies reply))
-    → ((table : Table) → P ((meaning_of call).does constants (whole (tick S)) who table)) → P (outcome constants S who call)
+    → ((table : Table) → get S.tables who.pid ≡ Some table → P ((meaning_of call).does constants (whole (tick S)) who table)) → P (outcome constants S who call)
 outcome_holds P constants S who call refused done =
     subst P (sym (outcome_reads constants S who call)) (act_holds P constants (whole (tick S)) who call (get S.tables who.pid) refused done)

@@ -7,7 +7,7 @@ use Rattle.number_map.specs.Maps.{get-insert-same, get-insert-other}
 use Rattle.abi_types.specs.declared.status.Status.TheVariants.{Live}
 use Rattle.kernel_model.specs.Outcome.{Outcome}
 use Rattle.kernel_model.specs.Sight.{own_parts}
-use Rattle.kernel_model.specs.State.{State, Part, at_clock, at_proc, at_status, at_open, at_node, at_names, at_term, same_part, has_part, Agree, AgreeOn, Update, set_table, set_own, set_status, set_node, set_names, set_term, part_of, put_one, put_all, threads_of}
+use Rattle.kernel_model.specs.State.{State, Part, at_clock, at_proc, at_status, at_open, at_node, at_names, at_term, same_part, has_part, Agree, AgreeOn, Update, set_table, set_own, set_status, set_open, set_node, set_names, set_term, part_of, put_one, put_all, threads_of}
 use Rattle.kernel_model.proofs.Tests.{not_true, either_false, either_true}
 
 -- ---- lists of parts
@@ -83,6 +83,7 @@ pub put_one_keeps : (u : Update) (S : State) (q : Part) → same_part (part_of u
 put_one_keeps (set_table p t) S (at_proc q) h = (get-insert-other S.tables p t q (other_number p q h), refl)
 put_one_keeps (set_own p own) S (at_proc q) h = (refl, get-insert-other S.own p own q (other_number p q h))
 put_one_keeps (set_status p s) S (at_status q) h = get-insert-other S.statuses p s q (other_number p q h)
+put_one_keeps (set_open o kind) S (at_open r) h = get-insert-other S.opens o kind r (other_number o r h)
 put_one_keeps (set_node n node) S (at_node m) h = get-insert-other S.nodes n node m (other_number n m h)
 put_one_keeps (set_names n names) S (at_names m) h = get-insert-other S.names n names m (other_number n m h)
 put_one_keeps (set_term k stream) S (at_term j) h = get-insert-other S.terms k stream j (other_number k j h)
@@ -106,6 +107,7 @@ pub put_one_same : (u : Update) (S T : State) (q : Part) → Agree S T q → Agr
 put_one_same (set_table p t) S T (at_proc q) h = (insert_alike S.tables T.tables p t q h.0, h.1)
 put_one_same (set_own p own) S T (at_proc q) h = (h.0, insert_alike S.own T.own p own q h.1)
 put_one_same (set_status p s) S T (at_status q) h = insert_alike S.statuses T.statuses p s q h
+put_one_same (set_open o kind) S T (at_open r) h = insert_alike S.opens T.opens o kind r h
 put_one_same (set_node n node) S T (at_node m) h = insert_alike S.nodes T.nodes n node m h
 put_one_same (set_names n names) S T (at_names m) h = insert_alike S.names T.names n names m h
 put_one_same (set_term k stream) S T (at_term j) h = insert_alike S.terms T.terms k stream j h

@@ -11,9 +11,9 @@ use Rattle.abi_base.specs.declared.errno.Errno.TheVariants.{Badf}
 use Rattle.abi_types.specs.declared.needed.Needed.{Needed}
 use Rattle.abi_types.specs.declared.who.Who.{Who}
 use Rattle.kernel_model.specs.Calls.{meaning_of, named, need, seen, refusal}
-use Rattle.kernel_model.specs.Laws.{IsMet, IsReached, IsReachedBy}
+use Rattle.kernel_model.specs.Laws.{IsMet, IsReached, IsReachedBy, IsReachedByName}
 use Rattle.kernel_model.specs.Need.{has_needed, missing, some_absent, lack_at, either_lack, first_lack, denied_by}
-use Rattle.kernel_model.specs.Proper.{NeedsOf}
+use Rattle.kernel_model.specs.Proper.{IsIn, MaySee, NeedsOf}
 use Rattle.kernel_model.specs.Reply.{refused, denied}
 use Rattle.kernel_model.specs.Sight.{own_parts, reached_by, reached}
 use Rattle.kernel_model.specs.State.{State, Table, Part, has_part}
@@ -71,14 +71,26 @@ one_reached S table rows fd q met needs h =
       part = sym (ap (λ o. has_part (reached_by S o) q) at) ∙ h;
     }
 
-reached_is : (S : State) (table : Table) (rows : List Needed) (fds : List ℕ) (q : Part) → AllByRecursion (IsMet table) rows
-    → AllByRecursion (NeedsOf rows) fds → has_part (reached S table fds) q ≡ true → IsReached S table rows q
-reached_is S table rows [] q met needs h = absurd (not_true h)
-reached_is S table rows (fd ∷ fds) q met needs h =
+-- a part that a descriptor reaches which is there, where the call needs no right and names it
+named_reached : (S : State) (table : Table) (call : Call) (fd : ℕ) (q : Part) (o : Option Descriptor) → get table fd ≡ o → need call ≡ [] → IsIn fd (named call)
+    → has_part (reached_by S o) q ≡ true → IsReachedByName S table call q
+named_reached S table call fd q None there none asked h = absurd (not_true h)
+named_reached S table call fd q (Some d) there none asked h =
+    record { none = none; fd = fd; asked = asked; d = d; there = there; part = h }
+
+may_reach : (S : State) (table : Table) (call : Call) (fd : ℕ) (q : Part) → AllByRecursion (IsMet table) (need call) → MaySee (meaning_of call) fd
+    → has_part (reached_by S (get table fd)) q ≡ true → IsReached S table (need call) q ⊎ IsReachedByName S table call q
+may_reach S table call fd q met (inl needs) h = inl (one_reached S table (need call) fd q met needs h)
+may_reach S table call fd q met (inr named) h = inr (named_reached S table call fd q (get table fd) refl named.0 named.1 h)
+
+reached_is : (S : State) (table : Table) (call : Call) (fds : List ℕ) (q : Part) → AllByRecursion (IsMet table) (need call)
+    → AllByRecursion (MaySee (meaning_of call)) fds → has_part (reached S table fds) q ≡ true → IsReached S table (need call) q ⊎ IsReachedByName S table call q
+reached_is S table call [] q met may h = absurd (not_true h)
+reached_is S table call (fd ∷ fds) q met may h =
     elim (either_true (has_part (reached_by S (get table fd)) q) (has_part (reached S table fds) q)
     (sym (has_of_both (reached_by S (get table fd)) (reached S table fds) q) ∙ h)) [
-      | inl here ↦ one_reached S table rows fd q met needs.0 here
-      | inr later ↦ reached_is S table rows fds q met needs.1 later
+      | inl here ↦ may_reach S table call fd q met may.0 here
+      | inr later ↦ reached_is S table call fds q met may.1 later
     ]
 
 unrefused : (r : Option Reply) (parts : List Part) (q : Part) → has_part (unless_refused r parts) q ≡ true → (r ≡ None) × (has_part parts q ≡ true)
@@ -91,7 +103,7 @@ reach_is S who call None q there h = absurd (not_true h)
 reach_is S who call (Some table) q there h =
     let both = unrefused (refusal table call) (reached S table (seen call)) q h in
     let met : AllByRecursion (IsMet table) (need call) = all_met call table both.0 in
-    (table, there, met, reached_is S table (need call) (seen call) q met (proper call).sees both.1)
+    (table, there, met, reached_is S table call (seen call) q met (proper call).sees both.1)
 
 pub sight_is_reached : (S : State) (who : Who) (call : Call) (q : Part) → has_part (sight S who call) q ≡ true
     → (has_part (own_parts who.pid) q ≡ true) ⊎ IsReachedBy S who call q

@@ -164,7 +164,7 @@ outcome_from : (constants : Constants) (S : State) (who : Who) (call : Call)
     → OnReply (IsFrom S who call (outcome constants S who call)) (step_answer constants S who call)
 outcome_from constants S who call =
     outcome_holds (λ (o : Outcome). OnReply (IsFrom S who call o) o.answer) constants S who call (λ reply refuses. inl (refuses, refl))
-    (λ table. (
+    (λ table _. (
     let o : Outcome = (meaning_of call).does constants (whole (tick S)) who table in
     from_own S who call o o.answer ((proper call).plain constants (whole (tick S)) who table)))
 

@@ -12,7 +12,7 @@ use Rattle.kernel_model.specs.Laws.{HasSameProcess, MovesOnly, EndsOnly}
 use Rattle.kernel_model.specs.Outcome.{Outcome}
 use Rattle.kernel_model.specs.ProcessCalls.{end_updates}
 use Rattle.kernel_model.specs.Proper.{IsUnset}
-use Rattle.kernel_model.specs.State.{State, Update, set_table, set_own, set_status, set_node, set_names, set_term, at_proc, at_status, has_part, part_of, put_one, put_all, threads_of}
+use Rattle.kernel_model.specs.State.{State, Update, set_table, set_own, set_status, set_open, set_node, set_names, set_term, at_proc, at_status, has_part, part_of, put_one, put_all, threads_of}
 use Rattle.kernel_model.specs.Step.{tick, outcome, unreleased, step_state, IsStep, end_unreleased, end_state}
 use Rattle.kernel_model.specs.Valid.{IsNearlyValid, IsValid}
 use Rattle.kernel_model.specs.View.{whole}
@@ -28,7 +28,7 @@ outcome_valid : (constants : Constants) (S : State) (who : Who) (call : Call) �
     → IsNearlyValid (put_all (outcome constants S who call).updates (tick S))
 outcome_valid constants S who call nearly =
     outcome_holds (λ (o : Outcome). IsNearlyValid (put_all o.updates (tick S))) constants S who call (λ reply _. nearly)
-    (λ table. (proper call).valid constants (tick S) who table nearly)
+    (λ table there. (proper call).valid constants (tick S) who table there nearly)
 
 step_valid : (constants : Constants) (S : State) (who : Who) (call : Call) → IsValid S → IsValid (step_state constants S who call)
 step_valid constants S who call v =
@@ -49,6 +49,7 @@ put_one_clock : (u : Update) (S : State) → (put_one u S).clock ≡ S.clock
 put_one_clock (set_table p t) S = refl
 put_one_clock (set_own p own) S = refl
 put_one_clock (set_status p s) S = refl
+put_one_clock (set_open o kind) S = refl
 put_one_clock (set_node n node) S = refl
 put_one_clock (set_names n names) S = refl
 put_one_clock (set_term k stream) S = refl
@@ -68,7 +69,7 @@ outcome_others : (constants : Constants) (S : State) (who : Who) (call : Call) (
     → IsUnset (outcome constants S who call) (at_proc q) × IsUnset (outcome constants S who call) (at_status q)
 outcome_others constants S who call q apart =
     outcome_holds (λ (o : Outcome). IsUnset o (at_proc q) × IsUnset o (at_status q)) constants S who call (λ reply _. (refl, refl))
-    (λ table. (proper call).others constants (whole (tick S)) who table q apart)
+    (λ table _. (proper call).others constants (whole (tick S)) who table q apart)
 
 step_others : (constants : Constants) (S : State) (who : Who) (call : Call) (q : ℕ) → q ≢ who.pid → HasSameProcess (step_state constants S who call) S q
 step_others constants S who call q apart =
@@ -81,7 +82,7 @@ step_threads : (constants : Constants) (S : State) (who : Who) (call : Call) →
     → threads_of (step_state constants S who call) who.pid ≡ threads_of S who.pid
 step_threads constants S who call =
     outcome_holds (KeepsThreads (tick S) who.pid) constants S who call (λ reply _ _. refl)
-    (λ table. (proper call).threads constants (tick S) (whole (tick S)) who table)
+    (λ table _. (proper call).threads constants (tick S) (whole (tick S)) who table)
 
 -- ---- all of them
 

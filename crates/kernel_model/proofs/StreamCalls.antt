@@ -1,12 +1,12 @@
 -- The meanings of the calls on opens that bytes are read from and written to are proper.
-use Rattle.std.proofs.Common.{◌≡◌, ◌≢◌, inl, inr, ℕ, ◌||◌, true, false, List, [], ◌∷◌, ◌++◌, length, Option, Some, None, refl, ap, ◌∙◌}
+use Rattle.std.proofs.Common.{◌≡◌, ◌≢◌, inl, inr, ℕ, ◌||◌, true, false, List, [], ◌∷◌, ◌++◌, length, drop, Option, Some, None, refl, ap, ◌∙◌}
 use Rattle.std.specs.FinMap.{get}
 use Rattle.abi_types.specs.declared.reply.Answer.TheVariants as answer
 use Rattle.abi_types.specs.declared.descriptor.Descriptor.{Descriptor}
 use Rattle.abi_base.specs.declared.errno.Errno.TheVariants.{Badf, Nomem}
 use Rattle.abi_types.specs.declared.open_kind.OpenKind.{OpenKind}
 use Rattle.abi_types.specs.declared.open_kind.OpenKind.TheVariants.{File, Directory, End, Terminal, Process}
-use Rattle.abi_base.specs.declared.rights.TheConstants.Rights.{FD_WRITE}
+use Rattle.abi_base.specs.declared.rights.TheConstants.Rights.{FD_READ, FD_WRITE}
 use Rattle.abi_types.specs.declared.stream.Stream.{Stream}
 use Rattle.kernel_model.specs.Outcome.{Outcome, replies}
 use Rattle.kernel_model.specs.Proper.{IsUnset, IsPlain, IsProper}
@@ -15,7 +15,7 @@ use Rattle.kernel_model.specs.Rows.{base_row}
 use Rattle.kernel_model.specs.Sight.{own_parts, behind, reached_by}
 use Rattle.kernel_model.specs.State.{State, Part, at_proc, at_status, at_open, at_term, same_part, has_part, put_all, set_term}
 use Rattle.kernel_model.specs.Step.{tick}
-use Rattle.kernel_model.specs.StreamCalls.{write_term, write_open, write_to, fd_write}
+use Rattle.kernel_model.specs.StreamCalls.{write_term, write_open, write_to, fd_write, read_term, read_open, read_from, fd_read}
 use Rattle.kernel_model.specs.Valid.{IsNearlyValid}
 use Rattle.kernel_model.specs.View.{View, restrict, whole}
 use Rattle.kernel_model.proofs.Parts.{KeepsThreads, outside_cons, has_of_both, beyond_own}
@@ -101,7 +101,7 @@ badf_is_no_lack e = cc
 pub fd_write_is_proper : (fd : ℕ) (bytes : List ℕ) → IsProper (fd_write fd bytes)
 fd_write_is_proper fd bytes = record {
   names = (([], [], refl), tt);
-  sees = ((base_row fd FD_WRITE, ([], [], refl), refl), tt);
+  sees = (inl (base_row fd FD_WRITE, ([], [], refl), refl), tt);
   reads = λ constants S who table. write_reads S who.pid bytes (get table fd);
   sets = λ constants S who table part h. write_unset S bytes (get table fd) part (beyond_own who.pid (reached_by S (get table fd)) part h).1;
   changes = λ S table part h. one_reached S (get table fd) part h;
@@ -113,7 +113,84 @@ fd_write_is_proper fd bytes = record {
     write_holds (λ o. IsUnset o (at_status q)) v bytes (get table fd) refl (λ which stream. refl),
   );
   threads = λ constants S v who table. write_holds (KeepsThreads S who.pid) v bytes (get table fd) (λ _. refl) (λ which stream _. refl);
-  valid = λ constants S who table nearly.
+  valid = λ constants S who table there nearly.
       write_holds (λ o. IsNearlyValid (put_all o.updates S)) (whole S) bytes (get table fd) nearly
       (λ which stream. set_term_nearly_valid S which (record stream { written = stream.written ++ bytes }) nearly);
+}
+
+-- ---- fd_read
+
+-- the outcome where bytes are read
+abbrev read_out : ℕ → ℕ → Stream → Outcome
+read_out n which stream = read_term n which (Some stream)
+
+read_term_holds : (P : Outcome → Type 0) (n which : ℕ) (stream : Option Stream) → P (replies (refused Badf))
+    → ((which : ℕ) (stream : Stream) → P (read_out n which stream)) → P (read_term n which stream)
+read_term_holds P n which None absent done = absent
+read_term_holds P n which (Some stream) absent done = done which stream
+
+read_open_holds : (P : Outcome → Type 0) (v : View) (n : ℕ) (kind : Option OpenKind) → P (replies (refused Badf))
+    → ((which : ℕ) (stream : Stream) → P (read_out n which stream)) → P (read_open v n kind)
+read_open_holds P v n None absent done = absent
+read_open_holds P v n (Some (Terminal which flags)) absent done = read_term_holds P n which (v.term which) absent done
+read_open_holds P v n (Some (File node offset flags)) absent done = absent
+read_open_holds P v n (Some (Directory node flags)) absent done = absent
+read_open_holds P v n (Some (End reads writes flags)) absent done = absent
+read_open_holds P v n (Some (Process p)) absent done = absent
+
+read_holds : (P : Outcome → Type 0) (v : View) (n : ℕ) (d : Option Descriptor) → P (replies (refused Badf))
+    → ((which : ℕ) (stream : Stream) → P (read_out n which stream)) → P (read_from v n d)
+read_holds P v n None absent done = absent
+read_holds P v n (Some d) absent done = read_open_holds P v n (v.opened d.id) absent done
+
+read_open_reads : (S : State) (p o n : ℕ) (k : Option OpenKind)
+    → read_open (restrict S (own_parts p ++ at_open o ∷ (behind k ++ []))) n k ≡ read_open (whole S) n k
+read_open_reads S p o n None = refl
+read_open_reads S p o n (Some (Terminal which flags)) = ap (read_term n which) (first_seen which false (get S.terms which))
+read_open_reads S p o n (Some (File node offset flags)) = refl
+read_open_reads S p o n (Some (Directory node flags)) = refl
+read_open_reads S p o n (Some (End reads writes flags)) = refl
+read_open_reads S p o n (Some (Process q)) = refl
+
+read_reads : (S : State) (p n : ℕ) (d : Option Descriptor) → read_from (restrict S (own_parts p ++ (reached_by S d ++ []))) n d ≡ read_from (whole S) n d
+read_reads S p n None = refl
+read_reads S p n (Some d) =
+    ap (read_open (restrict S (own_parts p ++ at_open d.id ∷ (behind (get S.opens d.id) ++ []))) n)
+    (first_seen d.id (has_part (behind (get S.opens d.id) ++ []) (at_open d.id)) (get S.opens d.id))
+    ∙ read_open_reads S p d.id n (get S.opens d.id)
+
+read_term_unset : (n which : ℕ) (stream : Option Stream) (q : Part) → same_part (at_term which) q ≡ false → IsUnset (read_term n which stream) q
+read_term_unset n which None q h = refl
+read_term_unset n which (Some stream) q h = ap (λ b. b || false) h
+
+read_open_unset : (v : View) (n : ℕ) (kind : Option OpenKind) (q : Part) → has_part (behind kind) q ≡ false → IsUnset (read_open v n kind) q
+read_open_unset v n None q h = refl
+read_open_unset v n (Some (Terminal which flags)) q h = read_term_unset n which (v.term which) q (outside_cons (at_term which) [] q h).0
+read_open_unset v n (Some (File node offset flags)) q h = refl
+read_open_unset v n (Some (Directory node flags)) q h = refl
+read_open_unset v n (Some (End reads writes flags)) q h = refl
+read_open_unset v n (Some (Process p)) q h = refl
+
+read_unset : (S : State) (n : ℕ) (d : Option Descriptor) (q : Part) → has_part (reached_by S d) q ≡ false → IsUnset (read_from (whole (tick S)) n d) q
+read_unset S n None q h = refl
+read_unset S n (Some d) q h =
+    read_open_unset (whole (tick S)) n (get S.opens d.id) q (outside_cons (at_open d.id) (behind (get S.opens d.id)) q h).1
+
+pub fd_read_is_proper : (fd n : ℕ) → IsProper (fd_read fd n)
+fd_read_is_proper fd n = record {
+  names = (([], [], refl), tt);
+  sees = (inl (base_row fd FD_READ, ([], [], refl), refl), tt);
+  reads = λ constants S who table. read_reads S who.pid n (get table fd);
+  sets = λ constants S who table part h. read_unset S n (get table fd) part (beyond_own who.pid (reached_by S (get table fd)) part h).1;
+  changes = λ S table part h. one_reached S (get table fd) part h;
+  plain = λ constants v who table. read_holds (IsPlain (Badf ∷ [])) v n (get table fd) (refl, inr (refl, ([], [], refl))) (λ which stream. (refl, inl refl));
+  lacks = λ _. (badf_is_no_lack, tt);
+  others = λ constants v who table q apart. (
+    read_holds (λ o. IsUnset o (at_proc q)) v n (get table fd) refl (λ which stream. refl),
+    read_holds (λ o. IsUnset o (at_status q)) v n (get table fd) refl (λ which stream. refl),
+  );
+  threads = λ constants S v who table. read_holds (KeepsThreads S who.pid) v n (get table fd) (λ _. refl) (λ which stream _. refl);
+  valid = λ constants S who table there nearly.
+      read_holds (λ o. IsNearlyValid (put_all o.updates S)) (whole S) n (get table fd) nearly
+      (λ which stream. set_term_nearly_valid S which (record stream { left = drop n stream.left }) nearly);
 }

@@ -1,7 +1,10 @@
 -- What keeps a state valid, or nearly so: one part set, the end of a process, and the release.
 use Rattle.std.proofs.Common.{◌≡◌, ◌≢◌, inl, inr, ℕ, ◌+◌, ◌<◌, ◌≤◌, ◌==◌, Bool, true, false, not, cond, T, Option, Some, None, IsSome, is_some, refl, sym, ap, subst, ◌∙◌, arith}
 use Rattle.std.proofs.lemmas.Bool.Decides.{eqb_tells}
-use Rattle.std.proofs.lemmas.Bool.{eq-eqb}
+use Rattle.std.proofs.lemmas.Bool.{eq-eqb, eqb-true}
+use Rattle.std.proofs.lemmas.Nat.{and_assoc}
+use Rattle.std.specs.Prelude.{bit_and, IsTrue}
+use Rattle.abi_base.specs.Rights.{has_all}
 use Rattle.std.specs.Ordering.{nat_cmp}
 use Rattle.std.specs.FinMap.{FinMap, get, get-empty, insert, empty, retain_keys}
 use Rattle.std.specs.Option.{option_map}
@@ -16,11 +19,11 @@ use Rattle.number_map.specs.Closure.{member}
 use Rattle.number_map.specs.Maps.{get-insert-same, get-insert-other, get-retain, same_numbers, total, weight, total-empty, total-insert, total_at_least}
 use Rattle.kernel_model.specs.ProcessCalls.{ended_own, end_updates}
 use Rattle.kernel_model.specs.Release.{names_open, count_in, holders, ends, release, is_ending}
-use Rattle.kernel_model.specs.State.{State, Table, Own, put_one, put_all, set_term, threads_of, thread_in, thread_of, counts_in}
+use Rattle.kernel_model.specs.State.{State, Table, Own, put_one, put_all, set_open, set_table, set_term, threads_of, thread_in, thread_of, counts_in}
 use Rattle.kernel_model.specs.Step.{tick}
-use Rattle.kernel_model.specs.Valid.{object_of, IsNamed, HasBehind, IsNearlyValid, IsValid}
+use Rattle.kernel_model.specs.Valid.{object_of, fits, fits_inheriting, IsNamed, HasBehind, IsNearlyValid, IsValid}
 use Rattle.kernel_model.proofs.Ends.{ends_closed, ends_unheld}
-use Rattle.kernel_model.proofs.Tests.{not_true, none_is_no}
+use Rattle.kernel_model.proofs.Tests.{not_true, none_is_no, same_some}
 
 -- ---- what holds an open
 
@@ -284,4 +287,134 @@ end_nearly_valid S p status v = record {
   numbered = λ q t there. subst (λ (c : Counts). t ≤ c.threads) (sym (counts_stay S p status q)) (ended_numbered S p status v q t there);
   made = λ q k small beyond fits.
       v.made q k small (subst (λ (c : Counts). c.objects < k) (counts_stay S p status q) beyond) fits;
+}
+
+-- ---- another table
+
+-- the descriptor is of the same open as the other, and has no right that the other lacks
+abbrev pub IsWithin : Descriptor → Descriptor → Type 0
+IsWithin d e = (d.id ≡ e.id) × (has_all e.base.0 d.base.0 ≡ true) × (has_all e.inheriting.0 d.inheriting.0 ≡ true)
+
+-- each descriptor of the new table comes from one of the old
+abbrev pub ComesFromTable : Table → Table → Type 0
+ComesFromTable old new = (n : ℕ) (d : Descriptor) → get new n ≡ Some d → (m : ℕ) × (e : Descriptor) × (get old m ≡ Some e) × IsWithin d e
+
+all_through : (a b c : ℕ) → has_all a b ≡ true → has_all b c ≡ true → has_all a c ≡ true
+all_through a b c h k =
+    let first : bit_and a b ≡ b = eqb-true _ _ h in
+    let second : bit_and b c ≡ c = eqb-true _ _ k in
+    eq-eqb (bit_and a c) c (sym (ap (bit_and a) second) ∙ sym (and_assoc c a b) ∙ ap (λ x. bit_and x c) first ∙ second)
+
+-- a descriptor within one that names its open names it too
+within_named : (o : Option OpenKind) (d e : Descriptor) → IsNamed o e → IsWithin d e → IsNamed o d
+within_named None d e named within = named
+within_named (Some kind) d e named within = (
+  all_through (fits kind) e.base.0 d.base.0 named.0 within.1,
+  all_through (fits_inheriting kind) e.inheriting.0 d.inheriting.0 named.1 within.2,
+)
+
+-- nothing comes from an empty table
+from_empty : (new : Table) → ComesFromTable empty new → new ≡ empty
+from_empty new from = same_numbers new empty (λ n. none_at n (get new n) refl ∙ sym (get-empty nat_cmp n)) where
+  none_at : (n : ℕ) (o : Option Descriptor) → get new n ≡ o → o ≡ None
+  none_at n None there = refl
+  none_at n (Some d) there = let old = from n d there in absurd (none_is_no old.1 (sym (get-empty nat_cmp old.0) ∙ old.2))
+
+-- the table of a process that has ended stays empty
+ended_table : (S : State) (p : ℕ) (old new : Table) → get S.tables p ≡ Some old → ComesFromTable old new → IsNearlyValid S
+    → (q : ℕ) (status : Status) → get S.statuses q ≡ Some status → status ≢ Live → get (insert S.tables p new) q ≡ Some empty
+ended_table S p old new there from v q status is ends =
+    elim (eqb_tells q p) [
+      | inl same ↦ (
+          let bare : old ≡ empty = same_value old empty (get S.tables p) there (subst (λ j. get S.tables j ≡ Some empty) same.1 (v.ended q status is ends).0) in
+          subst (λ j. get (insert S.tables p new) j ≡ Some empty) (sym same.1)
+          (get-insert-same S.tables p new ∙ ap Some (from_empty new (subst (λ t. ComesFromTable t new) bare from))))
+      | inr other ↦ get-insert-other S.tables p new q other.1 ∙ (v.ended q status is ends).0
+    ]
+
+table_named : (S : State) (p : ℕ) (old new : Table) → get S.tables p ≡ Some old → ComesFromTable old new → IsNearlyValid S
+    → (q n : ℕ) (table : Table) (d : Descriptor) → get (insert S.tables p new) q ≡ Some table → get table n ≡ Some d → IsNamed (get S.opens d.id) d
+table_named S p old new there from v q n table d at here =
+    elim (eqb_tells q p) [
+      | inl same ↦ (
+          let is : new ≡ table = same_value new table (get (insert S.tables p new) p) (get-insert-same S.tables p new) (subst (λ j. get (insert S.tables p new) j ≡ Some table) same.1 at) in
+          let source = from n d (ap (λ (t : Table). get t n) is ∙ here) in
+          subst (λ o. IsNamed (get S.opens o) d) (sym source.3.0)
+          (within_named (get S.opens source.1.id) d source.1 (v.named p source.0 old source.1 there source.2) source.3))
+      | inr other ↦ v.named q n table d (sym (get-insert-other S.tables p new q other.1) ∙ at) here
+    ]
+
+-- a process that has a table still has one
+some_again : {X : Type 0} (m : FinMap nat_cmp X) (k : ℕ) (x y : X) (q : ℕ) → get m k ≡ Some x → is_some (get (insert m k y) q) ≡ is_some (get m q)
+some_again m k x y q there =
+    elim (eqb_tells q k) [
+      | inl same ↦ subst (λ j. is_some (get (insert m k y) j) ≡ is_some (get m j)) (sym same.1) (ap is_some (get-insert-same m k y) ∙ sym (ap is_some there))
+      | inr other ↦ ap is_some (get-insert-other m k y q other.1)
+    ]
+
+-- a process's table may be set to one whose descriptors come from it
+pub set_table_nearly_valid : (S : State) (p : ℕ) (old new : Table) → get S.tables p ≡ Some old → ComesFromTable old new → IsNearlyValid S
+    → IsNearlyValid (put_one (set_table p new) S)
+set_table_nearly_valid S p old new there from v = record {
+  named = table_named S p old new there from v;
+  behind = λ o kind e. behind_same S (put_one (set_table p new) S) (λ _ h. h) kind (v.behind o kind e);
+  tables = λ q. some_again S.tables p old new q there ∙ v.tables q;
+  owns = v.owns;
+  ended = λ q status is ends. (ended_table S p old new there from v q status is ends, (v.ended q status is ends).1);
+  numbered = v.numbered;
+  made = v.made;
+}
+
+-- ---- another value of an open
+
+-- the two are of one type, and the same stands behind both
+pub record IsSameBehind (kind new : OpenKind) : Type 0 where
+  pub base : fits new ≡ fits kind
+  pub inheriting : fits_inheriting new ≡ fits_inheriting kind
+  pub behind : (S : State) → HasBehind S kind → HasBehind S new
+
+named_again : (o : Option OpenKind) (kind new : OpenKind) (d : Descriptor) → o ≡ Some kind → IsSameBehind kind new → IsNamed o d → IsNamed (Some new) d
+named_again None kind new d is same named = absurd named
+named_again (Some k) kind new d is same named =
+    let one : k ≡ kind = same_some k kind is in (
+      subst (λ f. IsTrue (has_all f d.base.0)) (ap fits one ∙ sym same.base) named.0,
+      subst (λ f. IsTrue (has_all f d.inheriting.0)) (ap fits_inheriting one ∙ sym same.inheriting) named.1,
+    )
+
+open_named : (S : State) (o : ℕ) (kind new : OpenKind) → get S.opens o ≡ Some kind → IsSameBehind kind new → (d : Descriptor) → IsNamed (get S.opens d.id) d
+    → IsNamed (get (insert S.opens o new) d.id) d
+open_named S o kind new there same d named =
+    elim (eqb_tells d.id o) [
+      | inl is ↦ subst (λ x. IsNamed x d) (sym (get-insert-same S.opens o new) ∙ ap (get (insert S.opens o new)) (sym is.1))
+          (named_again (get S.opens o) kind new d there same (subst (λ j. IsNamed (get S.opens j) d) is.1 named))
+      | inr other ↦ subst (λ x. IsNamed x d) (sym (get-insert-other S.opens o new d.id other.1)) named
+    ]
+
+open_behind : (S : State) (o : ℕ) (kind new : OpenKind) → get S.opens o ≡ Some kind → IsSameBehind kind new → IsNearlyValid S → (r : ℕ) (k : OpenKind)
+    → get (insert S.opens o new) r ≡ Some k → HasBehind S k
+open_behind S o kind new there same v r k at =
+    elim (eqb_tells r o) [
+      | inl is ↦ (
+          let one : new ≡ k = same_value new k (get (insert S.opens o new) o) (get-insert-same S.opens o new) (subst (λ j. get (insert S.opens o new) j ≡ Some k) is.1 at) in
+          subst (HasBehind S) one (same.behind S (v.behind o kind there)))
+      | inr other ↦ v.behind r k (sym (get-insert-other S.opens o new r other.1) ∙ at)
+    ]
+
+open_made : (S : State) (o : ℕ) (kind new : OpenKind) (r : ℕ) → get S.opens o ≡ Some kind → get S.opens r ≡ None → get (insert S.opens o new) r ≡ None
+open_made S o kind new r there none =
+    elim (eqb_tells r o) [
+      | inl is ↦ absurd (none_is_no kind (sym none ∙ ap (get S.opens) is.1 ∙ there))
+      | inr other ↦ get-insert-other S.opens o new r other.1 ∙ none
+    ]
+
+pub set_open_nearly_valid : (S : State) (o : ℕ) (kind new : OpenKind) → get S.opens o ≡ Some kind → IsSameBehind kind new → IsNearlyValid S
+    → IsNearlyValid (put_one (set_open o new) S)
+set_open_nearly_valid S o kind new there same v = record {
+  named = λ q n table d at here. open_named S o kind new there same d (v.named q n table d at here);
+  behind = λ r k at. behind_same S (put_one (set_open o new) S) (λ _ h. h) k (open_behind S o kind new there same v r k at);
+  tables = v.tables;
+  owns = v.owns;
+  ended = v.ended;
+  numbered = v.numbered;
+  made = λ p k small beyond fits. open_made S o kind new (object_of p k) there (v.made p k small beyond fits);
 }

@@ -1,5 +1,5 @@
 -- What holds of every step of the kernel: the statements that are the contracts of the functions of src/laws.rt.
-use Rattle.std.specs.Prelude.{◌≡◌, ◌≢◌, ◌⊎◌, ℕ, ◌+◌, true, false, List, ◌∷◌, ◌++◌, None, Some, IsSome}
+use Rattle.std.specs.Prelude.{◌≡◌, ◌≢◌, ◌⊎◌, ℕ, ◌+◌, true, false, List, [], ◌∷◌, ◌++◌, None, Some, IsSome}
 use Rattle.std.specs.List.{AllByRecursion}
 use Rattle.std.specs.FinMap.{get}
 use Rattle.abi_types.specs.declared.reply.Answer.{Answer}
@@ -77,13 +77,23 @@ pub record IsReached (S : State) (table : Table) (rows : List Needed) (q : Part)
   pub has : has_needed d row ≡ true
   pub part : has_part (at_open d.id ∷ behind (get S.opens d.id)) q ≡ true
 
--- each row of the call's needs is met by its process's table, and the part is reached so
+-- the call needs no right at all, and the part is the open of a descriptor that it names, or stands behind it
+pub record IsReachedByName (S : State) (table : Table) (call : Call) (q : Part) : Type 0 where
+  pub none : need call ≡ []
+  pub fd : ℕ
+  pub asked : IsIn fd (named call)
+  pub d : Descriptor
+  pub there : get table fd ≡ Some d
+  pub part : has_part (at_open d.id ∷ behind (get S.opens d.id)) q ≡ true
+
+-- each row of the call's needs is met by its process's table, and the part is reached so, or by name where there is no row
 abbrev pub IsReachedBy : State → Who → Call → Part → Type 0
 IsReachedBy S who call q =
-    (table : Table) × (get S.tables who.pid ≡ Some table) × AllByRecursion (IsMet table) (need call) × IsReached S table (need call) q
+    (table : Table) × (get S.tables who.pid ≡ Some table) × AllByRecursion (IsMet table) (need call)
+    × (IsReached S table (need call) q ⊎ IsReachedByName S table call q)
 
--- What a call sees is the clock, what is the process's own and its status, or it is reached through a descriptor that the
--- call needs, where none is absent and no right is missing.
+-- What a call sees is the clock, what is the process's own and its status, or it is reached through a descriptor of which the
+-- call needs rights, or that it names where it needs none, where none is absent and no right is missing.
 abbrev pub SightIsReached : Type 0
 SightIsReached =
     (S : State) (who : Who) (call : Call) (q : Part) → has_part (sight S who call) q ≡ true

@@ -35,10 +35,14 @@ IsPlain errors o =
 abbrev pub NeedsOf : List Needed → ℕ → Type 0
 NeedsOf rows fd = (row : Needed) × IsIn row rows × (row.fd ≡ fd)
 
+-- the call needs a right of the descriptor; or it needs no right at all, and names it
+abbrev pub MaySee : Meaning → ℕ → Type 0
+MaySee m fd = NeedsOf m.need fd ⊎ ((m.need ≡ []) × IsIn fd m.named)
+
 pub record IsProper (m : Meaning) : Type 0 where
-  -- the descriptors of which it needs a right it names, and of those that it sees it needs a right
+  -- the descriptors of which it needs a right it names, and it sees only what it may
   pub names : AllByRecursion (λ (row : Needed). IsIn row.fd m.named) m.need
-  pub sees : AllByRecursion (NeedsOf m.need) m.seen
+  pub sees : AllByRecursion (MaySee m) m.seen
   -- by what it sees it does what it does by the whole state
   pub reads : (constants : Constants) (S : State) (who : Who) (table : Table)
       → m.does constants (restrict S (own_parts who.pid ++ reached S table m.seen)) who table ≡ m.does constants (whole S) who table
@@ -56,6 +60,6 @@ pub record IsProper (m : Meaning) : Type 0 where
   pub threads : (constants : Constants) (S : State) (v : View) (who : Who) (table : Table)
       → get (put_all (m.does constants v who table).updates S).statuses who.pid ≡ Some Live
       → threads_of (put_all (m.does constants v who table).updates S) who.pid ≡ threads_of S who.pid
-  -- a state that is nearly valid it leaves so
-  pub valid : (constants : Constants) (S : State) (who : Who) (table : Table) → IsNearlyValid S
+  -- a state that is nearly valid, and in which its process has this table, it leaves so
+  pub valid : (constants : Constants) (S : State) (who : Who) (table : Table) → get S.tables who.pid ≡ Some table → IsNearlyValid S
       → IsNearlyValid (put_all (m.does constants (whole S) who table).updates S)

@@ -130,6 +130,7 @@ pub data Update : Type 0 where
   set_table : ℕ → Table → Update
   set_own : ℕ → Own → Update
   set_status : ℕ → Status → Update
+  set_open : ℕ → OpenKind → Update
   set_node : ℕ → Node → Update
   set_names : ℕ → Names → Update
   set_term : ℕ → Stream → Update
@@ -139,6 +140,7 @@ abbrev pub part_of : Update → Part
 part_of (set_table p t) = at_proc p
 part_of (set_own p own) = at_proc p
 part_of (set_status p s) = at_status p
+part_of (set_open o kind) = at_open o
 part_of (set_node n node) = at_node n
 part_of (set_names n names) = at_names n
 part_of (set_term k stream) = at_term k
@@ -148,6 +150,7 @@ abbrev pub put_one : Update → State → State
 put_one (set_table p t) S = record S { tables = insert S.tables p t }
 put_one (set_own p own) S = record S { own = insert S.own p own }
 put_one (set_status p s) S = record S { statuses = insert S.statuses p s }
+put_one (set_open o kind) S = record S { opens = insert S.opens o kind }
 put_one (set_node n node) S = record S { nodes = insert S.nodes n node }
 put_one (set_names n names) S = record S { names = insert S.names n names }
 put_one (set_term k stream) S = record S { terms = insert S.terms k stream }

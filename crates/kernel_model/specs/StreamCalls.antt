@@ -1,7 +1,8 @@
 -- Calls on opens that bytes are read from and written to.
-use Rattle.std.specs.Prelude.{ℕ, true, List, [], ◌∷◌, ◌++◌, length, Option, None, Some}
+use Rattle.std.specs.Prelude.{ℕ, true, List, [], ◌∷◌, ◌++◌, length, take, drop, Option, None, Some}
 use Rattle.std.specs.FinMap.{get}
 use Rattle.abi_types.specs.declared.reply.Answer.TheVariants as answer
+use Rattle.abi_types.specs.declared.reply.Payload.TheVariants as payload
 use Rattle.abi_types.specs.declared.descriptor.Descriptor.{Descriptor}
 use Rattle.abi_base.specs.declared.errno.Errno.TheVariants.{Badf}
 use Rattle.abi_types.specs.declared.open_kind.OpenKind.{OpenKind}
@@ -46,13 +47,42 @@ fd_write fd bytes = record {
   takes_memory = true;
 }
 
--- ---- not built yet
+-- ---- fd_read
+
+-- at most n bytes read from a standard stream: those that are next, and none at its end; their count is the result
+abbrev pub read_term : ℕ → ℕ → Option Stream → Outcome
+read_term n which None = replies (refused Badf)
+read_term n which (Some stream) = record {
+  answer = answer.Reply (record (success (length (take n stream.left)) 0) { payload = payload.Content (take n stream.left) });
+  updates = set_term which (record stream { left = drop n stream.left }) ∷ [];
+}
+
+-- bytes read from an open. Of a valid state each is a standard stream.
+abbrev pub read_open : View → ℕ → Option OpenKind → Outcome
+read_open v n None = replies (refused Badf)
+read_open v n (Some (Terminal which flags)) = read_term n which (v.term which)
+read_open v n (Some _) = replies (refused Badf)
+
+-- bytes read from a descriptor
+abbrev pub read_from : View → ℕ → Option Descriptor → Outcome
+read_from v n None = replies (refused Badf)
+read_from v n (Some d) = read_open v n (v.opened d.id)
+
+abbrev pub fd_read : ℕ → ℕ → Meaning
+fd_read fd n = record {
+  named = fd ∷ [];
+  need = base_row fd FD_READ ∷ [];
+  seen = fd ∷ [];
+  does = λ constants v who table. read_from v n (get table fd);
+  changes = λ S table. reached_by S (get table fd);
+  errors = Badf ∷ [];
+  takes_memory = true;
+}
+
+-- ---- fd_pread and fd_pwrite: no open of a valid state has an offset yet, so none has the rights that they need
 
 abbrev pub fd_pread : ℕ → Meaning
 fd_pread fd = unbuilt_row (base_row fd (both FD_READ FD_SEEK))
 
 abbrev pub fd_pwrite : ℕ → Meaning
 fd_pwrite fd = unbuilt_row (base_row fd (both FD_WRITE FD_SEEK))
-
-abbrev pub fd_read : ℕ → Meaning
-fd_read fd = unbuilt_row (base_row fd FD_READ)
