@@ -1,3 +1,6 @@
+pub mod Tests
+pub mod Lowest
+pub mod StatPuts
 pub mod Counts
 pub mod Ends
 pub mod Lives

@@ -7,7 +7,7 @@ use Rattle.number_map.specs.Maps.{number, least_key}
 use Rattle.abi_types.specs.declared.status.Status.{Status}
 use Rattle.abi_types.specs.declared.status.Status.TheVariants.{Live, Exit, Killed}
 use Rattle.kernel_model.specs.Release.{holders}
-use Rattle.kernel_model.specs.State.{State, Update, set_table, set_own, set_status, set_node, set_names, set_term}
+use Rattle.kernel_model.specs.State.{State, Update, set_table, set_own, set_status, set_open, set_node, set_names, set_term}
 use Rattle.kernel_model.specs.Valid.{IsValid}
 
 -- the state is valid, and each open's count is that of its holders
@@ -22,6 +22,7 @@ terms_after (set_term k stream ∷ updates) terms = terms_after updates (insert 
 terms_after (set_table p table ∷ updates) terms = terms_after updates terms
 terms_after (set_own p own ∷ updates) terms = terms_after updates terms
 terms_after (set_status p status ∷ updates) terms = terms_after updates terms
+terms_after (set_open o kind ∷ updates) terms = terms_after updates terms
 terms_after (set_node n node ∷ updates) terms = terms_after updates terms
 terms_after (set_names n names ∷ updates) terms = terms_after updates terms
 

@@ -1,3 +1,4 @@
 pub mod Kernel
 pub mod Start
 pub mod Answering
+pub mod Changes

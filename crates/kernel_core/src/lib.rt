@@ -9,3 +9,4 @@ mod kernel;
 mod own;
 mod start;
 mod table;
+mod table_change;
