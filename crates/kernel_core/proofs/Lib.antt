@@ -1,6 +1,8 @@
 pub mod Tests
 pub mod Lowest
 pub mod StatPuts
+pub mod Kept
+pub mod Changes
 pub mod Counts
 pub mod Ends
 pub mod Lives

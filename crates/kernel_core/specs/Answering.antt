@@ -1,9 +1,15 @@
 -- Calls that do more than answer.
 use Rattle.abi_types.specs.declared.call.Call.{Call}
-use Rattle.abi_types.specs.declared.call.Call.TheVariants.{FdWrite, ProcExit}
+use Rattle.abi_types.specs.declared.call.Call.TheVariants.{FdClose, FdDup, FdRead, FdReplace, FdStatGet, FdStatPut, FdWrite, ProcExit}
 
--- the call may change the kernel's state beside the clock
+-- the call's answer is not in the call alone, or it may change the kernel's state beside the clock
 abbrev pub DoesMore : Call → Type 0
+DoesMore (FdClose fd) = Unit {0}
+DoesMore (FdDup fd) = Unit {0}
+DoesMore (FdRead fd length) = Unit {0}
+DoesMore (FdReplace from to) = Unit {0}
+DoesMore (FdStatGet fd) = Unit {0}
+DoesMore (FdStatPut fd stat flags) = Unit {0}
 DoesMore (FdWrite fd bytes) = Unit {0}
 DoesMore (ProcExit code) = Unit {0}
 DoesMore _ = ⊥

@@ -1,5 +1,5 @@
 -- What the kernel's code keeps beside its state.
-use Rattle.std.specs.Prelude.{◌≡◌, ℕ, List, [], ◌∷◌, Bool, true, false, is_some}
+use Rattle.std.specs.Prelude.{◌≡◌, ℕ, ◌^◌, List, [], ◌∷◌, Bool, true, false, Some, is_some}
 use Rattle.std.specs.Ordering.{nat_cmp}
 use Rattle.std.specs.FinMap.{FinMap, get, insert}
 use Rattle.abi_types.specs.declared.stream.Stream.{Stream}
@@ -7,13 +7,17 @@ use Rattle.number_map.specs.Maps.{number, least_key}
 use Rattle.abi_types.specs.declared.status.Status.{Status}
 use Rattle.abi_types.specs.declared.status.Status.TheVariants.{Live, Exit, Killed}
 use Rattle.kernel_model.specs.Release.{holders}
-use Rattle.kernel_model.specs.State.{State, Update, set_table, set_own, set_status, set_open, set_node, set_names, set_term}
+use Rattle.fd_table.specs.Sizes.{KeysBelow}
+use Rattle.fd_table.specs.Table.{IsTable}
+use Rattle.kernel_model.specs.State.{State, Table, Update, set_table, set_own, set_status, set_open, set_node, set_names, set_term}
 use Rattle.kernel_model.specs.Valid.{IsValid}
 
--- the state is valid, and each open's count is that of its holders
+-- the state is valid, each open's count is that of its holders, and tables and processes have numbers that fit their types
 pub record IsKept (S : State) (counts : FinMap nat_cmp ℕ) : Type 0 where
   pub valid : IsValid S
   pub counted : (o : ℕ) → number (get counts o) ≡ holders S o
+  pub small : (p : ℕ) (table : Table) → get S.tables p ≡ Some table → IsTable table
+  pub processes : KeysBelow (2 ^ 32) S.tables
 
 -- the standard streams after these updates
 abbrev pub terms_after : List Update → FinMap nat_cmp Stream → FinMap nat_cmp Stream

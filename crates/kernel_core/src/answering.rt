@@ -44,23 +44,23 @@ pub fn answer_of(call: &Call) -> Reply
     match call {
         Call::MemMap { place, flags, .. } => mapped(*place, *flags),
         Call::Memory { errno, .. } | Call::Refused { errno, .. } => refused(*errno),
-        Call::FdWrite { .. } | Call::ProcExit { .. } => unreachable!(),
+        Call::FdDatasync { .. } | Call::FdSync { .. } => success(0, 0),
+        Call::FdClose { .. }
+        | Call::FdDup { .. }
+        | Call::FdRead { .. }
+        | Call::FdReplace { .. }
+        | Call::FdStatGet { .. }
+        | Call::FdStatPut { .. }
+        | Call::FdWrite { .. }
+        | Call::ProcExit { .. } => unreachable!(),
         Call::ClockResGet { .. }
         | Call::ClockTimeGet { .. }
         | Call::CondvarSignal { .. }
-        | Call::FdClose { .. }
         | Call::FdCreate1 { .. }
         | Call::FdCreate2 { .. }
-        | Call::FdDatasync { .. }
-        | Call::FdDup { .. }
         | Call::FdPread { .. }
         | Call::FdPwrite { .. }
-        | Call::FdRead { .. }
-        | Call::FdReplace { .. }
         | Call::FdSeek { .. }
-        | Call::FdStatGet { .. }
-        | Call::FdStatPut { .. }
-        | Call::FdSync { .. }
         | Call::FileAdvise { .. }
         | Call::FileAllocate { .. }
         | Call::FileCreate { .. }

@@ -1,6 +1,8 @@
 //! The kernel's state, and its steps.
 ghost use Rattle.std.specs.Prelude.{◌≡◌, ◌≢◌, ◌∷◌, ◌^◌, ◌<◌, ◌≤◌, ◌↔◌, ℕ, [], Some, None, IsSome, IfOk, OnErr, IsTrue, false, length, unwrap_or};
 ghost use Rattle.std.specs.FinMap as map;
+ghost use Rattle.abi_types.specs.declared.reply.Answer.TheVariants as answer;
+ghost use Rattle.kernel_core.specs.Changes.{change_outcome, HasReplaced, IsDup};
 ghost use Rattle.kernel_core.specs.Kernel.{terms_after, is_live, any_live};
 ghost use Rattle.kernel_model.specs.Calls.{named, need};
 ghost use Rattle.kernel_model.specs.Laws.{HasAll, IsFirstLack, IsOfFirstLack};
@@ -13,7 +15,8 @@ ghost use Rattle.kernel_model.specs.Sight.{own_parts};
 ghost use Rattle.kernel_model.specs.Start.{start_state};
 ghost use Rattle.kernel_model.specs.State.{put_all, Table, Part, has_part, Agree, thread_of, written_to};
 ghost use Rattle.kernel_model.specs.Step.{act, failed, MayLackMemory, IsStep, IsUntouched, end_unreleased, end_state};
-ghost use Rattle.kernel_model.specs.StreamCalls.{write_term, write_to};
+ghost use Rattle.kernel_model.specs.DescriptorCalls.{stat_get, stat_of, type_number, flags_of};
+ghost use Rattle.kernel_model.specs.StreamCalls.{read_from, read_term, write_term, write_to};
 ghost use Rattle.kernel_model.specs.Valid.{IsValid};
 ghost use Rattle.kernel_model.specs.View.{whole};
 
@@ -21,14 +24,16 @@ use crate::answering::answer_of;
 use crate::own::Own;
 use crate::start::{granted, single, streams};
 use crate::table::let_go_all;
+use crate::table_change::TableChange;
+use crate::terminal::Terminal;
 use abi_types::{
-    Answer, Bytes, Call, Constants, Denial, Descriptor, Errno, Needed, OpenKind, Pid, Reply,
-    Status, Stream, Thread, Tid, Who,
+    Answer, Bytes, Call, Constants, Denial, Descriptor, Errno, FdStat, Needed, OpenKind, Payload,
+    Pid, Reply, Status, Thread, Tid, Who,
 };
 use fd_table::FdTable;
 use number_map::NumMap;
 use object_store::Objects;
-use right_rules::{refusal, refused, success};
+use right_rules::{refusal, refused, success, success_with};
 use run_types::Launch;
 use std::alloc::{AllocError, Global};
 use std::marker::Model;
@@ -44,7 +49,8 @@ pub struct Kernel {
     own: NumMap<Own>,
     statuses: NumMap<Status>,
     objects: Objects,
-    terms: NumMap<Stream>,
+    terms: NumMap<Terminal>,
+    alloc: Global,
 }
 
 impl Model for Kernel {
@@ -63,7 +69,7 @@ impl Model for Kernel {
 }
 
 // Writes the bytes to a standard stream. `Err` changes nothing.
-fn write_term(terms: &mut NumMap<Stream>, which: u32, bytes: &Bytes) -> Result<Answer, AllocError>
+fn write_term(terms: &mut NumMap<Terminal>, which: u32, bytes: &Bytes) -> Result<Answer, AllocError>
     ensures ok { IfOk result (λ given. (given ≡ (write_term bytes.now which (map.get terms.old which)).answer)
         × (terms.new ≡ terms_after (write_term bytes.now which (map.get terms.old which)).updates terms.old)) }
     ensures err { OnErr result (terms.new ≡ terms.old) }
@@ -73,9 +79,77 @@ fn write_term(terms: &mut NumMap<Stream>, which: u32, bytes: &Bytes) -> Result<A
         return Ok(Answer::Reply(refused(Errno::Badf)));
     }
     let stream = terms.get_mut(u64::from(which));
-    match stream.written.append(bytes.as_slice()) {
+    match stream.write(bytes.as_slice()) {
         Ok(()) => Ok(Answer::Reply(success(bytes.len() as u64, 0))),
         Err(error) => Err(error),
+    }
+}
+
+// Reads from a standard stream at most so many bytes. `Err` changes nothing.
+fn read_term(
+    alloc: Global,
+    terms: &mut NumMap<Terminal>,
+    which: u32,
+    most: u64,
+) -> Result<Answer, AllocError>
+    ensures ok { IfOk result (λ given. (given ≡ (read_term most which (map.get terms.old which)).answer)
+        × (terms.new ≡ terms_after (read_term most which (map.get terms.old which)).updates terms.old)) }
+    ensures err { OnErr result (terms.new ≡ terms.old) }
+    ensures there { (k : ℕ) → IsSome (map.get terms.old k) → IsSome (map.get terms.new k) }
+{
+    if !terms.contains(u64::from(which)) {
+        return Ok(Answer::Reply(refused(Errno::Badf)));
+    }
+    let stream = terms.get_mut(u64::from(which));
+    match stream.read(alloc, most) {
+        Ok(bytes) => {
+            let count = bytes.len() as u64;
+            Ok(Answer::Reply(success_with(count, Payload::Content(bytes))))
+        }
+        Err(error) => Err(error),
+    }
+}
+
+// The number of an open's type.
+fn type_number(kind: &OpenKind) -> u8
+    ensures { result ≡ type_number kind.now }
+{
+    match kind {
+        OpenKind::File { .. } => 96,
+        OpenKind::Directory { .. } => 32,
+        OpenKind::End {
+            reads: Some(_),
+            writes: Some(_),
+            ..
+        } => 130,
+        OpenKind::End { .. } => 48,
+        OpenKind::Terminal { .. } => 17,
+        OpenKind::Process(_) => 80,
+    }
+}
+
+// An open's flags. A process has none.
+fn flags_of(kind: &OpenKind) -> u16
+    ensures { result ≡ flags_of kind.now }
+{
+    match kind {
+        OpenKind::File { flags, .. }
+        | OpenKind::Directory { flags, .. }
+        | OpenKind::End { flags, .. }
+        | OpenKind::Terminal { flags, .. } => *flags,
+        OpenKind::Process(_) => 0,
+    }
+}
+
+// What a descriptor of the open is and may do.
+fn stat_of(descriptor: &Descriptor, kind: &OpenKind) -> FdStat
+    ensures { result ≡ stat_of descriptor.now kind.now }
+{
+    FdStat {
+        kind: type_number(kind),
+        flags: flags_of(kind),
+        base: descriptor.base,
+        inheriting: descriptor.inheriting,
     }
 }
 
@@ -102,6 +176,7 @@ impl Kernel {
             statuses: single(alloc, 0, Status::Live)?,
             objects,
             terms: streams(alloc, &launch.stdin)?,
+            alloc,
         })
     }
 
@@ -142,6 +217,65 @@ impl Kernel {
         }
     }
 
+    // Reads at most so many bytes from what the descriptor stands for. `Err` changes nothing.
+    fn fd_read(&mut self, pid: Pid, fd: u32, most: u64) -> Result<Answer, AllocError>
+        ensures ok { IfOk result (λ given. (table : Table) → map.get self.old.tables pid ≡ Some table →
+            (given ≡ (read_from (whole self.old) most (map.get table fd)).answer)
+            × (self.new ≡ put_all (read_from (whole self.old) most (map.get table fd)).updates self.old)) }
+        ensures err { OnErr result (self.new ≡ self.old) }
+    {
+        let Some(table) = self.tables.get(u64::from(pid.0)) else {
+            return Ok(Answer::Reply(refused(Errno::Badf)));
+        };
+        let Some(descriptor) = table.get(fd) else {
+            return Ok(Answer::Reply(refused(Errno::Badf)));
+        };
+        match self.objects.get(descriptor.id) {
+            None => Ok(Answer::Reply(refused(Errno::Badf))),
+            Some(OpenKind::Terminal { which, .. }) => {
+                read_term(self.alloc, &mut self.terms, *which, most)
+            }
+            Some(
+                OpenKind::File { .. }
+                | OpenKind::Directory { .. }
+                | OpenKind::End { .. }
+                | OpenKind::Process(_),
+            ) => Ok(Answer::Reply(refused(Errno::Badf))),
+        }
+    }
+
+    // What the descriptor is and may do.
+    fn fd_stat_get(&self, pid: Pid, fd: u32) -> Reply
+        ensures { (table : Table) → map.get self.now.tables pid ≡ Some table → answer.Reply result ≡ (stat_get (whole self.now) (map.get table fd)).answer }
+    {
+        let Some(table) = self.tables.get(u64::from(pid.0)) else {
+            return refused(Errno::Badf);
+        };
+        let Some(descriptor) = table.get(fd) else {
+            return refused(Errno::Badf);
+        };
+        match self.objects.get(descriptor.id) {
+            None => refused(Errno::Badf),
+            Some(kind) => success_with(0, Payload::FdStat(stat_of(descriptor, kind))),
+        }
+    }
+
+    // Changes the process's descriptors. What nothing holds any more ends. `Err` changes nothing.
+    fn change_descriptors(&mut self, pid: Pid, change: &TableChange) -> Result<Answer, AllocError>
+        requires there { IsSome (map.get self.old.statuses pid) }
+        requires replaced { (table : Table) → map.get self.old.tables pid ≡ Some table → HasReplaced table change.now }
+        ensures ok { IfOk result (λ given. (table : Table) → map.get self.old.tables pid ≡ Some table →
+            (given ≡ (change_outcome pid self.old.opens table change.now).answer)
+            × (self.new ≡ release (put_all (change_outcome pid self.old.opens table change.now).updates self.old))) }
+        ensures only { OnErr result (IsDup change.now) }
+        ensures err { OnErr result (self.new ≡ self.old) }
+    {
+        let p = u64::from(pid.0);
+        let reply = change.apply(self.tables.get_mut(p), &mut self.objects)?;
+        self.objects.remove_unheld();
+        Ok(Answer::Reply(reply))
+    }
+
     // Does a call, but for the clock. `Err` changes nothing.
     fn act(&mut self, constants: &Constants, who: &Who, call: &Call) -> Result<Answer, AllocError>
         requires { IsSome (map.get self.old.statuses who.now.pid) }
@@ -156,6 +290,25 @@ impl Kernel {
             return Ok(Answer::Reply(reply));
         }
         match call {
+            Call::FdClose { fd } => self.change_descriptors(who.pid, &TableChange::Close(*fd)),
+            Call::FdDup { fd } => self.change_descriptors(who.pid, &TableChange::Dup(*fd)),
+            Call::FdRead { fd, length } => self.fd_read(who.pid, *fd, *length),
+            Call::FdReplace { from, to } => {
+                let change = TableChange::Replace {
+                    from: *from,
+                    to: *to,
+                };
+                self.change_descriptors(who.pid, &change)
+            }
+            Call::FdStatGet { fd } => Ok(Answer::Reply(self.fd_stat_get(who.pid, *fd))),
+            Call::FdStatPut { fd, stat, flags } => {
+                let change = TableChange::StatPut {
+                    fd: *fd,
+                    stat: *stat,
+                    flags: *flags,
+                };
+                self.change_descriptors(who.pid, &change)
+            }
             Call::FdWrite { fd, bytes } => self.fd_write(who.pid, *fd, bytes),
             Call::ProcExit { code } => {
                 self.end_process(who.pid, Status::Exit(*code));
@@ -256,7 +409,7 @@ impl Kernel {
         ensures { result.now ≡ written_to which self.now }
     {
         match self.terms.get(u64::from(which)) {
-            Some(stream) => stream.written.as_slice(),
+            Some(stream) => stream.written(),
             None => &[],
         }
     }

@@ -10,3 +10,4 @@ mod own;
 mod start;
 mod table;
 mod table_change;
+mod terminal;

@@ -4,8 +4,9 @@ ghost use Rattle.std.specs.FinMap as map;
 ghost use Rattle.kernel_model.specs.Start.{launch_object, open_of, granted_descriptor, granted_open, granted_table, unwritten};
 ghost use Rattle.kernel_core.specs.Start.{granted_objects};
 
+use crate::terminal::Terminal;
 use abi_base::MOST_DESCRIPTORS;
-use abi_types::{Bytes, Descriptor, Grant, GrantTarget, ObjId, OpenKind, Stream, TryClone};
+use abi_types::{Bytes, Descriptor, Grant, GrantTarget, ObjId, OpenKind, TryClone};
 use fd_table::FdTable;
 use number_map::NumMap;
 use object_store::Objects;
@@ -35,23 +36,13 @@ pub fn single<V: Drop>(alloc: Global, key: u64, value: V) -> Result<NumMap<V>, A
     Ok(made)
 }
 
-// A standard stream from which these bytes can be read, and to which nothing was written.
-fn unwritten(alloc: Global, left: Bytes) -> Stream
-    ensures { result ≡ unwritten left }
-{
-    Stream {
-        left,
-        written: Bytes::new(alloc),
-    }
-}
-
 /// The three standard streams, where these bytes can be read from standard input, with nothing written.
-pub fn streams(alloc: Global, stdin: &Bytes) -> Result<NumMap<Stream>, AllocError>
+pub fn streams(alloc: Global, stdin: &Bytes) -> Result<NumMap<Terminal>, AllocError>
     ensures { IfOk result (λ made. made ≡ map.insert (map.insert (map.insert map.empty 0 (unwritten stdin.now)) 1 (unwritten [])) 2 (unwritten [])) }
 {
-    let mut made = single(alloc, 0, unwritten(alloc, stdin.copy()?))?;
-    made.insert(1, unwritten(alloc, Bytes::new(alloc)))?;
-    made.insert(2, unwritten(alloc, Bytes::new(alloc)))?;
+    let mut made = single(alloc, 0, Terminal::new(alloc, stdin.copy()?))?;
+    made.insert(1, Terminal::new(alloc, Bytes::new(alloc)))?;
+    made.insert(2, Terminal::new(alloc, Bytes::new(alloc)))?;
     Ok(made)
 }
 

@@ -65,7 +65,7 @@ lowered_within d stat = (refl, met_within d.base.0 stat.base.0, met_within d.inh
 -- ---- calls that set their process's table alone
 
 -- it answers one of these errors, or sets a table whose descriptors come from the old one
-abbrev IsOfTable : List Errno → ℕ → Table → Outcome → Type 0
+abbrev pub IsOfTable : List Errno → ℕ → Table → Outcome → Type 0
 IsOfTable errors p table o =
     ((errno : Errno) × (o ≡ replies (refused errno)) × IsIn errno errors)
     ⊎ ((result : ℕ) × (new : Table) × (o ≡ with_table p result new) × ComesFromTable table new)
@@ -76,6 +76,13 @@ of_table : (P : Outcome → Type 0) (errors : List Errno) (p : ℕ) (table : Tab
     → ((result : ℕ) (new : Table) → ComesFromTable table new → P (with_table p result new)) → P o
 of_table P errors p table o (inl error) refuses sets = subst P (sym error.1) (refuses error.0 error.2)
 of_table P errors p table o (inr done) refuses sets = subst P (sym done.2) (sets done.0 done.1 done.3)
+
+-- it leaves a nearly valid state so
+pub setting_valid : (errors : List Errno) (S : State) (p : ℕ) (table : Table) (o : Outcome) → IsOfTable errors p table o → get S.tables p ≡ Some table
+    → IsNearlyValid S → IsNearlyValid (put_all o.updates S)
+setting_valid errors S p table o is there nearly =
+    of_table (λ (x : Outcome). IsNearlyValid (put_all x.updates S)) errors p table o is (λ errno _. nearly)
+    (λ result new from. set_table_nearly_valid S p table new there from nearly)
 
 -- the table is the process's own
 own_table : (p : ℕ) (q : Part) → has_part (own_parts p) q ≡ false → has_part (at_proc p ∷ []) q ≡ false
@@ -113,14 +120,15 @@ setting_is_proper named errors takes f is lacks = record {
       of_table (λ o. IsUnset o (at_proc q) × IsUnset o (at_status q)) errors who.pid table (f who.pid table) (is who.pid table) (λ errno _. (refl, refl))
       (λ result new _. (other_table who.pid q apart, refl));
   threads = λ constants S v who table. of_table (KeepsThreads S who.pid) errors who.pid table (f who.pid table) (is who.pid table) (λ errno _ _. refl) (λ result new _ _. refl);
-  valid = λ constants S who table there nearly.
-      of_table (λ (o : Outcome). IsNearlyValid (put_all o.updates S)) errors who.pid table (f who.pid table) (is who.pid table) (λ errno _. nearly)
-      (λ result new from. set_table_nearly_valid S who.pid table new there from nearly);
+  valid = λ constants S who table there nearly. setting_valid errors S who.pid table (f who.pid table) (is who.pid table) there nearly;
 }
+
+pub close_is : (p : ℕ) (table : Table) (fd : ℕ) → IsOfTable [] p table (with_table p 0 (remove table fd))
+close_is p table fd = inr (0, remove table fd, refl, removed_from table fd)
 
 pub fd_close_is_proper : (fd : ℕ) → IsProper (fd_close fd)
 fd_close_is_proper fd =
-    setting_is_proper (fd ∷ []) [] false (λ p table. with_table p 0 (remove table fd)) (λ p table. inr (0, remove table fd, refl, removed_from table fd)) (λ h. absurd (not_true h))
+    setting_is_proper (fd ∷ []) [] false (λ p table. with_table p 0 (remove table fd)) (λ p table. close_is p table fd) (λ h. absurd (not_true h))
 
 -- fd_dup
 badf_is_no_lack : Badf ≢ Nomem
@@ -129,14 +137,14 @@ badf_is_no_lack e = cc
 mfile_is_no_lack : Mfile ≢ Nomem
 mfile_is_no_lack e = cc
 
-abbrev dup_errors : List Errno
+abbrev pub dup_errors : List Errno
 dup_errors = Badf ∷ Mfile ∷ []
 
 dup_sets : (p : ℕ) (table : Table) (fd : ℕ) (d : Descriptor) (number : Option ℕ) → get table fd ≡ Some d → IsOfTable dup_errors p table (dup_at p table d number)
 dup_sets p table fd d None there = inl (Mfile, refl, (Badf ∷ [], [], refl))
 dup_sets p table fd d (Some number) there = inr (number, insert table number d, refl, inserted_from table fd number d d there (within_itself d))
 
-dup_is : (p : ℕ) (table : Table) (fd : ℕ) (o : Option Descriptor) → get table fd ≡ o → IsOfTable dup_errors p table (dup_of p table o)
+pub dup_is : (p : ℕ) (table : Table) (fd : ℕ) (o : Option Descriptor) → get table fd ≡ o → IsOfTable dup_errors p table (dup_of p table o)
 dup_is p table fd None there = inl (Badf, refl, ([], Mfile ∷ [], refl))
 dup_is p table fd (Some d) there = dup_sets p table fd d (lowest_free table) there
 
@@ -146,7 +154,7 @@ fd_dup_is_proper fd =
     (λ _. (badf_is_no_lack, (mfile_is_no_lack, tt)))
 
 -- fd_replace
-replaced_is : (p : ℕ) (table : Table) (from to : ℕ) (o : Option Descriptor) → get table from ≡ o → IsOfTable (Badf ∷ []) p table (replaced_by p table to o)
+pub replaced_is : (p : ℕ) (table : Table) (from to : ℕ) (o : Option Descriptor) → get table from ≡ o → IsOfTable (Badf ∷ []) p table (replaced_by p table to o)
 replaced_is p table from to None there = inl (Badf, refl, ([], [], refl))
 replaced_is p table from to (Some d) there = inr (0, insert table to d, refl, inserted_from table from to d d there (within_itself d))
 
@@ -261,7 +269,7 @@ put_threads S v p table fd stat flags o =
     (bit_and flags 1 == 0) (bit_and flags 2 == 0) (set_open d.id (with_flags kind stat.flags)) (set_table p (insert table fd (lowered_to d stat)))
     (λ _. refl) (λ _. refl) (λ _. refl) (λ _. refl))
 
-put_valid : (S : State) (p : ℕ) (table : Table) (fd : ℕ) (stat : FdStat) (flags : ℕ) → get S.tables p ≡ Some table → IsNearlyValid S
+pub put_valid : (S : State) (p : ℕ) (table : Table) (fd : ℕ) (stat : FdStat) (flags : ℕ) → get S.tables p ≡ Some table → IsNearlyValid S
     → IsNearlyValid (put_all (stat_put (whole S) p table fd stat flags (get table fd)).updates S)
 put_valid S p table fd stat flags there nearly =
     put_holds (λ (o : Outcome). IsNearlyValid (put_all o.updates S)) (whole S) p table fd stat flags (get table fd) nearly

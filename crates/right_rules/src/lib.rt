@@ -6,7 +6,7 @@
 pub use descriptors_named::{NamedList, named};
 pub use open_types::fits;
 pub use refusing::refusal;
-pub use replies::{refused, success};
+pub use replies::{refused, success, success_with};
 pub use rights_needed::{Needs, need};
 
 mod descriptors_named;

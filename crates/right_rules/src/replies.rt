@@ -18,6 +18,20 @@ pub fn success(r1: u64, r2: u64) -> Reply
     }
 }
 
+/// A call that is done, with a result and with what it gives beside it.
+pub fn success_with(r1: u64, payload: Payload) -> Reply
+    ensures { result ≡ record (success r1 0) { payload = payload } }
+{
+    Reply {
+        errno: Errno::Success,
+        r1,
+        r2: 0,
+        payload,
+        writes: WordWrites::Zero,
+        denial: None,
+    }
+}
+
 /// A call that is refused by an error.
 pub fn refused(errno: Errno) -> Reply
     ensures { result ≡ refused errno }

@@ -1,4 +1,4 @@
-use Rattle.std.proofs.Common.{List, ℕ, sym, ap, ◌∙◌}
+use Rattle.std.proofs.Common.{sym, ap, ◌∙◌}
 use Rattle.std.specs.FinMap.{insert}
 use Rattle.abi_types.specs.declared.stream.Stream.{Stream}
 use Rattle.number_map.specs.Maps.{insert_self}
@@ -7,9 +7,7 @@ use Rattle.kernel_core.proofs.kernel.write_term.Goals as goal
 
 pub returns-in-Err-clause-err : goal.returns-in-Err-clause-err
 returns-in-Err-clause-err c =
-    ap (λ (bytes : List ℕ). let stream : Stream = record { left = c.get_mut-stream.result.now.left; written = bytes } in insert c.args.terms.now c.from-2.result stream)
-    c.in-Err.ensures.err
-    ∙ insert_self _ _ _ (sym c.get_mut-stream.ensures.value)
+    ap (λ (stream : Stream). insert c.args.terms.now c.from-2.result stream) c.in-Err.ensures.err ∙ insert_self _ _ _ (sym c.get_mut-stream.ensures.value)
 
 pub returns-in-Ok-clause-there : goal.returns-in-Ok-clause-there
 returns-in-Ok-clause-there c = λ k there. some_inserted c.args.terms.now c.from-2.result _ k there

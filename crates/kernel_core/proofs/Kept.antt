@@ -1,0 +1,64 @@
+-- What the code keeps of tables and processes, and that the holders of an open stay far from what a count can have.
+use Rattle.std.proofs.Common.{◌≡◌, ◌≢◌, ℕ, zero, suc, ◌+◌, ◌*◌, ◌^◌, ◌<◌, ◌≤◌, ◌==◌, Bool, true, false, cond, [], ◌∷◌, Option, None, Some, IsSome, inl, inr, refl, sym, ap, subst, ◌∙◌, arith}
+use Rattle.std.proofs.lemmas.Bool.Decides.{eqb_tells}
+use Rattle.std.proofs.Math.Nat.{mul-suc}
+use Rattle.std.proofs.Math.Numerals.{suc-eq-add-one}
+use Rattle.std.specs.Ordering.{nat_cmp}
+use Rattle.std.specs.FinMap.{FinMap, empty, get, get-empty, insert, len, remove}
+use Rattle.abi_base.specs.declared.limits.TheConstants.{MOST_DESCRIPTORS}
+use Rattle.abi_types.specs.declared.descriptor.Descriptor.{Descriptor}
+use Rattle.number_map.specs.Maps.{get-insert-same, get-insert-other, len-insert_new, map_induction, total, total-empty, total-insert_new}
+use Rattle.fd_table.specs.Sizes.{KeysBelow, below-empty, below-insert_again, len_at_most}
+use Rattle.fd_table.specs.Table.{IsTable}
+use Rattle.kernel_model.specs.Release.{count_in, holders, names_open}
+use Rattle.kernel_model.specs.State.{State, Table}
+use Rattle.kernel_model.proofs.Tests.{none_is_no, same_some}
+
+-- ---- tables
+
+abbrev pub AreSmall : FinMap nat_cmp Table → Type 0
+AreSmall tables = (p : ℕ) (table : Table) → get tables p ≡ Some table → IsTable table
+
+pub small_set : (tables : FinMap nat_cmp Table) (p : ℕ) (new : Table) → AreSmall tables → IsTable new → AreSmall (insert tables p new)
+small_set tables p new small fits q table there =
+    elim (eqb_tells q p) [
+      | inl is ↦ subst IsTable (same_some new table (sym (get-insert-same tables p new) ∙ sym (ap (get (insert tables p new)) is.1) ∙ there)) fits
+      | inr other ↦ small q table (sym (get-insert-other tables p new q other.1) ∙ there)
+    ]
+
+pub small_empty : IsTable empty
+small_empty = below-empty Descriptor MOST_DESCRIPTORS
+
+-- ---- holders
+
+-- a sum of values of at most n each
+total_bound : {X : Type 0} (f : X → ℕ) (n : ℕ) (m : FinMap nat_cmp X) → ((k : ℕ) (x : X) → get m k ≡ Some x → f x ≤ n) → total f m ≤ n * len m
+total_bound {X} f n = map_induction (λ m. ((k : ℕ) (x : X) → get m k ≡ Some x → f x ≤ n) → total f m ≤ n * len m)
+    (λ _. let none = total-empty f in omega (arith, none))
+    (λ m k v free before most.
+    let others = before (λ q x there. most q x (get-insert-other m k v q (λ e. none_is_no x (sym free ∙ sym (ap (get m) e) ∙ there)) ∙ there)) in
+    let one = most k v (get-insert-same m k v) in
+    let sum = total-insert_new f m k v free in
+    let size = len-insert_new m k v free in
+    let product : n * len (insert m k v) ≡ n * len m + n = ap (λ x. n * x) (size ∙ sym (suc-eq-add-one (len m))) ∙ mul-suc n (len m) in
+    omega (arith, sum, product, others, one))
+
+names_once : (o : ℕ) (d : Descriptor) → names_open o d ≤ 1
+names_once o d = elim (eqb_tells d.id o) [
+  | inl is ↦ let one : names_open o d ≡ 1 = ap (λ b. cond b 1 0) is.0 in omega (arith, one)
+  | inr other ↦ let none : names_open o d ≡ 0 = ap (λ b. cond b 1 0) other.0 in omega (arith, none)
+]
+
+-- a table names an open at most as often as it has numbers
+counted_most : (o : ℕ) (table : Table) → IsTable table → count_in o table ≤ MOST_DESCRIPTORS
+counted_most o table small =
+    let sum = total_bound (names_open o) 1 table (λ k d _. names_once o d) in
+    let size = len_at_most MOST_DESCRIPTORS table small in
+    omega (arith, sum, size)
+
+-- so an open has far fewer holders than a count can tell
+pub holders_few : (S : State) (o : ℕ) → AreSmall S.tables → KeysBelow (2 ^ 32) S.tables → holders S o < 2 ^ 63
+holders_few S o small below =
+    let sum = total_bound (count_in o) MOST_DESCRIPTORS S.tables (λ p table there. counted_most o table (small p table there)) in
+    let size = len_at_most (2 ^ 32) S.tables below in
+    omega (arith, sum, size)

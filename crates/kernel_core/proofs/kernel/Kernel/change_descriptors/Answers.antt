@@ -1,0 +1,156 @@
+use Rattle.std.proofs.Common.{◌≡◌, ℕ, ◌^◌, ◌<◌, ◌==◌, not, List, Some, is_some, refl, sym, ap, subst, ◌∙◌}
+use Rattle.std.specs.Ordering.{nat_cmp}
+use Rattle.std.specs.FinMap.{FinMap, empty, get, insert, retain_keys}
+use Rattle.abi_types.specs.declared.open_kind.OpenKind.{OpenKind}
+use Rattle.abi_types.specs.declared.reply.Answer.TheVariants as answer
+use Rattle.number_map.specs.Maps.{number, total, insert_self}
+use Rattle.fd_table.specs.Sizes.{below-insert_again}
+use Rattle.fd_table.specs.Table.{IsTable}
+use Rattle.object_store.specs.Objects.{Held, is_held}
+use Rattle.kernel_model.specs.Outcome.{Outcome}
+use Rattle.kernel_model.specs.Release.{count_in, holders, release}
+use Rattle.kernel_model.specs.State.{State, Table, Update, put_all}
+use Rattle.kernel_model.specs.Valid.{IsValid}
+use Rattle.kernel_model.proofs.Valids.{release_is, release_restores, same_value}
+use Rattle.kernel_core.specs.Changes.{change_outcome, opens_after, table_after}
+use Rattle.kernel_core.specs.Kernel.{IsKept}
+use Rattle.kernel_core.specs.contracts.kernel.Kernel.{the_view}
+use Rattle.kernel_core.proofs.Changes.{change_of_own, change_small, change_valid, moved_holders, puts_are}
+use Rattle.kernel_core.proofs.Ends.{covered, number-retain, retain_same}
+use Rattle.kernel_core.proofs.Kept.{holders_few, small_set}
+use Rattle.kernel_core.proofs.Tests.{on_err}
+use Rattle.kernel_core.proofs.kernel.Kernel.change_descriptors.Goals as goal
+use Rattle.kernel_core.proofs.kernel.Kernel.change_descriptors.Goals.{In_err-reply, After-remove_unheld}
+
+pub apply-requires-clause-covered : goal.apply-requires-clause-covered
+apply-requires-clause-covered c = λ o. rw c.self.invariant.counted (covered _ _ _ (sym c.get_mut.ensures.value) o)
+
+pub apply-requires-clause-few : goal.apply-requires-clause-few
+apply-requires-clause-few c = λ o.
+    subst (λ (n : ℕ). n < 2 ^ 63) (sym (c.self.invariant.counted o)) (holders_few (the_view c.self.inside) o c.self.invariant.small c.self.invariant.processes)
+
+-- ---- where memory is wanting nothing has changed
+
+abbrev unchanged : In_err-reply → State
+unchanged c = record {
+  clock = c.self.inside.clock;
+  tables = insert c.self.inside.tables c.from-p.result c.apply.new.table;
+  own = c.self.inside.own;
+  statuses = c.self.inside.statuses;
+  opens = c.apply.new.objects.kinds;
+  nodes = empty;
+  names = empty;
+  terms = c.self.inside.terms;
+}
+
+same_tables : (c : In_err-reply) → insert c.self.inside.tables c.from-p.result c.apply.new.table ≡ c.self.inside.tables
+same_tables c =
+    ap (insert c.self.inside.tables c.from-p.result) c.in_err-reply.ensures.same_table ∙ insert_self c.self.inside.tables c.from-p.result c.get_mut.result.now (sym c.get_mut.ensures.value)
+
+as_before : (c : In_err-reply) → unchanged c ≡ the_view c.self.inside
+as_before c = λ i. record {
+  clock = c.self.inside.clock;
+  tables = same_tables c i;
+  own = c.self.inside.own;
+  statuses = c.self.inside.statuses;
+  opens = (ap (λ (h : Held). h.kinds) c.in_err-reply.ensures.same_objects) i;
+  nodes = empty;
+  names = empty;
+  terms = c.self.inside.terms;
+}
+
+still_kept : (c : In_err-reply) → IsKept (unchanged c) c.apply.new.objects.counts
+still_kept c =
+    let counts = ap (λ (h : Held). h.counts) c.in_err-reply.ensures.same_objects in
+    subst (λ (S : State). IsKept S c.apply.new.objects.counts) (sym (as_before c))
+    (subst (λ (m : FinMap nat_cmp ℕ). IsKept (the_view c.self.inside) m) (sym counts) c.self.invariant)
+
+pub invariant_of-self : goal.invariant_of-self
+invariant_of-self c = still_kept (goal.at.invariant_of-self c).In_err-reply
+
+pub returns-in_err-reply-clause-err : goal.returns-in_err-reply-clause-err
+returns-in_err-reply-clause-err c = on_err c.from_residual.result (as_before (goal.at.returns-in_err-reply-clause-err c).In_err-reply ∙ c.self.view_is)
+
+-- ---- the change, and what ends after it
+
+-- the table that was changed
+there : (c : After-remove_unheld) → get c.self.inside.tables c.args.pid ≡ Some c.get_mut.result.now
+there c = ap (get c.self.inside.tables) (sym (c.from-p.ensures ∙ c.pid.view_is)) ∙ sym c.get_mut.ensures.value
+
+abbrev us : After-remove_unheld → List Update
+us c = (change_outcome c.args.pid c.self.inside.objects.kinds c.get_mut.result.now c.args.change.now).updates
+
+-- the fields as they are in the end
+abbrev fields : After-remove_unheld → State
+fields c = record {
+  clock = c.self.inside.clock;
+  tables = insert c.self.inside.tables c.from-p.result c.apply.new.table;
+  own = c.self.inside.own;
+  statuses = c.self.inside.statuses;
+  opens = c.remove_unheld.new.self.kinds;
+  nodes = empty;
+  names = empty;
+  terms = c.self.inside.terms;
+}
+
+-- the state with the change alone
+abbrev changed : After-remove_unheld → State
+changed c = record (the_view c.self.inside) {
+  tables = insert c.self.inside.tables c.args.pid (table_after c.get_mut.result.now (us c));
+  opens = opens_after c.self.inside.objects.kinds (us c);
+}
+
+set : (c : After-remove_unheld) → insert c.self.inside.tables c.from-p.result c.apply.new.table ≡ insert c.self.inside.tables c.args.pid (table_after c.get_mut.result.now (us c))
+set c =
+    ap (insert c.self.inside.tables c.from-p.result) (c.in_ok-reply.ensures.table c.args.pid)
+    ∙ ap (λ (p : ℕ). insert c.self.inside.tables p (table_after c.get_mut.result.now (us c))) (c.from-p.ensures ∙ c.pid.view_is)
+
+counted : (c : After-remove_unheld) (o : ℕ) → number (get c.apply.new.objects.counts o) ≡ total (count_in o) (insert c.self.inside.tables c.args.pid (table_after c.get_mut.result.now (us c)))
+counted c o =
+    moved_holders c.self.inside.tables c.args.pid c.get_mut.result.now c.apply.new.table c.self.inside.objects.counts c.apply.new.objects.counts (there c)
+    c.self.invariant.counted c.in_ok-reply.ensures.counts o
+    ∙ ap (λ (t : Table). total (count_in o) (insert c.self.inside.tables c.args.pid t)) (c.in_ok-reply.ensures.table c.args.pid)
+
+after : (c : After-remove_unheld) → fields c ≡ release (put_all (us c) (the_view c.self.inside))
+after c =
+    let k = c.self.inside in
+    let opens : c.remove_unheld.new.self.kinds ≡ retain_keys (opens_after k.objects.kinds (us c)) (λ o. not (holders (changed c) o == 0)) =
+    ap (λ (h : Held). h.kinds) c.remove_unheld.ensures
+    ∙ ap (λ (m : FinMap nat_cmp OpenKind). retain_keys m (is_held c.apply.new.objects.counts)) (c.in_ok-reply.ensures.kinds c.args.pid)
+    ∙ retain_same _ _ _ (λ o. ap (λ (n : ℕ). not (n == 0)) (counted c o)) in
+    (λ i. record { clock = k.clock; tables = set c i; own = k.own; statuses = k.statuses; opens = opens i; nodes = empty; names = empty; terms = k.terms })
+    ∙ sym (release_is (changed c))
+    ∙ sym (ap release (puts_are (us c) (the_view k) c.args.pid c.get_mut.result.now (there c) (change_of_own c.args.pid k.objects.kinds c.get_mut.result.now c.args.change.now)))
+
+-- the process had this table before the change
+had : (c : After-remove_unheld) → get c.args.self.now.tables c.args.pid ≡ Some c.get_mut.result.now
+had c = ap (λ (S : State). get S.tables c.args.pid) (sym c.self.view_is) ∙ there c
+
+pub invariant_of-self-2 : goal.invariant_of-self-2
+invariant_of-self-2 d =
+    let c = (goal.at.invariant_of-self-2 d).After-remove_unheld in
+    let k = c.self.inside in
+    let table = c.get_mut.result.now in
+    let fits : IsTable (table_after table (us c)) =
+    change_small c.args.pid k.objects.kinds table c.args.change.now (c.requires.replaced table (had c)) (c.self.invariant.small c.args.pid table (there c)) in
+    record {
+      valid = subst IsValid (sym (after c)) (release_restores _ (change_valid (the_view k) c.args.pid table c.args.change.now (there c) c.self.invariant.valid.nearly));
+      counted = λ o.
+          ap (λ (h : Held). number (get h.counts o)) c.remove_unheld.ensures ∙ number-retain c.apply.new.objects.counts o ∙ counted c o
+          ∙ sym (ap (λ (m : FinMap nat_cmp Table). total (count_in o) m) (set c));
+      small = small_set k.tables c.from-p.result c.apply.new.table c.self.invariant.small (subst IsTable (sym (c.in_ok-reply.ensures.table c.args.pid)) fits);
+      processes = below-insert_again (2 ^ 32) k.tables c.from-p.result c.apply.new.table c.self.invariant.processes (ap is_some (sym c.get_mut.ensures.value));
+    }
+
+pub returns-clause-ok : goal.returns-clause-ok
+returns-clause-ok d = λ table here.
+    let c = (goal.at.returns-clause-ok d).After-remove_unheld in
+    let k = c.self.inside in
+    let same : c.get_mut.result.now ≡ table = same_value _ _ _ (had c) here in
+    let outcome : change_outcome c.args.pid k.objects.kinds c.get_mut.result.now c.args.change.now ≡ change_outcome c.args.pid c.args.self.now.opens table c.args.change.now =
+    ap (λ (t : Table). change_outcome c.args.pid k.objects.kinds t c.args.change.now) same
+    ∙ ap (λ (S : State). change_outcome c.args.pid S.opens table c.args.change.now) c.self.view_is in (
+      c.in_ok-reply.ensures.reply c.args.pid ∙ ap (λ (o : Outcome). o.answer) outcome,
+      after c ∙ ap (λ (o : Outcome). release (put_all o.updates (the_view k))) outcome
+          ∙ ap (λ (S : State). release (put_all (change_outcome c.args.pid c.args.self.now.opens table c.args.change.now).updates S)) c.self.view_is,
+    )
