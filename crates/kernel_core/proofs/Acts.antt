@@ -1,5 +1,5 @@
 -- What a call does, by the table of its process.
-use Rattle.std.proofs.Common.{◌≡◌, ℕ, List, Option, None, Some, inl, sym, ap, ◌∙◌}
+use Rattle.std.proofs.Common.{◌≡◌, ℕ, List, [], Option, None, Some, inl, refl, sym, ap, ◌∙◌}
 use Rattle.std.specs.FinMap.{get, insert}
 use Rattle.abi_types.specs.declared.reply.Answer.{Answer}
 use Rattle.abi_types.specs.declared.call.Call.{Call}
@@ -15,9 +15,10 @@ use Rattle.kernel_model.specs.Outcome.{Outcome, replies}
 use Rattle.kernel_model.specs.Release.{release}
 use Rattle.kernel_model.specs.State.{State, Table, put_all}
 use Rattle.kernel_model.specs.Step.{IsStep, act, act_on, outcome, tick, unless}
-use Rattle.kernel_model.specs.StreamCalls.{write_term, write_open, write_to}
+use Rattle.kernel_model.specs.DescriptorCalls.{stat_get, stat_open}
+use Rattle.kernel_model.specs.StreamCalls.{read_from, read_open, read_term, write_term, write_open, write_to}
 use Rattle.kernel_model.specs.Valid.{IsValid}
-use Rattle.kernel_model.specs.View.{whole}
+use Rattle.kernel_model.specs.View.{View, whole}
 use Rattle.kernel_model.proofs.Outcomes.{outcome_reads}
 use Rattle.kernel_model.proofs.Valids.{some_inserted, release_valid}
 use Rattle.kernel_core.proofs.Streams.{written_valid}
@@ -53,6 +54,35 @@ pub write_released : (S : State) (bytes : List ℕ) (d : Option Descriptor) → 
     → release (put_all (write_to (whole S) bytes d).updates S) ≡ put_all (write_to (whole S) bytes d).updates S
 write_released S bytes None v = release_valid S v
 write_released S bytes (Some d) v = opened_released S bytes (get S.opens d.id) v
+
+-- a read ends no open
+read_once : (S : State) (n which : ℕ) (stream : Option Stream) → IsValid S
+    → release (put_all (read_term n which stream).updates S) ≡ put_all (read_term n which stream).updates S
+read_once S n which None v = release_valid S v
+read_once S n which (Some stream) v = release_valid _ (written_valid S (insert S.terms which _) (some_inserted S.terms which _) v)
+
+read_opened : (S : State) (n : ℕ) (open_kind : Option OpenKind) → IsValid S
+    → release (put_all (read_open (whole S) n open_kind).updates S) ≡ put_all (read_open (whole S) n open_kind).updates S
+read_opened S n None v = release_valid S v
+read_opened S n (Some (Terminal which flags)) v = read_once S n which (get S.terms which) v
+read_opened S n (Some (File node offset flags)) v = release_valid S v
+read_opened S n (Some (Directory node flags)) v = release_valid S v
+read_opened S n (Some (End reads writes flags)) v = release_valid S v
+read_opened S n (Some (Process p)) v = release_valid S v
+
+pub read_released : (S : State) (n : ℕ) (d : Option Descriptor) → IsValid S
+    → release (put_all (read_from (whole S) n d).updates S) ≡ put_all (read_from (whole S) n d).updates S
+read_released S n None v = release_valid S v
+read_released S n (Some d) v = read_opened S n (get S.opens d.id) v
+
+-- fd_stat_get sets nothing
+stat_sets_nothing : (d : Descriptor) (o : Option OpenKind) → (stat_open d o).updates ≡ []
+stat_sets_nothing d None = refl
+stat_sets_nothing d (Some kind) = refl
+
+pub stat_get_sets_nothing : (v : View) (o : Option Descriptor) → (stat_get v o).updates ≡ []
+stat_get_sets_nothing v None = refl
+stat_get_sets_nothing v (Some d) = stat_sets_nothing d (v.opened d.id)
 
 -- an answer and a state that are those of an outcome are those of the call that has this outcome
 pub by_outcome : (constants : Constants) (S T : State) (who : Who) (call : Call) (given : Answer) (o : Outcome) → act constants (whole S) who call ≡ o

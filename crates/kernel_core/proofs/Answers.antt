@@ -1,11 +1,28 @@
 -- Calls that do no more than answer.
 use Rattle.std.proofs.Common.{◌≢◌, ℕ, List, refl}
+use Rattle.abi_structures.specs.declared.structures.FdStat.{FdStat}
 use Rattle.abi_types.specs.declared.call.Call.{Call}
-use Rattle.abi_types.specs.declared.call.Call.TheVariants.{FdWrite, ProcExit}
+use Rattle.abi_types.specs.declared.call.Call.TheVariants.{FdClose, FdDup, FdRead, FdReplace, FdStatGet, FdStatPut, FdWrite, ProcExit}
 use Rattle.kernel_core.specs.Answering.{DoesMore}
 
--- all but these two
-pub no_more : (call : Call) → ((fd : ℕ) (bytes : List ℕ) → call ≢ FdWrite fd bytes) → ((code : ℕ) → call ≢ ProcExit code) → ¬ DoesMore call
-no_more (FdWrite fd bytes) not_write not_exit h = not_write fd bytes refl
-no_more (ProcExit code) not_write not_exit h = not_exit code refl
-no_more _ not_write not_exit h = h
+-- the call is none of those that do more
+pub record IsOther (call : Call) : Type 0 where
+  pub close : (fd : ℕ) → call ≢ FdClose fd
+  pub dup : (fd : ℕ) → call ≢ FdDup fd
+  pub read : (fd length : ℕ) → call ≢ FdRead fd length
+  pub replace : (from to : ℕ) → call ≢ FdReplace from to
+  pub stat_get : (fd : ℕ) → call ≢ FdStatGet fd
+  pub stat_put : (fd : ℕ) (stat : FdStat) (flags : ℕ) → call ≢ FdStatPut fd stat flags
+  pub write : (fd : ℕ) (bytes : List ℕ) → call ≢ FdWrite fd bytes
+  pub exit : (code : ℕ) → call ≢ ProcExit code
+
+pub no_more : (call : Call) → IsOther call → ¬ DoesMore call
+no_more (FdClose fd) other h = other.close fd refl
+no_more (FdDup fd) other h = other.dup fd refl
+no_more (FdRead fd length) other h = other.read fd length refl
+no_more (FdReplace from to) other h = other.replace from to refl
+no_more (FdStatGet fd) other h = other.stat_get fd refl
+no_more (FdStatPut fd stat flags) other h = other.stat_put fd stat flags refl
+no_more (FdWrite fd bytes) other h = other.write fd bytes refl
+no_more (ProcExit code) other h = other.exit code refl
+no_more _ other h = h

@@ -1,5 +1,5 @@
 -- What a launch's grants leave in the table and among the opens.
-use Rattle.std.proofs.Common.{◌≡◌, ◌≢◌, inl, inr, ℕ, ◌+◌, ◌<◌, cond, List, [], ◌∷◌, ◌++◌, length, take, get_or, Option, None, Some, refl, sym, ap, subst, ◌∙◌, arith}
+use Rattle.std.proofs.Common.{◌≡◌, ◌≢◌, inl, inr, ℕ, ◌+◌, ◌^◌, ◌<◌, cond, IsSome, List, [], ◌∷◌, ◌++◌, length, take, get_or, Option, None, Some, refl, sym, ap, subst, ◌∙◌, arith}
 use Rattle.std.proofs.lemmas.Bool.Decides.{eqb_tells}
 use Rattle.std.proofs.lemmas.List.{take_more, length-take-le}
 use Rattle.std.specs.Ordering.{nat_cmp}
@@ -10,7 +10,10 @@ use Rattle.abi_types.specs.declared.open_kind.OpenKind.{OpenKind}
 use Rattle.number_map.specs.Maps.{number, get-insert-same, get-insert-other, insert-again, total, total-empty, total-insert_new}
 use Rattle.kernel_core.specs.Kernel.{IsKept}
 use Rattle.object_store.specs.Objects.{Held}
+use Rattle.fd_table.specs.Sizes.{KeysBelow, below-empty, below-insert, none_there}
+use Rattle.kernel_model.proofs.Tests.{none_is_no}
 use Rattle.kernel_core.specs.Start.{granted_objects}
+use Rattle.kernel_core.proofs.Kept.{AreSmall, small_set}
 use Rattle.kernel_model.specs.Release.{names_open, count_in, holders}
 use Rattle.abi_base.specs.Grants.{AreGrants}
 use Rattle.kernel_model.specs.Start.{launch_object, numbered, granted_descriptor, granted_open, granted_table, start_state}
@@ -106,9 +109,28 @@ start_counted grants stdin o =
     let sums = total-insert_new (count_in o) empty 0 (granted_table grants) (get-empty nat_cmp 0) in
     omega (arith, counts, bare, sums)
 
+-- the granted descriptors have numbers below their count
+granted_below : (grants : List Grant) (n k : ℕ) → IsSome (get (from_entries {R = nat_cmp} (numbered granted_descriptor n grants)) k) → k < n + length grants
+granted_below [] n k there = absurd (none_there (get empty k) (get-empty nat_cmp k) there)
+granted_below (grant ∷ grants) n k there =
+    elim (eqb_tells k n) [
+      | inl is ↦ (let same = is.1 in omega (arith, same))
+      | inr other ↦ (
+          let less = granted_below grants (n + 1) k (subst IsSome (get-insert-other _ n (granted_descriptor n grant) k other.1) there) in
+          omega (arith, less))
+    ]
+
+start_small : (grants : List Grant) → AreGrants grants → AreSmall (insert empty 0 (granted_table grants))
+start_small grants all =
+    small_set empty 0 (granted_table grants) (λ p table there. absurd (none_is_no table (sym (get-empty nat_cmp p) ∙ there)))
+    (λ k there. let less = granted_below grants 0 k there in omega (arith, less, all.0))
+
 pub start_kept : (grants : List Grant) (stdin : List ℕ) (S : State) (counts : FinMap nat_cmp ℕ) → AreGrants grants → S ≡ start_state grants stdin
     → counts ≡ (granted_objects grants).counts → IsKept S counts
 start_kept grants stdin S counts all is counted = record {
   valid = subst IsValid (sym is) (start_valid grants stdin all);
   counted = λ o. ap (λ (m : FinMap nat_cmp ℕ). number (get m o)) counted ∙ start_counted grants stdin o ∙ sym (ap (λ (T : State). holders T o) is);
+  small = subst (λ (T : State). AreSmall T.tables) (sym is) (start_small grants all);
+  processes = subst (λ (T : State). KeysBelow (2 ^ 32) T.tables) (sym is)
+      (below-insert (2 ^ 32) empty 0 (granted_table grants) (below-empty Table (2 ^ 32)) (omega arith));
 }

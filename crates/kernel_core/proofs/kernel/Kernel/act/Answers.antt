@@ -10,12 +10,13 @@ use Rattle.kernel_model.specs.Outcome.{replies}
 use Rattle.kernel_model.specs.Release.{release}
 use Rattle.kernel_model.specs.State.{State, put_all}
 use Rattle.kernel_model.specs.Step.{act}
-use Rattle.kernel_model.specs.StreamCalls.{write_to}
+use Rattle.kernel_model.specs.DescriptorCalls.{stat_get}
+use Rattle.kernel_model.specs.StreamCalls.{read_from, write_to}
 use Rattle.kernel_model.specs.Valid.{IsValid}
 use Rattle.kernel_model.specs.View.{whole}
 use Rattle.kernel_model.proofs.Valids.{release_valid}
 use Rattle.kernel_core.proofs.Answers.{no_more}
-use Rattle.kernel_core.proofs.Acts.{act_refused, act_allowed, by_outcome, write_released}
+use Rattle.kernel_core.proofs.Acts.{act_refused, act_allowed, by_outcome, read_released, stat_get_sets_nothing, write_released}
 use Rattle.kernel_core.proofs.kernel.Kernel.act.Goals as goal
 use Rattle.kernel_core.proofs.kernel.Kernel.act.Goals.{After-refusal}
 
@@ -79,8 +80,48 @@ returns-in-FdWrite-clause-ok c =
     ((done table (there a)).0, (done table (there a)).1 ∙ sym (write_released S c.in-FdWrite.bytes found (valid a))))
     c.fd_write.ensures.ok
 
+pub returns-in-FdRead-clause-ok : goal.returns-in-FdRead-clause-ok
+returns-in-FdRead-clause-ok c =
+    let a = (goal.at.returns-in-FdRead-clause-ok c).After-refusal in
+    let constants = c.args.constants.now in
+    let S = c.args.self.now in
+    let who = c.args.who.now in
+    let table = c.in-Some.table.now in
+    let found = get table c.in-FdRead.fd in
+    let allowed : act constants (whole S) who c.args.call.now ≡ read_from (whole S) c.in-FdRead.length found =
+    act_allowed constants S who c.args.call.now table (there a) (rows a ∙ c.in_default-refusal.is)
+    ∙ ap (λ call. (meaning_of call).does constants (whole S) who table) c.in-FdRead.is in
+    IfOk-weaker _ _ _
+    (λ given done. by_outcome constants S c.fd_read.new.self who c.args.call.now given _ allowed
+    ((done table (there a)).0, (done table (there a)).1 ∙ sym (read_released S c.in-FdRead.length found (valid a))))
+    c.fd_read.ensures.ok
+
+pub returns-in-FdStatGet-clause-ok : goal.returns-in-FdStatGet-clause-ok
+returns-in-FdStatGet-clause-ok c =
+    let a = (goal.at.returns-in-FdStatGet-clause-ok c).After-refusal in
+    let constants = c.args.constants.now in
+    let S = c.args.self.now in
+    let who = c.args.who.now in
+    let table = c.in-Some.table.now in
+    let found = get table c.in-FdStatGet.fd in
+    let allowed : act constants (whole S) who c.args.call.now ≡ stat_get (whole S) found =
+    act_allowed constants S who c.args.call.now table (there a) (rows a ∙ c.in_default-refusal.is)
+    ∙ ap (λ call. (meaning_of call).does constants (whole S) who table) c.in-FdStatGet.is in
+    by_outcome constants S S who c.args.call.now (answer.Reply c.fd_stat_get.result) (stat_get (whole S) found) allowed
+    (c.fd_stat_get.ensures table (there a), sym (ap (λ us. release (put_all us S)) (stat_get_sets_nothing (whole S) found) ∙ release_valid S (valid a)))
+
 pub answer_of-requires : goal.answer_of-requires
-answer_of-requires c = no_more c.args.call.now c.in_default-call.not-FdWrite c.in_default-call.not-ProcExit
+answer_of-requires c =
+    no_more c.args.call.now (record {
+      close = c.in_default-call.not-FdClose;
+      dup = c.in_default-call.not-FdDup;
+      read = c.in_default-call.not-FdRead;
+      replace = c.in_default-call.not-FdReplace;
+      stat_get = c.in_default-call.not-FdStatGet;
+      stat_put = c.in_default-call.not-FdStatPut;
+      write = c.in_default-call.not-FdWrite;
+      exit = c.in_default-call.not-ProcExit;
+    })
 
 pub returns-in_default-call-clause-ok : goal.returns-in_default-call-clause-ok
 returns-in_default-call-clause-ok c =

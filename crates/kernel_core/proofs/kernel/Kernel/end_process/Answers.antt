@@ -1,4 +1,4 @@
-use Rattle.std.proofs.Common.{◌≡◌, ℕ, ◌==◌, not, Some, sym, ap, subst, ◌∙◌}
+use Rattle.std.proofs.Common.{◌≡◌, ℕ, ◌^◌, ◌==◌, not, Some, is_some, sym, ap, subst, ◌∙◌}
 use Rattle.std.specs.Ordering.{nat_cmp}
 use Rattle.std.specs.FinMap.{FinMap, get, insert, empty, retain_keys}
 use Rattle.abi_types.specs.declared.open_kind.OpenKind.{OpenKind}
@@ -10,6 +10,9 @@ use Rattle.kernel_model.specs.State.{State, put_all}
 use Rattle.kernel_model.specs.Valid.{IsValid}
 use Rattle.kernel_model.proofs.Valids.{end_nearly_valid, release_is, release_restores}
 use Rattle.kernel_core.specs.contracts.kernel.Kernel.{the_view}
+use Rattle.fd_table.specs.Sizes.{below-insert_again}
+use Rattle.fd_table.specs.Table.{IsTable}
+use Rattle.kernel_core.proofs.Kept.{small_empty, small_set}
 use Rattle.kernel_core.proofs.Ends.{covered, left_holders, retain_same, number-retain}
 use Rattle.kernel_core.proofs.kernel.Kernel.end_process.Goals as goal
 use Rattle.kernel_core.proofs.kernel.Kernel.end_process.Goals.{After-remove_unheld}
@@ -66,6 +69,8 @@ invariant_of-self c =
           ∙ number-retain a.let_go_all.new.objects.counts o
           ∙ left a o
           ∙ sym (ap (λ (S : State). holders S o) (after a));
+      small = small_set a.self.inside.tables a.from-p.result a.let_go_all.new.table a.self.invariant.small (subst IsTable (sym a.let_go_all.ensures.empty) small_empty);
+      processes = below-insert_again (2 ^ 32) a.self.inside.tables a.from-p.result a.let_go_all.new.table a.self.invariant.processes (ap is_some (sym a.get_mut-2.ensures.value));
     }
 
 pub returns : goal.returns

@@ -6,4 +6,6 @@ pub invariant_of-self : goal.invariant_of-self
 invariant_of-self c = record {
   valid = written_valid (the_view c.self.inside) c.write_term.new.terms c.write_term.ensures.there c.self.invariant.valid;
   counted = c.self.invariant.counted;
+  small = c.self.invariant.small;
+  processes = c.self.invariant.processes;
 }
