@@ -13,7 +13,7 @@ use Rattle.run_types.specs.declared.history.Act.TheVariants as act
 use Rattle.run_types.specs.declared.history.Entry.{Entry}
 use Rattle.run_types.specs.declared.launch.Launch.{Launch}
 use Rattle.kernel_model.specs.Calls.{need}
-use Rattle.kernel_model.specs.Laws.{IsReachedBy}
+use Rattle.kernel_model.specs.Laws.{IsReached, IsReachedByName}
 use Rattle.kernel_model.specs.State.{State, Table, Part}
 use Rattle.kernel_model.specs.Valid.{IsValid}
 use Rattle.kernel_model.proofs.Reaches.{sight_is_reached}
@@ -21,7 +21,7 @@ use Rattle.run_model.specs.Legal.{FitsAct, Fits, FollowsFrom, Legal}
 use Rattle.run_model.specs.World.{World, Guest, start_world, guest_of, called_state, turned, acted, who_of, apply, apply_all, world}
 use Rattle.run_model.proofs.Histories.{legal_front, apply_is, first_state}
 use Rattle.run_model.proofs.Worlds.{world_is_valid}
-use Rattle.authority_laws.specs.Laws.{Tells, IsReachedByHeld, SeesByHeld, IsRecordedAt, IsRecorded}
+use Rattle.authority_laws.specs.Laws.{Tells, IsReachedByHeld, IsReachedByNamed, SeesByHeld, IsRecordedAt, IsRecorded}
 use Rattle.authority_laws.specs.Ledger.{Ledger, with_row, launch_ledger}
 use Rattle.authority_laws.specs.Origins.{ComesFrom, ComesFromGrant, AllComeFromGrants}
 use Rattle.authority_laws.specs.Recorded.{acted_row, noted, noted_all, ledger}
@@ -66,7 +66,7 @@ unfolding FollowsFrom apply_all noted_all
 follows_rows w [] l follows before = before
 follows_rows w (e ∷ history) l follows before = follows_rows (apply w e) history (noted l e) follows.1 (apply_rows w e l follows.0 before)
 
-world_rows : (launch : Launch) (history : List Entry) → Legal launch history → HasRows (world launch history).state (ledger launch history)
+pub world_rows : (launch : Launch) (history : List Entry) → Legal launch history → HasRows (world launch history).state (ledger launch history)
 unfolding Legal world ledger
 world_rows launch history legal =
     follows_rows (start_world launch) history (launch_ledger launch.grants) legal
@@ -108,20 +108,29 @@ tables_are_recorded launch history grants legal p n table d there here =
 
 -- ---- what a call may read
 
-by_held : (launch : Launch) (history : List Entry) → AreGrants launch.grants → Legal launch history → (who : Who) (call : Call) (part : Part)
-    → IsReachedBy (world launch history).state who call part
+by_held : (launch : Launch) (history : List Entry) → AreGrants launch.grants → Legal launch history → (who : Who) (call : Call) (part : Part) (table : Table)
+    → get (world launch history).state.tables who.pid ≡ Some table → IsReached (world launch history).state table (need call) part
     → IsReachedByHeld (world launch history).state (ledger launch history) launch.grants who.pid (need call) part
-by_held launch history grants legal who call part by =
-    let r = by.3 in
-    let at = tables_are_recorded launch history grants legal who.pid r.row.fd by.0 r.d by.1 r.there in
+by_held launch history grants legal who call part table own r =
+    let at = tables_are_recorded launch history grants legal who.pid r.row.fd table r.d own r.there in
     record { row = r.row; asked = r.asked; d = r.d; held = at.0; has = r.has; granted = at.1; reached = r.part }
+
+by_named : (launch : Launch) (history : List Entry) → AreGrants launch.grants → Legal launch history → (who : Who) (call : Call) (part : Part) (table : Table)
+    → get (world launch history).state.tables who.pid ≡ Some table → IsReachedByName (world launch history).state table call part
+    → IsReachedByNamed (world launch history).state (ledger launch history) launch.grants who.pid call part
+by_named launch history grants legal who call part table own r =
+    let at = tables_are_recorded launch history grants legal who.pid r.fd table r.d own r.there in
+    record { none = r.none; fd = r.fd; asked = r.asked; d = r.d; held = at.0; granted = at.1; reached = r.part }
 
 pub sight_is_recorded : (launch : Launch) (history : List Entry) → AreGrants launch.grants → Legal launch history
     → SeesByHeld (world launch history).state (ledger launch history) launch.grants
 sight_is_recorded launch history grants legal who call part seen =
     elim (sight_is_reached (world launch history).state who call part seen) [
       | inl own ↦ inl own
-      | inr by ↦ inr (by_held launch history grants legal who call part by)
+      | inr by ↦ elim by.3 [
+        | inl needed ↦ inr (inl (by_held launch history grants legal who call part by.0 by.1 needed))
+        | inr named ↦ inr (inr (by_named launch history grants legal who call part by.0 by.1 named))
+      ]
     ]
 
 -- ---- each point of a history
