@@ -1,8 +1,7 @@
 -- How an entry may change what its process holds.
-use Rattle.std.proofs.Common.{◌≡◌, ◌≢◌, inl, inr, ℕ, ◌==◌, Bool, true, false, cond, List, [], ◌∷◌, ◌++◌, Option, Some, None, refl, sym, ap, subst, ◌∙◌}
-use Rattle.std.proofs.lemmas.Bool.{eq-eqb}
-use Rattle.std.proofs.lemmas.Bool.Decides.{eqb_tells}
+use Rattle.std.proofs.Common.{◌≡◌, ℕ, ◌==◌, Bool, true, false, cond, Option, Some, None, refl}
 use Rattle.std.specs.Prelude.{bit_and, option_map}
+use Rattle.abi_base.proofs.Bits.{has-meet}
 use Rattle.abi_base.specs.declared.errno.Errno.{Errno}
 use Rattle.abi_base.specs.declared.errno.Errno.TheVariants.{Success}
 use Rattle.abi_structures.specs.declared.structures.FdStat.{FdStat}
@@ -14,21 +13,24 @@ use Rattle.abi_types.specs.declared.reply.Reply.{Reply}
 use Rattle.abi_types.specs.declared.descriptor.Descriptor.{Descriptor}
 use Rattle.run_types.specs.declared.history.Act.{Act}
 use Rattle.run_types.specs.declared.history.Act.TheVariants as act
-use Rattle.run_types.specs.declared.history.Entry.{Entry}
-use Rattle.run_types.specs.declared.launch.Launch.{Launch}
 use Rattle.kernel_model.specs.DescriptorCalls.{lowered_to}
-use Rattle.authority_laws.specs.Ledger.{Row, with_held, lowered_row, Ledger, granted_row, by_success, answered_row}
-use Rattle.authority_laws.specs.Origins.{Change, stays, ends, closes, copies, lowers}
-use Rattle.authority_laws.specs.Recorded.{acted_row, ledger}
-use Rattle.authority_laws.proofs.Histories.{ledger_more}
-use Rattle.authority_laws.proofs.Origins.{lowered_is_no_more}
+use Rattle.authority_laws.specs.Ledger.{Row, with_held, lowered_row, granted_row, by_success, answered_row}
+use Rattle.authority_laws.specs.Origins.{IsNoMoreThan, Change, stays, ends, closes, copies, lowers}
+use Rattle.authority_laws.specs.Recorded.{acted_row}
 
--- a number that then has what another number has
+lowered_is_no_more : (d : Descriptor) (stat : FdStat) → IsNoMoreThan (lowered_to d stat) d
+lowered_is_no_more d stat = record {
+  id = refl;
+  base = λ k has. ((has-meet d.base.0 stat.base.0 k).0 has).0;
+  inheriting = λ k has. ((has-meet d.inheriting.0 stat.inheriting.0 k).0 has).0;
+}
+
+-- a number under which then stands what stood under another
 copied_change : (row : Row) (from to : ℕ) (o : Option Descriptor) → row from ≡ o → Change row (with_held row to o)
 copied_change row from to None there = closes to refl
 copied_change row from to (Some d) there = copies from to d there refl
 
--- a number that then has those of its rights that are asked
+-- a number under which then stands what has those of its rights that are asked
 lowered_change : (row : Row) (n : ℕ) (stat : FdStat) (o : Option Descriptor) → row n ≡ o
     → Change row (with_held row n (option_map (λ (x : Descriptor). lowered_to x stat) o))
 lowered_change row n stat None there = closes n refl
@@ -38,6 +40,7 @@ where_set_change : (row : Row) (n : ℕ) (stat : FdStat) (no_rights : Bool) → 
 where_set_change row n stat true = stays refl
 where_set_change row n stat false = lowered_change row n stat (row n) refl
 
+-- each call that changes what its process holds has a line
 granted_change : (row : Row) (call : Call) (reply : Reply) → Change row (granted_row row call reply)
 granted_change row (FdClose fd) reply = closes fd refl
 granted_change row (FdDup fd) reply = copied_change row fd reply.r1 (row fd) refl
@@ -53,36 +56,9 @@ either_change _ granted row done = stays refl
 answered_change : (row : Row) (call : Call) (given : Answer) → Change row (answered_row row call given)
 answered_change row call (answer.Reply reply) = either_change reply.errno (granted_row row call reply) row (granted_change row call reply)
 
-acted_change : (row : Row) (a : Act) → Change row (acted_row row a)
+pub acted_change : (row : Row) (a : Act) → Change row (acted_row row a)
 acted_change row (act.Call call given) = answered_change row call given
 acted_change row (act.Wake call given answered) = answered_change row call answered
 acted_change row (act.Trap signal) = ends refl
 acted_change row act.Expire = ends refl
 acted_change row act.Idle = stays refl
-
--- ---- the ledger of one more entry
-
--- what the entry's process holds
-pub own_after : (launch : Launch) (front : List Entry) (e : Entry)
-    → (ledger launch (front ++ e ∷ [])).held e.pid ≡ acted_row ((ledger launch front).held e.pid) e.act
-own_after launch front e =
-    let row = (ledger launch front).held e.pid in
-    ap (λ (l : Ledger). l.held e.pid) (ledger_more launch front e) ∙ ap (λ b. cond b (acted_row row e.act) row) (eq-eqb e.pid e.pid refl)
-
--- what another process holds
-others_after : (launch : Launch) (front : List Entry) (e : Entry) (q : ℕ) → q ≢ e.pid
-    → (ledger launch (front ++ e ∷ [])).held q ≡ (ledger launch front).held q
-others_after launch front e q apart =
-    elim (eqb_tells q e.pid) [
-      | inl is ↦ absurd (apart is.1)
-      | inr other ↦ ap (λ (l : Ledger). l.held q) (ledger_more launch front e)
-          ∙ ap (λ b. cond b (acted_row ((ledger launch front).held e.pid) e.act) ((ledger launch front).held q)) other.0
-    ]
-
-pub entry_changes_one : (launch : Launch) (front : List Entry) (e : Entry)
-    → Change ((ledger launch front).held e.pid) ((ledger launch (front ++ e ∷ [])).held e.pid)
-    × ((q : ℕ) → q ≢ e.pid → (ledger launch (front ++ e ∷ [])).held q ≡ (ledger launch front).held q)
-entry_changes_one launch front e = (
-  subst (Change ((ledger launch front).held e.pid)) (sym (own_after launch front e)) (acted_change ((ledger launch front).held e.pid) e.act),
-  others_after launch front e,
-)

@@ -35,8 +35,7 @@ use Rattle.authority_laws.specs.Laws.{Succeeds}
 use Rattle.authority_laws.specs.Ledger.{Row, with_held, lowered_row, granted_row, by_success}
 use Rattle.authority_laws.specs.Origins.{IsCopied, IsLowered}
 use Rattle.authority_laws.specs.Recorded.{acted_row, ledger}
-use Rattle.authority_laws.proofs.Changes.{own_after}
-use Rattle.authority_laws.proofs.Histories.{world_rows}
+use Rattle.authority_laws.proofs.Histories.{own_after, world_rows}
 use Rattle.authority_laws.proofs.Rows.{row_in, row_of, held_here, held_elsewhere}
 
 -- ---- a call that succeeds names descriptors that are there
@@ -137,7 +136,7 @@ named_held : (launch : Launch) (front : List Entry) (e : Entry) (rest : List Ent
 named_held launch front e rest call reply fd legal done asked =
     let w = world launch front in
     let found = named_by w.constants w.state (who_of e) call reply (called_state w.constants w.state (who_of e) call (answer.Reply reply)) fd
-        (get w.state.tables e.pid) (stepped launch front e rest call reply legal done) done.success asked refl in
+    (get w.state.tables e.pid) (stepped launch front e rest call reply legal done) done.success asked refl in
     (found.0, (λ i. sym (before_is launch front e rest legal) i fd) ∙ found.1)
 
 -- what the process holds after it is what the call's line says
@@ -164,11 +163,10 @@ duplicates_are_equal launch front e rest fd reply legal done =
     let w = world launch front in
     let found = named_held launch front e rest (FdDup fd) reply fd legal done ([], [], refl) in
     let free = result_free w.constants w.state (who_of e) fd reply (called_state w.constants w.state (who_of e) (FdDup fd) (answer.Reply reply))
-        (stepped launch front e rest (FdDup fd) reply legal done) done.success in
-    (
+    (stepped launch front e rest (FdDup fd) reply legal done) done.success in (
       (λ i. sym (before_is launch front e rest legal) i reply.r1) ∙ free,
       copied ((ledger launch front).held e.pid) ((ledger launch (front ++ e ∷ [])).held e.pid) fd reply.r1 found.0 found.1
-      (granted_after launch front e (FdDup fd) reply done),
+          (granted_after launch front e (FdDup fd) reply done),
     )
 
 pub replacements_are_equal : (launch : Launch) (front : List Entry) (e : Entry) (rest : List Entry) (from to : ℕ) (reply : Reply) → Legal launch (front ++ e ∷ rest)
@@ -176,11 +174,10 @@ pub replacements_are_equal : (launch : Launch) (front : List Entry) (e : Entry) 
     × IsCopied ((ledger launch front).held e.pid) ((ledger launch (front ++ e ∷ [])).held e.pid) from to
 replacements_are_equal launch front e rest from to reply legal done =
     let found = named_held launch front e rest (FdReplace from to) reply from legal done ([], to ∷ [], refl) in
-    let old = named_held launch front e rest (FdReplace from to) reply to legal done (from ∷ [], [], refl) in
-    (
+    let old = named_held launch front e rest (FdReplace from to) reply to legal done (from ∷ [], [], refl) in (
       ap is_some old.1,
       copied ((ledger launch front).held e.pid) ((ledger launch (front ++ e ∷ [])).held e.pid) from to found.0 found.1
-      (granted_after launch front e (FdReplace from to) reply done),
+          (granted_after launch front e (FdReplace from to) reply done),
     )
 
 -- ---- rights that are lowered
@@ -196,8 +193,8 @@ lowered : (before after : Row) (n : ℕ) (stat : FdStat) (x : Descriptor) → be
 lowered before after n stat x there is = record {
   d = lowered_to x stat;
   x = x;
-  was = there;
-  is = (λ i. is i n) ∙ held_here before n _ ∙ ap (option_map (λ (y : Descriptor). lowered_to y stat)) there;
+  stood = there;
+  stands = (λ i. is i n) ∙ held_here before n _ ∙ ap (option_map (λ (y : Descriptor). lowered_to y stat)) there;
   id = refl;
   base = λ k. has-meet x.base.0 stat.base.0 k;
   inheriting = λ k. has-meet x.inheriting.0 stat.inheriting.0 k;

@@ -1,5 +1,7 @@
 -- The ledger of a history, beside its world.
-use Rattle.std.proofs.Common.{◌≡◌, inl, inr, ℕ, List, [], ◌∷◌, ◌++◌, Some, refl, sym, ap, subst, ◌∙◌}
+use Rattle.std.proofs.Common.{◌≡◌, ◌≢◌, inl, inr, ℕ, cond, List, [], ◌∷◌, ◌++◌, Some, refl, sym, ap, subst, ◌∙◌}
+use Rattle.std.proofs.lemmas.Bool.{eq-eqb}
+use Rattle.std.proofs.lemmas.Bool.Decides.{eqb_tells}
 use Rattle.std.specs.FinMap.{get}
 use Rattle.abi_base.specs.declared.grant.Grant.{Grant}
 use Rattle.abi_base.specs.declared.signal.Signal.TheVariants.{Xcpu}
@@ -23,8 +25,9 @@ use Rattle.run_model.proofs.Histories.{legal_front, apply_is, first_state}
 use Rattle.run_model.proofs.Worlds.{world_is_valid}
 use Rattle.authority_laws.specs.Laws.{Tells, IsReachedByHeld, IsReachedByNamed, SeesByHeld, IsRecordedAt, IsRecorded}
 use Rattle.authority_laws.specs.Ledger.{Ledger, with_row, launch_ledger}
-use Rattle.authority_laws.specs.Origins.{ComesFrom, ComesFromGrant, AllComeFromGrants}
+use Rattle.authority_laws.specs.Origins.{Change, ComesFrom, ComesFromGrant, AllComeFromGrants}
 use Rattle.authority_laws.specs.Recorded.{acted_row, noted, noted_all, ledger}
+use Rattle.authority_laws.proofs.Changes.{acted_change}
 use Rattle.authority_laws.proofs.Origins.{noted_from, noted_granted, launch_granted}
 use Rattle.authority_laws.proofs.Rows.{row_in}
 use Rattle.authority_laws.proofs.States.{HasRows, step_rows, end_rows, start_rows, ended_row, row_is_held}
@@ -83,6 +86,33 @@ pub ledger_tells : (launch : Launch) (history : List Entry) → AreGrants launch
     → Tells (world launch history).state (ledger launch history)
 ledger_tells launch history grants legal =
     rows_tell (world launch history).state (ledger launch history) (world_is_valid launch history grants legal) (world_rows launch history legal)
+
+-- ---- how what is held may change
+
+-- what the entry's process holds
+pub own_after : (launch : Launch) (front : List Entry) (e : Entry)
+    → (ledger launch (front ++ e ∷ [])).held e.pid ≡ acted_row ((ledger launch front).held e.pid) e.act
+own_after launch front e =
+    let row = (ledger launch front).held e.pid in
+    ap (λ (l : Ledger). l.held e.pid) (ledger_more launch front e) ∙ ap (λ b. cond b (acted_row row e.act) row) (eq-eqb e.pid e.pid refl)
+
+-- what another process holds
+others_after : (launch : Launch) (front : List Entry) (e : Entry) (q : ℕ) → q ≢ e.pid
+    → (ledger launch (front ++ e ∷ [])).held q ≡ (ledger launch front).held q
+others_after launch front e q apart =
+    elim (eqb_tells q e.pid) [
+      | inl is ↦ absurd (apart is.1)
+      | inr other ↦ ap (λ (l : Ledger). l.held q) (ledger_more launch front e)
+          ∙ ap (λ b. cond b (acted_row ((ledger launch front).held e.pid) e.act) ((ledger launch front).held q)) other.0
+    ]
+
+pub entry_changes_one : (launch : Launch) (front : List Entry) (e : Entry)
+    → Change ((ledger launch front).held e.pid) ((ledger launch (front ++ e ∷ [])).held e.pid)
+    × ((q : ℕ) → q ≢ e.pid → (ledger launch (front ++ e ∷ [])).held q ≡ (ledger launch front).held q)
+entry_changes_one launch front e = (
+  subst (Change ((ledger launch front).held e.pid)) (sym (own_after launch front e)) (acted_change ((ledger launch front).held e.pid) e.act),
+  others_after launch front e,
+)
 
 -- ---- where descriptors come from
 

@@ -20,24 +20,18 @@ use Rattle.kernel_model.specs.DescriptorCalls.{lowered_to}
 use Rattle.kernel_model.specs.Start.{granted_descriptor}
 use Rattle.kernel_model.proofs.Tests.{none_is_no, same_some}
 use Rattle.authority_laws.specs.Ledger.{Row, no_row, with_held, lowered_row, Ledger, with_row, launch_row, launch_ledger, granted_row, by_success, answered_row}
-use Rattle.authority_laws.specs.Origins.{Origin, was_held, ComesFrom, IsNoMoreThan, ComesFromGrant, AllComeFromGrants}
+use Rattle.authority_laws.specs.Origins.{Change, stays, ends, closes, copies, lowers, Origin, was_held, ComesFrom, IsNoMoreThan, ComesFromGrant, AllComeFromGrants}
 use Rattle.authority_laws.specs.Recorded.{acted_row, noted}
+use Rattle.authority_laws.proofs.Changes.{acted_change}
 
 -- ---- no more than
 
-pub itself : (d : Descriptor) → IsNoMoreThan d d
+itself : (d : Descriptor) → IsNoMoreThan d d
 itself d = record { id = refl; base = λ k has. has; inheriting = λ k has. has }
 
 no_more_still : (d x y : Descriptor) → IsNoMoreThan d x → IsNoMoreThan x y → IsNoMoreThan d y
 no_more_still d x y first then =
     record { id = first.id ∙ then.id; base = λ k has. then.base k (first.base k has); inheriting = λ k has. then.inheriting k (first.inheriting k has) }
-
-pub lowered_is_no_more : (d : Descriptor) (stat : FdStat) → IsNoMoreThan (lowered_to d stat) d
-lowered_is_no_more d stat = record {
-  id = refl;
-  base = λ k has. ((has-meet d.base.0 stat.base.0 k).0 has).0;
-  inheriting = λ k has. ((has-meet d.inheriting.0 stat.inheriting.0 k).0 has).0;
-}
 
 -- ---- where descriptors come from
 
@@ -59,41 +53,17 @@ number_from l p n o from m =
       | inr other ↦ subst (λ b. (d : Descriptor) → cond b o (l.held p m) ≡ Some d → Origin l p d) (sym other.0) (own_from l p m)
     ]
 
-lowered_by : (l : Ledger) (p fd : ℕ) (stat : FdStat) (o : Option Descriptor) → l.held p fd ≡ o → (d : Descriptor)
-    → option_map (λ (x : Descriptor). lowered_to x stat) o ≡ Some d → Origin l p d
-lowered_by l p fd stat None there d here = absurd (none_is_no d here)
-lowered_by l p fd stat (Some x) there d here =
-    was_held fd x there (subst (λ y. IsNoMoreThan y x) (same_some (lowered_to x stat) d here) (lowered_is_no_more x stat))
-
-where_set_from : (l : Ledger) (p fd : ℕ) (stat : FdStat) (no_rights : Bool) → RowComesFrom l p (cond no_rights (l.held p) (lowered_row (l.held p) fd stat))
-where_set_from l p fd stat true = own_from l p
-where_set_from l p fd stat false =
-    number_from l p fd (option_map (λ (x : Descriptor). lowered_to x stat) (l.held p fd)) (lowered_by l p fd stat (l.held p fd) refl)
-
--- each call that changes what its process holds has a line
-granted_from : (l : Ledger) (p : ℕ) (call : Call) (reply : Reply) → RowComesFrom l p (granted_row (l.held p) call reply)
-granted_from l p (FdClose fd) reply = number_from l p fd None (λ d here. absurd (none_is_no d here))
-granted_from l p (FdDup fd) reply = number_from l p reply.r1 (l.held p fd) (own_from l p fd)
-granted_from l p (FdReplace from to) reply = number_from l p to (l.held p from) (own_from l p from)
-granted_from l p (FdStatPut fd stat flags) reply = where_set_from l p fd stat (bit_and flags 2 == 0)
-granted_from l p (ProcExit code) reply = nothing_from l p
-granted_from l p _ reply = own_from l p
-
-either_from : (l : Ledger) (p : ℕ) (errno : Errno) (granted row : Row) → RowComesFrom l p granted → RowComesFrom l p row
-    → RowComesFrom l p (by_success errno granted row)
-either_from l p Success granted row done failed = done
-either_from l p _ granted row done failed = failed
-
-answered_from : (l : Ledger) (p : ℕ) (call : Call) (given : Answer) → RowComesFrom l p (answered_row (l.held p) call given)
-answered_from l p call (answer.Reply reply) =
-    either_from l p reply.errno (granted_row (l.held p) call reply) (l.held p) (granted_from l p call reply) (own_from l p)
-
-acted_from : (l : Ledger) (p : ℕ) (a : Act) → RowComesFrom l p (acted_row (l.held p) a)
-acted_from l p (act.Call call given) = answered_from l p call given
-acted_from l p (act.Wake call given answered) = answered_from l p call answered
-acted_from l p (act.Trap signal) = nothing_from l p
-acted_from l p act.Expire = nothing_from l p
-acted_from l p act.Idle = own_from l p
+-- where what is held has changed so
+change_from : (l : Ledger) (p : ℕ) (row : Row) → Change (l.held p) row → RowComesFrom l p row
+change_from l p row (stays is) = subst (RowComesFrom l p) (sym is) (own_from l p)
+change_from l p row (ends is) = subst (RowComesFrom l p) (sym is) (nothing_from l p)
+change_from l p row (closes n is) = subst (RowComesFrom l p) (sym is) (number_from l p n None (λ d here. absurd (none_is_no d here)))
+change_from l p row (copies from to d there is) =
+    subst (RowComesFrom l p) (sym is)
+    (number_from l p to (Some d) (λ y here. was_held from d there (subst (λ z. IsNoMoreThan z d) (same_some d y here) (itself d))))
+change_from l p row (lowers n d x there less is) =
+    subst (RowComesFrom l p) (sym is)
+    (number_from l p n (Some d) (λ y here. was_held n x there (subst (λ z. IsNoMoreThan z x) (same_some d y here) less)))
 
 one_of : (l : Ledger) (p : ℕ) (row : Row) → RowComesFrom l p row → ComesFrom l (with_row l p row)
 one_of l p row from q =
@@ -104,7 +74,8 @@ one_of l p row from q =
 
 -- what is held after an entry has its origin in what was held before it
 pub noted_from : (l : Ledger) (e : Entry) → ComesFrom l (noted l e)
-noted_from l e = one_of l e.pid (acted_row (l.held e.pid) e.act) (acted_from l e.pid e.act)
+noted_from l e =
+    one_of l e.pid (acted_row (l.held e.pid) e.act) (change_from l e.pid (acted_row (l.held e.pid) e.act) (acted_change (l.held e.pid) e.act))
 
 -- ---- grants
 

@@ -1,4 +1,4 @@
--- Where a descriptor that a process holds comes from.
+-- Where a descriptor that a process holds comes from, and how what it holds may change.
 use Rattle.std.specs.Prelude.{◌≡◌, ◌≢◌, ◌↔◌, ℕ, List, None, Some, slice_get}
 use Rattle.abi_base.specs.declared.grant.Grant.{Grant}
 use Rattle.abi_base.specs.Rights.{Has}
@@ -40,28 +40,33 @@ AllComeFromGrants grants l = (p n : ℕ) (d : Descriptor) → l.held p n ≡ Som
 
 -- ---- how what a process holds may change
 
--- How what a process holds after an entry may differ from what it held before. It is all as it was; or nothing; or one number
--- alone has changed: to nothing, to what another number has, or to what it had with no right more.
+-- How what a process holds after an entry may differ from what it held before it.
 pub data Change (before after : Row) : Type 0 where
+  -- all stands as it did
   stays : after ≡ before → Change before after
+  -- nothing is held any more
   ends : after ≡ no_row → Change before after
+  -- nothing stands under n any more
   closes : (n : ℕ) → after ≡ with_held before n None → Change before after
+  -- under `to` stands what stood under `from`
   copies : (from to : ℕ) (d : Descriptor) → before from ≡ Some d → after ≡ with_held before to (Some d) → Change before after
+  -- under n stands the same open as before, with no right more
   lowers : (n : ℕ) (d x : Descriptor) → before n ≡ Some x → IsNoMoreThan d x → after ≡ with_held before n (Some d) → Change before after
 
--- The number `to` has exactly what the number `from` had, the same open with the same rights, and the others have what they had.
+-- under `to` stands what stood under `from`, the same open with the same rights, and under each other number what stood there
 pub record IsCopied (before after : Row) (from to : ℕ) : Type 0 where
   pub d : Descriptor
   pub source : before from ≡ Some d
   pub copy : after to ≡ Some d
   pub others : (n : ℕ) → n ≢ to → after n ≡ before n
 
--- The number n has the open that it had, with exactly those of its rights that are asked, and the others have what they had.
+-- under n stands d, which names the open of x that stood there, with exactly those of its rights that are asked, and under each
+-- other number stands what stood there
 pub record IsLowered (before after : Row) (n : ℕ) (stat : FdStat) : Type 0 where
   pub d : Descriptor
   pub x : Descriptor
-  pub was : before n ≡ Some x
-  pub is : after n ≡ Some d
+  pub stood : before n ≡ Some x
+  pub stands : after n ≡ Some d
   pub id : d.id ≡ x.id
   pub base : (k : ℕ) → Has d.base.0 k ↔ (Has x.base.0 k × Has stat.base.0 k)
   pub inheriting : (k : ℕ) → Has d.inheriting.0 k ↔ (Has x.inheriting.0 k × Has stat.inheriting.0 k)

@@ -1,5 +1,5 @@
-use Rattle.authority_laws.proofs.Changes as changes
+use Rattle.authority_laws.proofs.Histories as histories
 use Rattle.authority_laws.proofs.laws.entry_changes_one.Goals as goal
 
 pub returns : goal.returns
-returns c = changes.entry_changes_one
+returns c = histories.entry_changes_one
