@@ -7,7 +7,6 @@ use Rattle.abi_base.proofs.Bits.{has-meet}
 use Rattle.abi_base.specs.declared.errno.Errno.{Errno}
 use Rattle.abi_base.specs.declared.errno.Errno.TheVariants.{Success, Badf, Mfile, Nomem}
 use Rattle.abi_structures.specs.declared.structures.FdStat.{FdStat}
-use Rattle.abi_types.specs.declared.reply.Answer.{Answer}
 use Rattle.abi_types.specs.declared.reply.Answer.TheVariants as answer
 use Rattle.abi_types.specs.declared.call.Call.{Call}
 use Rattle.abi_types.specs.declared.call.Call.TheVariants.{FdDup, FdReplace, FdStatPut}

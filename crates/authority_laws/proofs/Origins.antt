@@ -1,25 +1,13 @@
 -- What a process holds after an entry is no more than what it held before it, and what is held at all comes from a grant.
-use Rattle.std.proofs.Common.{◌≡◌, inl, inr, ℕ, ◌==◌, Bool, true, false, cond, List, Option, Some, None, refl, sym, subst, ◌∙◌}
+use Rattle.std.proofs.Common.{◌≡◌, inl, inr, ℕ, cond, List, Option, Some, None, refl, sym, subst, ◌∙◌}
 use Rattle.std.proofs.lemmas.Bool.Decides.{eqb_tells}
-use Rattle.std.specs.Prelude.{bit_and, option_map, slice_get}
-use Rattle.abi_base.proofs.Bits.{has-meet}
-use Rattle.abi_base.specs.declared.errno.Errno.{Errno}
-use Rattle.abi_base.specs.declared.errno.Errno.TheVariants.{Success}
+use Rattle.std.specs.Prelude.{option_map, slice_get}
 use Rattle.abi_base.specs.declared.grant.Grant.{Grant}
-use Rattle.abi_structures.specs.declared.structures.FdStat.{FdStat}
-use Rattle.abi_types.specs.declared.reply.Answer.{Answer}
-use Rattle.abi_types.specs.declared.reply.Answer.TheVariants as answer
-use Rattle.abi_types.specs.declared.call.Call.{Call}
-use Rattle.abi_types.specs.declared.call.Call.TheVariants.{FdClose, FdDup, FdReplace, FdStatPut, ProcExit}
-use Rattle.abi_types.specs.declared.reply.Reply.{Reply}
 use Rattle.abi_types.specs.declared.descriptor.Descriptor.{Descriptor}
-use Rattle.run_types.specs.declared.history.Act.{Act}
-use Rattle.run_types.specs.declared.history.Act.TheVariants as act
 use Rattle.run_types.specs.declared.history.Entry.{Entry}
-use Rattle.kernel_model.specs.DescriptorCalls.{lowered_to}
 use Rattle.kernel_model.specs.Start.{granted_descriptor}
 use Rattle.kernel_model.proofs.Tests.{none_is_no, same_some}
-use Rattle.authority_laws.specs.Ledger.{Row, no_row, with_held, lowered_row, Ledger, with_row, launch_row, launch_ledger, granted_row, by_success, answered_row}
+use Rattle.authority_laws.specs.Ledger.{Row, no_row, with_held, Ledger, with_row, launch_row, launch_ledger}
 use Rattle.authority_laws.specs.Origins.{Change, stays, ends, closes, copies, lowers, Origin, was_held, ComesFrom, IsNoMoreThan, ComesFromGrant, AllComeFromGrants}
 use Rattle.authority_laws.specs.Recorded.{acted_row, noted}
 use Rattle.authority_laws.proofs.Changes.{acted_change}
