@@ -200,10 +200,10 @@ lowered before after n stat x there is = record {
   others = λ m apart. (λ i. is i m) ∙ held_elsewhere before n _ m apart;
 }
 
-pub set_rights_are_lowered : (launch : Launch) (front : List Entry) (e : Entry) (rest : List Entry) (fd : ℕ) (stat : FdStat) (flags : ℕ) (reply : Reply)
+pub rights_are_lowered : (launch : Launch) (front : List Entry) (e : Entry) (rest : List Entry) (fd : ℕ) (stat : FdStat) (flags : ℕ) (reply : Reply)
     → Legal launch (front ++ e ∷ rest) → Succeeds e (FdStatPut fd stat flags) reply → bit_and flags 2 ≢ 0
     → IsLowered ((ledger launch front).held e.pid) ((ledger launch (front ++ e ∷ [])).held e.pid) fd stat
-set_rights_are_lowered launch front e rest fd stat flags reply legal done set =
+rights_are_lowered launch front e rest fd stat flags reply legal done set =
     let before = (ledger launch front).held e.pid in
     let found = named_held launch front e rest (FdStatPut fd stat flags) reply fd legal done ([], [], refl) in
     lowered before ((ledger launch (front ++ e ∷ [])).held e.pid) fd stat found.0 found.1

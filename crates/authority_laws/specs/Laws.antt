@@ -58,14 +58,14 @@ LedgerTells =
 
 -- ---- where descriptors come from
 
--- What a process holds after an entry of a legal history names an open that it held before it, with no right that it lacked
--- then.
+-- Each descriptor that a process holds after an entry of a legal history names the open of one that it held before that entry,
+-- with no right that this one lacked.
 abbrev pub RightsNeverGrow : Type 0
 RightsNeverGrow =
     (launch : Launch) (front : List Entry) (e : Entry) (rest : List Entry) → AreGrants launch.grants → Legal launch (front ++ e ∷ rest)
     → ComesFrom (ledger launch front) (ledger launch (front ++ e ∷ []))
 
--- An entry changes what its process holds in one of few ways, and what no other process holds.
+-- An entry changes what its process holds in one of the few ways of `Change`, and leaves what each other process holds.
 abbrev pub EntryChangesOne : Type 0
 EntryChangesOne =
     (launch : Launch) (front : List Entry) (e : Entry)
@@ -77,23 +77,25 @@ pub record Succeeds (e : Entry) (call : Call) (reply : Reply) : Type 0 where
   pub is : e.act ≡ act.Call call (answer.Reply reply)
   pub success : reply.errno ≡ Success
 
--- After fd_dup the result, a number under which the process held nothing, has what the descriptor had at that entry.
+-- After fd_dup of a legal history there stands under its result, under which nothing stood, what stood under the descriptor's
+-- number at that entry.
 abbrev pub DuplicatesAreEqual : Type 0
 DuplicatesAreEqual =
     (launch : Launch) (front : List Entry) (e : Entry) (rest : List Entry) (fd : ℕ) (reply : Reply) → Legal launch (front ++ e ∷ rest)
     → Succeeds e (FdDup fd) reply → ((ledger launch front).held e.pid reply.r1 ≡ None)
     × IsCopied ((ledger launch front).held e.pid) ((ledger launch (front ++ e ∷ [])).held e.pid) fd reply.r1
 
--- After fd_replace the number `to`, under which the process held something, has what `from` had at that entry.
+-- After fd_replace of a legal history there stands under `to`, under which something stood, what stood under `from` at that entry.
 abbrev pub ReplacementsAreEqual : Type 0
 ReplacementsAreEqual =
     (launch : Launch) (front : List Entry) (e : Entry) (rest : List Entry) (from to : ℕ) (reply : Reply) → Legal launch (front ++ e ∷ rest)
     → Succeeds e (FdReplace from to) reply → IsSome ((ledger launch front).held e.pid to)
     × IsCopied ((ledger launch front).held e.pid) ((ledger launch (front ++ e ∷ [])).held e.pid) from to
 
--- After fd_stat_put with RIGHTS (2) the descriptor has exactly those of the rights that it had at that entry which are asked.
-abbrev pub SetRightsAreLowered : Type 0
-SetRightsAreLowered =
+-- After fd_stat_put with RIGHTS (2) of a legal history the descriptor has exactly those of the rights which it had at that entry
+-- that are asked.
+abbrev pub RightsAreLowered : Type 0
+RightsAreLowered =
     (launch : Launch) (front : List Entry) (e : Entry) (rest : List Entry) (fd : ℕ) (stat : FdStat) (flags : ℕ) (reply : Reply)
     → Legal launch (front ++ e ∷ rest) → Succeeds e (FdStatPut fd stat flags) reply → bit_and flags 2 ≢ 0
     → IsLowered ((ledger launch front).held e.pid) ((ledger launch (front ++ e ∷ [])).held e.pid) fd stat

@@ -1,5 +1,5 @@
 //! Laws of the ledger. The statements are in `specs/Laws.antt`, and each holds of every launch and history.
-ghost use Rattle.authority_laws.specs.Laws.{LedgerBegins, LedgerGoesOn, LedgerTells, RightsNeverGrow, EntryChangesOne, DuplicatesAreEqual, ReplacementsAreEqual, SetRightsAreLowered, HeldIsGranted, TablesAreRecorded, SightIsRecorded, LegalIsRecorded};
+ghost use Rattle.authority_laws.specs.Laws.{LedgerBegins, LedgerGoesOn, LedgerTells, RightsNeverGrow, EntryChangesOne, DuplicatesAreEqual, ReplacementsAreEqual, RightsAreLowered, HeldIsGranted, TablesAreRecorded, SightIsRecorded, LegalIsRecorded};
 
 /// The ledger of no entry is the launch's, and that of one more entry is the ledger before it with the entry noted.
 pub fn ledger_goes_on()
@@ -20,20 +20,24 @@ pub fn rights_never_grow()
     ensures { RightsNeverGrow }
 {}
 
-/// An entry changes what no process but its own holds. What that holds stays, or is nothing from then on, or changes under
-/// one number alone: to nothing, to what another number has, or to what stood there with no right more.
+/// An entry leaves what each process but its own holds. What that holds stays; or it holds nothing any more; or what stands
+/// under one number changes, to nothing, to what stood under another number, or to the same open with no right more.
 pub fn entry_changes_one()
     ensures { EntryChangesOne }
 {}
 
-/// After a call of a legal history that succeeded: the result of `fd_dup` has the open and exactly the rights that the
-/// descriptor had at that entry, and had nothing before; `to` of `fd_replace` has the open and exactly the rights that `from`
-/// had; and the descriptor of an `fd_stat_put` with RIGHTS has exactly those of its rights that are asked. Every other number
-/// has what it had.
+/// A copy has the open and exactly the rights of what was copied, as they were at that entry. After an `fd_dup` of a legal
+/// history that succeeded, its result, under which nothing stood, is a copy of the descriptor; after such an `fd_replace`
+/// `to` is one of `from`. Under each other number stands what stood there.
 pub fn copies_are_equal()
     ensures duplicates { DuplicatesAreEqual }
     ensures replacements { ReplacementsAreEqual }
-    ensures lowered { SetRightsAreLowered }
+{}
+
+/// After an `fd_stat_put` with RIGHTS of a legal history that succeeded, the descriptor names the open that it named, with
+/// exactly those of its rights that are asked. Under each other number stands what stood there.
+pub fn rights_are_lowered()
+    ensures { RightsAreLowered }
 {}
 
 /// Each descriptor that the ledger of a legal history says is held names the open of one of the launch's grants, with no

@@ -7,5 +7,5 @@ pub mod laws;
 
 pub use laws::{
     copies_are_equal, entry_changes_one, held_is_granted, ledger_goes_on, ledger_tells,
-    legal_is_recorded, rights_never_grow, sight_is_recorded,
+    legal_is_recorded, rights_are_lowered, rights_never_grow, sight_is_recorded,
 };
