@@ -1,14 +1,15 @@
 -- What each call leaves of its process's table is what its line of `granted_row` says.
-use Rattle.std.proofs.Common.{◌≡◌, ℕ, ◌==◌, Bool, true, false, cond, List, Option, Some, None, refl, sym, ap, subst, ◌∙◌}
-use Rattle.std.specs.Prelude.{bit_and}
-use Rattle.std.specs.FinMap.{get}
+use Rattle.std.proofs.Common.{◌≡◌, ◌≢◌, ℕ, ◌==◌, Bool, true, false, cond, List, [], ◌∷◌, ◌++◌, Option, Some, None, refl, sym, ap, subst, ◌∙◌}
+use Rattle.std.specs.Prelude.{bit_and, option_map}
+use Rattle.std.specs.FinMap.{get, insert, remove}
 use Rattle.abi_base.specs.declared.errno.Errno.{Errno}
-use Rattle.abi_base.specs.declared.errno.Errno.TheVariants.{Success, Nosys}
+use Rattle.abi_base.specs.declared.errno.Errno.TheVariants.{Success, Badf, Mfile, Nosys}
+use Rattle.abi_structures.specs.declared.structures.FdStat.{FdStat}
 use Rattle.abi_types.specs.declared.reply.Answer.{Answer}
 use Rattle.abi_types.specs.declared.reply.Answer.TheVariants as answer
 use Rattle.abi_types.specs.declared.call.Call.{Call}
 use Rattle.abi_types.specs.declared.call.Call.TheVariants as call
-use Rattle.abi_types.specs.declared.call.Call.TheVariants.{FdWrite, MemMap, ProcExit}
+use Rattle.abi_types.specs.declared.call.Call.TheVariants.{FdClose, FdDup, FdRead, FdReplace, FdStatGet, FdStatPut, FdWrite, MemMap, ProcExit}
 use Rattle.abi_types.specs.declared.reply.Reply.{Reply}
 use Rattle.abi_types.specs.declared.constants.Constants.{Constants}
 use Rattle.abi_types.specs.declared.descriptor.Descriptor.{Descriptor}
@@ -17,24 +18,28 @@ use Rattle.abi_types.specs.declared.open_kind.OpenKind.TheVariants.{File, Direct
 use Rattle.abi_types.specs.declared.place.Place.{Place}
 use Rattle.abi_types.specs.declared.stream.Stream.{Stream}
 use Rattle.abi_types.specs.declared.who.Who.{Who}
+use Rattle.number_map.specs.Maps.{get-insert-same}
 use Rattle.kernel_model.specs.Calls.{meaning_of, refusal_of}
+use Rattle.kernel_model.specs.DescriptorCalls.{with_table, lowest_free, dup_at, dup_of, replaced_by, stat_open, stat_get, with_flags, lowered_to, stat_set, stat_put}
 use Rattle.kernel_model.specs.Outcome.{Outcome, replies}
-use Rattle.kernel_model.specs.Reply.{refused}
-use Rattle.kernel_model.specs.State.{State, Table, put_all}
-use Rattle.kernel_model.specs.StreamCalls.{write_term, write_open, write_to}
+use Rattle.kernel_model.specs.Reply.{refused, success}
+use Rattle.kernel_model.specs.State.{State, Table, put_all, set_open, set_table}
+use Rattle.kernel_model.specs.StreamCalls.{write_term, write_open, write_to, read_term, read_open, read_from}
 use Rattle.kernel_model.specs.MemoryCalls.{map_file, map_zeros, mem_map}
 use Rattle.kernel_model.specs.View.{View}
 use Rattle.kernel_model.proofs.Refusals.{refusal_is_other}
-use Rattle.authority_laws.specs.Ledger.{Row, granted_row, by_success, answered_row}
-use Rattle.authority_laws.proofs.Rows.{row_in, row_of, row_emptied, by_error, by_either}
+use Rattle.authority_laws.specs.Ledger.{Row, with_held, lowered_row, granted_row, by_success, answered_row}
+use Rattle.authority_laws.proofs.Rows.{row_in, row_of, row_emptied, row_inserted, row_removed, by_error, by_either}
 
 -- after the outcome's updates its process has what the ledger says after this answer
 abbrev pub LeavesRow : State → ℕ → Call → Outcome → Type 0
 LeavesRow S p call o = row_of (put_all o.updates S) p ≡ answered_row (row_of S p) call o.answer
 
--- each outcome of the call, once it is not refused, is such
+-- each outcome of the call of a process with this table, once it is not refused, is such
 abbrev IsTold : Call → Type 0
-IsTold call = (constants : Constants) (S : State) (v : View) (who : Who) (table : Table) → LeavesRow S who.pid call ((meaning_of call).does constants v who table)
+IsTold call =
+    (constants : Constants) (S : State) (v : View) (who : Who) (table : Table) → get S.tables who.pid ≡ Some table
+    → LeavesRow S who.pid call ((meaning_of call).does constants v who table)
 
 -- ---- calls that change no table, and that have no line of their own
 
@@ -68,8 +73,46 @@ write_kept S v bytes None = refl
 write_kept S v bytes (Some d) = open_kept S v bytes (v.opened d.id)
 
 fd_write_told : (fd : ℕ) (bytes : List ℕ) → IsTold (FdWrite fd bytes)
-fd_write_told fd bytes constants S v who table =
+fd_write_told fd bytes constants S v who table there =
     kept S who.pid (FdWrite fd bytes) (write_to v bytes (get table fd)) (λ row reply. refl) (write_kept S v bytes (get table fd))
+
+read_term_kept : (S : State) (n which : ℕ) (stream : Option Stream) → KeepsTables S (read_term n which stream)
+read_term_kept S n which None = refl
+read_term_kept S n which (Some stream) = refl
+
+read_open_kept : (S : State) (v : View) (n : ℕ) (kind : Option OpenKind) → KeepsTables S (read_open v n kind)
+read_open_kept S v n None = refl
+read_open_kept S v n (Some (Terminal which flags)) = read_term_kept S n which (v.term which)
+read_open_kept S v n (Some (File node offset flags)) = refl
+read_open_kept S v n (Some (Directory node flags)) = refl
+read_open_kept S v n (Some (End reads writes flags)) = refl
+read_open_kept S v n (Some (Process p)) = refl
+
+read_kept : (S : State) (v : View) (n : ℕ) (d : Option Descriptor) → KeepsTables S (read_from v n d)
+read_kept S v n None = refl
+read_kept S v n (Some d) = read_open_kept S v n (v.opened d.id)
+
+fd_read_told : (fd n : ℕ) → IsTold (FdRead fd n)
+fd_read_told fd n constants S v who table there =
+    kept S who.pid (FdRead fd n) (read_from v n (get table fd)) (λ row reply. refl) (read_kept S v n (get table fd))
+
+stat_open_kept : (S : State) (d : Descriptor) (kind : Option OpenKind) → KeepsTables S (stat_open d kind)
+stat_open_kept S d None = refl
+stat_open_kept S d (Some kind) = refl
+
+stat_kept : (S : State) (v : View) (d : Option Descriptor) → KeepsTables S (stat_get v d)
+stat_kept S v None = refl
+stat_kept S v (Some d) = stat_open_kept S d (v.opened d.id)
+
+fd_stat_get_told : (fd : ℕ) → IsTold (FdStatGet fd)
+fd_stat_get_told fd constants S v who table there =
+    kept S who.pid (FdStatGet fd) (stat_get v (get table fd)) (λ row reply. refl) (stat_kept S v (get table fd))
+
+-- a call that succeeds, and does no more
+nothing_told : (call : Call) → GrantsNothing call
+    → ((constants : Constants) (v : View) (who : Who) (table : Table) → (meaning_of call).does constants v who table ≡ replies (success 0 0)) → IsTold call
+nothing_told call nothing is constants S v who table there =
+    subst (LeavesRow S who.pid call) (sym (is constants v who table)) (kept S who.pid call (replies (success 0 0)) nothing refl)
 
 map_kept : (S : State) (constants : Constants) (v : View) (who : Who) (table : Table) (zeros : Bool) (place : Place) (fd prot : ℕ)
     → KeepsTables S ((cond zeros (map_zeros place) (map_file fd prot)).does constants v who table)
@@ -77,7 +120,7 @@ map_kept S constants v who table true place fd prot = refl
 map_kept S constants v who table false place fd prot = refl
 
 mem_map_told : (place : Place) (length prot flags fd offset : ℕ) → IsTold (MemMap place length prot flags fd offset)
-mem_map_told place length prot flags fd offset constants S v who table =
+mem_map_told place length prot flags fd offset constants S v who table there =
     kept S who.pid (MemMap place length prot flags fd offset) ((mem_map place prot flags fd).does constants v who table) (λ row reply. refl)
     (map_kept S constants v who table (bit_and flags 1 == 1) place fd prot)
 
@@ -88,13 +131,89 @@ decided_told call errno S p nothing = kept S p call (replies (refused errno)) no
 -- a call that isn't built yet
 unbuilt_told : (call : Call) → GrantsNothing call
     → ((constants : Constants) (v : View) (who : Who) (table : Table) → (meaning_of call).does constants v who table ≡ replies (refused Nosys)) → IsTold call
-unbuilt_told call nothing is constants S v who table =
+unbuilt_told call nothing is constants S v who table there =
     subst (LeavesRow S who.pid call) (sym (is constants v who table)) (decided_told call Nosys S who.pid nothing)
 
 -- ---- calls that change their process's table
 
 proc_exit_told : (code : ℕ) → IsTold (ProcExit code)
-proc_exit_told code constants S v who table = row_emptied S.tables who.pid
+proc_exit_told code constants S v who table there = row_emptied S.tables who.pid
+
+-- an error, after which its process has the table that it had
+refused_told : (S : State) (p : ℕ) (call : Call) (errno : Errno) → errno ≢ Success → LeavesRow S p call (replies (refused errno))
+refused_told S p call errno other = sym (by_error errno (granted_row (row_of S p) call (refused errno)) (row_of S p) other)
+
+badf_is_error : Badf ≢ Success
+badf_is_error e = cc
+
+mfile_is_error : Mfile ≢ Success
+mfile_is_error e = cc
+
+-- a table that has what the call's line says
+set_told : (S : State) (p : ℕ) (call : Call) (table new : Table) (result : ℕ) → get S.tables p ≡ Some table
+    → row_in (Some new) ≡ granted_row (row_in (Some table)) call (success result 0) → LeavesRow S p call (with_table p result new)
+set_told S p call table new result there is =
+    ap row_in (get-insert-same S.tables p new) ∙ is ∙ ap (λ row. granted_row row call (success result 0)) (sym (ap row_in there))
+
+fd_close_told : (fd : ℕ) → IsTold (FdClose fd)
+fd_close_told fd constants S v who table there = set_told S who.pid (FdClose fd) table (remove table fd) 0 there (row_removed table fd)
+
+-- fd_dup
+number_told : (S : State) (p fd : ℕ) (table : Table) (d : Descriptor) (number : Option ℕ) → get S.tables p ≡ Some table → get table fd ≡ Some d
+    → LeavesRow S p (FdDup fd) (dup_at p table d number)
+number_told S p fd table d None there here = refused_told S p (FdDup fd) Mfile mfile_is_error
+number_told S p fd table d (Some number) there here =
+    set_told S p (FdDup fd) table (insert table number d) number there
+    (row_inserted table number d ∙ ap (with_held (row_in (Some table)) number) (sym here))
+
+dup_told : (S : State) (p fd : ℕ) (table : Table) (o : Option Descriptor) → get S.tables p ≡ Some table → get table fd ≡ o
+    → LeavesRow S p (FdDup fd) (dup_of p table o)
+dup_told S p fd table None there here = refused_told S p (FdDup fd) Badf badf_is_error
+dup_told S p fd table (Some d) there here = number_told S p fd table d (lowest_free table) there here
+
+fd_dup_told : (fd : ℕ) → IsTold (FdDup fd)
+fd_dup_told fd constants S v who table there = dup_told S who.pid fd table (get table fd) there refl
+
+-- fd_replace
+replaced_told : (S : State) (p from to : ℕ) (table : Table) (o : Option Descriptor) → get S.tables p ≡ Some table → get table from ≡ o
+    → LeavesRow S p (FdReplace from to) (replaced_by p table to o)
+replaced_told S p from to table None there here = refused_told S p (FdReplace from to) Badf badf_is_error
+replaced_told S p from to table (Some d) there here =
+    set_told S p (FdReplace from to) table (insert table to d) 0 there
+    (row_inserted table to d ∙ ap (with_held (row_in (Some table)) to) (sym here))
+
+fd_replace_told : (from to : ℕ) → IsTold (FdReplace from to)
+fd_replace_told from to constants S v who table there = replaced_told S who.pid from to table (get table from) there refl
+
+-- fd_stat_put: what the updates leave, of which the second alone sets the table
+updates_leave : (S : State) (p o : ℕ) (kind : OpenKind) (new : Table) (no_flags no_rights : Bool)
+    → row_of (put_all (cond no_flags [] (set_open o kind ∷ []) ++ cond no_rights [] (set_table p new ∷ [])) S) p
+    ≡ cond no_rights (row_of S p) (row_in (Some new))
+updates_leave S p o kind new true true = refl
+updates_leave S p o kind new true false = ap row_in (get-insert-same S.tables p new)
+updates_leave S p o kind new false true = refl
+updates_leave S p o kind new false false = ap row_in (get-insert-same S.tables p new)
+
+lowered_is : (table : Table) (fd : ℕ) (stat : FdStat) (d : Descriptor) → get table fd ≡ Some d
+    → row_in (Some (insert table fd (lowered_to d stat))) ≡ lowered_row (row_in (Some table)) fd stat
+lowered_is table fd stat d here =
+    row_inserted table fd (lowered_to d stat)
+    ∙ ap (λ o. with_held (row_in (Some table)) fd (option_map (λ (x : Descriptor). lowered_to x stat) o)) (sym here)
+
+set_stat_told : (S : State) (p : ℕ) (table : Table) (fd : ℕ) (stat : FdStat) (flags : ℕ) (d : Descriptor) (kind : Option OpenKind) → get S.tables p ≡ Some table
+    → get table fd ≡ Some d → LeavesRow S p (FdStatPut fd stat flags) (stat_set p table fd stat flags d kind)
+set_stat_told S p table fd stat flags d None there here = refused_told S p (FdStatPut fd stat flags) Badf badf_is_error
+set_stat_told S p table fd stat flags d (Some kind) there here =
+    updates_leave S p d.id (with_flags kind stat.flags) (insert table fd (lowered_to d stat)) (bit_and flags 1 == 0) (bit_and flags 2 == 0)
+    ∙ ap (cond (bit_and flags 2 == 0) (row_of S p)) (lowered_is table fd stat d here ∙ ap (λ row. lowered_row row fd stat) (sym (ap row_in there)))
+
+put_told : (S : State) (v : View) (p : ℕ) (table : Table) (fd : ℕ) (stat : FdStat) (flags : ℕ) (o : Option Descriptor) → get S.tables p ≡ Some table
+    → get table fd ≡ o → LeavesRow S p (FdStatPut fd stat flags) (stat_put v p table fd stat flags o)
+put_told S v p table fd stat flags None there here = refused_told S p (FdStatPut fd stat flags) Badf badf_is_error
+put_told S v p table fd stat flags (Some d) there here = set_stat_told S p table fd stat flags d (v.opened d.id) there here
+
+fd_stat_put_told : (fd : ℕ) (stat : FdStat) (flags : ℕ) → IsTold (FdStatPut fd stat flags)
+fd_stat_put_told fd stat flags constants S v who table there = put_told S v who.pid table fd stat flags (get table fd) there refl
 
 -- ---- all of them
 
@@ -102,19 +221,19 @@ pub told : (call : Call) → IsTold call
 told (call.ClockResGet clock) = unbuilt_told (call.ClockResGet clock) (λ row reply. refl) (λ constants v who table. refl)
 told (call.ClockTimeGet clock precision) = unbuilt_told (call.ClockTimeGet clock precision) (λ row reply. refl) (λ constants v who table. refl)
 told (call.CondvarSignal condvar word scope n) = unbuilt_told (call.CondvarSignal condvar word scope n) (λ row reply. refl) (λ constants v who table. refl)
-told (call.FdClose fd) = unbuilt_told (call.FdClose fd) (λ row reply. refl) (λ constants v who table. refl)
+told (call.FdClose fd) = fd_close_told fd
 told (call.FdCreate1 kind) = unbuilt_told (call.FdCreate1 kind) (λ row reply. refl) (λ constants v who table. refl)
 told (call.FdCreate2 kind) = unbuilt_told (call.FdCreate2 kind) (λ row reply. refl) (λ constants v who table. refl)
-told (call.FdDatasync fd) = unbuilt_told (call.FdDatasync fd) (λ row reply. refl) (λ constants v who table. refl)
-told (call.FdDup fd) = unbuilt_told (call.FdDup fd) (λ row reply. refl) (λ constants v who table. refl)
+told (call.FdDatasync fd) = nothing_told (call.FdDatasync fd) (λ row reply. refl) (λ constants v who table. refl)
+told (call.FdDup fd) = fd_dup_told fd
 told (call.FdPread fd length offset) = unbuilt_told (call.FdPread fd length offset) (λ row reply. refl) (λ constants v who table. refl)
 told (call.FdPwrite fd bytes offset) = unbuilt_told (call.FdPwrite fd bytes offset) (λ row reply. refl) (λ constants v who table. refl)
-told (call.FdRead fd length) = unbuilt_told (call.FdRead fd length) (λ row reply. refl) (λ constants v who table. refl)
-told (call.FdReplace from to) = unbuilt_told (call.FdReplace from to) (λ row reply. refl) (λ constants v who table. refl)
+told (call.FdRead fd length) = fd_read_told fd length
+told (call.FdReplace from to) = fd_replace_told from to
 told (call.FdSeek fd offset whence) = unbuilt_told (call.FdSeek fd offset whence) (λ row reply. refl) (λ constants v who table. refl)
-told (call.FdStatGet fd) = unbuilt_told (call.FdStatGet fd) (λ row reply. refl) (λ constants v who table. refl)
-told (call.FdStatPut fd stat flags) = unbuilt_told (call.FdStatPut fd stat flags) (λ row reply. refl) (λ constants v who table. refl)
-told (call.FdSync fd) = unbuilt_told (call.FdSync fd) (λ row reply. refl) (λ constants v who table. refl)
+told (call.FdStatGet fd) = fd_stat_get_told fd
+told (call.FdStatPut fd stat flags) = fd_stat_put_told fd stat flags
+told (call.FdSync fd) = nothing_told (call.FdSync fd) (λ row reply. refl) (λ constants v who table. refl)
 told (call.FdWrite fd bytes) = fd_write_told fd bytes
 told (call.FileAdvise fd offset length advice) = unbuilt_told (call.FileAdvise fd offset length advice) (λ row reply. refl) (λ constants v who table. refl)
 told (call.FileAllocate fd offset length) = unbuilt_told (call.FileAllocate fd offset length) (λ row reply. refl) (λ constants v who table. refl)
@@ -132,7 +251,7 @@ told (call.FileSymlink text fd path) = unbuilt_told (call.FileSymlink text fd pa
 told (call.FileUnlink fd path flags) = unbuilt_told (call.FileUnlink fd path flags) (λ row reply. refl) (λ constants v who table. refl)
 told (call.LockUnlock lock word scope) = unbuilt_told (call.LockUnlock lock word scope) (λ row reply. refl) (λ constants v who table. refl)
 told (call.MemMap place length prot flags fd offset) = mem_map_told place length prot flags fd offset
-told (call.Memory number errno) = λ constants S v who table. decided_told (call.Memory number errno) errno S who.pid (λ row reply. refl)
+told (call.Memory number errno) = λ constants S v who table there. decided_told (call.Memory number errno) errno S who.pid (λ row reply. refl)
 told (call.Poll subscriptions) = unbuilt_told (call.Poll subscriptions) (λ row reply. refl) (λ constants v who table. refl)
 told (call.ProcExec fd bytes fds) = unbuilt_told (call.ProcExec fd bytes fds) (λ row reply. refl) (λ constants v who table. refl)
 told (call.ProcExit code) = proc_exit_told code
@@ -145,7 +264,7 @@ told (call.SockShutdown fd how) = unbuilt_told (call.SockShutdown fd how) (λ ro
 told (call.ThreadCreate attributes) = unbuilt_told (call.ThreadCreate attributes) (λ row reply. refl) (λ constants v who table. refl)
 told (call.ThreadExit lock word scope) = unbuilt_told (call.ThreadExit lock word scope) (λ row reply. refl) (λ constants v who table. refl)
 told call.ThreadYield = unbuilt_told call.ThreadYield (λ row reply. refl) (λ constants v who table. refl)
-told (call.Refused number errno) = λ constants S v who table. decided_told (call.Refused number errno) errno S who.pid (λ row reply. refl)
+told (call.Refused number errno) = λ constants S v who table there. decided_told (call.Refused number errno) errno S who.pid (λ row reply. refl)
 
 -- ---- refusals for want of a descriptor or of rights
 

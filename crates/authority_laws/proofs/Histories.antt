@@ -1,5 +1,7 @@
 -- The ledger of a history, beside its world.
-use Rattle.std.proofs.Common.{◌≡◌, inl, inr, ℕ, List, [], ◌∷◌, ◌++◌, Some, refl, sym, ap, subst, ◌∙◌}
+use Rattle.std.proofs.Common.{◌≡◌, ◌≢◌, inl, inr, ℕ, cond, List, [], ◌∷◌, ◌++◌, Some, refl, sym, ap, subst, ◌∙◌}
+use Rattle.std.proofs.lemmas.Bool.{eq-eqb}
+use Rattle.std.proofs.lemmas.Bool.Decides.{eqb_tells}
 use Rattle.std.specs.FinMap.{get}
 use Rattle.abi_base.specs.declared.grant.Grant.{Grant}
 use Rattle.abi_base.specs.declared.signal.Signal.TheVariants.{Xcpu}
@@ -13,7 +15,7 @@ use Rattle.run_types.specs.declared.history.Act.TheVariants as act
 use Rattle.run_types.specs.declared.history.Entry.{Entry}
 use Rattle.run_types.specs.declared.launch.Launch.{Launch}
 use Rattle.kernel_model.specs.Calls.{need}
-use Rattle.kernel_model.specs.Laws.{IsReachedBy}
+use Rattle.kernel_model.specs.Laws.{IsReached, IsReachedByName}
 use Rattle.kernel_model.specs.State.{State, Table, Part}
 use Rattle.kernel_model.specs.Valid.{IsValid}
 use Rattle.kernel_model.proofs.Reaches.{sight_is_reached}
@@ -21,10 +23,11 @@ use Rattle.run_model.specs.Legal.{FitsAct, Fits, FollowsFrom, Legal}
 use Rattle.run_model.specs.World.{World, Guest, start_world, guest_of, called_state, turned, acted, who_of, apply, apply_all, world}
 use Rattle.run_model.proofs.Histories.{legal_front, apply_is, first_state}
 use Rattle.run_model.proofs.Worlds.{world_is_valid}
-use Rattle.authority_laws.specs.Laws.{Tells, IsReachedByHeld, SeesByHeld, IsRecordedAt, IsRecorded}
+use Rattle.authority_laws.specs.Laws.{Tells, IsReachedByHeld, IsReachedByNamed, SeesByHeld, IsRecordedAt, IsRecorded}
 use Rattle.authority_laws.specs.Ledger.{Ledger, with_row, launch_ledger}
-use Rattle.authority_laws.specs.Origins.{ComesFrom, ComesFromGrant, AllComeFromGrants}
+use Rattle.authority_laws.specs.Origins.{Change, ComesFrom, ComesFromGrant, AllComeFromGrants}
 use Rattle.authority_laws.specs.Recorded.{acted_row, noted, noted_all, ledger}
+use Rattle.authority_laws.proofs.Changes.{acted_change}
 use Rattle.authority_laws.proofs.Origins.{noted_from, noted_granted, launch_granted}
 use Rattle.authority_laws.proofs.Rows.{row_in}
 use Rattle.authority_laws.proofs.States.{HasRows, step_rows, end_rows, start_rows, ended_row, row_is_held}
@@ -66,7 +69,7 @@ unfolding FollowsFrom apply_all noted_all
 follows_rows w [] l follows before = before
 follows_rows w (e ∷ history) l follows before = follows_rows (apply w e) history (noted l e) follows.1 (apply_rows w e l follows.0 before)
 
-world_rows : (launch : Launch) (history : List Entry) → Legal launch history → HasRows (world launch history).state (ledger launch history)
+pub world_rows : (launch : Launch) (history : List Entry) → Legal launch history → HasRows (world launch history).state (ledger launch history)
 unfolding Legal world ledger
 world_rows launch history legal =
     follows_rows (start_world launch) history (launch_ledger launch.grants) legal
@@ -83,6 +86,33 @@ pub ledger_tells : (launch : Launch) (history : List Entry) → AreGrants launch
     → Tells (world launch history).state (ledger launch history)
 ledger_tells launch history grants legal =
     rows_tell (world launch history).state (ledger launch history) (world_is_valid launch history grants legal) (world_rows launch history legal)
+
+-- ---- how what is held may change
+
+-- what the entry's process holds
+pub own_after : (launch : Launch) (front : List Entry) (e : Entry)
+    → (ledger launch (front ++ e ∷ [])).held e.pid ≡ acted_row ((ledger launch front).held e.pid) e.act
+own_after launch front e =
+    let row = (ledger launch front).held e.pid in
+    ap (λ (l : Ledger). l.held e.pid) (ledger_more launch front e) ∙ ap (λ b. cond b (acted_row row e.act) row) (eq-eqb e.pid e.pid refl)
+
+-- what another process holds
+others_after : (launch : Launch) (front : List Entry) (e : Entry) (q : ℕ) → q ≢ e.pid
+    → (ledger launch (front ++ e ∷ [])).held q ≡ (ledger launch front).held q
+others_after launch front e q apart =
+    elim (eqb_tells q e.pid) [
+      | inl is ↦ absurd (apart is.1)
+      | inr other ↦ ap (λ (l : Ledger). l.held q) (ledger_more launch front e)
+          ∙ ap (λ b. cond b (acted_row ((ledger launch front).held e.pid) e.act) ((ledger launch front).held q)) other.0
+    ]
+
+pub entry_changes_one : (launch : Launch) (front : List Entry) (e : Entry)
+    → Change ((ledger launch front).held e.pid) ((ledger launch (front ++ e ∷ [])).held e.pid)
+    × ((q : ℕ) → q ≢ e.pid → (ledger launch (front ++ e ∷ [])).held q ≡ (ledger launch front).held q)
+entry_changes_one launch front e = (
+  subst (Change ((ledger launch front).held e.pid)) (sym (own_after launch front e)) (acted_change ((ledger launch front).held e.pid) e.act),
+  others_after launch front e,
+)
 
 -- ---- where descriptors come from
 
@@ -108,20 +138,29 @@ tables_are_recorded launch history grants legal p n table d there here =
 
 -- ---- what a call may read
 
-by_held : (launch : Launch) (history : List Entry) → AreGrants launch.grants → Legal launch history → (who : Who) (call : Call) (part : Part)
-    → IsReachedBy (world launch history).state who call part
+by_held : (launch : Launch) (history : List Entry) → AreGrants launch.grants → Legal launch history → (who : Who) (call : Call) (part : Part) (table : Table)
+    → get (world launch history).state.tables who.pid ≡ Some table → IsReached (world launch history).state table (need call) part
     → IsReachedByHeld (world launch history).state (ledger launch history) launch.grants who.pid (need call) part
-by_held launch history grants legal who call part by =
-    let r = by.3 in
-    let at = tables_are_recorded launch history grants legal who.pid r.row.fd by.0 r.d by.1 r.there in
+by_held launch history grants legal who call part table own r =
+    let at = tables_are_recorded launch history grants legal who.pid r.row.fd table r.d own r.there in
     record { row = r.row; asked = r.asked; d = r.d; held = at.0; has = r.has; granted = at.1; reached = r.part }
+
+by_named : (launch : Launch) (history : List Entry) → AreGrants launch.grants → Legal launch history → (who : Who) (call : Call) (part : Part) (table : Table)
+    → get (world launch history).state.tables who.pid ≡ Some table → IsReachedByName (world launch history).state table call part
+    → IsReachedByNamed (world launch history).state (ledger launch history) launch.grants who.pid call part
+by_named launch history grants legal who call part table own r =
+    let at = tables_are_recorded launch history grants legal who.pid r.fd table r.d own r.there in
+    record { none = r.none; fd = r.fd; asked = r.asked; d = r.d; held = at.0; granted = at.1; reached = r.part }
 
 pub sight_is_recorded : (launch : Launch) (history : List Entry) → AreGrants launch.grants → Legal launch history
     → SeesByHeld (world launch history).state (ledger launch history) launch.grants
 sight_is_recorded launch history grants legal who call part seen =
     elim (sight_is_reached (world launch history).state who call part seen) [
       | inl own ↦ inl own
-      | inr by ↦ inr (by_held launch history grants legal who call part by)
+      | inr by ↦ elim by.3 [
+        | inl needed ↦ inr (inl (by_held launch history grants legal who call part by.0 by.1 needed))
+        | inr named ↦ inr (inr (by_named launch history grants legal who call part by.0 by.1 named))
+      ]
     ]
 
 -- ---- each point of a history

@@ -1,12 +1,15 @@
 -- What a state's tables are as rows, and what errors leave of a row.
-use Rattle.std.proofs.Common.{◌≡◌, ◌≢◌, ℕ, Option, Some, None, refl, ap, ◌∙◌}
+use Rattle.std.proofs.Common.{◌≡◌, ◌≢◌, inl, inr, ℕ, cond, Option, Some, None, refl, sym, ap, ◌∙◌}
+use Rattle.std.proofs.lemmas.Bool.{eq-eqb}
+use Rattle.std.proofs.lemmas.Bool.Decides.{eqb_tells}
 use Rattle.std.specs.Ordering.{nat_cmp}
-use Rattle.std.specs.FinMap.{FinMap, get, get-empty, insert, empty}
+use Rattle.std.specs.FinMap.{FinMap, get, get-empty, insert, remove, empty}
 use Rattle.abi_base.specs.declared.errno.Errno.{Errno}
 use Rattle.abi_base.specs.declared.errno.Errno.TheVariants.{Success}
-use Rattle.number_map.specs.Maps.{get-insert-same}
+use Rattle.abi_types.specs.declared.descriptor.Descriptor.{Descriptor}
+use Rattle.number_map.specs.Maps.{get-insert-same, get-insert-other, get-remove-same, get-remove-other}
 use Rattle.kernel_model.specs.State.{State, Table}
-use Rattle.authority_laws.specs.Ledger.{Row, no_row, by_success}
+use Rattle.authority_laws.specs.Ledger.{Row, no_row, with_held, by_success}
 
 -- what is under each number of a table, where there is a table
 abbrev pub row_in : Option Table → Row
@@ -22,6 +25,40 @@ row_in_empty = λ i n. get-empty nat_cmp n i
 
 pub row_emptied : (tables : FinMap nat_cmp Table) (p : ℕ) → row_in (get (insert tables p empty) p) ≡ no_row
 row_emptied tables p = ap row_in (get-insert-same tables p empty) ∙ row_in_empty
+
+-- ---- one number
+
+pub held_here : (row : Row) (n : ℕ) (o : Option Descriptor) → with_held row n o n ≡ o
+held_here row n o = ap (λ b. cond b o (row n)) (eq-eqb n n refl)
+
+pub held_elsewhere : (row : Row) (n : ℕ) (o : Option Descriptor) (m : ℕ) → m ≢ n → with_held row n o m ≡ row m
+held_elsewhere row n o m apart =
+    elim (eqb_tells m n) [
+      | inl is ↦ absurd (apart is.1)
+      | inr other ↦ ap (λ b. cond b o (row m)) other.0
+    ]
+
+inserted_at : (table : Table) (n : ℕ) (d : Descriptor) (m : ℕ) → get (insert table n d) m ≡ with_held (row_in (Some table)) n (Some d) m
+inserted_at table n d m =
+    elim (eqb_tells m n) [
+      | inl is ↦ ap (get (insert table n d)) is.1 ∙ get-insert-same table n d ∙ sym (ap (λ b. cond b (Some d) (get table m)) is.0)
+      | inr other ↦ get-insert-other table n d m other.1 ∙ sym (ap (λ b. cond b (Some d) (get table m)) other.0)
+    ]
+
+-- a descriptor put into a table
+pub row_inserted : (table : Table) (n : ℕ) (d : Descriptor) → row_in (Some (insert table n d)) ≡ with_held (row_in (Some table)) n (Some d)
+row_inserted table n d = λ i m. inserted_at table n d m i
+
+removed_at : (table : Table) (n m : ℕ) → get (remove table n) m ≡ with_held (row_in (Some table)) n None m
+removed_at table n m =
+    elim (eqb_tells m n) [
+      | inl is ↦ ap (get (remove table n)) is.1 ∙ get-remove-same table n ∙ sym (ap (λ b. cond b None (get table m)) is.0)
+      | inr other ↦ get-remove-other table n m other.1 ∙ sym (ap (λ b. cond b None (get table m)) other.0)
+    ]
+
+-- a descriptor taken out of a table
+pub row_removed : (table : Table) (n : ℕ) → row_in (Some (remove table n)) ≡ with_held (row_in (Some table)) n None
+row_removed table n = λ i m. removed_at table n m i
 
 -- ---- errors
 

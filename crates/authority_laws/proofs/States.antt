@@ -38,7 +38,7 @@ outcome_told : (constants : Constants) (S : State) (who : Who) (call : Call) →
 outcome_told constants S who call =
     outcome_holds (LeavesRow (tick S) who.pid call) constants S who call
     (λ reply is. refusal_told (tick S) who.pid call (get S.tables who.pid) reply is)
-    (λ table. told call constants (tick S) (whole (tick S)) who table)
+    (λ table there. told call constants (tick S) (whole (tick S)) who table there)
 
 step_row : (constants : Constants) (S : State) (who : Who) (call : Call) (given : Answer) (T : State) → IsStep constants S who call given T
     → row_of T who.pid ≡ answered_row (row_of S who.pid) call given

@@ -1,16 +1,22 @@
 -- What the ledger tells of every legal history: the statements that are the contracts of the functions of src/laws.rt.
-use Rattle.std.specs.Prelude.{◌≡◌, ◌≢◌, ◌⊎◌, ℕ, true, List, [], ◌∷◌, ◌++◌, None, Some}
+use Rattle.std.specs.Prelude.{◌≡◌, ◌≢◌, ◌⊎◌, ℕ, bit_and, true, List, [], ◌∷◌, ◌++◌, None, Some, IsSome}
 use Rattle.std.specs.FinMap.{get}
+use Rattle.abi_base.specs.declared.errno.Errno.TheVariants.{Success}
 use Rattle.abi_base.specs.declared.grant.Grant.{Grant}
 use Rattle.abi_base.specs.Grants.{AreGrants}
+use Rattle.abi_structures.specs.declared.structures.FdStat.{FdStat}
 use Rattle.abi_types.specs.declared.call.Call.{Call}
+use Rattle.abi_types.specs.declared.call.Call.TheVariants.{FdDup, FdReplace, FdStatPut}
 use Rattle.abi_types.specs.declared.descriptor.Descriptor.{Descriptor}
 use Rattle.abi_types.specs.declared.needed.Needed.{Needed}
+use Rattle.abi_types.specs.declared.reply.Answer.TheVariants as answer
+use Rattle.abi_types.specs.declared.reply.Reply.{Reply}
 use Rattle.abi_types.specs.declared.status.Status.TheVariants.{Live}
 use Rattle.abi_types.specs.declared.who.Who.{Who}
+use Rattle.run_types.specs.declared.history.Act.TheVariants as act
 use Rattle.run_types.specs.declared.history.Entry.{Entry}
 use Rattle.run_types.specs.declared.launch.Launch.{Launch}
-use Rattle.kernel_model.specs.Calls.{need}
+use Rattle.kernel_model.specs.Calls.{named, need}
 use Rattle.kernel_model.specs.Need.{has_needed}
 use Rattle.kernel_model.specs.Proper.{IsIn}
 use Rattle.kernel_model.specs.Sight.{own_parts, behind}
@@ -19,7 +25,7 @@ use Rattle.kernel_model.specs.Step.{sight}
 use Rattle.run_model.specs.Legal.{Legal}
 use Rattle.run_model.specs.World.{world}
 use Rattle.authority_laws.specs.Ledger.{Ledger, launch_ledger}
-use Rattle.authority_laws.specs.Origins.{ComesFrom, ComesFromGrant, AllComeFromGrants}
+use Rattle.authority_laws.specs.Origins.{ComesFrom, ComesFromGrant, AllComeFromGrants, Change, IsCopied, IsLowered}
 use Rattle.authority_laws.specs.Recorded.{noted, ledger}
 
 -- ---- the ledger of one more entry
@@ -52,11 +58,47 @@ LedgerTells =
 
 -- ---- where descriptors come from
 
--- What is held after an entry of a legal history has its origin in what was held before it.
+-- Each descriptor that a process holds after an entry of a legal history names the open of one that it held before that entry,
+-- with no right that this one lacked.
 abbrev pub RightsNeverGrow : Type 0
 RightsNeverGrow =
     (launch : Launch) (front : List Entry) (e : Entry) (rest : List Entry) → AreGrants launch.grants → Legal launch (front ++ e ∷ rest)
     → ComesFrom (ledger launch front) (ledger launch (front ++ e ∷ []))
+
+-- An entry changes what its process holds in one of the few ways of `Change`, and leaves what each other process holds.
+abbrev pub EntryChangesOne : Type 0
+EntryChangesOne =
+    (launch : Launch) (front : List Entry) (e : Entry)
+    → Change ((ledger launch front).held e.pid) ((ledger launch (front ++ e ∷ [])).held e.pid)
+    × ((q : ℕ) → q ≢ e.pid → (ledger launch (front ++ e ∷ [])).held q ≡ (ledger launch front).held q)
+
+-- the entry is this call, which succeeded with this reply
+pub record Succeeds (e : Entry) (call : Call) (reply : Reply) : Type 0 where
+  pub is : e.act ≡ act.Call call (answer.Reply reply)
+  pub success : reply.errno ≡ Success
+
+-- After fd_dup of a legal history there stands under its result, under which nothing stood, what stood under the descriptor's
+-- number at that entry.
+abbrev pub DuplicatesAreEqual : Type 0
+DuplicatesAreEqual =
+    (launch : Launch) (front : List Entry) (e : Entry) (rest : List Entry) (fd : ℕ) (reply : Reply) → Legal launch (front ++ e ∷ rest)
+    → Succeeds e (FdDup fd) reply → ((ledger launch front).held e.pid reply.r1 ≡ None)
+    × IsCopied ((ledger launch front).held e.pid) ((ledger launch (front ++ e ∷ [])).held e.pid) fd reply.r1
+
+-- After fd_replace of a legal history there stands under `to`, under which something stood, what stood under `from` at that entry.
+abbrev pub ReplacementsAreEqual : Type 0
+ReplacementsAreEqual =
+    (launch : Launch) (front : List Entry) (e : Entry) (rest : List Entry) (from to : ℕ) (reply : Reply) → Legal launch (front ++ e ∷ rest)
+    → Succeeds e (FdReplace from to) reply → IsSome ((ledger launch front).held e.pid to)
+    × IsCopied ((ledger launch front).held e.pid) ((ledger launch (front ++ e ∷ [])).held e.pid) from to
+
+-- After fd_stat_put with RIGHTS (2) of a legal history the descriptor has exactly those of the rights which it had at that entry
+-- that are asked.
+abbrev pub RightsAreLowered : Type 0
+RightsAreLowered =
+    (launch : Launch) (front : List Entry) (e : Entry) (rest : List Entry) (fd : ℕ) (stat : FdStat) (flags : ℕ) (reply : Reply)
+    → Legal launch (front ++ e ∷ rest) → Succeeds e (FdStatPut fd stat flags) reply → bit_and flags 2 ≢ 0
+    → IsLowered ((ledger launch front).held e.pid) ((ledger launch (front ++ e ∷ [])).held e.pid) fd stat
 
 -- What the ledger of a legal history says is held is no more than one of the launch's grants.
 abbrev pub HeldIsGranted : Type 0
@@ -84,12 +126,23 @@ pub record IsReachedByHeld (S : State) (l : Ledger) (grants : List Grant) (p : �
   pub granted : ComesFromGrant grants d
   pub reached : has_part (at_open d.id ∷ behind (get S.opens d.id)) part ≡ true
 
+-- the call needs no right at all, and the part is the open of a descriptor that it names, which the ledger says that process p
+-- holds, and which is no more than one of the grants; or it stands behind that open
+pub record IsReachedByNamed (S : State) (l : Ledger) (grants : List Grant) (p : ℕ) (call : Call) (part : Part) : Type 0 where
+  pub none : need call ≡ []
+  pub fd : ℕ
+  pub asked : IsIn fd (named call)
+  pub d : Descriptor
+  pub held : l.held p fd ≡ Some d
+  pub granted : ComesFromGrant grants d
+  pub reached : has_part (at_open d.id ∷ behind (get S.opens d.id)) part ≡ true
+
 -- what a call sees is the clock, its process's own and its status, or it is reached by what the ledger says that its process
--- holds
+-- holds: with the rights needed, or by name alone where the call needs none
 abbrev pub SeesByHeld : State → Ledger → List Grant → Type 0
 SeesByHeld S l grants =
     (who : Who) (call : Call) (part : Part) → has_part (sight S who call) part ≡ true
-    → (has_part (own_parts who.pid) part ≡ true) ⊎ IsReachedByHeld S l grants who.pid (need call) part
+    → (has_part (own_parts who.pid) part ≡ true) ⊎ (IsReachedByHeld S l grants who.pid (need call) part ⊎ IsReachedByNamed S l grants who.pid call part)
 
 -- So it is in the world of a legal history.
 abbrev pub SightIsRecorded : Type 0

@@ -1,5 +1,5 @@
 //! Laws of the ledger. The statements are in `specs/Laws.antt`, and each holds of every launch and history.
-ghost use Rattle.authority_laws.specs.Laws.{LedgerBegins, LedgerGoesOn, LedgerTells, RightsNeverGrow, HeldIsGranted, TablesAreRecorded, SightIsRecorded, LegalIsRecorded};
+ghost use Rattle.authority_laws.specs.Laws.{LedgerBegins, LedgerGoesOn, LedgerTells, RightsNeverGrow, EntryChangesOne, DuplicatesAreEqual, ReplacementsAreEqual, RightsAreLowered, HeldIsGranted, TablesAreRecorded, SightIsRecorded, LegalIsRecorded};
 
 /// The ledger of no entry is the launch's, and that of one more entry is the ledger before it with the entry noted.
 pub fn ledger_goes_on()
@@ -14,10 +14,30 @@ pub fn ledger_tells()
     ensures { LedgerTells }
 {}
 
-/// Rights never grow: each descriptor that is held after an entry of a legal history has its origin in what was held before
-/// it.
+/// Rights never grow: each descriptor that a process holds after an entry of a legal history names the open of one that the
+/// same process held before that entry, with no right that this one lacked.
 pub fn rights_never_grow()
     ensures { RightsNeverGrow }
+{}
+
+/// An entry leaves what each process but its own holds. What that holds stays; or it holds nothing any more; or what stands
+/// under one number changes, to nothing, to what stood under another number, or to the same open with no right more.
+pub fn entry_changes_one()
+    ensures { EntryChangesOne }
+{}
+
+/// A copy has the open and exactly the rights of what was copied, as they were at that entry. After an `fd_dup` of a legal
+/// history that succeeded, its result, under which nothing stood, is a copy of the descriptor; after such an `fd_replace`
+/// `to` is one of `from`. Under each other number stands what stood there.
+pub fn copies_are_equal()
+    ensures duplicates { DuplicatesAreEqual }
+    ensures replacements { ReplacementsAreEqual }
+{}
+
+/// After an `fd_stat_put` with RIGHTS of a legal history that succeeded, the descriptor names the open that it named, with
+/// exactly those of its rights that are asked. Under each other number stands what stood there.
+pub fn rights_are_lowered()
+    ensures { RightsAreLowered }
 {}
 
 /// Each descriptor that the ledger of a legal history says is held names the open of one of the launch's grants, with no
@@ -28,8 +48,8 @@ pub fn held_is_granted()
 {}
 
 /// What a call may read in the world of a legal history is the clock, what is its process's own and its status, or it is
-/// reached by a descriptor which the ledger says that its process holds. That has the rights needed, and is no more than one
-/// of the launch's grants.
+/// reached by a descriptor which the ledger says that its process holds. That has the rights needed, or the call names it and
+/// needs no right at all; and it is no more than one of the launch's grants.
 pub fn sight_is_recorded()
     ensures { SightIsRecorded }
 {}
