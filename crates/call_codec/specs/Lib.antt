@@ -1,5 +1,6 @@
 pub mod Args
 pub mod MemoryCalls
+pub mod WriteCall
 pub mod Spelled
 pub mod Put
 pub mod Image

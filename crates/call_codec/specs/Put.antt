@@ -4,15 +4,21 @@ use Rattle.std.specs.Prelude.{◌+◌, ◌%◌, ◌^◌}
 use Rattle.abi_types.specs.declared.reply.Answer.{Answer}
 use Rattle.abi_types.specs.declared.reply.Answer.TheVariants as answer
 use Rattle.abi_types.specs.declared.call.Call.{Call}
-use Rattle.abi_types.specs.declared.call.Call.TheVariants.{FdWrite, MemMap}
+use Rattle.abi_types.specs.declared.call.Call.TheVariants.{FdDup, FdPread, FdPwrite, FdRead, FdSeek, FdWrite, MemMap}
 use Rattle.abi_types.specs.declared.reply.Reply.{Reply}
 use Rattle.abi_base.specs.Errno.{number_of}
 use Rattle.abi_base.specs.Registers.{Registers, with_pc, with_x}
 use Rattle.guest_memory.specs.Page.{Pages}
 use Rattle.call_codec.specs.MemoryCalls.{memory_with, on_success}
 
--- the results of a call that succeeded: fd_write has how many bytes it wrote, mem_map has an address
+-- the results of a call that succeeded: fd_dup has the new number; fd_pread, fd_pwrite, fd_read and fd_write have how many bytes
+-- went; fd_seek has the new offset; mem_map has an address
 abbrev pub with_results : Registers → Call → Reply → Registers
+with_results r (FdDup fd) reply = with_x r 11 reply.r1
+with_results r (FdPread fd length offset) reply = with_x r 11 reply.r1
+with_results r (FdPwrite fd bytes offset) reply = with_x r 11 reply.r1
+with_results r (FdRead fd length) reply = with_x r 11 reply.r1
+with_results r (FdSeek fd offset whence) reply = with_x r 11 reply.r1
 with_results r (FdWrite fd bytes) reply = with_x r 11 reply.r1
 with_results r (MemMap place length prot flags fd offset) reply = with_x r 11 reply.r1
 with_results r other reply = r

@@ -16,3 +16,4 @@ mod memory_calls;
 mod reading;
 mod replies;
 mod start;
+mod write_call;

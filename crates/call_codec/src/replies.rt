@@ -59,7 +59,13 @@ fn put_results(regs: &mut Regs, call: &Call, reply: &Reply)
     ensures { regs.new ≡ with_results regs.old call.now reply.now }
 {
     match call {
-        Call::FdWrite { .. } | Call::MemMap { .. } => regs.set(11, reply.r1),
+        Call::FdDup { .. }
+        | Call::FdPread { .. }
+        | Call::FdPwrite { .. }
+        | Call::FdRead { .. }
+        | Call::FdSeek { .. }
+        | Call::FdWrite { .. }
+        | Call::MemMap { .. } => regs.set(11, reply.r1),
         _ => {}
     }
 }
