@@ -1,12 +1,12 @@
 -- What holds of each call that registers can spell holds of the one that they spell.
 --     args_hold      what holds of each of them, and of each refusal with a listed error, holds of the call
 --     args_refusals      each error with which a call is refused is listed
-use Rattle.std.proofs.Common.{◌≡◌, ℕ, ◌==◌, not, nat_lt, Bool, true, false, cond, List, Result, Ok, Err, refl, subst}
+use Rattle.std.proofs.Common.{◌≡◌, ℕ, ◌==◌, ◌&&◌, ◌||◌, not, nat_lt, Bool, true, false, cond, List, Option, Some, None, Result, Ok, Err, refl, subst}
 use Rattle.std.specs.Prelude.{slice_index}
 use Rattle.abi_types.specs.declared.call.Call.{Call}
-use Rattle.abi_types.specs.declared.call.Call.TheVariants.{FdClose, FdDatasync, FdDup, FdPread, FdPwrite, FdRead, FdReplace, FdSeek, FdStatGet, FdStatPut, FdSync, FdWrite, ProcExit, Refused}
+use Rattle.abi_types.specs.declared.call.Call.TheVariants.{FdClose, FdDatasync, FdDup, FdPread, FdPwrite, FdRead, FdReplace, FdSeek, FdStatGet, FdStatPut, FdSync, FdWrite, Memory, ProcExit, Refused}
 use Rattle.abi_base.specs.declared.errno.Errno.{Errno}
-use Rattle.abi_base.specs.declared.errno.Errno.TheVariants.{Fault, Inval, Nosys}
+use Rattle.abi_base.specs.declared.errno.Errno.TheVariants.{Success, Fault, Inval, Nosys, Notsup}
 use Rattle.abi_base.specs.Registers.{Registers}
 use Rattle.abi_structures.specs.declared.structures.FdStat.{FdStat}
 use Rattle.guest_memory.specs.declared.fault.MemFault.{MemFault}
@@ -16,7 +16,7 @@ use Rattle.argument_reading.specs.Arguments.{argument, low}
 use Rattle.argument_reading.specs.Ranges.{gathered_in, ranges_at}
 use Rattle.argument_reading.specs.declared.ranges.TheConstants.{MOST_IOVECS}
 use Rattle.call_codec.specs.Args.{call_of, args_of, is_of_descriptors}
-use Rattle.call_codec.specs.MemoryCalls.{mem_advise_of, mem_map_of, mem_protect_of, mem_sync_of, mem_unmap_of}
+use Rattle.call_codec.specs.MemoryCalls.{has_bits, has_one, if_mapped, is_aligned, is_guests, map_refusal, mem_advise_of, mem_map_of, mem_protect_of, mem_sync_of, mem_unmap_of, pages_in, protect_refusal, unless_refused, writes_and_executes}
 use Rattle.call_codec.specs.Spelled.{descriptor_call, is_among, or_refused}
 use Rattle.call_codec.specs.WriteCall.{fd_write_with, fd_write_of}
 use Rattle.call_codec.proofs.Readings.{IsListedRefusal, descriptor_holds}
@@ -100,3 +100,60 @@ module _ (P : Call → Type 0) (m : Pages) (r : Registers) (h : OfEach P m r) wh
   pub args_hold : P (args_of m r)
   unfolding args_of
   args_hold = call_holds (slice_index r.x 17)
+
+-- ---- errors of refusals
+
+-- a call that isn't refused, or with an error that is listed
+abbrev IsListedCall : Call → Type 0
+IsListedCall (Refused number errno) = IsListedRefusal errno
+IsListedCall other = Unit {0}
+
+abbrev IsListedIf : Option Errno → Type 0
+IsListedIf None = Unit {0}
+IsListedIf (Some errno) = IsListedRefusal errno
+
+unless_listed : (number : ℕ) (refusal : Option Errno) (call : Call) → IsListedIf refusal → IsListedCall call → IsListedCall (unless_refused number refusal call)
+unless_listed number None call h k = k
+unless_listed number (Some errno) call h k = h
+
+or_listed : (b : Bool) (errno : Errno) (rest : Option Errno) → IsListedRefusal errno → IsListedIf rest → IsListedIf (cond b (Some errno) rest)
+or_listed true errno rest h k = h
+or_listed false errno rest h k = k
+
+protect_listed : (a prot : ℕ) → IsListedIf (protect_refusal a prot)
+protect_listed a prot =
+    or_listed (nat_lt 7 prot || not (is_aligned a)) Inval _ tt (or_listed (writes_and_executes prot) Notsup None tt tt)
+
+map_listed : (a bytes prot flags offset : ℕ) → IsListedIf (map_refusal a bytes prot flags offset)
+map_listed a bytes prot flags offset =
+    or_listed (not (has_bits flags 1)) Nosys _ tt
+    (or_listed (nat_lt 7 prot || nat_lt 15 flags || bytes == 0 || not (has_one flags 4 8) || not (is_aligned offset)) Inval _ tt
+    (or_listed (has_bits flags 8 || writes_and_executes prot) Notsup _ tt
+    (or_listed (has_bits flags 2 && not (is_aligned a && is_guests a (pages_in bytes))) Inval None tt tt)))
+
+args_listed : (m : Pages) (r : Registers) → IsListedCall (args_of m r)
+args_listed m r = args_hold IsListedCall m r (record {
+  fd_close = λ fd. tt;
+  fd_datasync = λ fd. tt;
+  fd_dup = λ fd. tt;
+  fd_pread = λ fd length offset is. tt;
+  fd_pwrite = λ fd bytes offset is. tt;
+  fd_read = λ fd length is. tt;
+  fd_replace = λ from to. tt;
+  fd_seek = λ fd offset whence is. tt;
+  fd_stat_get = λ fd is. tt;
+  fd_stat_put = λ fd stat flags is. tt;
+  fd_sync = λ fd. tt;
+  fd_write = λ fd bytes. tt;
+  mem_advise = either_call IsListedCall _ (Memory 32 (if_mapped m (argument r 0) (argument r 1))) (Refused 32 Inval) tt tt;
+  mem_map = unless_listed 33 _ _ (map_listed (argument r 0) (argument r 1) (low (argument r 2)) (low (argument r 3)) (argument r 5)) tt;
+  mem_protect = unless_listed 34 _ _ (protect_listed (argument r 0) (low (argument r 2))) tt;
+  mem_sync = either_call IsListedCall _ (Memory 35 (if_mapped m (argument r 0) (argument r 1))) (Refused 35 Inval) tt tt;
+  mem_unmap = either_call IsListedCall _ (Memory 36 Success) (Refused 36 Inval) tt tt;
+  proc_exit = λ code. tt;
+  refused = λ number errno listed. listed;
+})
+
+-- each error with which a call is refused is listed
+pub args_refusals : (m : Pages) (r : Registers) (number : ℕ) (errno : Errno) → args_of m r ≡ Refused number errno → IsListedRefusal errno
+args_refusals m r number errno refused = subst IsListedCall refused (args_listed m r)

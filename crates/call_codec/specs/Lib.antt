@@ -2,6 +2,7 @@ pub mod Args
 pub mod MemoryCalls
 pub mod WriteCall
 pub mod Spelled
+pub mod Output
 pub mod Put
 pub mod Image
 pub mod Start

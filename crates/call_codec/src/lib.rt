@@ -13,6 +13,7 @@ mod arguments;
 mod image;
 mod laws;
 mod memory_calls;
+mod output;
 mod reading;
 mod replies;
 mod start;
