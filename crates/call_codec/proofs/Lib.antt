@@ -4,6 +4,7 @@ pub mod Calls
 pub mod Images
 pub mod MemoryCalls
 pub mod Puts
+pub mod Outputs
 pub mod Rooms
 pub mod SoundStarts
 pub mod Starts
