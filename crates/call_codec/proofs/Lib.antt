@@ -1,7 +1,10 @@
+pub mod Readings
+pub mod Layouts
 pub mod Calls
 pub mod Images
 pub mod MemoryCalls
 pub mod Puts
+pub mod Outputs
 pub mod Rooms
 pub mod SoundStarts
 pub mod Starts

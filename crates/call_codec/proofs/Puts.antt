@@ -1,16 +1,17 @@
 -- What the memory of a caller is like whose registers spell a call about it.
 --     fits_of_args      a mapping goes where it may
 --     aligned_of_args, there_of_args      mem_protect and mem_unmap are of a page's address, and mem_protect's pages are there
+--     few_of_pread, few_of_read      an iovec array to read into has at most 1024 iovecs
 --     guests_pages      pages that are there lie in the guest's part of the address space
 --     unmapped_within      pages past that part need not be taken away
-use Rattle.std.proofs.Common.{◌≡◌, ℕ, zero, suc, ◌+◌, ◌-◌, ◌*◌, ◌/◌, ◌%◌, ◌<◌, ◌≤◌, ◌==◌, ◌&&◌, ◌||◌, not, inl, inr, ◌⊎◌, Bool, true, false, cond, min, nat_le, nat_lt, Option, Some, None, IsSome, List, Result, Ok, Err, OnOk, IfErr, refl, sym, ap, subst, ◌∙◌, arith}
-use Rattle.std.proofs.lemmas.Bool.{leb-true}
+use Rattle.std.proofs.Common.{◌≡◌, ℕ, zero, suc, ◌+◌, ◌-◌, ◌*◌, ◌/◌, ◌%◌, ◌<◌, ◌≤◌, ◌==◌, ◌&&◌, ◌||◌, not, inl, inr, ◌⊎◌, Bool, true, false, cond, min, nat_le, nat_lt, Option, Some, None, IsSome, Result, Ok, Err, OnOk, IfErr, refl, sym, ap, subst, ◌∙◌, arith}
+use Rattle.std.proofs.lemmas.Bool.{leb-true, ltb-false}
 use Rattle.std.proofs.lemmas.Bool.Decides.{eqb_tells}
 use Rattle.std.specs.FinMap.{get, len}
 use Rattle.guest_memory.specs.declared.fault.MemFault.{MemFault}
 use Rattle.guest_memory.specs.declared.fault.MemFault.TheVariants.{NotMapped, NoRight, PageLimit, Overlaps, NoMemory}
 use Rattle.abi_types.specs.declared.call.Call.{Call}
-use Rattle.abi_types.specs.declared.call.Call.TheVariants.{FdWrite, MemMap, Memory, ProcExit, Refused}
+use Rattle.abi_types.specs.declared.call.Call.TheVariants.{FdPread, FdRead, FdStatGet, MemMap, Memory, Refused}
 use Rattle.abi_base.specs.declared.errno.Errno.{Errno}
 use Rattle.abi_base.specs.declared.errno.Errno.TheVariants.{Success, Fault, Inval, Nobufs, Nosys, Notsup}
 use Rattle.abi_types.specs.declared.place.Place.{Place}
@@ -25,15 +26,19 @@ use Rattle.guest_memory.specs.Page.{Page, Pages}
 use Rattle.guest_memory.specs.Ranges.{IsPageAddress, in_range}
 use Rattle.guest_memory.proofs.Changes.{are_there, gap_of_lowest, protected_is, unmapped_is, without_free, without_none}
 use Rattle.guest_memory.proofs.PageRanges.{first_true, second_true, inside, is_inside, not_both, no_page_unless, none_changed}
-use Rattle.argument_reading.specs.declared.ranges.TheConstants.{MOST_IOVECS}
+use Rattle.argument_reading.specs.Reading.{◌>>=◌, refuse_when}
 use Rattle.call_codec.proofs.Calls.{args_hold}
+use Rattle.call_codec.proofs.Readings.{after, test_false}
+use Rattle.call_reading.specs.DescriptorCalls.{fd_pread_of, fd_read_of, fd_stat_get_of, has_many}
 use Rattle.argument_reading.specs.Arguments.{argument, low}
-use Rattle.argument_reading.specs.Ranges.{gathered_in, ranges_at}
-use Rattle.call_codec.specs.Args.{fd_write_of, fd_write_with, args_of}
+use Rattle.call_codec.specs.Args.{args_of}
 use Rattle.call_codec.specs.MemoryCalls.{has_bits, is_aligned, is_guests, is_range, is_sync, pages_in, if_mapped, mem_advise_of, mem_map_of, mem_protect_of, mem_sync_of, mem_unmap_of, map_refusal, protect_refusal, unless_refused, place_at, place_in, place_in_gap, place_of, writes_and_executes, has_one, MayMapAt, MayMapThere}
 
 -- what these registers and this memory are like where they spell the call
 abbrev pub Suits : Pages → Registers → Call → Type 0
+Suits m r (FdPread fd length offset) = fd_pread_of m r ≡ Ok (FdPread fd length offset)
+Suits m r (FdRead fd length) = fd_read_of m r ≡ Ok (FdRead fd length)
+Suits m r (FdStatGet fd) = fd_stat_get_of m r ≡ Ok (FdStatGet fd)
 Suits m r (MemMap place length prot flags fd offset) = MayMapThere m place (pages_in length)
 Suits m r (Memory number errno) =
     IsPageAddress (argument r 0) × (number ≡ 34 → errno ≡ Success → AreThere m (argument r 0 / 4096) (pages_in (argument r 1)))
@@ -59,15 +64,6 @@ success_is_there m n k = elim (all_there m n k) as (λ b. cond b Success Fault �
 
 mapped_there : (m : Pages) (a bytes : ℕ) → if_mapped m a bytes ≡ Success → AreThere m (a / 4096) (pages_in bytes)
 mapped_there m a bytes h = are_there (pages_in bytes) m (a / 4096) (success_is_there m (a / 4096) (pages_in bytes) h)
-
-written_suits : (m : Pages) (r : Registers) (fd : ℕ) (bytes : Result (List ℕ) MemFault) → Suits m r (fd_write_with fd bytes)
-written_suits m r fd (Ok bytes) = tt
-written_suits m r fd (Err fault) = tt
-
-write_suits : (m : Pages) (r : Registers) → Suits m r (fd_write_of m r)
-write_suits m r =
-    either_suits m r (nat_lt MOST_IOVECS (argument r 2)) (Refused 16 Inval) (fd_write_with (low (argument r 0)) (gathered_in m (ranges_at m (argument r 1) (argument r 2))))
-    (λ e. tt) (written_suits m r (low (argument r 0)) (gathered_in m (ranges_at m (argument r 1) (argument r 2))))
 
 advise_suits : (m : Pages) (r : Registers) → Suits m r (mem_advise_of m r)
 advise_suits m r =
@@ -180,18 +176,41 @@ map_suits m r =
 -- the registers and the memory suit the call that they spell
 args_suit : (m : Pages) (r : Registers) → Suits m r (args_of m r)
 args_suit m r = args_hold (Suits m r) m r (record {
-  fd_write = write_suits m r;
+  fd_close = λ fd. tt;
+  fd_datasync = λ fd. tt;
+  fd_dup = λ fd. tt;
+  fd_pread = λ fd length offset is. is;
+  fd_pwrite = λ fd bytes offset is. tt;
+  fd_read = λ fd length is. is;
+  fd_replace = λ from to. tt;
+  fd_seek = λ fd offset whence is. tt;
+  fd_stat_get = λ fd is. is;
+  fd_stat_put = λ fd stat flags is. tt;
+  fd_sync = λ fd. tt;
+  fd_write = λ fd bytes. tt;
   mem_advise = advise_suits m r;
   mem_map = map_suits m r;
   mem_protect = protect_suits m r;
   mem_sync = sync_suits m r;
   mem_unmap = unmap_suits m r;
-  proc_exit = tt;
-  unknown = λ number. tt;
+  proc_exit = λ code. tt;
+  refused = λ number errno listed. tt;
 })
 
 pub call_suits : (m : Pages) (r : Registers) (call : Call) → call ≡ args_of m r → Suits m r call
 call_suits m r call spelled = subst (Suits m r) (sym spelled) (args_suit m r)
+
+-- ---- iovec arrays
+
+-- what isn't refused has at most 1024 iovecs
+few_iovecs : (count : ℕ) (rest : Unit {0} → Result Call Errno) (call : Call) → (refuse_when (has_many count) Inval >>= rest) ≡ Ok call → count ≤ 1024
+few_iovecs count rest call = after (λ x. x ≡ Ok call → count ≤ 1024) (refuse_when (has_many count) Inval) rest (λ errno e is. cc) (λ x e is. ltb-false 1024 count (test_false (has_many count) Inval x e))
+
+pub few_of_pread : (m : Pages) (r : Registers) (fd length offset : ℕ) → fd_pread_of m r ≡ Ok (FdPread fd length offset) → argument r 2 ≤ 1024
+few_of_pread m r fd length offset is = few_iovecs (argument r 2) _ (FdPread fd length offset) is
+
+pub few_of_read : (m : Pages) (r : Registers) (fd length : ℕ) → fd_read_of m r ≡ Ok (FdRead fd length) → argument r 2 ≤ 1024
+few_of_read m r fd length is = few_iovecs (argument r 2) _ (FdRead fd length) is
 
 -- ---- the guest's part of the address space
 

@@ -1,6 +1,9 @@
 pub mod Args
 pub mod MemoryCalls
+pub mod WriteCall
 pub mod Spelled
+pub mod Output
+pub mod OutputLaws
 pub mod Put
 pub mod Image
 pub mod Start

@@ -182,11 +182,6 @@ abbrev pub IsSomewhere : Place → Type 0
 IsSomewhere (At a) = Unit {0}
 IsSomewhere (place.Refused errno) = ⊥
 
--- the call maps pages: only such a mem_map takes memory for its answer
-abbrev pub IsMapping : Call → Type 0
-IsMapping (MemMap place length prot flags fd offset) = IsSomewhere place
-IsMapping other = ⊥
-
 -- the memory after the call of these registers, which was answered with SUCCESS
 abbrev pub memory_with : Pages → Registers → Call → Pages
 memory_with m r (MemMap place length prot flags fd offset) = with_mapping m place (pages_in length) (prot_of prot)

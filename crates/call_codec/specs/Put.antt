@@ -1,18 +1,27 @@
 -- What a call's reply leaves of the caller's registers and memory. a0 has the error, on SUCCESS a1 and a2 have the call's
--- results, and the pc goes on after the ECALL; every other register stays. On SUCCESS the calls about memory change it.
+-- results, and the pc goes on after the ECALL; every other register stays. On SUCCESS the calls about memory change it, and what a
+-- call gives beside its results is written into it.
 use Rattle.std.specs.Prelude.{◌+◌, ◌%◌, ◌^◌}
 use Rattle.abi_types.specs.declared.reply.Answer.{Answer}
 use Rattle.abi_types.specs.declared.reply.Answer.TheVariants as answer
 use Rattle.abi_types.specs.declared.call.Call.{Call}
-use Rattle.abi_types.specs.declared.call.Call.TheVariants.{FdWrite, MemMap}
+use Rattle.abi_types.specs.declared.call.Call.TheVariants.{FdDup, FdPread, FdPwrite, FdRead, FdSeek, FdStatGet, FdWrite, MemMap}
+use Rattle.abi_types.specs.declared.reply.Payload.{Payload}
 use Rattle.abi_types.specs.declared.reply.Reply.{Reply}
 use Rattle.abi_base.specs.Errno.{number_of}
 use Rattle.abi_base.specs.Registers.{Registers, with_pc, with_x}
 use Rattle.guest_memory.specs.Page.{Pages}
-use Rattle.call_codec.specs.MemoryCalls.{memory_with, on_success}
+use Rattle.call_codec.specs.MemoryCalls.{memory_with, on_success, IsSomewhere}
+use Rattle.call_codec.specs.Output.{with_content, with_state}
 
--- the results of a call that succeeded: fd_write has how many bytes it wrote, mem_map has an address
+-- the results of a call that succeeded: fd_dup has the new number; fd_pread, fd_pwrite, fd_read and fd_write have how many bytes
+-- went; fd_seek has the new offset; mem_map has an address
 abbrev pub with_results : Registers → Call → Reply → Registers
+with_results r (FdDup fd) reply = with_x r 11 reply.r1
+with_results r (FdPread fd length offset) reply = with_x r 11 reply.r1
+with_results r (FdPwrite fd bytes offset) reply = with_x r 11 reply.r1
+with_results r (FdRead fd length) reply = with_x r 11 reply.r1
+with_results r (FdSeek fd offset whence) reply = with_x r 11 reply.r1
 with_results r (FdWrite fd bytes) reply = with_x r 11 reply.r1
 with_results r (MemMap place length prot flags fd offset) reply = with_x r 11 reply.r1
 with_results r other reply = r
@@ -25,6 +34,21 @@ put_of r call reply =
 abbrev pub answered_of : Registers → Call → Answer → Registers
 answered_of r call (answer.Reply reply) = put_of r call reply
 
+-- the memory after a call of these registers that succeeded and gave this beside its results. The calls that aren't named here
+-- write nothing of it
+abbrev pub memory_after : Pages → Registers → Call → Payload → Pages
+memory_after m r (FdPread fd length offset) payload = with_content m r payload
+memory_after m r (FdRead fd length) payload = with_content m r payload
+memory_after m r (FdStatGet fd) payload = with_state m r payload
+memory_after m r other payload = memory_with m r other
+
 -- the memory after an answer to a call of these registers
 abbrev pub answered_memory : Pages → Registers → Call → Answer → Pages
-answered_memory m r call (answer.Reply reply) = on_success reply.errno (memory_with m r call) m
+answered_memory m r call (answer.Reply reply) = on_success reply.errno (memory_after m r call reply.payload) m
+
+-- the call takes memory of the host for its answer: for an iovec array, or for pages that go somewhere
+abbrev pub TakesRoom : Call → Type 0
+TakesRoom (FdPread fd length offset) = Unit {0}
+TakesRoom (FdRead fd length) = Unit {0}
+TakesRoom (MemMap place length prot flags fd offset) = IsSomewhere place
+TakesRoom other = ⊥

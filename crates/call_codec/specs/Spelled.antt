@@ -8,8 +8,8 @@ use Rattle.abi_base.specs.Registers.{Registers}
 use Rattle.abi_types.specs.declared.call.Call.{Call}
 use Rattle.abi_types.specs.declared.call.Call.TheVariants.{ProcExit, Refused}
 use Rattle.argument_reading.specs.Arguments.{argument, low}
-use Rattle.call_codec.specs.Args.{fd_write_of}
 use Rattle.call_codec.specs.MemoryCalls.{mapping_of, mem_advise_of, mem_protect_of, mem_sync_of, mem_unmap_of}
+use Rattle.call_codec.specs.WriteCall.{fd_write_of}
 use Rattle.call_reading.specs.ClockCalls.{clock_res_get_of, clock_time_get_of}
 use Rattle.call_reading.specs.DescriptorCalls.{fd_close_of, fd_create1_of, fd_create2_of, fd_datasync_of, fd_dup_of, fd_pread_of, fd_pwrite_of, fd_read_of, fd_replace_of, fd_seek_of, fd_stat_get_of, fd_stat_put_of, fd_sync_of}
 use Rattle.call_reading.specs.LockCalls.{condvar_signal_of, lock_unlock_of, thread_exit_of}

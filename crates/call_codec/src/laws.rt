@@ -1,4 +1,5 @@
 //! Laws of the definitions. The functions do nothing.
+ghost use Rattle.call_codec.specs.OutputLaws.{PreadIsWritten, ReadIsWritten, StateIsWritten};
 ghost use Rattle.call_codec.specs.Refusals.{AdviseIsListed, MapIsListed, ProtectIsListed, SyncIsListed, UnmapIsListed};
 ghost use Rattle.call_codec.specs.StartBlock.{ArgdataStands, CanaryStands, VectorStands};
 
@@ -17,4 +18,12 @@ pub fn start_block_stands()
     ensures vector { VectorStands }
     ensures canary { CanaryStands }
     ensures argdata { ArgdataStands }
+{}
+
+/// The output of a call that registers and memory spell is written whole: no write of bytes that were read, as many as the call
+/// asks for at most, and none of a descriptor's state is refused.
+pub fn output_is_written()
+    ensures pread { PreadIsWritten }
+    ensures read { ReadIsWritten }
+    ensures state { StateIsWritten }
 {}

@@ -4,7 +4,7 @@
 
 pub use arguments::args;
 pub use image::load;
-pub use laws::{refusals_are_listed, start_block_stands};
+pub use laws::{output_is_written, refusals_are_listed, start_block_stands};
 pub use reading::read_call;
 pub use replies::put_answer;
 pub use start::start_memory;
@@ -13,6 +13,8 @@ mod arguments;
 mod image;
 mod laws;
 mod memory_calls;
+mod output;
 mod reading;
 mod replies;
 mod start;
+mod write_call;

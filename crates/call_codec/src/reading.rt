@@ -1,10 +1,11 @@
 //! From registers and memory to a call, for every call that there is.
 ghost use Rattle.std.specs.Prelude.{◌≡◌, IfOk, IsTrue, OnErr, slice_index};
 ghost use Rattle.argument_reading.specs.Reading.{LacksMemory, Reads};
+ghost use Rattle.call_codec.specs.Args.{IsCopied};
 ghost use Rattle.call_codec.specs.Spelled.{descriptor_call, file_call, is_copied, memory_call, numbered, process_call, spelled_of, thread_call};
 
-use crate::arguments::fd_write;
 use crate::memory_calls::{mapping, mem_advise, mem_protect, mem_sync, mem_unmap};
+use crate::write_call::fd_write;
 use abi_types::{Call, Errno, Regs};
 use argument_reading::{Refusal, low};
 use call_reading::{
@@ -22,16 +23,16 @@ use guest_memory::GuestMemory;
 use poll_reading::poll;
 use std::alloc::{AllocError, Global};
 
-// The calls about descriptors, by number.
+/// The calls about descriptors, by number.
 #[tactic(auto, unfolding(crate::specs::Spelled::descriptor_call))]
-fn descriptor_call(
+pub(crate) fn descriptor_call(
     alloc: Global,
     regs: &Regs,
     memory: &GuestMemory,
     number: u64,
 ) -> Result<Call, Refusal>
     ensures reads { Reads result (descriptor_call memory.now regs.now number) }
-    ensures only { LacksMemory result → IsTrue (is_copied number) }
+    ensures only { LacksMemory result → IsCopied number }
 {
     match number {
         3 => Ok(fd_close(regs)),

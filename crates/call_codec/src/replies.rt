@@ -2,21 +2,22 @@
 ghost use Rattle.std.specs.Prelude.{◌≡◌, ◌≤◌, ◌/◌, ◌^◌, OnOk, OnErr};
 ghost use Rattle.argument_reading.specs.Arguments.{argument};
 ghost use Rattle.call_codec.specs.Args.{args_of};
-ghost use Rattle.call_codec.specs.MemoryCalls.{IsMapping, IsSomewhere, MayMapThere, memory_with, with_change, with_mapping, pages_in, prot_of};
-ghost use Rattle.call_codec.specs.Put.{answered_memory, answered_of, put_of, with_results};
+ghost use Rattle.call_codec.specs.MemoryCalls.{IsSomewhere, MayMapThere, with_change, with_mapping, pages_in, prot_of};
+ghost use Rattle.call_codec.specs.Put.{answered_memory, answered_of, memory_after, put_of, with_results, TakesRoom};
 ghost use Rattle.guest_memory.specs.Changes.{protected, without_pages};
 ghost use Rattle.guest_memory.specs.Mapping.{AreThere};
 ghost use Rattle.guest_memory.specs.Ranges.{IsPageAddress};
 
 use crate::memory_calls::{has_bits, pages_in};
+use crate::output::{put_content, put_state};
 use abi_base::{GUEST_END, PAGE_SIZE};
-use abi_types::{Answer, Call, Errno, Place, Prot, Regs, Reply};
+use abi_types::{Answer, Call, Errno, Payload, Place, Prot, Regs, Reply};
 use argument_reading::low;
 use guest_memory::GuestMemory;
 use std::alloc::{AllocError, Global};
 
-/// What an answer leaves of the registers and the memory that spelled the call. Want of memory, which only mem_map meets,
-/// changes nothing.
+/// What an answer leaves of the registers and the memory that spelled the call. Want of memory, which only fd_pread, fd_read
+/// and mem_map meet, changes nothing.
 pub fn put_answer(
     alloc: Global,
     regs: &mut Regs,
@@ -27,14 +28,14 @@ pub fn put_answer(
     requires { call.now ≡ args_of memory.old regs.old }
     ensures regs { OnOk result (regs.new ≡ answered_of regs.old call.now answer.now) }
     ensures memory { OnOk result (memory.new ≡ answered_memory memory.old regs.old call.now answer.now) }
-    ensures only { OnErr result (IsMapping call.now) }
+    ensures only { OnErr result (TakesRoom call.now) }
     ensures same_regs { OnErr result (regs.new ≡ regs.old) }
     ensures same_memory { OnErr result (memory.new ≡ memory.old) }
 {
     match answer {
         Answer::Reply(reply) => {
             if let Errno::Success = reply.errno {
-                put_memory(alloc, regs, memory, call)?;
+                put_memory(alloc, regs, memory, call, &reply.payload)?;
             }
             put_registers(regs, call, reply);
             Ok(())
@@ -59,7 +60,13 @@ fn put_results(regs: &mut Regs, call: &Call, reply: &Reply)
     ensures { regs.new ≡ with_results regs.old call.now reply.now }
 {
     match call {
-        Call::FdWrite { .. } | Call::MemMap { .. } => regs.set(11, reply.r1),
+        Call::FdDup { .. }
+        | Call::FdPread { .. }
+        | Call::FdPwrite { .. }
+        | Call::FdRead { .. }
+        | Call::FdSeek { .. }
+        | Call::FdWrite { .. }
+        | Call::MemMap { .. } => regs.set(11, reply.r1),
         _ => {}
     }
 }
@@ -75,19 +82,25 @@ fn prot_of(bits: u32) -> Prot
     }
 }
 
-// The memory after a call that succeeded.
+// The memory after a call that succeeded and gave this beside its results.
 fn put_memory(
     alloc: Global,
     regs: &Regs,
     memory: &mut GuestMemory,
     call: &Call,
+    payload: &Payload,
 ) -> Result<(), AllocError>
     requires { call.now ≡ args_of memory.old regs.now }
-    ensures ok { OnOk result (memory.new ≡ memory_with memory.old regs.now call.now) }
-    ensures only { OnErr result (IsMapping call.now) }
+    ensures ok { OnOk result (memory.new ≡ memory_after memory.old regs.now call.now payload.now) }
+    ensures only { OnErr result (TakesRoom call.now) }
     ensures err { OnErr result (memory.new ≡ memory.old) }
 {
     match call {
+        Call::FdPread { .. } | Call::FdRead { .. } => put_content(alloc, regs, memory, payload),
+        Call::FdStatGet { .. } => {
+            put_state(regs, memory, payload);
+            Ok(())
+        }
         Call::MemMap {
             place,
             length,

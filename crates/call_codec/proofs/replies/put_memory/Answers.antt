@@ -1,7 +1,7 @@
-use Rattle.std.proofs.Common.{ℕ, sym, subst, ◌∙◌}
-use Rattle.abi_types.specs.declared.call.Call.TheVariants.{MemMap, Memory}
+use Rattle.std.proofs.Common.{ℕ, inl, inr, sym, subst, ◌∙◌}
+use Rattle.abi_types.specs.declared.call.Call.TheVariants.{FdPread, FdRead, MemMap, Memory}
 use Rattle.call_codec.specs.MemoryCalls.{MayMapThere}
-use Rattle.call_codec.proofs.Puts.{call_suits}
+use Rattle.call_codec.proofs.Puts.{call_suits, few_of_pread, few_of_read}
 use Rattle.call_codec.proofs.replies.put_memory.Goals as goal
 
 pub map-requires : goal.map-requires
@@ -17,3 +17,12 @@ change-requires-clause-aligned c =
 pub change-requires-clause-there : goal.change-requires-clause-there
 change-requires-clause-there c =
     λ protects. (call_suits c.args.memory.now c.args.regs.now (Memory c.in-Memory.number c.in-Memory.errno) (sym c.in-Memory.is ∙ c.requires)).1 protects c.in-Success.is
+
+pub put_content-requires : goal.put_content-requires
+put_content-requires c =
+    let m = c.args.memory.now in
+    let r = c.args.regs.now in
+    elim c.in-FdPread.is [
+      | inl it ↦ few_of_pread m r it.0 it.1 it.2 (call_suits m r (FdPread it.0 it.1 it.2) (sym it.3 ∙ c.requires))
+      | inr it ↦ few_of_read m r it.0 it.1 (call_suits m r (FdRead it.0 it.1) (sym it.2 ∙ c.requires))
+    ]

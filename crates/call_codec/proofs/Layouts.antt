@@ -1,0 +1,78 @@
+-- Bytes that are laid out are the layout's fields written into zeros.
+--     laid_is_written      for bytes, each of them below 256
+--     fdstat_is      the same for a descriptor's state
+use Rattle.std.proofs.Common.{◌≡◌, ℕ, zero, suc, ◌+◌, ◌^◌, ◌<◌, List, [], ◌∷◌, ◌++◌, take, drop, get_or-drop, replicate, refl, sym, subst, arith, rules}
+use Rattle.std.specs.Int.{byte_at, bytes_low_first}
+use Rattle.abi_layout.specs.Layout.{Field, Fit, IsLaidOut, IsProper, Layout, number_from, numbers, with_number, written}
+use Rattle.abi_layout.specs.Laws.{AreBytes}
+use Rattle.abi_layout.specs.Structures.{fdstat_layout, fdstat_values}
+use Rattle.abi_layout.proofs.Bytes.{laid_out}
+use Rattle.abi_layout.proofs.Unique.{bytes_are_unique}
+use Rattle.abi_structures.specs.declared.structures.FdStat.{FdStat}
+use Rattle.call_codec.specs.Output.{fdstat_bytes}
+
+-- ---- bytes stay bytes
+
+append_small : (xs ys : List ℕ) → AreBytes xs → AreBytes ys → AreBytes (xs ++ ys)
+append_small [] ys small_x small_y place = small_y place
+append_small (x ∷ xs) ys small_x small_y zero = small_x zero
+append_small (x ∷ xs) ys small_x small_y (suc place) = append_small xs ys (λ k. small_x (suc k)) small_y place
+
+take_small : (n : ℕ) (xs : List ℕ) → AreBytes xs → AreBytes (take n xs)
+take_small zero xs small place = omega arith
+take_small (suc n) [] small place = omega arith
+take_small (suc n) (x ∷ xs) small zero = small zero
+take_small (suc n) (x ∷ xs) small (suc place) = take_small n xs (λ k. small (suc k)) place
+
+drop_small : (n : ℕ) (xs : List ℕ) → AreBytes xs → AreBytes (drop n xs)
+drop_small n xs small place = subst (λ b. b < 256) (sym (get_or-drop n xs place 0)) (small (n + place))
+
+byte_small : (i n : ℕ) → byte_at i n < 256
+byte_small zero n = omega arith
+byte_small (suc i) n = omega arith
+
+low_first_small : (i n value : ℕ) → AreBytes (bytes_low_first i n value)
+low_first_small i zero value place = omega arith
+low_first_small i (suc n) value zero = byte_small i value
+low_first_small i (suc n) value (suc place) = low_first_small (suc i) n value place
+
+number_small : (bytes : List ℕ) (offset width value : ℕ) → AreBytes bytes → AreBytes (with_number bytes offset width value)
+unfolding with_number
+number_small bytes offset width value small =
+    append_small (take offset bytes) (bytes_low_first 0 width value ++ drop (offset + width) bytes) (take_small offset bytes small)
+    (append_small (bytes_low_first 0 width value) (drop (offset + width) bytes) (low_first_small 0 width value) (drop_small (offset + width) bytes small))
+
+written_small : (fields : List Field) (values bytes : List ℕ) → AreBytes bytes → AreBytes (written fields values bytes)
+written_small [] values bytes small = small
+written_small (f ∷ fields) [] bytes small = small
+written_small (f ∷ fields) (value ∷ values) bytes small =
+    written_small fields values (with_number bytes f.offset f.width value) (number_small bytes f.offset f.width value small)
+
+zeros_small : (n : ℕ) → AreBytes (replicate n 0)
+zeros_small zero place = omega arith
+zeros_small (suc n) zero = omega arith
+zeros_small (suc n) (suc place) = zeros_small n place
+
+-- ---- the numbers in bytes fit
+
+number_fits : (width offset : ℕ) (bytes : List ℕ) → AreBytes bytes → number_from offset width bytes < 256 ^ width
+unfolding number_from
+number_fits zero offset bytes small = omega arith
+number_fits (suc width) offset bytes small = let here = small offset in let rest = number_fits width (suc offset) bytes small in omega (arith, here, rest)
+
+numbers_fit : (fields : List Field) (bytes : List ℕ) → AreBytes bytes → Fit fields (numbers fields bytes)
+numbers_fit [] bytes small = tt
+numbers_fit (f ∷ fields) bytes small = (number_fits f.width f.offset bytes small, numbers_fit fields bytes small)
+
+-- ---- bytes that are laid out
+
+pub laid_is_written : (layout : Layout) (values bytes : List ℕ) → IsProper layout → AreBytes bytes → IsLaidOut layout values bytes
+    → bytes ≡ written layout.fields values (replicate layout.size 0)
+laid_is_written layout values bytes proper small laid =
+    let fit = subst (Fit layout.fields) laid.values_at (numbers_fit layout.fields bytes small) in
+    bytes_are_unique layout values bytes (written layout.fields values (replicate layout.size 0)) small
+    (written_small layout.fields values (replicate layout.size 0) (zeros_small layout.size)) laid
+    (laid_out layout values (written layout.fields values (replicate layout.size 0)) refl proper fit)
+
+pub fdstat_is : (stat : FdStat) (bytes : List ℕ) → AreBytes bytes → IsLaidOut fdstat_layout (fdstat_values stat) bytes → bytes ≡ fdstat_bytes stat
+fdstat_is stat bytes small laid = laid_is_written fdstat_layout (fdstat_values stat) bytes (search rules) small laid

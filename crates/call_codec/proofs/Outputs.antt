@@ -1,0 +1,162 @@
+-- The output of a call that registers and memory spell is written whole.
+--     read_written, pread_written      the bytes of a read
+--     state_written      a descriptor's state
+use Rattle.std.proofs.Common.{◌≡◌, ℕ, zero, suc, ◌+◌, ◌-◌, ◌%◌, ◌^◌, ◌≤◌, min, List, [], ◌∷◌, take, drop, length, length-drop, length-take, replicate, Result, Ok, Err, IsOk, refl, sym, ap, ◌∙◌, arith}
+use Rattle.abi_base.specs.declared.errno.Errno.{Errno}
+use Rattle.abi_base.specs.declared.errno.Errno.TheVariants.{Inval}
+use Rattle.abi_base.specs.Registers.{Registers}
+use Rattle.abi_layout.specs.Layout.{with_number}
+use Rattle.abi_layout.proofs.Written.{length-written}
+use Rattle.abi_structures.specs.declared.structures.FdStat.{FdStat}
+use Rattle.abi_structures.specs.declared.structures.Iovec.{Iovec}
+use Rattle.abi_types.specs.declared.call.Call.{Call}
+use Rattle.abi_types.specs.declared.call.Call.TheVariants.{FdPread, FdRead, FdStatGet}
+use Rattle.guest_memory.specs.declared.access.Access.TheVariants.{Write}
+use Rattle.guest_memory.specs.declared.fault.MemFault.{MemFault}
+use Rattle.guest_memory.specs.Bytes.{byte_at, bytes_from, in_front}
+use Rattle.guest_memory.specs.Page.{Pages}
+use Rattle.guest_memory.specs.Written.{write_of, written_over}
+use Rattle.guest_memory.proofs.Writes.{SameRights, ok_after, rights_kept}
+use Rattle.argument_reading.specs.Arguments.{argument}
+use Rattle.argument_reading.specs.Bytes.{writable}
+use Rattle.argument_reading.specs.Ranges.{counted, ranges_at, room_among, room_in, room_of}
+use Rattle.argument_reading.specs.Reading.{◌>>=◌, or_fault, refuse_when}
+use Rattle.argument_reading.specs.declared.ranges.TheConstants.{MOST_TRANSFERRED}
+use Rattle.call_codec.specs.Output.{fdstat_bytes, or_unwritten, with_bytes}
+use Rattle.call_codec.specs.OutputLaws.{AreWrittenInto, TakesBytes, PreadIsWritten, ReadIsWritten, StateIsWritten}
+use Rattle.call_codec.proofs.Puts.{call_suits}
+use Rattle.call_codec.proofs.Readings.{after}
+use Rattle.call_reading.specs.DescriptorCalls.{fd_pread_of, fd_read_of, fd_stat_get_of, has_many, is_beyond}
+
+-- ---- one write
+
+front_ok : (b : Result ℕ MemFault) (rest : Result (List ℕ) MemFault) → IsOk (in_front b rest) → IsOk b × IsOk rest
+front_ok (Ok b) (Ok bs) h = (refl, refl)
+front_ok (Ok b) (Err fault) h = absurd (cc)
+front_ok (Err fault) rest h = absurd (cc)
+
+ok_front : (b : Result ℕ MemFault) (rest : Result (List ℕ) MemFault) → IsOk b → IsOk rest → IsOk (in_front b rest)
+ok_front (Ok b) (Ok bs) h k = refl
+ok_front (Ok b) (Err fault) h k = absurd (cc)
+ok_front (Err fault) rest h k = absurd (cc)
+
+-- fewer bytes from the same address on may be written too
+fewer : (m : Pages) (a n k : ℕ) → k ≤ n → IsOk (bytes_from Write m a n) → IsOk (bytes_from Write m a k)
+unfolding bytes_from
+fewer m a n zero less h = refl
+fewer m a zero (suc k) less h = absurd (omega arith)
+fewer m a (suc n) (suc k) less h =
+    let both = front_ok (byte_at Write m a) (bytes_from Write m ((a + 1) % 2 ^ 64) n) h in
+    ok_front (byte_at Write m a) (bytes_from Write m ((a + 1) % 2 ^ 64) k) both.0 (fewer m ((a + 1) % 2 ^ 64) n k (omega arith) both.1)
+
+made : (m : Pages) (a : ℕ) (bytes : List ℕ) (before : Result (List ℕ) MemFault) → IsOk before → IsOk (written_over m a bytes before)
+made m a bytes (Ok before) h = refl
+made m a bytes (Err fault) h = absurd (cc)
+
+-- bytes in the place of ones that may be written are written
+write_made : (m : Pages) (a n : ℕ) (bytes : List ℕ) → length bytes ≤ n → IsOk (bytes_from Write m a n) → IsOk (write_of m a bytes)
+write_made m a n bytes less h = made m a bytes (bytes_from Write m a (length bytes)) (fewer m a n (length bytes) less h)
+
+same_over : (m : Pages) (a : ℕ) (bytes : List ℕ) (before : Result (List ℕ) MemFault) → SameRights m (or_unwritten m (written_over m a bytes before))
+same_over m a bytes (Ok before) = rights_kept bytes m a
+same_over m a bytes (Err fault) = λ q. refl
+
+-- a write leaves each page's rights
+same_after : (m : Pages) (a : ℕ) (bytes : List ℕ) → SameRights m (with_bytes m a bytes)
+same_after m a bytes = same_over m a bytes (bytes_from Write m a (length bytes))
+
+-- ---- writes into ranges
+
+counted_split : (n : ℕ) (before : Result (List ℕ) MemFault) (others : Result ℕ MemFault) (all : ℕ) → counted n before others ≡ Ok all
+    → IsOk before × ((rest : ℕ) × (others ≡ Ok rest) × (all ≡ n + rest))
+counted_split n (Ok before) (Ok rest) all e = (refl, (rest, refl, (cc)))
+counted_split n (Ok before) (Err fault) all e = absurd (cc)
+counted_split n (Err fault) others all e = absurd (cc)
+
+-- ranges have at most as many bytes as there is room for
+room_within : (m : Pages) (ranges : List Iovec) (room n : ℕ) → room_of m room ranges ≡ Ok n → n ≤ room
+room_within m [] room n e = let none : 0 ≡ n = cc in omega (arith, none)
+room_within m (range ∷ ranges) room n e =
+    let split = counted_split (min range.length room) (bytes_from Write m range.address (min range.length room)) (room_of m (room - min range.length room) ranges) n e in
+    let rest = room_within m ranges (room - min range.length room) split.1.0 split.1.1 in
+    omega (arith, rest, split.1.2)
+
+none_left : (bytes : List ℕ) → length bytes ≤ 0 → bytes ≡ []
+none_left [] less = refl
+none_left (b ∷ bytes) less = absurd (omega arith)
+
+-- as many bytes as the ranges had room for are written into them
+written_into : (ranges : List Iovec) (first m : Pages) (room n : ℕ) (bytes : List ℕ) → SameRights first m → room_of first room ranges ≡ Ok n → length bytes ≤ n
+    → AreWrittenInto m ranges bytes
+written_into [] first m room n bytes same e less = let none : 0 ≡ n = cc in none_left bytes (omega (arith, none))
+written_into (range ∷ ranges) first m room n bytes same e less =
+    let k = min range.length room in
+    let split = counted_split k (bytes_from Write first range.address k) (room_of first (room - k) ranges) n e in
+    let within = room_within first ranges (room - k) split.1.0 split.1.1 in
+    let here : length (take range.length bytes) ≤ k = simp length-take (omega (arith, within, split.1.2)) in
+    let left : length (drop range.length bytes) ≤ split.1.0 = simp length-drop (omega (arith, within, split.1.2)) in (
+      write_made m range.address k (take range.length bytes) here (ok_after Write first m same k range.address split.0),
+      written_into ranges first (with_bytes m range.address (take range.length bytes)) (room - k) split.1.0 (drop range.length bytes)
+          (λ q. same q ∙ same_after m range.address (take range.length bytes) q) split.1.1 left,
+    )
+
+-- ---- reads
+
+among_ok : (m : Pages) (found : Result (List Iovec) MemFault) (most : ℕ) → or_fault (room_among m found) ≡ Ok most
+    → (ranges : List Iovec) × (found ≡ Ok ranges) × (room_of m MOST_TRANSFERRED ranges ≡ Ok most)
+among_ok m (Ok ranges) most e = (ranges, refl, counted_ok (room_of m MOST_TRANSFERRED ranges) e)
+  where
+    counted_ok : (room : Result ℕ MemFault) → or_fault room ≡ Ok most → room ≡ Ok most
+    counted_ok (Ok n) h = let same : n ≡ most = cc in ap Ok same
+    counted_ok (Err fault) h = absurd (cc)
+among_ok m (Err fault) most e = absurd (cc)
+
+takes_bytes : (m : Pages) (r : Registers) (most : ℕ) → room_in m (argument r 1) (argument r 2) ≡ Ok most → TakesBytes m r most
+takes_bytes m r most e =
+    let found = among_ok m (ranges_at m (argument r 1) (argument r 2)) most e in
+    (found.0, found.1, λ bytes less. written_into found.0 m m MOST_TRANSFERRED most bytes (λ q. refl) found.2 less)
+
+read_room : (m : Pages) (r : Registers) (fd most : ℕ) → fd_read_of m r ≡ Ok (FdRead fd most) → room_in m (argument r 1) (argument r 2) ≡ Ok most
+read_room m r fd most =
+    let wanted = λ (x : Result Call Errno). x ≡ Ok (FdRead fd most) → room_in m (argument r 1) (argument r 2) ≡ Ok most in
+    after wanted (refuse_when (has_many (argument r 2)) Inval) _ (λ errno e is. absurd (cc)) (λ x e.
+    after wanted (room_in m (argument r 1) (argument r 2)) _ (λ errno e is. absurd (cc)) (λ n e is. let same : n ≡ most = cc in e ∙ ap Ok same))
+
+pread_room : (m : Pages) (r : Registers) (fd most offset : ℕ) → fd_pread_of m r ≡ Ok (FdPread fd most offset) → room_in m (argument r 1) (argument r 2) ≡ Ok most
+pread_room m r fd most offset =
+    let wanted = λ (x : Result Call Errno). x ≡ Ok (FdPread fd most offset) → room_in m (argument r 1) (argument r 2) ≡ Ok most in
+    after wanted (refuse_when (has_many (argument r 2)) Inval) _ (λ errno e is. absurd (cc)) (λ x e.
+    after wanted (refuse_when (is_beyond (argument r 3)) Inval) _ (λ errno e is. absurd (cc)) (λ y f.
+    after wanted (room_in m (argument r 1) (argument r 2)) _ (λ errno e is. absurd (cc)) (λ n e is. let same : n ≡ most = cc in e ∙ ap Ok same)))
+
+pub read_written : ReadIsWritten
+read_written m r fd most spelled = takes_bytes m r most (read_room m r fd most (call_suits m r (FdRead fd most) (sym spelled)))
+
+pub pread_written : PreadIsWritten
+pread_written m r fd most offset spelled = takes_bytes m r most (pread_room m r fd most offset (call_suits m r (FdPread fd most offset) (sym spelled)))
+
+-- ---- a descriptor's state
+
+state_length : (stat : FdStat) → length (fdstat_bytes stat) ≡ 24
+state_length stat =
+    let zeros : List ℕ = replicate 24 0 in
+    let one : List ℕ = with_number zeros 0 1 stat.kind in
+    let two : List ℕ = with_number one 2 2 stat.flags in
+    let three : List ℕ = with_number two 8 8 stat.base.0 in
+    let at_one : length one ≡ 24 = length-written zeros 0 1 stat.kind (omega arith) in
+    let at_two : length two ≡ 24 = length-written one 2 2 stat.flags (omega (arith, at_one)) ∙ at_one in
+    let at_three : length three ≡ 24 = length-written two 8 8 stat.base.0 (omega (arith, at_two)) ∙ at_two in
+    length-written three 16 8 stat.inheriting.0 (omega (arith, at_three)) ∙ at_three
+
+had_ok : (found : Result (List ℕ) MemFault) (x : Unit {0}) → (or_fault found >>= λ before. Ok tt) ≡ Ok x → IsOk found
+had_ok (Ok bytes) x e = refl
+had_ok (Err fault) x e = absurd (cc)
+
+state_room : (m : Pages) (r : Registers) (fd : ℕ) → fd_stat_get_of m r ≡ Ok (FdStatGet fd) → IsOk (bytes_from Write m (argument r 1) 24)
+state_room m r fd =
+    after (λ x. x ≡ Ok (FdStatGet fd) → IsOk (bytes_from Write m (argument r 1) 24)) (writable m (argument r 1) 24) _
+    (λ errno e is. absurd (cc)) (λ x e is. had_ok (bytes_from Write m (argument r 1) 24) x e)
+
+pub state_written : StateIsWritten
+state_written m r fd stat spelled =
+    write_made m (argument r 1) 24 (fdstat_bytes stat) (let all = state_length stat in omega (arith, all)) (state_room m r fd (call_suits m r (FdStatGet fd) (sym spelled)))

@@ -1,0 +1,55 @@
+-- What a call that succeeded writes into the caller's memory: the bytes that were read, or a descriptor's state. Where the bytes of a
+-- write can't be written, the memory stays as it is. For registers that spelled the call this never comes, since they are refused
+-- where a place for output can't be written.
+use Rattle.std.specs.Prelude.{ℕ, List, [], ◌∷◌, take, drop, replicate, Result, Ok, Err}
+use Rattle.abi_base.specs.Registers.{Registers}
+use Rattle.abi_layout.specs.Layout.{written}
+use Rattle.abi_layout.specs.Structures.{fdstat_layout, fdstat_values}
+use Rattle.abi_structures.specs.declared.structures.FdStat.{FdStat}
+use Rattle.abi_structures.specs.declared.structures.Iovec.{Iovec}
+use Rattle.abi_types.specs.declared.reply.Payload.{Payload}
+use Rattle.abi_types.specs.declared.reply.Payload.TheVariants as payload
+use Rattle.abi_types.specs.declared.reply.Payload.TheVariants.{Content}
+use Rattle.guest_memory.specs.declared.fault.MemFault.{MemFault}
+use Rattle.guest_memory.specs.Page.{Pages}
+use Rattle.guest_memory.specs.Written.{write_of}
+use Rattle.argument_reading.specs.Arguments.{argument}
+use Rattle.argument_reading.specs.Ranges.{ranges_at}
+
+-- the memory after a write, or as it was
+abbrev pub or_unwritten : Pages → Result Pages MemFault → Pages
+or_unwritten m (Ok after) = after
+or_unwritten m (Err fault) = m
+
+-- the memory with bytes written from an address on
+abbrev pub with_bytes : Pages → ℕ → List ℕ → Pages
+with_bytes m a bytes = or_unwritten m (write_of m a bytes)
+
+-- ---- the bytes that were read
+
+-- the memory with bytes written into ranges, one after another, into each as many as it has room for, until the bytes are out
+abbrev pub scattered : Pages → List Iovec → List ℕ → Pages
+scattered m [] bytes = m
+scattered m (range ∷ ranges) bytes = scattered (with_bytes m range.address (take range.length bytes)) ranges (drop range.length bytes)
+
+-- the same with the ranges that were read, if they could be
+abbrev pub into_ranges : Pages → Result (List Iovec) MemFault → List ℕ → Pages
+into_ranges m (Ok ranges) bytes = scattered m ranges bytes
+into_ranges m (Err fault) bytes = m
+
+-- fd_pread and fd_read: the bytes go into the ranges of the iovec array with its address in a1 and its count in a2, as the array
+-- stood before any of them was written
+abbrev pub with_content : Pages → Registers → Payload → Pages
+with_content m r (Content bytes) = into_ranges m (ranges_at m (argument r 1) (argument r 2)) bytes
+with_content m r other = m
+
+-- ---- a descriptor's state
+
+-- a descriptor's state as 24 bytes: each field in its place, and 0 where there is none
+abbrev pub fdstat_bytes : FdStat → List ℕ
+fdstat_bytes stat = written fdstat_layout.fields (fdstat_values stat) (replicate fdstat_layout.size 0)
+
+-- fd_stat_get: the state goes to the address in a1
+abbrev pub with_state : Pages → Registers → Payload → Pages
+with_state m r (payload.FdStat stat) = with_bytes m (argument r 1) (fdstat_bytes stat)
+with_state m r other = m

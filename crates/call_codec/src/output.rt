@@ -1,0 +1,62 @@
+//! What a call that succeeded writes into the caller's memory.
+ghost use Rattle.std.specs.Prelude.{◌≡◌, ◌≤◌, OnOk, OnErr};
+ghost use Rattle.argument_reading.specs.Arguments.{argument};
+ghost use Rattle.call_codec.specs.Output.{fdstat_bytes, scattered, with_bytes, with_content, with_state};
+
+use abi_layout::write_fdstat;
+use abi_structures::Iovec;
+use abi_types::{Payload, Regs};
+use argument_reading::{MOST_IOVECS, read_ranges};
+use guest_memory::GuestMemory;
+use std::alloc::{AllocError, Global};
+
+// Writes bytes from an address on; where one of them can't be written, none is.
+fn put_bytes(memory: &mut GuestMemory, at: u64, bytes: &[u8])
+    ensures { memory.new ≡ with_bytes memory.old at bytes.now }
+{
+    let _ = memory.write_bytes(at, bytes);
+}
+
+// Writes bytes into the ranges, one after another, into each as many as it has room for.
+fn scatter(memory: &mut GuestMemory, ranges: &[Iovec], bytes: &[u8])
+    ensures { memory.new ≡ scattered memory.old ranges.now bytes.now }
+{
+    let mut rest = bytes;
+    for range in ranges {
+        let count = range.length.min(rest.len() as u64) as usize;
+        let (part, behind) = rest.split_at(count);
+        put_bytes(memory, range.address, part);
+        rest = behind;
+    }
+}
+
+/// Writes the bytes of the payload, if it has some, into the ranges of the iovec array that the registers name: a1 has its
+/// address, and a2 its count. The whole array is read first. Want of memory changes nothing.
+pub fn put_content(
+    alloc: Global,
+    regs: &Regs,
+    memory: &mut GuestMemory,
+    payload: &Payload,
+) -> Result<(), AllocError>
+    requires { argument regs.now 2 ≤ MOST_IOVECS }
+    ensures ok { OnOk result (memory.new ≡ with_content memory.old regs.now payload.now) }
+    ensures err { OnErr result (memory.new ≡ memory.old) }
+{
+    if let Payload::Content(bytes) = payload {
+        let found = read_ranges(alloc, memory, regs.get(11), regs.get(12))?;
+        if let Some(ranges) = found {
+            scatter(memory, ranges.as_slice(), bytes.as_slice());
+        }
+    }
+    Ok(())
+}
+
+/// Writes the descriptor's state of the payload, if it has one, at the address in a1.
+pub fn put_state(regs: &Regs, memory: &mut GuestMemory, payload: &Payload)
+    ensures { memory.new ≡ with_state memory.old regs.now payload.now }
+{
+    if let Payload::FdStat(stat) = payload {
+        let bytes = write_fdstat(stat);
+        put_bytes(memory, regs.get(11), &bytes);
+    }
+}
