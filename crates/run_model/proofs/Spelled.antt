@@ -1,12 +1,12 @@
 -- The errors that calls which registers spell answer of their own.
 --     args_no_lack      none is want of memory
 --     args_not_denied      none is NOTCAPABLE
-use Rattle.std.proofs.Common.{◌≢◌, ℕ, nat_le, nat_lt, ◌==◌, ◌&&◌, ◌||◌, not, Bool, true, false, cond, List, Option, Some, None, Result, Ok, Err}
+use Rattle.std.proofs.Common.{◌≢◌, ℕ, nat_le, nat_lt, ◌==◌, ◌&&◌, ◌||◌, not, Bool, true, false, cond, Option, Some, None}
 use Rattle.std.specs.List.{AllByRecursion}
 use Rattle.abi_types.specs.declared.call.Call.{Call}
 use Rattle.abi_types.specs.declared.call.Call.TheVariants.{Memory, Refused}
 use Rattle.abi_base.specs.declared.errno.Errno.{Errno}
-use Rattle.abi_base.specs.declared.errno.Errno.TheVariants.{Success, Badf, Fault, Inval, Nobufs, Nomem, Nosys, Notcapable, Notsup}
+use Rattle.abi_base.specs.declared.errno.Errno.TheVariants.{Success, Badf, Fault, Inval, Mfile, Nobufs, Nomem, Nosys, Notcapable, Notsup}
 use Rattle.abi_types.specs.declared.place.Place.{Place}
 use Rattle.abi_types.specs.declared.place.Place.TheVariants as place
 use Rattle.abi_types.specs.declared.place.Place.TheVariants.{At}
@@ -17,16 +17,14 @@ use Rattle.std.specs.Prelude.{bit_and}
 use Rattle.kernel_model.specs.MemoryCalls.{map_file, map_zeros, place_errors}
 use Rattle.kernel_model.proofs.Lists.{all_weaker}
 use Rattle.kernel_model.proofs.Refusals.{IsNoLackOf}
-use Rattle.guest_memory.specs.declared.fault.MemFault.{MemFault}
 use Rattle.guest_memory.specs.Changes.{all_there, lowest_gap}
 use Rattle.guest_memory.specs.Mapping.{page_limit}
 use Rattle.guest_memory.specs.Page.{Pages}
-use Rattle.argument_reading.specs.declared.ranges.TheConstants.{MOST_IOVECS}
 use Rattle.argument_reading.specs.Arguments.{argument, low}
-use Rattle.argument_reading.specs.Ranges.{gathered_in, ranges_at}
-use Rattle.call_codec.specs.Args.{fd_write_with, fd_write_of, args_of}
+use Rattle.call_codec.specs.Args.{args_of}
 use Rattle.call_codec.specs.MemoryCalls.{is_aligned, is_guests, is_range, is_sync, has_bits, has_one, writes_and_executes, pages_in, if_mapped, map_refusal, protect_refusal, unless_refused, place_at, place_in, place_in_gap, place_of, mem_advise_of, mem_map_of, mem_protect_of, mem_sync_of, mem_unmap_of}
 use Rattle.call_codec.proofs.Calls.{either_call, args_hold}
+use Rattle.call_codec.proofs.Readings.{IsListedRefusal}
 
 -- an error of a call that registers spell
 abbrev pub IsSpelled : Errno → Type 0
@@ -64,16 +62,16 @@ nosys_spelled = (λ e. cc, λ e. cc)
 notsup_spelled : IsSpelled Notsup
 notsup_spelled = (λ e. cc, λ e. cc)
 
--- ---- fd_write
+mfile_spelled : IsSpelled Mfile
+mfile_spelled = (λ e. cc, λ e. cc)
 
-write_spelled : (fd : ℕ) (bytes : Result (List ℕ) MemFault) → IsSpelledCall (fd_write_with fd bytes)
-write_spelled fd (Ok bytes) = (badf_spelled, tt)
-write_spelled fd (Err fault) = (fault_spelled, tt)
-
-fd_write_spelled : (m : Pages) (r : Registers) → IsSpelledCall (fd_write_of m r)
-fd_write_spelled m r =
-    either_call IsSpelledCall (nat_lt MOST_IOVECS (argument r 2)) (Refused 16 Inval) (fd_write_with (low (argument r 0)) (gathered_in m (ranges_at m (argument r 1) (argument r 2))))
-    (inval_spelled, tt) (write_spelled (low (argument r 0)) (gathered_in m (ranges_at m (argument r 1) (argument r 2))))
+-- an error with which a call is refused
+listed_spelled : (errno : Errno) → IsListedRefusal errno → IsSpelled errno
+listed_spelled Fault h = fault_spelled
+listed_spelled Inval h = inval_spelled
+listed_spelled Nosys h = nosys_spelled
+listed_spelled Notsup h = notsup_spelled
+listed_spelled _ h = absurd h
 
 -- ---- calls about pages that are there
 
@@ -153,14 +151,25 @@ map_spelled m r =
 
 pub args_spelled : (m : Pages) (r : Registers) → IsSpelledCall (args_of m r)
 args_spelled m r = args_hold IsSpelledCall m r (record {
-  fd_write = fd_write_spelled m r;
+  fd_close = λ fd. tt;
+  fd_datasync = λ fd. tt;
+  fd_dup = λ fd. (badf_spelled, (mfile_spelled, tt));
+  fd_pread = λ fd length offset is. (nosys_spelled, tt);
+  fd_pwrite = λ fd bytes offset is. (nosys_spelled, tt);
+  fd_read = λ fd length is. (badf_spelled, tt);
+  fd_replace = λ from to. (badf_spelled, tt);
+  fd_seek = λ fd offset whence is. (nosys_spelled, tt);
+  fd_stat_get = λ fd is. (badf_spelled, tt);
+  fd_stat_put = λ fd stat flags is. (badf_spelled, tt);
+  fd_sync = λ fd. tt;
+  fd_write = λ fd bytes. (badf_spelled, tt);
   mem_advise = advise_spelled m r;
   mem_map = map_spelled m r;
   mem_protect = protect_spelled m r;
   mem_sync = sync_spelled m r;
   mem_unmap = unmap_spelled r;
-  proc_exit = tt;
-  unknown = λ number. (nosys_spelled, tt);
+  proc_exit = λ code. tt;
+  refused = λ number errno listed. (listed_spelled errno listed, tt);
 })
 
 -- no error that a call which registers spell answers of its own is want of memory
