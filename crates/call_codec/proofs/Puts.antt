@@ -1,6 +1,6 @@
--- What the memory of a caller is like whose registers spell a call about it.
---     fits_of_args      a mapping goes where it may
---     aligned_of_args, there_of_args      mem_protect and mem_unmap are of a page's address, and mem_protect's pages are there
+-- What registers and memory are like that spell a call.
+--     call_suits      a read has its room and a descriptor's state its place; a mapping goes where it may; mem_protect and
+--                     mem_unmap are of a page's address, and mem_protect's pages are there
 --     few_of_pread, few_of_read      an iovec array to read into has at most 1024 iovecs
 --     guests_pages      pages that are there lie in the guest's part of the address space
 --     unmapped_within      pages past that part need not be taken away
