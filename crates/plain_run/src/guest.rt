@@ -2,7 +2,7 @@
 ghost use Rattle.std.specs.Prelude.{◌≡◌, ◌<◌, IsSome, IfOk, OnOk, OnErr, slice_index};
 ghost use Rattle.std.specs.FinMap as map;
 ghost use Rattle.call_codec.specs.Args.{args_of, IsCopied};
-ghost use Rattle.call_codec.specs.MemoryCalls.{IsMapping};
+ghost use Rattle.call_codec.specs.Put.{TakesRoom};
 ghost use Rattle.call_codec.specs.Start.{MayStart, canary};
 ghost use Rattle.run_model.specs.World.{first_guest, registers_of, turned_guest, turn_end, called_guest};
 
@@ -101,7 +101,7 @@ impl Guest {
         requires spelled { call.now ≡ args_of self.old.memory (registers_of self.old tid) }
         ensures ok { OnOk result (self.new ≡ called_guest self.old tid call.now answer.now) }
         ensures err { OnErr result (self.new ≡ self.old) }
-        ensures only { OnErr result (IsMapping call.now) }
+        ensures only { OnErr result (TakesRoom call.now) }
     {
         let regs = self.regs.get_mut(u64::from(tid.0));
         put_answer(alloc, regs, &mut self.memory, call, answer)
