@@ -553,6 +553,13 @@ fn calls_from_0(alloc: Global, place: usize) -> Result<Option<Call>, AllocError>
         3 => Call::FdClose { fd: 0 },
         4 => Call::FdCreate1 { kind: 48 },
         5 => Call::FdCreate2 { kind: 48 },
+        _ => return Ok(None),
+    }))
+}
+
+// The calls of the cases from 6 on.
+fn calls_from_6(alloc: Global, place: usize) -> Result<Option<Call>, AllocError> {
+    Ok(Some(match place {
         6 => Call::FdDatasync { fd: 0 },
         7 => Call::FdDup { fd: 0 },
         8 => Call::FdPread {
@@ -567,6 +574,13 @@ fn calls_from_0(alloc: Global, place: usize) -> Result<Option<Call>, AllocError>
         },
         10 => Call::FdRead { fd: 0, length: 1 },
         11 => Call::FdReplace { from: 0, to: 1 },
+        _ => return Ok(None),
+    }))
+}
+
+// The calls of the cases from 12 on.
+fn calls_from_12(alloc: Global, place: usize) -> Result<Option<Call>, AllocError> {
+    Ok(Some(match place {
         12 => Call::FdSeek {
             fd: 0,
             offset: 1,
@@ -593,19 +607,19 @@ fn calls_from_0(alloc: Global, place: usize) -> Result<Option<Call>, AllocError>
             stat: ASKED,
             flags: 2,
         },
+        _ => return Ok(None),
+    }))
+}
+
+// The calls of the cases from 18 on.
+fn calls_from_18(alloc: Global, place: usize) -> Result<Option<Call>, AllocError> {
+    Ok(Some(match place {
         18 => Call::FdStatPut {
             fd: 0,
             stat: ASKED,
             flags: 3,
         },
         19 => Call::FdSync { fd: 0 },
-        _ => return Ok(None),
-    }))
-}
-
-// The calls of the cases from 20 on.
-fn calls_from_20(alloc: Global, place: usize) -> Result<Option<Call>, AllocError> {
-    Ok(Some(match place {
         20 => Call::FdWrite {
             fd: 0,
             bytes: text(alloc)?,
@@ -626,6 +640,13 @@ fn calls_from_20(alloc: Global, place: usize) -> Result<Option<Call>, AllocError
             path: text(alloc)?,
             kind: 32,
         },
+        _ => return Ok(None),
+    }))
+}
+
+// The calls of the cases from 24 on.
+fn calls_from_24(alloc: Global, place: usize) -> Result<Option<Call>, AllocError> {
+    Ok(Some(match place {
         24 => Call::FileLink {
             lookup: START,
             path: text(alloc)?,
@@ -660,6 +681,13 @@ fn calls_from_20(alloc: Global, place: usize) -> Result<Option<Call>, AllocError
             new_fd: 1,
             new_path: text(alloc)?,
         },
+        _ => return Ok(None),
+    }))
+}
+
+// The calls of the cases from 30 on.
+fn calls_from_30(alloc: Global, place: usize) -> Result<Option<Call>, AllocError> {
+    Ok(Some(match place {
         30 => Call::FileStatFget { fd: 0 },
         31 => Call::FileStatFput {
             fd: 0,
@@ -686,6 +714,13 @@ fn calls_from_20(alloc: Global, place: usize) -> Result<Option<Call>, AllocError
             stat: SET,
             flags: 1,
         },
+        _ => return Ok(None),
+    }))
+}
+
+// The calls of the cases from 36 on.
+fn calls_from_36(alloc: Global, place: usize) -> Result<Option<Call>, AllocError> {
+    Ok(Some(match place {
         36 => Call::FileSymlink {
             text: text(alloc)?,
             fd: 0,
@@ -705,13 +740,6 @@ fn calls_from_20(alloc: Global, place: usize) -> Result<Option<Call>, AllocError
             number: 32,
             errno: Errno::Success,
         },
-        _ => return Ok(None),
-    }))
-}
-
-// The calls of the cases from 40 on.
-fn calls_from_40(alloc: Global, place: usize) -> Result<Option<Call>, AllocError> {
-    Ok(Some(match place {
         40 => Call::MemMap {
             place: Place::At(0x10000),
             length: 1,
@@ -728,6 +756,13 @@ fn calls_from_40(alloc: Global, place: usize) -> Result<Option<Call>, AllocError
             fd: 0,
             offset: 0,
         },
+        _ => return Ok(None),
+    }))
+}
+
+// The calls of the cases from 42 on.
+fn calls_from_42(alloc: Global, place: usize) -> Result<Option<Call>, AllocError> {
+    Ok(Some(match place {
         42 => Call::MemMap {
             place: Place::At(0x10000),
             length: 1,
@@ -756,6 +791,13 @@ fn calls_from_40(alloc: Global, place: usize) -> Result<Option<Call>, AllocError
             bytes: text(alloc)?,
             fds: listed(alloc)?,
         },
+        _ => return Ok(None),
+    }))
+}
+
+// The calls of the cases from 48 on.
+fn calls_from_48(alloc: Global, place: usize) -> Result<Option<Call>, AllocError> {
+    Ok(Some(match place {
         48 => Call::ProcExit { code: 0 },
         49 => Call::ProcFork { left: 100 },
         50 => Call::ProcRaise { signal: 4 },
@@ -772,6 +814,13 @@ fn calls_from_40(alloc: Global, place: usize) -> Result<Option<Call>, AllocError
             fds: listed(alloc)?,
             flags: 0,
         },
+        _ => return Ok(None),
+    }))
+}
+
+// The calls of the cases from 54 on.
+fn calls_from_54(alloc: Global, place: usize) -> Result<Option<Call>, AllocError> {
+    Ok(Some(match place {
         54 => Call::SockShutdown { fd: 0, how: 1 },
         55 => Call::ThreadCreate { attributes: THREAD },
         56 => Call::ThreadExit {
@@ -786,10 +835,17 @@ fn calls_from_40(alloc: Global, place: usize) -> Result<Option<Call>, AllocError
 
 // The call of a case.
 fn call_at(alloc: Global, place: usize) -> Result<Option<Call>, AllocError> {
-    match place / 20 {
+    match place / 6 {
         0 => calls_from_0(alloc, place),
-        1 => calls_from_20(alloc, place),
-        _ => calls_from_40(alloc, place),
+        1 => calls_from_6(alloc, place),
+        2 => calls_from_12(alloc, place),
+        3 => calls_from_18(alloc, place),
+        4 => calls_from_24(alloc, place),
+        5 => calls_from_30(alloc, place),
+        6 => calls_from_36(alloc, place),
+        7 => calls_from_42(alloc, place),
+        8 => calls_from_48(alloc, place),
+        _ => calls_from_54(alloc, place),
     }
 }
 
