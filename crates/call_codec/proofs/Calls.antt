@@ -82,13 +82,13 @@ module _ (P : Call → Type 0) (m : Pages) (r : Registers) (h : OfEach P m r) wh
     fd_write = write_holds;
   })
 
-  among_or : (number : ℕ) (b : Bool) (x y : Call) → (b ≡ true → P x) → P y → P (cond b x y)
-  among_or number true x y h k = h refl
-  among_or number false x y h k = k
+  if_chosen : (b : Bool) (x y : Call) → (b ≡ true → P x) → P y → P (cond b x y)
+  if_chosen true x y h k = h refl
+  if_chosen false x y h k = k
 
   call_holds : (number : ℕ) → P (call_of m r number)
   call_holds number =
-      among_or number (is_of_descriptors number) _ _ (descriptors_hold number)
+      if_chosen (is_of_descriptors number) _ _ (descriptors_hold number)
       (either_call P (number == 32) (mem_advise_of m r) _ h.mem_advise
       (either_call P (number == 33) (mem_map_of m r) _ h.mem_map
       (either_call P (number == 34) (mem_protect_of m r) _ h.mem_protect
