@@ -16,6 +16,7 @@ pub use memory::{
     call_with,
 };
 pub use relocation::RELOCATED;
+pub use streams::{COPY, COPY_BY_TWO, FILL_THE_TABLE, calls_over};
 
 mod arguments;
 mod calls;
@@ -23,3 +24,4 @@ mod hello_file;
 mod machine;
 mod memory;
 mod relocation;
+mod streams;

@@ -12,23 +12,25 @@ pub(crate) const WORDS: &[&str] = &["cloudabi-run", "p"];
 pub(crate) const REPORT: &str =
     "== stdout 6\nhello\n== stderr 0\n== status exit 0\n== run ended\n== denials 0\n== tree 0\n";
 
-// What a call is given: its words, the input `p`, standard input, and the numbers of the reads and the writes that fail.
-// There are the inputs `empty`, `tree` and `input` besides.
+// What a call is given: its words, the inputs `p` and `input`, standard input, and the numbers of the reads and the writes
+// that fail. There are the inputs `empty` and `tree` besides.
 #[derive(Drop)]
 pub(crate) struct Given<'a> {
     pub(crate) words: &'a [&'a str],
     pub(crate) program: &'a [u8],
+    pub(crate) input: &'a [u8],
     pub(crate) text: &'a [u8],
     pub(crate) failing_reads: &'a [u64],
     pub(crate) failing_writes: &'a [u64],
 }
 
 impl<'a> Given<'a> {
-    // No read and no write fails.
+    // No read and no write fails, and `input` has ten bytes.
     pub(crate) fn new(words: &'a [&'a str], program: &'a [u8], text: &'a [u8]) -> Given<'a> {
         Given {
             words,
             program,
+            input: b"some input",
             text,
             failing_reads: &[],
             failing_writes: &[],
@@ -53,7 +55,7 @@ fn source_of(alloc: Global, given: &Given<'_>) -> Result<MemSource, AllocError> 
         ("-", given.text),
         ("empty", b""),
         ("tree", b"file 3 a\nabc\n"),
-        ("input", b"some input"),
+        ("input", given.input),
     ] {
         source.add(name, bytes)?;
     }

@@ -13,3 +13,5 @@ mod memory_calls;
 mod programs;
 #[cfg(test)]
 mod refused_launches;
+#[cfg(test)]
+mod streams;

@@ -142,6 +142,7 @@ fn meets_faults_of_the_outside(rt: HostRuntime) -> Result<(), Fail> {
         let given = Given {
             words: WORDS,
             program: &HELLO_FILE,
+            input: b"",
             text: b"!fd stdout\n",
             failing_reads,
             failing_writes,
