@@ -95,11 +95,7 @@ fn push_numbers(alloc: Global, text: &mut String, numbers: &[u64]) -> Result<(),
 
 /// Does these calls, each a number and its first four arguments, and exits with the last one's error. The numbers of `given`
 /// stand at 0x10080, 64 bits each, where the guest may only read.
-pub fn calls_over(
-    alloc: Global,
-    given: &[u64],
-    calls: &[[u64; 5]],
-) -> Result<String, AllocError> {
+pub fn calls_over(alloc: Global, given: &[u64], calls: &[[u64; 5]]) -> Result<String, AllocError> {
     let mut text = String::from_str(alloc, "jal zero, start\n.zero 4\n")?;
     push_numbers(alloc, &mut text, given)?;
     text.push_str(CALL_EACH)?;

@@ -97,14 +97,14 @@ other_table p q apart = ap (λ b. b || false) (number_apart p q apart)
 setting_is_proper : (named : List ℕ) (errors : List Errno) (takes : Bool) (f : ℕ → Table → Outcome) → ((p : ℕ) (table : Table) → IsOfTable errors p table (f p table))
     → (takes ≡ true → AllByRecursion (λ errno. errno ≢ Nomem) errors)
     → IsProper (record {
-        named = named;
-        need = [];
-        seen = [];
-        does = λ constants v who table. f who.pid table;
-        changes = λ S table. [];
-        errors = errors;
-        takes_memory = takes;
-      })
+      named = named;
+      need = [];
+      seen = [];
+      does = λ constants v who table. f who.pid table;
+      changes = λ S table. [];
+      errors = errors;
+      takes_memory = takes;
+    })
 setting_is_proper named errors takes f is lacks = record {
   names = tt;
   sees = tt;

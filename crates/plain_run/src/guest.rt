@@ -88,7 +88,8 @@ impl Guest {
         args(alloc, regs, &self.memory)
     }
 
-    /// Gives a thread the answer to the call that it spells. Want of memory, which only mem_map meets, changes nothing.
+    /// Gives a thread the answer to the call that it spells. Want of memory, which only fd_pread, fd_read and mem_map meet,
+    /// changes nothing.
     #[tactic(auto, using(number_map::specs::Maps::number_laws))]
     pub fn answer(
         &mut self,
