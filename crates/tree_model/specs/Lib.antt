@@ -1,0 +1,4 @@
+-- The definitions of a file tree.
+pub mod Tree
+pub mod Files
+pub mod Changes
