@@ -2,3 +2,4 @@
 pub mod Tree
 pub mod Files
 pub mod Changes
+pub mod Entries

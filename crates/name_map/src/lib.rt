@@ -1,0 +1,2 @@
+//! Maps whose keys are names.
+#![tactic(auto)]
