@@ -3,3 +3,4 @@ pub mod Tree
 pub mod Files
 pub mod Changes
 pub mod Entries
+pub mod Counts
