@@ -4,3 +4,5 @@ pub mod Files
 pub mod Changes
 pub mod Entries
 pub mod Counts
+pub mod Faults
+pub mod Facts
