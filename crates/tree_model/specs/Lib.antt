@@ -1,5 +1,6 @@
--- The definitions of a file tree.
+-- The definitions of a file tree, and their laws.
 pub mod Tree
-pub mod Below
 pub mod Files
 pub mod Changes
+pub mod Below
+pub mod Heights
