@@ -31,7 +31,7 @@ not_None x e = subst T (ap is_some e) tt
 -- ---- the names in a directory
 
 -- where some of the names are the node's, there is one of them
-some_name : (n : ℕ) (names : Names) → 0 < count_in n names → (name : List ℕ) × (get names name ≡ Some n)
+pub some_name : (n : ℕ) (names : Names) → 0 < count_in n names → (name : List ℕ) × (get names name ≡ Some n)
 unfolding count_in
 some_name n =
     name_map.map_induction (λ names. 0 < name_map.total (one_for n) names → (name : List ℕ) × (get names name ≡ Some n))

@@ -4,3 +4,4 @@ pub mod Files
 pub mod Changes
 pub mod Below
 pub mod Heights
+pub mod Climbing

@@ -8,14 +8,14 @@ use Rattle.std.specs.Prelude.{◌≡◌, ◌↔◌, ℕ, ◌+◌, ◌<◌, ◌�
 use Rattle.std.specs.Cmp.Lexicographic.{slice_cmp}
 use Rattle.std.specs.Ordering.{nat_cmp}
 use Rattle.std.specs.Coded.{Coded, code_by, coded×, coded_list, coded_ℕ}
-use Rattle.std.specs.FinMap.{FinMap, code, empty, get, values}
-use Rattle.std.proofs.Common.{sum_by}
+use Rattle.std.specs.FinMap.{FinMap, code, empty, get}
 use Rattle.abi_types.specs.declared.node.Node.{Node}
 use Rattle.abi_types.specs.declared.node.NodeKind.{NodeKind}
 use Rattle.abi_types.specs.declared.node.NodeKind.TheVariants as kind
 use Rattle.abi_types.specs.contracts.node.Node as node
 use Rattle.number_map.specs.Closure.{closure}
 use Rattle.number_map.specs.Maps.{total}
+use Rattle.name_map.specs.Names as name_map
 use Rattle.tree_model.specs.declared.limits.TheConstants.{ROOT}
 
 -- the names in a directory, in the order of their bytes, each with the number of its node
@@ -75,7 +75,7 @@ one_for n m = if m == n then 1 else 0
 
 -- how many of these names are the node's
 unfoldable pub count_in : ℕ → Names → ℕ
-count_in n names = sum_by (one_for n) (values names)
+count_in n names = name_map.total (one_for n) names
 
 -- how many names the node has in the whole tree
 abbrev pub names_count : Tree → ℕ → ℕ
