@@ -9,7 +9,7 @@
 --     below_node      what is below a is a, or is there
 --     below_trans, below_child      what is below a directory below a is below a
 --     below_same      trees with the same numbers of nodes and the same names
-use Rattle.std.proofs.Common.{◌≡◌, ◌≢◌, ◌↔◌, ◌⊎◌, ℕ, ◌+◌, ◌<◌, ◌≤◌, Bool, true, false, cond, ◌||◌, T, inl, inr, List, [], ◌∷◌, Option, Some, None, IsSome, is_some, refl, sym, ap, subst, ◌∙◌, arith}
+use Rattle.std.proofs.Common.{◌≡◌, ◌≢◌, ◌↔◌, ◌⊎◌, ℕ, ◌<◌, ◌≤◌, Bool, true, false, cond, ◌||◌, T, inl, inr, List, [], ◌∷◌, Option, Some, None, IsSome, is_some, refl, sym, ap, subst, ◌∙◌, arith}
 use Rattle.std.proofs.lemmas.Bool.{eq-eqb, lt-ltb, ltb-true}
 use Rattle.std.proofs.lemmas.Bool.Decides.{eqb_tells}
 use Rattle.std.specs.Bool.{nat_eq}
@@ -17,7 +17,7 @@ use Rattle.std.specs.FinMap.{FinMap, get, get-empty, remove}
 use Rattle.std.specs.Cmp.Lexicographic.{slice_cmp}
 use Rattle.std.specs.Ordering.{nat_cmp}
 use Rattle.abi_types.specs.declared.node.Node.{Node}
-use Rattle.number_map.specs.Closure.{member, IsSubset, IsMonotone, closure, closure_induction, closure_start, closure_closed, closure_keys, closure_ready, closure_same}
+use Rattle.number_map.specs.Closure.{member, IsSubset, IsMonotone, closure_induction, closure_start, closure_closed, closure_keys, closure_ready, closure_same}
 use Rattle.number_map.specs.Maps.{get-remove-same, get-remove-other}
 use Rattle.name_map.specs.Names as name_map
 use Rattle.tree_model.specs.Tree.{Tree, Names, HasName, names_in, one_for, count_in, has_node, leads, below}

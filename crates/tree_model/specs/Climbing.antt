@@ -15,10 +15,10 @@ use Rattle.std.specs.Cmp.Lexicographic.{slice_cmp}
 use Rattle.std.specs.Ordering.{nat_cmp}
 use Rattle.abi_types.specs.declared.node.Node.{Node}
 use Rattle.number_map.specs.Closure.{member, total_ones, total_below}
-use Rattle.number_map.specs.Maps.{weight, total, map_induction, total-empty, total-insert_new, total-remove, get-insert-same, get-insert-other, get-remove-same, get-remove-other, get-retain, len-removed}
+use Rattle.number_map.specs.Maps.{weight, total, map_induction, total-empty, total-insert_new, total-remove, get-insert-same, get-insert-other, get-remove-other, get-retain, len-removed}
 use Rattle.name_map.specs.Names as name_map
 use Rattle.tree_model.specs.declared.limits.TheConstants.{ROOT}
-use Rattle.tree_model.specs.Tree.{Tree, Names, HasName, HasNoCycle, IsTree, names_in, names_of, entry_of, below, is_directory, is_directory_node, links_in, links_of, one_for, count_in, names_count}
+use Rattle.tree_model.specs.Tree.{Tree, Names, HasName, IsTree, names_in, entry_of, below, is_directory, is_directory_node, links_in, links_of, one_for, count_in, names_count}
 use Rattle.tree_model.specs.Below.{name_counts, some_name, below_self, below_closed, below_cases}
 use Rattle.tree_model.specs.Heights.{not_below_child}
 

@@ -6,16 +6,13 @@
 --     no_cycle-fewer      where no name is new
 --     no_cycle-drop_name      where a name goes
 --     no_cycle-put_name      where a name of n comes into a directory that is not below n
-use Rattle.std.proofs.Common.{◌≡◌, ◌≢◌, ◌⊎◌, ℕ, ◌+◌, ◌<◌, ◌≤◌, Bool, true, false, cond, inl, inr, List, Option, Some, None, IsSome, is_some, T, subst, refl, sym, ap, ◌∙◌, arith}
+use Rattle.std.proofs.Common.{◌≡◌, ℕ, ◌+◌, ◌<◌, ◌≤◌, true, false, cond, inl, inr, List, IsSome, refl, ap, ◌∙◌, arith}
 use Rattle.std.specs.Prelude.{if◌then◌else◌}
-use Rattle.std.proofs.lemmas.Bool.Decides.{eqb_tells}
-use Rattle.std.specs.Option.{unwrap_or}
-use Rattle.std.specs.FinMap.{get, insert, remove}
+use Rattle.std.specs.FinMap.{get}
 use Rattle.number_map.specs.Closure.{member}
-use Rattle.number_map.specs.Maps.{get-insert-same, get-insert-other}
-use Rattle.name_map.specs.Names as name_map
-use Rattle.tree_model.specs.Tree.{Tree, HasName, HasNoCycle, names_in, names_of, entry_of, below}
+use Rattle.tree_model.specs.Tree.{Tree, HasName, HasNoCycle, below}
 use Rattle.tree_model.specs.Changes.{put_name, drop_name}
+use Rattle.tree_model.specs.Entries.{HasName-put_name, HasName-drop_name}
 use Rattle.tree_model.specs.Below.{below_self, below_closed, below_cases, below_induction}
 
 -- ---- what follows
@@ -56,44 +53,9 @@ below_each_other t h a b under over =
 pub no_cycle-fewer : (t u : Tree) → ((d : ℕ) (name : List ℕ) (n : ℕ) → HasName u d name n → HasName t d name n) → HasNoCycle t → HasNoCycle u
 no_cycle-fewer t u old h = record { height = h.height; rises = λ d name n e. h.rises d name n (old d name n e) }
 
-same_Some : (x y : ℕ) → Some x ≡ Some y → x ≡ y
-same_Some x y e = ap (λ o. unwrap_or o x) e
-
-not_None : {A : Type 0} (x : A) → Some x ≢ None
-not_None x e = subst T (ap is_some e) tt
-
--- a name is the one that was put, or was there before
-put_name_cases : (t : Tree) (d : ℕ) (name : List ℕ) (n : ℕ) (q : ℕ) (other : List ℕ) (m : ℕ) → HasName (put_name t d name n) q other m
-    → ((q ≡ d) × (other ≡ name) × (m ≡ n)) ⊎ HasName t q other m
-put_name_cases t d name n q other m e =
-    let names = insert (names_of t d) name n in
-    elim (eqb_tells q d) [
-      | inl same ↦
-          let now : get names other ≡ Some m = sym (ap (λ o. get (names_in o) other) (ap (get (insert t.names d names)) same.1 ∙ get-insert-same t.names d names)) ∙ e in
-          elim (name_map.same_or_not other name) [
-            | inl is ↦ inl (same.1, is, same_Some m n (sym now ∙ ap (get names) is ∙ name_map.get-insert-same (names_of t d) name n))
-            | inr apart ↦ inr (ap (λ x. entry_of t x other) same.1 ∙ sym (name_map.get-insert-other (names_of t d) name n other apart) ∙ now)
-          ]
-      | inr apart ↦ inr (sym (ap (λ o. get (names_in o) other) (get-insert-other t.names d names q apart.1)) ∙ e)
-    ]
-
--- a name that is left was there before
-drop_name_before : (t : Tree) (d : ℕ) (name : List ℕ) (q : ℕ) (other : List ℕ) (m : ℕ) → HasName (drop_name t d name) q other m → HasName t q other m
-drop_name_before t d name q other m e =
-    let names = remove (names_of t d) name in
-    elim (eqb_tells q d) [
-      | inl same ↦
-          let now : get names other ≡ Some m = sym (ap (λ o. get (names_in o) other) (ap (get (insert t.names d names)) same.1 ∙ get-insert-same t.names d names)) ∙ e in
-          elim (name_map.same_or_not other name) [
-            | inl is ↦ absurd (not_None m (sym now ∙ ap (get names) is ∙ name_map.get-remove-same (names_of t d) name))
-            | inr apart ↦ ap (λ x. entry_of t x other) same.1 ∙ sym (name_map.get-remove-other (names_of t d) name other apart) ∙ now
-          ]
-      | inr apart ↦ sym (ap (λ o. get (names_in o) other) (get-insert-other t.names d names q apart.1)) ∙ e
-    ]
-
 -- where a name goes
 pub no_cycle-drop_name : (t : Tree) (d : ℕ) (name : List ℕ) → HasNoCycle t → HasNoCycle (drop_name t d name)
-no_cycle-drop_name t d name = no_cycle-fewer t (drop_name t d name) (drop_name_before t d name)
+no_cycle-drop_name t d name = no_cycle-fewer t (drop_name t d name) (λ q other m e. (HasName-drop_name t d name q other m e).1)
 
 -- what is below n stands higher by more than the height of d
 abbrev pub raised : Tree → (ℕ → ℕ) → ℕ → ℕ → ℕ → ℕ
@@ -115,12 +77,13 @@ pub no_cycle-put_name : (t : Tree) (d : ℕ) (name : List ℕ) (n : ℕ)
     → HasNoCycle t → member d (below t n) ≡ false → HasNoCycle (put_name t d name n)
 no_cycle-put_name t d name n led h apart = record {
   height = raised t h.height d n;
-  rises = λ q other m e. elim (put_name_cases t d name n q other m e) [
+  rises = λ q other m e. elim (HasName-put_name t d name n q other m e) [
     | inl new ↦
         let low : raised t h.height d n q ≡ h.height d = ap (raised t h.height d n) new.0 ∙ raised_outside t h.height d n d apart in
         let high : raised t h.height d n m ≡ h.height n + (h.height d + 1) = ap (raised t h.height d n) new.2 ∙ raised_within t h.height d n n (below_self t n) in
         omega arith
-    | inr old ↦
+    | inr before ↦
+        let old = before.1 in
         let rise = h.rises q other m old in
         elim (member q (below t n)) as (λ b. member q (below t n) ≡ b → raised t h.height d n q < raised t h.height d n m) [
           | true ↦ λ under.

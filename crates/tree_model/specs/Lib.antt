@@ -2,6 +2,7 @@
 pub mod Tree
 pub mod Files
 pub mod Changes
+pub mod Entries
 pub mod Below
 pub mod Heights
 pub mod Climbing
