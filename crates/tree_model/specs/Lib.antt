@@ -6,3 +6,6 @@ pub mod Entries
 pub mod Counts
 pub mod Faults
 pub mod Facts
+pub mod Below
+pub mod Heights
+pub mod Climbing
