@@ -9,3 +9,4 @@ pub mod Facts
 pub mod Below
 pub mod Heights
 pub mod Climbing
+pub mod Keeps
