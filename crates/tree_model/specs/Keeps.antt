@@ -18,7 +18,7 @@ use Rattle.number_map.specs.Maps.{get-insert-same, get-insert-other, get-remove-
 use Rattle.tree_model.specs.declared.limits.TheConstants.{ROOT}
 use Rattle.tree_model.specs.Tree.{Tree, HasName, HasNoCycle, IsTree, below, entry_of, is_directory, is_directory_kind, is_directory_node, links_in, links_of, names_count, names_in, names_of, one_for}
 use Rattle.tree_model.specs.Changes.{drop_name, first_fault, forgotten, is_absent, is_file, is_file_kind, is_file_node, linked, link_faults, made, make_faults, new_node, one_more, put_name, unlinked, unlink_faults, with_bytes, with_count, with_times, without_old}
-use Rattle.tree_model.specs.Entries.{KeepsNodes, KeepsNodes-changed, KeepsNodes-drop_name, KeepsNodes-one_more, KeepsNodes-put_name, KeepsNodes-twice, KeepsNodes-without_old, HasName-drop_name, HasName-put_name, ChangesNode, by_node, entry_of-changed, entry_of-new_node, entry_of-without_old, get-new_node-same, get-new_node-other, here_or_other, links_of-changed-kept, names-without_old, names_of-changed, names_of-drop_name-other, names_of-new_node, names_of-put_name-other, names_of-without_old, one_more-changes, table-new_node-other, table-new_node-same, with_bytes-changes, with_times-changes}
+use Rattle.tree_model.specs.Entries.{KeepsNodes, KeepsNodes-changed, KeepsNodes-drop_name, KeepsNodes-one_more, KeepsNodes-put_name, KeepsNodes-twice, KeepsNodes-without_old, HasName-drop_name, HasName-put_name, ChangesNode, by_node, entry_of-changed, entry_of-new_node, entry_of-without_old, get-new_node-same, get-new_node-other, here_or_other, links_of-changed-kept, names-without_old, names_of-changed, names_of-drop_name-other, names_of-new_node, names_of-put_name-other, names_of-without_old, KeepsCount, one_more-changes, table-new_node-other, table-new_node-same, with_bytes-changes, with_times-changes}
 use Rattle.tree_model.specs.Counts.{links_of-new_node-other, links_of-new_node-same, links_of-one_more, links_of-without_old, names_count-changed, names_count-drop_name, names_count-forgotten, names_count-new_node, names_count-put_name, names_count-put_new_name, names_count-without_old, one_for-other, one_for-same}
 use Rattle.tree_model.specs.Faults.{CanLink, CanMake, CanUnlink, can_link, can_make, can_unlink, some_there}
 use Rattle.tree_model.specs.Facts.{absent, absent_no_directory, absent_not_root, counts_names, directory_of_name, links_of_absent, links_of_held, links_of_named, links_of_root, names_of_name, no_name_of_absent, no_name_of_nameless, no_names_in, no_table, table_of_directory, two_kinds}
@@ -217,3 +217,154 @@ module _ (t : Tree) (d : ℕ) (name : List ℕ) (n : ℕ) (tree : IsTree t) (can
 -- one more name of a node that is no directory
 pub linked-tree : (t : Tree) (d : ℕ) (name : List ℕ) (n : ℕ) → IsTree t → first_fault (link_faults t d name n) ≡ None → IsTree (linked t d name n)
 linked-tree t d name n tree free = linked_is_tree t d name n tree (can_link t d name n free)
+
+-- ---- unlink
+
+module _ (t : Tree) (d : ℕ) (name : List ℕ) (tree : IsTree t) (can : CanUnlink t d name) where
+  -- the tree whose node counts a name less, and the name isn't gone yet
+  abbrev less : Tree
+  less = without_old t (entry_of t d name)
+
+  unlinked_keeps : KeepsNodes t (unlinked t d name)
+  unlinked_keeps =
+      KeepsNodes-twice t less (unlinked t d name) (KeepsNodes-without_old t (entry_of t d name))
+      (KeepsNodes-drop_name less d name ((KeepsNodes-without_old t (entry_of t d name)).tables d ∙ table_of_directory t tree d can.directory))
+
+  unlinked_old : (d' : ℕ) (name' : List ℕ) (m : ℕ) → HasName (unlinked t d name) d' name' m → HasName t d' name' m
+  unlinked_old d' name' m h = sym (entry_of-without_old t (entry_of t d name) d' name') ∙ (HasName-drop_name less d name d' name' m h).1
+
+  -- a directory that has a name in it is not the node that goes
+  unlinked_apart : can.node ≢ d
+  unlinked_apart same = names_of_name t d name can.node can.named (ap (names_of t) (sym same) ∙ can.bare)
+
+  unlinked_links : (q : ℕ) → links_of (unlinked t d name) q + one_for q can.node ≡ links_of t q
+  unlinked_links q =
+      ap (λ o. links_of (unlinked t d name) q + weight (one_for q) o) (sym can.named)
+      ∙ links_of-without_old t (entry_of t d name) (λ n h. links_of_named t tree d name n h) q
+
+  unlinked_names : (q : ℕ) → q ≢ d → names_of (unlinked t d name) q ≡ names_of t q
+  unlinked_names q away = names_of-drop_name-other less d name q away ∙ names_of-without_old t (entry_of t d name) q
+
+  unlinked_is_tree : IsTree (unlinked t d name)
+  unlinked_is_tree =
+      tree_where_nodes_stay t (unlinked t d name) tree unlinked_keeps
+      (λ q.
+      let links = links_of-without_old t (entry_of t d name) (λ n h. links_of_named t tree d name n h) q in
+      let names = names_count-drop_name less d name q in
+      let entry = ap (weight (one_for q)) (entry_of-without_old t (entry_of t d name) d name) in
+      let same = names_count-without_old t (entry_of t d name) q in
+      omega arith)
+      (λ d' name' m h. tree.led d' name' m (unlinked_old d' name' m h))
+      (λ q is. let links = unlinked_links q in let most = tree.single q is in omega arith)
+      (λ q is zero.
+      by_node (λ x. x ≡ q → names_of (unlinked t d name) x ≡ empty) can.node d q
+      (λ _. unlinked_names can.node unlinked_apart ∙ can.bare)
+      (λ e.
+      let links = unlinked_links d in
+      let other = one_for-other d can.node unlinked_apart in
+      let none : links_of (unlinked t d name) d ≡ 0 = ap (links_of (unlinked t d name)) e ∙ zero in
+      absurd (names_of_name t d name can.node can.named (tree.bare d can.directory (omega arith))))
+      (λ other away _.
+      let links = unlinked_links q in
+      let none = one_for-other q can.node (λ e. other (sym e)) in
+      unlinked_names q away ∙ tree.bare q is (omega arith)) refl)
+      (no_cycle-fewer t (unlinked t d name) unlinked_old tree.acyclic)
+
+-- a name goes
+pub unlinked-tree : (t : Tree) (d : ℕ) (name : List ℕ) → IsTree t → first_fault (unlink_faults t d name) ≡ None → IsTree (unlinked t d name)
+unlinked-tree t d name tree free = unlinked_is_tree t d name tree (can_unlink t d name free)
+
+-- ---- a node that changes, but for its count of names and for being a directory
+
+pub changed-tree : (t u : Tree) (n : ℕ) (f : Node → Node) → IsTree t → ChangesNode t u n f → KeepsCount f
+    → ((node : Node) → get t.nodes n ≡ Some node → is_directory_kind (f node).kind ≡ is_directory_kind node.kind) → IsTree u
+changed-tree t u n f tree c counts kinds =
+    let links = λ (q : ℕ). links_of-changed-kept t u n f c counts q in
+    let old = λ (d : ℕ) (name : List ℕ) (m : ℕ) (h : HasName u d name m). sym (entry_of-changed t u n f c d name) ∙ h in
+    tree_where_nodes_stay t u tree (KeepsNodes-changed t u n f c kinds)
+    (λ q. let same = links q in let names = names_count-changed t u n f c q in omega arith)
+    (λ d name m h. tree.led d name m (old d name m h))
+    (λ d is. let same = links d in let most = tree.single d is in omega arith)
+    (λ d is zero. names_of-changed t u n f c d ∙ tree.bare d is (sym (links d) ∙ zero))
+    (no_cycle-fewer t u old tree.acyclic)
+
+-- what is a file is no directory
+file_kind : (kind : NodeKind) → is_file_kind kind ≡ true → is_directory_kind kind ≡ false
+file_kind (kind.File bytes) e = refl
+file_kind kind.Directory e = absurd (false≢true e)
+file_kind (kind.Link text) e = absurd (false≢true e)
+
+-- a file has other bytes
+pub with_bytes-tree : (t : Tree) (n : ℕ) (bytes : List ℕ) → IsTree t → is_file t n ≡ true → IsTree (with_bytes t n bytes)
+with_bytes-tree t n bytes tree file =
+    changed-tree t (with_bytes t n bytes) n _ tree (with_bytes-changes t n bytes) (λ _. refl)
+    (λ node there. sym (file_kind node.kind (sym (ap is_file_node there) ∙ file)))
+
+-- a node has other times
+pub with_times-tree : (t : Tree) (n : ℕ) (times : Times) → IsTree t → IsTree (with_times t n times)
+with_times-tree t n times tree = changed-tree t (with_times t n times) n _ tree (with_times-changes t n times) (λ _. refl) (λ _ _. refl)
+
+-- ---- a node without a name goes
+
+module _ (t : Tree) (n : ℕ) (tree : IsTree t) (nameless : links_of t n ≡ 0) where
+  forgotten_bare : names_of t n ≡ empty
+  forgotten_bare =
+      elim (is_directory t n) as (λ b. is_directory t n ≡ b → names_of t n ≡ empty) [
+        | true ↦ λ is. tree.bare n is nameless
+        | false ↦ λ other. no_names_in t tree n other
+      ] refl
+
+  forgotten_names : (q : ℕ) → names_of (forgotten t n) q ≡ names_of t q
+  forgotten_names q =
+      here_or_other (λ x. names_of (forgotten t n) x ≡ names_of t x) n q
+      (ap names_in (get-remove-same t.names n) ∙ sym forgotten_bare)
+      (λ other. ap names_in (get-remove-other t.names n q other))
+
+  forgotten_old : (d : ℕ) (name : List ℕ) (m : ℕ) → HasName (forgotten t n) d name m → HasName t d name m
+  forgotten_old d name m h = sym (ap (λ names. get names name) (forgotten_names d)) ∙ h
+
+  -- what is there after it is another node, and was there
+  forgotten_nodes : (q : ℕ) → q ≢ n → get (forgotten t n).nodes q ≡ get t.nodes q
+  forgotten_nodes q other = get-remove-other t.nodes n q other
+
+  forgotten_gone : get (forgotten t n).nodes n ≡ None
+  forgotten_gone = get-remove-same t.nodes n
+
+  forgotten_not_root : n ≢ ROOT
+  forgotten_not_root same = let one = links_of_root t tree in let is = ap (links_of t) same in absurd (omega arith)
+
+  forgotten_counts : (q : ℕ) → links_of (forgotten t n) q ≡ links_of t q
+  forgotten_counts q =
+      here_or_other (λ x. links_of (forgotten t n) x ≡ links_of t x) n q
+      (ap links_in forgotten_gone ∙ sym nameless)
+      (λ other. ap links_in (forgotten_nodes q other))
+
+  -- a directory after it is another one, and was one
+  forgotten_kinds : (q : ℕ) → is_directory (forgotten t n) q ≡ true → (q ≢ n) × (is_directory t q ≡ true)
+  forgotten_kinds q is =
+      let other : q ≢ n = λ same. false≢true (sym (ap is_directory_node forgotten_gone) ∙ ap (is_directory (forgotten t n)) (sym same) ∙ is) in
+      (other, sym (ap is_directory_node (forgotten_nodes q other)) ∙ is)
+
+  forgotten_is_tree : IsTree (forgotten t n)
+  forgotten_is_tree = record {
+    root = ap is_directory_node (forgotten_nodes ROOT (λ same. forgotten_not_root (sym same))) ∙ tree.root;
+    directories = directories_from (forgotten t n)
+    (λ q. here_or_other (λ x. is_some (get (forgotten t n).names x) ≡ is_directory (forgotten t n) x) n q
+    (ap is_some (get-remove-same t.names n) ∙ sym (ap is_directory_node forgotten_gone))
+    (λ other. ap is_some (get-remove-other t.names n q other) ∙ tables_of t tree q ∙ sym (ap is_directory_node (forgotten_nodes q other))));
+    led = λ d name m h.
+    let old = forgotten_old d name m h in
+    ap is_some (forgotten_nodes m (λ same. no_name_of_nameless t tree n nameless d name (old ∙ ap Some same))) ∙ tree.led d name m old;
+    counted = counted_from (forgotten t n) (λ q.
+    let links = forgotten_counts q in
+    let names = names_count-forgotten t n forgotten_bare q in
+    let before = counts_names t tree q in
+    omega arith);
+    single = λ d is. let links = forgotten_counts d in let most = tree.single d (forgotten_kinds d is).1 in omega arith;
+    bare = λ d is zero. forgotten_names d ∙ tree.bare d (forgotten_kinds d is).1 (sym (forgotten_counts d) ∙ zero);
+    acyclic = no_cycle-fewer t (forgotten t n) forgotten_old tree.acyclic;
+  }
+
+-- a node without a name goes. That is not the root, which counts one
+pub forgotten-tree : (t : Tree) (n : ℕ) → IsTree t → links_of t n ≡ 0 → IsTree (forgotten t n)
+forgotten-tree t n tree nameless = forgotten_is_tree t n tree nameless
