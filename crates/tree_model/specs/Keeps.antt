@@ -28,7 +28,7 @@ use Rattle.tree_model.specs.Heights.{no_cycle-drop_name, no_cycle-fewer, no_cycl
 -- ---- parts of the proofs
 
 -- the field `counted`, from the counts of all numbers
-counted_from : (u : Tree) → ((q : ℕ) → links_of u q ≡ names_count u q + one_for ROOT q)
+pub counted_from : (u : Tree) → ((q : ℕ) → links_of u q ≡ names_count u q + one_for ROOT q)
     → (n : ℕ) (node : Node) → get u.nodes n ≡ Some node → node.links ≡ names_count u n + one_for ROOT n
 counted_from u counts n node there = sym (ap links_in there) ∙ counts n
 
@@ -37,7 +37,7 @@ tables_of : (t : Tree) → IsTree t → (q : ℕ) → is_some (get t.names q) �
 tables_of t tree q = same_from_decides _ _ (λ e. e, λ e. e) ((tree.directories q).1, (tree.directories q).0)
 
 -- the field `directories`, from the same
-directories_from : (u : Tree) → ((q : ℕ) → is_some (get u.names q) ≡ is_directory u q) → (d : ℕ) → IsSome (get u.names d) ↔ (is_directory u d ≡ true)
+pub directories_from : (u : Tree) → ((q : ℕ) → is_some (get u.names q) ≡ is_directory u q) → (d : ℕ) → IsSome (get u.names d) ↔ (is_directory u d ≡ true)
 directories_from u same d = (λ e. sym (same d) ∙ e, λ e. same d ∙ e)
 
 -- nothing but itself is below what has no names in it
@@ -314,7 +314,7 @@ module _ (t : Tree) (n : ℕ) (tree : IsTree t) (nameless : links_of t n ≡ 0) 
         | false ↦ λ other. no_names_in t tree n other
       ] refl
 
-  forgotten_names : (q : ℕ) → names_of (forgotten t n) q ≡ names_of t q
+  pub forgotten_names : (q : ℕ) → names_of (forgotten t n) q ≡ names_of t q
   forgotten_names q =
       here_or_other (λ x. names_of (forgotten t n) x ≡ names_of t x) n q
       (ap names_in (get-remove-same t.names n) ∙ sym forgotten_bare)

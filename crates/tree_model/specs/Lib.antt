@@ -10,3 +10,5 @@ pub mod Below
 pub mod Heights
 pub mod Climbing
 pub mod Keeps
+pub mod Outcomes
+pub mod Start
