@@ -3,6 +3,7 @@ pub mod Tree
 pub mod Files
 pub mod Changes
 pub mod Entries
+pub mod Counts
 pub mod Below
 pub mod Heights
 pub mod Climbing
