@@ -20,6 +20,7 @@ use Rattle.name_map.specs.Names as name_map
 use Rattle.tree_model.specs.declared.limits.TheConstants.{ROOT}
 use Rattle.tree_model.specs.Tree.{Tree, Names, HasName, IsTree, names_in, entry_of, below, is_directory, is_directory_node, links_in, links_of, one_for, count_in, names_count}
 use Rattle.tree_model.specs.Counts.{one_for-same, one_for-other, names_count_at_least}
+use Rattle.tree_model.specs.Facts.{counts_names, links_of_root}
 use Rattle.tree_model.specs.Below.{name_counts, some_name, below_self, below_closed, below_cases}
 use Rattle.tree_model.specs.Heights.{not_below_child}
 
@@ -75,24 +76,12 @@ some_directory n =
 
 -- ---- a directory has one name
 
--- the node counts its names, where it is there
-links_counted : (t : Tree) → IsTree t → (n : ℕ) → IsSome (get t.nodes n) → links_of t n ≡ names_count t n + one_for ROOT n
-links_counted t h n here =
-    elim (get t.nodes n) as (λ o. get t.nodes n ≡ o → links_in o ≡ names_count t n + one_for ROOT n) [
-      | None ↦ λ e. absurd (false≢true (sym (ap is_some e) ∙ here))
-      | Some node ↦ λ e. h.counted n node e
-    ] refl
-
-directory_here : (o : Option Node) → is_directory_node o ≡ true → IsSome o
-directory_here None h = absurd (false≢true h)
-directory_here (Some node) h = refl
-
 -- a directory has one name, in one directory
 pub single_name : (t : Tree) → IsTree t → (n : ℕ) → is_directory t n ≡ true → (d : ℕ) (name : List ℕ) (q : ℕ) (other : List ℕ)
     → HasName t d name n → HasName t q other n → (q ≡ d) × (other ≡ name)
 single_name t h n is d name q other e f =
     let most = h.single n is in
-    let count = links_counted t h n (directory_here (get t.nodes n) is) in
+    let count = counts_names t h n in
     elim (eqb_tells q d) [
       | inl same ↦
           elim (name_map.same_or_not other name) [
@@ -113,7 +102,7 @@ some_name_weighs n (Some names) some = some_name n names some
 pub has_parent : (t : Tree) → IsTree t → (n : ℕ) → is_directory t n ≡ true → links_of t n ≢ 0 → n ≢ ROOT
     → (d : ℕ) × (name : List ℕ) × HasName t d name n
 has_parent t h n is linked other =
-    let count = links_counted t h n (directory_here (get t.nodes n) is) in
+    let count = counts_names t h n in
     let none = one_for-other ROOT n other in
     let one = some_directory n t.names (omega arith) in
     let name = some_name_weighs n (get t.names one.0) one.1 in
@@ -122,13 +111,13 @@ has_parent t h n is linked other =
 -- the root, and what counts no name, has none
 pub no_parent : (t : Tree) → IsTree t → (n : ℕ) → (links_of t n ≡ 0) ⊎ (n ≡ ROOT) → (d : ℕ) (name : List ℕ) → HasName t d name n → ⊥
 no_parent t h n top d name e =
-    let one = names_count_at_least t d name n e in
-    let count = links_counted t h n (h.led d name n e) in
+    let some = names_count_at_least t d name n e in
+    let count = counts_names t h n in
     elim top [
       | inl none ↦ omega arith
       | inr same ↦
-          let unit : one_for ROOT n ≡ 1 = ap (one_for ROOT) same ∙ one_for-same ROOT in
-          let most : links_of t n ≤ 1 = h.single n (ap (is_directory t) same ∙ h.root) in
+          let one = ap (one_for ROOT) same ∙ one_for-same ROOT in
+          let links = ap (links_of t) same ∙ links_of_root t h in
           omega arith
     ]
 

@@ -1,9 +1,12 @@
--- The definitions of a file tree, and their laws.
+-- The definitions of a file tree.
 pub mod Tree
 pub mod Files
 pub mod Changes
 pub mod Entries
 pub mod Counts
+pub mod Faults
+pub mod Facts
 pub mod Below
 pub mod Heights
 pub mod Climbing
+pub mod Renames
