@@ -9,24 +9,19 @@
 --     below_node      what is below a is a, or is there
 --     below_trans, below_child      what is below a directory below a is below a
 --     below_same      trees with the same numbers of nodes and the same names
-use Rattle.std.proofs.Common.{◌≡◌, ◌≢◌, ◌↔◌, ◌⊎◌, ℕ, ◌<◌, ◌≤◌, Bool, true, false, cond, ◌||◌, T, inl, inr, List, [], ◌∷◌, Option, Some, None, IsSome, is_some, refl, sym, ap, subst, ◌∙◌, arith}
-use Rattle.std.proofs.lemmas.Bool.{eq-eqb, lt-ltb, ltb-true}
+use Rattle.std.proofs.Common.{◌≡◌, ◌↔◌, ◌⊎◌, ℕ, ◌<◌, ◌≤◌, Bool, true, false, cond, ◌||◌, inl, inr, List, [], ◌∷◌, Option, Some, None, IsSome, is_some, refl, sym, ap, subst, ◌∙◌, arith}
+use Rattle.std.proofs.lemmas.Bool.{eq-eqb, false≢true, lt-ltb, ltb-true}
+use Rattle.std.proofs.lemmas.Option.{none-some}
 use Rattle.std.proofs.lemmas.Bool.Decides.{eqb_tells}
 use Rattle.std.specs.Bool.{nat_eq}
 use Rattle.std.specs.FinMap.{FinMap, get, get-empty, remove}
-use Rattle.std.specs.Cmp.Lexicographic.{slice_cmp}
 use Rattle.std.specs.Ordering.{nat_cmp}
 use Rattle.abi_types.specs.declared.node.Node.{Node}
 use Rattle.number_map.specs.Closure.{member, IsSubset, IsMonotone, closure_induction, closure_start, closure_closed, closure_keys, closure_ready, closure_same}
 use Rattle.number_map.specs.Maps.{get-remove-same, get-remove-other}
 use Rattle.name_map.specs.Names as name_map
+use Rattle.tree_model.specs.Counts.{one_for-same, one_for-other}
 use Rattle.tree_model.specs.Tree.{Tree, Names, HasName, names_in, one_for, count_in, has_node, leads, below}
-
-not_true : false ≢ true
-not_true e = subst T (sym e) tt
-
-not_None : {A : Type 0} (x : A) → Some x ≢ None
-not_None x e = subst T (ap is_some e) tt
 
 -- ---- the names in a directory
 
@@ -41,25 +36,25 @@ some_name n =
       | inl same ↦ (k, name_map.get-insert-same names k m ∙ ap Some same.1)
       | inr other ↦
           let sum = name_map.total-insert_new (one_for n) names k m new in
-          let none : one_for n m ≡ 0 = ap (λ b. cond b 1 0) other.0 in
+          let none = one_for-other n m other.1 in
           let found = rest (omega arith) in
-          (found.0, name_map.get-insert-other names k m found.0 (λ same. not_None n (sym found.1 ∙ ap (get names) same ∙ new)) ∙ found.1)
+          (found.0, name_map.get-insert-other names k m found.0 (λ same. none-some n (sym new ∙ ap (get names) (sym same) ∙ found.1)) ∙ found.1)
     ])
 
 -- a name of the node is one of those that are the node's
 pub name_counts : (n : ℕ) (names : Names) (name : List ℕ) → get names name ≡ Some n → 1 ≤ count_in n names
 unfolding count_in
 name_counts n names name e =
-    let one : one_for n n ≡ 1 = ap (λ b. cond b 1 0) (eq-eqb n n refl) in
+    let one = one_for-same n in
     let most = name_map.total_at_least (one_for n) names name n e in
     omega arith
 
 has_node_name : (n : ℕ) (o : Option Names) → has_node n o ≡ true → (name : List ℕ) × (get (names_in o) name ≡ Some n)
-has_node_name n None h = absurd (not_true h)
+has_node_name n None h = absurd (false≢true h)
 has_node_name n (Some names) h = some_name n names (ltb-true 0 (count_in n names) h)
 
 name_has_node : (n : ℕ) (o : Option Names) (name : List ℕ) → get (names_in o) name ≡ Some n → has_node n o ≡ true
-name_has_node n None name e = absurd (not_None n (sym e ∙ get-empty (slice_cmp nat_cmp) name))
+name_has_node n None name e = absurd (none-some n (sym (get-empty name_map.name_cmp name) ∙ e))
 name_has_node n (Some names) name e = lt-ltb 0 (count_in n names) (let one = name_counts n names name e in omega arith)
 
 -- a directory has the node exactly where some name in it is the node's
@@ -76,10 +71,10 @@ member_later q d ds h = elim (nat_eq q d) as (λ b. (b || member q ds) ≡ true)
 
 -- the only number of a list of one
 member_only : (q d : ℕ) → member q (d ∷ []) ≡ true → q ≡ d
-member_only q d h = elim (eqb_tells q d) [ inl same ↦ same.1 | inr other ↦ absurd (not_true (sym (ap (λ b. b || false) other.0) ∙ h)) ]
+member_only q d h = elim (eqb_tells q d) [ inl same ↦ same.1 | inr other ↦ absurd (false≢true (sym (ap (λ b. b || false) other.0) ∙ h)) ]
 
 leads_name : (t : Tree) (found : List ℕ) (n : ℕ) → leads t found n ≡ true → (d : ℕ) × (name : List ℕ) × (member d found ≡ true) × HasName t d name n
-leads_name t [] n h = absurd (not_true h)
+leads_name t [] n h = absurd (false≢true h)
 leads_name t (d ∷ ds) n h =
     elim (has_node n (get t.names d)) as (λ b. has_node n (get t.names d) ≡ b → cond b true (leads t ds n) ≡ true
     → (q : ℕ) × (name : List ℕ) × (member q (d ∷ ds) ≡ true) × HasName t q name n) [
@@ -88,7 +83,7 @@ leads_name t (d ∷ ds) n h =
     ] refl h
 
 name_leads : (t : Tree) (found : List ℕ) (n d : ℕ) (name : List ℕ) → member d found ≡ true → HasName t d name n → leads t found n ≡ true
-name_leads t [] n d name there e = absurd (not_true there)
+name_leads t [] n d name there e = absurd (false≢true there)
 name_leads t (first ∷ ds) n d name there e =
     elim (eqb_tells d first) [
       | inl same ↦ ap (λ b. cond b true (leads t ds n)) (name_has_node n (get t.names first) name (subst (λ x. HasName t x name n) same.1 e))
@@ -139,7 +134,7 @@ below_node t a q under = elim (closure_keys (leads t) t.nodes (a ∷ []) q under
 key_before : (m : FinMap nat_cmp Node) (k q : ℕ) → IsSome (get (remove m k) q) → IsSome (get m q)
 key_before m k q h =
     elim (eqb_tells q k) [
-      | inl same ↦ absurd (not_true (sym (ap (λ x. is_some (get (remove m k) x)) same.1 ∙ ap is_some (get-remove-same m k)) ∙ h))
+      | inl same ↦ absurd (false≢true (sym (ap (λ x. is_some (get (remove m k) x)) same.1 ∙ ap is_some (get-remove-same m k)) ∙ h))
       | inr other ↦ sym (ap is_some (get-remove-other m k q other.1)) ∙ h
     ]
 

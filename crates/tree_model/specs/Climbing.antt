@@ -7,11 +7,11 @@
 --     climb_ends      another directory that has no name is not below n
 --     climb_lowers      each climb leads to a lower height
 --     depth t q, climb_shortens      how many nodes q is below;  each climb leaves fewer
-use Rattle.std.proofs.Common.{◌≡◌, ◌≢◌, ◌⊎◌, ℕ, zero, suc, ◌+◌, ◌<◌, ◌≤◌, Bool, true, false, cond, inl, inr, List, Option, Some, None, IsSome, is_some, T, subst, refl, sym, ap, ◌∙◌, arith}
-use Rattle.std.proofs.lemmas.Bool.{eq-eqb}
+use Rattle.std.proofs.Common.{◌≡◌, ◌≢◌, ◌⊎◌, ℕ, zero, suc, ◌+◌, ◌<◌, ◌≤◌, Bool, true, false, cond, inl, inr, List, Option, Some, None, IsSome, is_some, refl, sym, ap, ◌∙◌, arith}
+use Rattle.std.proofs.lemmas.Bool.{false≢true, false_from_ne_true}
+use Rattle.std.proofs.lemmas.Option.{none-some}
 use Rattle.std.proofs.lemmas.Bool.Decides.{eqb_tells}
 use Rattle.std.specs.FinMap.{FinMap, get, get-empty, insert, remove, len, retain_keys}
-use Rattle.std.specs.Cmp.Lexicographic.{slice_cmp}
 use Rattle.std.specs.Ordering.{nat_cmp}
 use Rattle.abi_types.specs.declared.node.Node.{Node}
 use Rattle.number_map.specs.Closure.{member, total_ones, total_below}
@@ -19,28 +19,17 @@ use Rattle.number_map.specs.Maps.{weight, total, map_induction, total-empty, tot
 use Rattle.name_map.specs.Names as name_map
 use Rattle.tree_model.specs.declared.limits.TheConstants.{ROOT}
 use Rattle.tree_model.specs.Tree.{Tree, Names, HasName, IsTree, names_in, entry_of, below, is_directory, is_directory_node, links_in, links_of, one_for, count_in, names_count}
+use Rattle.tree_model.specs.Counts.{one_for-same, one_for-other, names_count_at_least}
+use Rattle.tree_model.specs.Facts.{counts_names, links_of_root}
 use Rattle.tree_model.specs.Below.{name_counts, some_name, below_self, below_closed, below_cases}
 use Rattle.tree_model.specs.Heights.{not_below_child}
 
-not_true : false ≢ true
-not_true e = subst T (sym e) tt
-
-not_None : {A : Type 0} (x : A) → Some x ≢ None
-not_None x e = subst T (ap is_some e) tt
-
 -- ---- how many names a node has
-
-one_for_itself : (n : ℕ) → one_for n n ≡ 1
-one_for_itself n = ap (λ b. cond b 1 0) (eq-eqb n n refl)
 
 -- a directory with a name of the node has at least one name of it
 name_weighs : (n : ℕ) (o : Option Names) (name : List ℕ) → get (names_in o) name ≡ Some n → 1 ≤ weight (count_in n) o
-name_weighs n None name e = absurd (not_None n (sym e ∙ get-empty (slice_cmp nat_cmp) name))
+name_weighs n None name e = absurd (none-some n (sym (get-empty name_map.name_cmp name) ∙ e))
 name_weighs n (Some names) name e = name_counts n names name e
-
--- a node with a name has at least one
-pub one_name : (t : Tree) (d : ℕ) (name : List ℕ) (n : ℕ) → HasName t d name n → 1 ≤ names_count t n
-one_name t d name n e = let one = name_weighs n (get t.names d) name e in let sum = total-remove (count_in n) t.names d in omega arith
 
 -- a node with names in two directories has at least two
 two_directories : (t : Tree) (d q : ℕ) (name other : List ℕ) (n : ℕ) → q ≢ d → HasName t d name n → HasName t q other n → 2 ≤ names_count t n
@@ -56,7 +45,7 @@ two_directories t d q name other n apart e f =
 two_names : (n : ℕ) (names : Names) (name other : List ℕ) → other ≢ name → get names name ≡ Some n → get names other ≡ Some n → 2 ≤ count_in n names
 unfolding count_in
 two_names n names name other apart e f =
-    let unit = one_for_itself n in
+    let unit = one_for-same n in
     let sum = name_map.total-remove (one_for n) names name in
     let one = ap (weight (one_for n)) e in
     let rest = name_map.total-remove (one_for n) (remove names name) other in
@@ -65,7 +54,7 @@ two_names n names name other apart e f =
 
 two_names_weigh : (n : ℕ) (o : Option Names) (name other : List ℕ) → other ≢ name → get (names_in o) name ≡ Some n → get (names_in o) other ≡ Some n
     → 2 ≤ weight (count_in n) o
-two_names_weigh n None name other apart e f = absurd (not_None n (sym e ∙ get-empty (slice_cmp nat_cmp) name))
+two_names_weigh n None name other apart e f = absurd (none-some n (sym (get-empty name_map.name_cmp name) ∙ e))
 two_names_weigh n (Some names) name other apart e f = two_names n names name other apart e f
 
 -- where a node has a name at all, some directory has one of it
@@ -87,24 +76,12 @@ some_directory n =
 
 -- ---- a directory has one name
 
--- the node counts its names, where it is there
-links_counted : (t : Tree) → IsTree t → (n : ℕ) → IsSome (get t.nodes n) → links_of t n ≡ names_count t n + one_for ROOT n
-links_counted t h n here =
-    elim (get t.nodes n) as (λ o. get t.nodes n ≡ o → links_in o ≡ names_count t n + one_for ROOT n) [
-      | None ↦ λ e. absurd (not_true (sym (ap is_some e) ∙ here))
-      | Some node ↦ λ e. h.counted n node e
-    ] refl
-
-directory_here : (o : Option Node) → is_directory_node o ≡ true → IsSome o
-directory_here None h = absurd (not_true h)
-directory_here (Some node) h = refl
-
 -- a directory has one name, in one directory
 pub single_name : (t : Tree) → IsTree t → (n : ℕ) → is_directory t n ≡ true → (d : ℕ) (name : List ℕ) (q : ℕ) (other : List ℕ)
     → HasName t d name n → HasName t q other n → (q ≡ d) × (other ≡ name)
 single_name t h n is d name q other e f =
     let most = h.single n is in
-    let count = links_counted t h n (directory_here (get t.nodes n) is) in
+    let count = counts_names t h n in
     elim (eqb_tells q d) [
       | inl same ↦
           elim (name_map.same_or_not other name) [
@@ -125,8 +102,8 @@ some_name_weighs n (Some names) some = some_name n names some
 pub has_parent : (t : Tree) → IsTree t → (n : ℕ) → is_directory t n ≡ true → links_of t n ≢ 0 → n ≢ ROOT
     → (d : ℕ) × (name : List ℕ) × HasName t d name n
 has_parent t h n is linked other =
-    let count = links_counted t h n (directory_here (get t.nodes n) is) in
-    let none : one_for ROOT n ≡ 0 = elim (eqb_tells n ROOT) [ inl same ↦ absurd (other same.1) | inr apart ↦ ap (λ b. cond b 1 0) apart.0 ] in
+    let count = counts_names t h n in
+    let none = one_for-other ROOT n other in
     let one = some_directory n t.names (omega arith) in
     let name = some_name_weighs n (get t.names one.0) one.1 in
     (one.0, name.0, name.1)
@@ -134,13 +111,13 @@ has_parent t h n is linked other =
 -- the root, and what counts no name, has none
 pub no_parent : (t : Tree) → IsTree t → (n : ℕ) → (links_of t n ≡ 0) ⊎ (n ≡ ROOT) → (d : ℕ) (name : List ℕ) → HasName t d name n → ⊥
 no_parent t h n top d name e =
-    let one = one_name t d name n e in
-    let count = links_counted t h n (h.led d name n e) in
+    let some = names_count_at_least t d name n e in
+    let count = counts_names t h n in
     elim top [
       | inl none ↦ omega arith
       | inr same ↦
-          let unit : one_for ROOT n ≡ 1 = ap (one_for ROOT) same ∙ one_for_itself ROOT in
-          let most : links_of t n ≤ 1 = h.single n (ap (is_directory t) same ∙ h.root) in
+          let one = ap (one_for ROOT) same ∙ one_for-same ROOT in
+          let links = ap (links_of t) same ∙ links_of_root t h in
           omega arith
     ]
 
@@ -151,10 +128,6 @@ same_tests true true f g = refl
 same_tests true false f g = sym (f refl)
 same_tests false true f g = g refl
 same_tests false false f g = refl
-
-not_so : (b : Bool) → (b ≡ true → ⊥) → b ≡ false
-not_so true f = absurd (f refl)
-not_so false f = refl
 
 -- each is below itself
 pub climb_from_itself : (t : Tree) (d n : ℕ) → d ≡ n → member d (below t n) ≡ true
@@ -174,7 +147,7 @@ climb t h n p name d is e other =
 -- another directory that has no name, since it is the root or counts none, is not below n
 pub climb_ends : (t : Tree) → IsTree t → (n d : ℕ) → (links_of t d ≡ 0) ⊎ (d ≡ ROOT) → d ≢ n → member d (below t n) ≡ false
 climb_ends t h n d top other =
-    not_so _ (λ under. elim (below_cases t n d under) [
+    false_from_ne_true _ (λ under. elim (below_cases t n d under) [
       | inl same ↦ other same
       | inr last ↦ no_parent t h d top last.0 last.1 last.3
     ])
@@ -191,7 +164,7 @@ depth t q = len (retain_keys t.nodes (λ a. member q (below t a)))
 
 kept_weight : (b c : Bool) (o : Option Node) → (b ≡ true → c ≡ true) → weight (λ _. 1) (cond b o None) ≤ weight (λ _. 1) (cond c o None)
 kept_weight true true o f = omega arith
-kept_weight true false o f = absurd (not_true (f refl))
+kept_weight true false o f = absurd (false≢true (f refl))
 kept_weight false c o f = omega arith
 
 -- each climb leaves fewer
@@ -203,7 +176,7 @@ climb_shortens t h p name d e =
     let many = retain_keys t.nodes (above d) in
     let here : IsSome (get t.nodes d) = h.led p name d e in
     elim (get t.nodes d) as (λ o. get t.nodes d ≡ o → len few < len many) [
-      | None ↦ λ none. absurd (not_true (sym (ap is_some none) ∙ here))
+      | None ↦ λ none. absurd (false≢true (sym (ap is_some none) ∙ here))
       | Some node ↦ λ there.
           let kept : get many d ≡ Some node = get-retain t.nodes (above d) d ∙ ap (λ b. cond b (get t.nodes d) None) (below_self t d) ∙ there in
           let gone : get few d ≡ None = get-retain t.nodes (above p) d ∙ ap (λ b. cond b (get t.nodes d) None) (not_below_child t h.acyclic p name d e) in
