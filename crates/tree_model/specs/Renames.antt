@@ -242,7 +242,7 @@ module _ (t : Tree) (from : ℕ) (name : List ℕ) (to : ℕ) (new : List ℕ) w
       renamed_cases P same (λ e. subst (λ o. P (moved_to t from name to new o)) (sym named) (differ e))
 
   -- two names of one node stay as they are
-  pub renamed-same : alike ≡ true → renamed t from name to new ≡ t
+  pub renamed-same : is_same (entry_of t from name) (entry_of t to new) ≡ true → renamed t from name to new ≡ t
   renamed-same e = ap (λ b. if b then t else moved_to t from name to new (entry_of t from name)) e
 
   -- the node has the new name
@@ -253,7 +253,8 @@ module _ (t : Tree) (from : ℕ) (name : List ℕ) (to : ℕ) (new : List ℕ) w
       (λ e. entry_of-put_name-same (dropped t from name to new n) to new n)
 
   -- the old name is gone
-  pub renamed-old_name : (n : ℕ) → HasName t from name n → alike ≡ false → entry_of (renamed t from name to new) from name ≡ None
+  pub renamed-old_name : (n : ℕ) → HasName t from name n → is_same (entry_of t from name) (entry_of t to new) ≡ false
+      → entry_of (renamed t from name to new) from name ≡ None
   renamed-old_name n named differ =
       renamed_by (λ u. entry_of u from name ≡ None) n named
       (λ e. absurd (false≢true (sym differ ∙ e)))
