@@ -1,5 +1,5 @@
 -- How the entries of a `BTreeMap` whose keys are vectors of bytes stand for a finite map from names.
-use Rattle.std.proofs.Common.{◌≡◌, ◌≢◌, ◌↔◌, ℕ, zero, suc, Bool, Less, Equal, Greater, false, true, T, is_some, IsSome, IsTrue, ◌+◌, ◌==◌, inl, inr, subst, cond, List, [], ◌∷◌, length, drop, Option, Some, None, sym, ap, ◌∙◌, refl, arith}
+use Rattle.std.proofs.Common.{◌≡◌, ◌≢◌, ◌↔◌, ℕ, zero, suc, Bool, Less, false, true, T, IsSome, IsTrue, ◌==◌, inl, inr, subst, cond, List, [], ◌∷◌, length, drop, Option, Some, None, sym, ap, ◌∙◌, refl, arith}
 use Rattle.std.proofs.lemmas.Bool.Decides.{eqb_tells}
 use Rattle.std.proofs.lemmas.Cmp.{nat_list_cmp_total}
 use Rattle.std.specs.Ordering.{eq_by_cmp, is_eq}
@@ -7,16 +7,14 @@ use Rattle.std.specs.Cmp.{eq_by_cmp_equiv}
 use Rattle.std.specs.declared.cmp.Ordering.{Ordering}
 use Rattle.std.specs.Global.{Vec}
 use Rattle.std.specs.Vec.{vec_items}
-use Rattle.std.specs.Map.{lookup, keys_of, KeepsOthers, IsKeyTest, AreApart}
+use Rattle.std.specs.Map.{lookup, keys_of, KeepsOthers}
 use Rattle.std.specs.List.{AllByRecursion, slice_get}
 use Rattle.std.specs.Map.Iter.{TakesFirst}
 use Rattle.std.specs.Borrow.{MutBor}
 use Rattle.std.specs.Option.{option_map, option_copied_mut}
-use Rattle.std.proofs.Math.Seq.{drop-nil}
 use Rattle.std.specs.List.Sorted.{IsStrictlySortedBy}
-use Rattle.std.specs.BTreeMap.{is_at}
 use Rattle.std.specs.FinMap.Entries.{by_order}
-use Rattle.std.specs.FinMap.{FinMap, from_entries, find, put, get, insert, remove, empty, entries, len, len-entries, len-empty, empty_of_len, entries-insert, get-from_entries}
+use Rattle.std.specs.FinMap.{from_entries, find, put, get, insert, remove, empty, entries, len, len-entries, len-empty, empty_of_len, entries-insert, get-from_entries}
 use Rattle.name_map.specs.Named.{named}
 use Rattle.name_map.specs.Names.{Name, Names, name_cmp, tie_other, same_or_not, same_around, get-insert-same, get-insert-other, get-remove-same, get-remove-other, is_empty}
 

@@ -8,7 +8,7 @@
 --     total f m      the sum of what f weighs of each value; weight f o      what it weighs of one, and 0 at `None`
 --     total-empty, total-insert, total-remove, total-zero, total_at_least, total_none, total_same ..      its laws
 --     name_laws      the set of the laws on `get` and on equal maps, for `using(..)`
-use Rattle.std.proofs.Common.{◌≡◌, ◌≢◌, ◌↔◌, ℕ, zero, suc, ◌+◌, ◌<◌, ◌≤◌, ◌⊎◌, Bool, true, false, cond, ◌&&◌, T, inl, inr, List, [], ◌∷◌, map, length, sum_by, Option, Some, None, IsSome, is_some, Less, Equal, Greater, refl, sym, ap, subst, ◌∙◌, arith}
+use Rattle.std.proofs.Common.{◌≡◌, ◌≢◌, ◌↔◌, ℕ, zero, suc, ◌+◌, ◌≤◌, ◌⊎◌, Bool, true, false, cond, ◌&&◌, T, inl, inr, List, [], ◌∷◌, map, length, sum_by, Option, Some, None, IsSome, is_some, Less, Equal, Greater, refl, sym, ap, subst, ◌∙◌, arith}
 use Rattle.std.proofs.lemmas.List.Recursion.{is_sum_by}
 use Rattle.std.proofs.lemmas.Cmp.{nat_list_cmp_total}
 use Rattle.std.proofs.lemmas.Map.Lookups.{exact_bytes}
@@ -16,7 +16,6 @@ use Rattle.std.specs.declared.cmp.Ordering.{Ordering}
 use Rattle.std.specs.Ordering.{nat_cmp, eq_by_cmp, is_eq, is_lt}
 use Rattle.std.specs.Cmp.{tied_itself}
 use Rattle.std.specs.Cmp.Lexicographic.{slice_cmp}
-use Rattle.std.specs.Option.{unwrap_or}
 use Rattle.std.specs.FinMap.{FinMap, empty, get, insert, remove, retain_keys, len, entries, values, find, put, is_sorted, entries_sorted, same_map, get-entries, get-empty, get-insert, get-remove, get-retain_keys, len-entries, len-empty, len-insert, entries-insert, empty_of_len}
 use Rattle.std.specs.FinMap.Entries.{by_order, below_all}
 pub use Rattle.number_map.specs.Maps.{weight}
@@ -45,6 +44,14 @@ total f m = sum_by f (values m)
 pub tie_same : (k : Name) → eq_by_cmp name_cmp k k ≡ true
 tie_same k = ap is_eq (tied_itself nat_list_cmp_total k)
 
+pub tie_other : (q k : Name) → q ≢ k → eq_by_cmp name_cmp q k ≡ false
+tie_other q k n =
+    elim (name_cmp q k) as (λ r. name_cmp q k ≡ r → is_eq r ≡ false) [
+      | Less ↦ λ _. refl
+      | Equal ↦ λ e. absurd (n (exact_bytes q k e))
+      | Greater ↦ λ _. refl
+    ] refl
+
 not_true : false ≢ true
 not_true e = subst T (sym e) tt
 
@@ -55,14 +62,6 @@ same_or_not q k =
       | Less ↦ λ e. inr (λ same. not_true (sym (ap is_eq e) ∙ ap (eq_by_cmp name_cmp q) (sym same) ∙ tie_same q))
       | Equal ↦ λ e. inl (exact_bytes q k e)
       | Greater ↦ λ e. inr (λ same. not_true (sym (ap is_eq e) ∙ ap (eq_by_cmp name_cmp q) (sym same) ∙ tie_same q))
-    ] refl
-
-pub tie_other : (q k : Name) → q ≢ k → eq_by_cmp name_cmp q k ≡ false
-tie_other q k n =
-    elim (name_cmp q k) as (λ r. name_cmp q k ≡ r → is_eq r ≡ false) [
-      | Less ↦ λ _. refl
-      | Equal ↦ λ e. absurd (n (exact_bytes q k e))
-      | Greater ↦ λ _. refl
     ] refl
 
 first_part : (a b : Bool) → T (a && b) → T a

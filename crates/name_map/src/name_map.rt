@@ -1,7 +1,7 @@
 //! A map from names to values.
-ghost use Rattle.std.specs.Prelude.{◌≡◌, ◌^◌, ◌<◌, ◌==◌, OnOk, OnErr, IsSome, IsTrue, option_copied, option_map, drop, ◌↔◌};
+ghost use Rattle.std.specs.Prelude.{◌≡◌, ◌^◌, ◌<◌, ◌==◌, OnOk, OnErr, IsSome, IsTrue, option_copied, option_map, drop, ◌↔◌, List, ℕ};
 ghost use Rattle.std.specs.List.{slice_get};
-ghost use Rattle.std.specs.Map.Iter.{deref_pair};
+ghost use Rattle.std.specs.Map.Iter.{ShowsInOrder, deref_pair};
 ghost use Rattle.std.specs.FinMap as map;
 
 use crate::name_entries::NameEntries;
@@ -85,7 +85,8 @@ impl<V> NameMap<V> {
     /// An iterator over the entries from `place` on, which counts from 0 in the order of the names' bytes. Past the last
     /// entry it has none left. Takes a step for each entry before `place`, and then one for each entry that is read.
     pub fn from_place(&self, place: usize) -> NameEntries<'_, V>
-        ensures { result ≡ drop place (map.entries self.now) }
+        ensures rest { result ≡ drop place (map.entries self.now) }
+        ensures runs { ShowsInOrder (deref_pair {K = List ℕ} {X = V}) }
     {
         NameEntries::after(self.entries.iter(), place)
     }

@@ -9,4 +9,7 @@ pub mod Facts
 pub mod Below
 pub mod Heights
 pub mod Climbing
+pub mod Keeps
+pub mod Outcomes
+pub mod Start
 pub mod Renames

@@ -1,4 +1,3 @@
-use Rattle.std.proofs.Common.{refl}
 use Rattle.name_map.proofs.Entries.{inserted_by}
 use Rattle.name_map.proofs.name_map.NameMap.insert.Goals as goal
 

@@ -1,4 +1,4 @@
-use Rattle.std.proofs.Common.{IsSome, refl, sym, subst, ap, Some, ◌∙◌}
+use Rattle.std.proofs.Common.{IsSome, sym, subst, ap, Some, ◌∙◌}
 use Rattle.std.specs.Option.{option_copied_mut}
 use Rattle.std.specs.FinMap.{insert}
 use Rattle.name_map.proofs.Entries.{get_of, inserted_of, IsSome-from_copied}
