@@ -10,7 +10,7 @@
 use Rattle.std.proofs.Common.{◌≡◌, ◌≢◌, ◌⊎◌, ℕ, zero, suc, ◌+◌, ◌<◌, ◌≤◌, Bool, true, false, cond, inl, inr, List, Option, Some, None, IsSome, is_some, refl, sym, ap, ◌∙◌, arith}
 use Rattle.std.proofs.lemmas.Bool.{false≢true, false_from_ne_true}
 use Rattle.std.proofs.lemmas.Option.{none-some}
-use Rattle.std.proofs.lemmas.Bool.Decides.{eqb_tells}
+use Rattle.std.proofs.lemmas.Bool.Decides.{eqb_tells, same_from_decides}
 use Rattle.std.specs.FinMap.{FinMap, get, get-empty, insert, remove, len, retain_keys}
 use Rattle.std.specs.Ordering.{nat_cmp}
 use Rattle.abi_types.specs.declared.node.Node.{Node}
@@ -91,12 +91,6 @@ no_parent t h n top d name e =
 
 -- ---- climbing
 
-same_tests : (a b : Bool) → (a ≡ true → b ≡ true) → (b ≡ true → a ≡ true) → a ≡ b
-same_tests true true f g = refl
-same_tests true false f g = sym (f refl)
-same_tests false true f g = g refl
-same_tests false false f g = refl
-
 -- each is below itself
 pub climb_from_itself : (t : Tree) (d n : ℕ) → d ≡ n → member d (below t n) ≡ true
 climb_from_itself t d n same = ap (λ x. member x (below t n)) same ∙ below_self t n
@@ -105,12 +99,14 @@ climb_from_itself t d n same = ap (λ x. member x (below t n)) same ∙ below_se
 pub climb : (t : Tree) → IsTree t → (n p : ℕ) (name : List ℕ) (d : ℕ) → is_directory t d ≡ true → HasName t p name d → d ≢ n
     → member d (below t n) ≡ member p (below t n)
 climb t h n p name d is e other =
-    same_tests _ _
-    (λ under. elim (below_cases t n d under) [
-      | inl same ↦ absurd (other same)
-      | inr last ↦ ap (λ x. member x (below t n)) (single_name t h d is p name last.0 last.1 e last.3).0 ∙ last.2
-    ])
-    (λ over. below_closed t n p name d over e (h.led p name d e))
+    same_from_decides _ _ (λ e. e, λ e. e)
+    (
+      λ over. below_closed t n p name d over e (h.led p name d e),
+      λ under. elim (below_cases t n d under) [
+        | inl same ↦ absurd (other same)
+        | inr last ↦ ap (λ x. member x (below t n)) (single_name t h d is p name last.0 last.1 e last.3).0 ∙ last.2
+      ],
+    )
 
 -- another directory that has no name, since it is the root or counts none, is not below n
 pub climb_ends : (t : Tree) → IsTree t → (n d : ℕ) → (links_of t d ≡ 0) ⊎ (d ≡ ROOT) → d ≢ n → member d (below t n) ≡ false
