@@ -10,7 +10,7 @@
 use Rattle.std.proofs.Common.{◌≡◌, ◌≢◌, ◌⊎◌, ℕ, zero, suc, ◌+◌, ◌<◌, ◌≤◌, Bool, true, false, cond, inl, inr, List, Option, Some, None, IsSome, is_some, refl, sym, ap, ◌∙◌, arith}
 use Rattle.std.proofs.lemmas.Bool.{false≢true, false_from_ne_true}
 use Rattle.std.proofs.lemmas.Option.{none-some}
-use Rattle.std.proofs.lemmas.Bool.Decides.{eqb_tells}
+use Rattle.std.proofs.lemmas.Bool.Decides.{eqb_tells, same_from_decides}
 use Rattle.std.specs.FinMap.{FinMap, get, get-empty, insert, remove, len, retain_keys}
 use Rattle.std.specs.Ordering.{nat_cmp}
 use Rattle.abi_types.specs.declared.node.Node.{Node}
@@ -19,45 +19,31 @@ use Rattle.number_map.specs.Maps.{weight, total, map_induction, total-empty, tot
 use Rattle.name_map.specs.Names as name_map
 use Rattle.tree_model.specs.declared.limits.TheConstants.{ROOT}
 use Rattle.tree_model.specs.Tree.{Tree, Names, HasName, IsTree, names_in, entry_of, below, is_directory, is_directory_node, links_in, links_of, one_for, count_in, names_count}
-use Rattle.tree_model.specs.Counts.{one_for-same, one_for-other, names_count_at_least}
+use Rattle.tree_model.specs.Changes.{drop_name}
+use Rattle.tree_model.specs.Entries.{entry_of-drop_name-other, same_place_or_not}
+use Rattle.tree_model.specs.Counts.{one_for-same, one_for-other, names_count_at_least, names_count-drop_name}
 use Rattle.tree_model.specs.Facts.{counts_names, links_of_root}
 use Rattle.tree_model.specs.Below.{name_counts, some_name, below_self, below_closed, below_cases}
 use Rattle.tree_model.specs.Heights.{not_below_child}
 
--- ---- how many names a node has
+-- ---- a directory has one name
 
--- a directory with a name of the node has at least one name of it
-name_weighs : (n : ℕ) (o : Option Names) (name : List ℕ) → get (names_in o) name ≡ Some n → 1 ≤ weight (count_in n) o
-name_weighs n None name e = absurd (none-some n (sym (get-empty name_map.name_cmp name) ∙ e))
-name_weighs n (Some names) name e = name_counts n names name e
+-- a directory has one name, in one directory
+pub single_name : (t : Tree) → IsTree t → (n : ℕ) → is_directory t n ≡ true → (d : ℕ) (name : List ℕ) (d' : ℕ) (name' : List ℕ)
+    → HasName t d name n → HasName t d' name' n → (d ≡ d') × (name ≡ name')
+single_name t h n is d name d' name' e f =
+    elim (same_place_or_not d name d' name') [
+      | inl same ↦ (sym same.0, sym same.1)
+      | inr away ↦
+          let one = ap (weight (one_for n)) e ∙ one_for-same n in
+          let others = names_count_at_least (drop_name t d name) d' name' n (entry_of-drop_name-other t d name d' name' away ∙ f) in
+          let sum = names_count-drop_name t d name n in
+          let count = counts_names t h n in
+          let most = h.single n is in
+          absurd (omega arith)
+    ]
 
--- a node with names in two directories has at least two
-two_directories : (t : Tree) (d q : ℕ) (name other : List ℕ) (n : ℕ) → q ≢ d → HasName t d name n → HasName t q other n → 2 ≤ names_count t n
-two_directories t d q name other n apart e f =
-    let one = name_weighs n (get t.names d) name e in
-    let sum = total-remove (count_in n) t.names d in
-    let two = name_weighs n (get t.names q) other f in
-    let rest = total-remove (count_in n) (remove t.names d) q in
-    let same = ap (weight (count_in n)) (get-remove-other t.names d q apart) in
-    omega arith
-
--- a node with two names in a directory has at least two
-two_names : (n : ℕ) (names : Names) (name other : List ℕ) → other ≢ name → get names name ≡ Some n → get names other ≡ Some n → 2 ≤ count_in n names
-unfolding count_in
-two_names n names name other apart e f =
-    let unit = one_for-same n in
-    let sum = name_map.total-remove (one_for n) names name in
-    let one = ap (weight (one_for n)) e in
-    let rest = name_map.total-remove (one_for n) (remove names name) other in
-    let two = ap (weight (one_for n)) (name_map.get-remove-other names name other apart ∙ f) in
-    omega arith
-
-two_names_weigh : (n : ℕ) (o : Option Names) (name other : List ℕ) → other ≢ name → get (names_in o) name ≡ Some n → get (names_in o) other ≡ Some n
-    → 2 ≤ weight (count_in n) o
-two_names_weigh n None name other apart e f = absurd (none-some n (sym (get-empty name_map.name_cmp name) ∙ e))
-two_names_weigh n (Some names) name other apart e f = two_names n names name other apart e f
-
--- where a node has a name at all, some directory has one of it
+-- some directory has a name of a node that has one at all
 some_directory : (n : ℕ) (m : FinMap nat_cmp Names) → 0 < total (count_in n) m → (d : ℕ) × (0 < weight (count_in n) (get m d))
 some_directory n =
     map_induction (λ m. 0 < total (count_in n) m → (d : ℕ) × (0 < weight (count_in n) (get m d)))
@@ -67,32 +53,14 @@ some_directory n =
       | zero ↦ λ none.
           let sum = total-insert_new (count_in n) m k names new in
           let found = rest (omega arith) in
-          let apart : found.0 ≢ k = λ same. let nothing = ap (λ x. weight (count_in n) (get m x)) same ∙ ap (weight (count_in n)) new in let some = found.1 in absurd (omega arith) in
+          let weighs = found.1 in
+          let apart : found.0 ≢ k = λ same.
+          let nothing = ap (λ x. weight (count_in n) (get m x)) same ∙ ap (weight (count_in n)) new in
+          absurd (omega arith) in
           let same = ap (weight (count_in n)) (get-insert-other m k names found.0 apart) in
-          let some = found.1 in
           (found.0, omega arith)
       | suc c ↦ λ more. let same = ap (weight (count_in n)) (get-insert-same m k names) in (k, omega arith)
     ] refl)
-
--- ---- a directory has one name
-
--- a directory has one name, in one directory
-pub single_name : (t : Tree) → IsTree t → (n : ℕ) → is_directory t n ≡ true → (d : ℕ) (name : List ℕ) (q : ℕ) (other : List ℕ)
-    → HasName t d name n → HasName t q other n → (q ≡ d) × (other ≡ name)
-single_name t h n is d name q other e f =
-    let most = h.single n is in
-    let count = counts_names t h n in
-    elim (eqb_tells q d) [
-      | inl same ↦
-          elim (name_map.same_or_not other name) [
-            | inl alike ↦ (same.1, alike)
-            | inr apart ↦
-                let two = two_names_weigh n (get t.names d) name other apart e (ap (λ x. entry_of t x other) (sym same.1) ∙ f) in
-                let sum = total-remove (count_in n) t.names d in
-                absurd (omega arith)
-          ]
-      | inr apart ↦ let two = two_directories t d q name other n apart.1 e f in absurd (omega arith)
-    ]
 
 some_name_weighs : (n : ℕ) (o : Option Names) → 0 < weight (count_in n) o → (name : List ℕ) × (get (names_in o) name ≡ Some n)
 some_name_weighs n None some = absurd (omega arith)
@@ -123,12 +91,6 @@ no_parent t h n top d name e =
 
 -- ---- climbing
 
-same_tests : (a b : Bool) → (a ≡ true → b ≡ true) → (b ≡ true → a ≡ true) → a ≡ b
-same_tests true true f g = refl
-same_tests true false f g = sym (f refl)
-same_tests false true f g = g refl
-same_tests false false f g = refl
-
 -- each is below itself
 pub climb_from_itself : (t : Tree) (d n : ℕ) → d ≡ n → member d (below t n) ≡ true
 climb_from_itself t d n same = ap (λ x. member x (below t n)) same ∙ below_self t n
@@ -137,12 +99,14 @@ climb_from_itself t d n same = ap (λ x. member x (below t n)) same ∙ below_se
 pub climb : (t : Tree) → IsTree t → (n p : ℕ) (name : List ℕ) (d : ℕ) → is_directory t d ≡ true → HasName t p name d → d ≢ n
     → member d (below t n) ≡ member p (below t n)
 climb t h n p name d is e other =
-    same_tests _ _
-    (λ under. elim (below_cases t n d under) [
-      | inl same ↦ absurd (other same)
-      | inr last ↦ ap (λ x. member x (below t n)) (single_name t h d is last.0 last.1 p name last.3 e).0 ∙ last.2
-    ])
-    (λ over. below_closed t n p name d over e (h.led p name d e))
+    same_from_decides _ _ (λ e. e, λ e. e)
+    (
+      λ over. below_closed t n p name d over e (h.led p name d e),
+      λ under. elim (below_cases t n d under) [
+        | inl same ↦ absurd (other same)
+        | inr last ↦ ap (λ x. member x (below t n)) (single_name t h d is p name last.0 last.1 e last.3).0 ∙ last.2
+      ],
+    )
 
 -- another directory that has no name, since it is the root or counts none, is not below n
 pub climb_ends : (t : Tree) → IsTree t → (n d : ℕ) → (links_of t d ≡ 0) ⊎ (d ≡ ROOT) → d ≢ n → member d (below t n) ≡ false

@@ -26,6 +26,7 @@ use Rattle.tree_model.specs.Counts.{links_of-without_old, names_count-drop_name,
 use Rattle.tree_model.specs.Faults.{NoneHolds, name_there, none_holds, no_names, not_removed}
 use Rattle.tree_model.specs.Facts.{counts_names, links_of_held, links_of_named, names_of_name, table_of_directory}
 use Rattle.tree_model.specs.Heights.{no_cycle-fewer, no_cycle-put_name, no_own_name}
+use Rattle.tree_model.specs.Keeps.{tree_where_nodes_stay}
 
 -- ---- where a rename is not refused
 
@@ -185,32 +186,21 @@ module _ (t : Tree) (from : ℕ) (name : List ℕ) (to : ℕ) (new : List ℕ) (
   moved-tree : IsTree t → is_directory t from ≡ true → is_directory t to ≡ true → links_of t to ≢ 0 → HasName t from name n
       → IsElsewhere from name to new → CanReplace t n to (entry_of t to new) → IsTree moved
   moved-tree tree source target linked named off can =
-      let keeps = KeepsNodes-moved (table_of_directory t tree from source) (table_of_directory t tree to target) in
-      record {
-        root = keeps.kinds ROOT ∙ tree.root;
-        directories = λ d. (
-          λ there. keeps.kinds d ∙ (tree.directories d).0 (sym (keeps.tables d) ∙ there),
-          λ is. keeps.tables d ∙ (tree.directories d).1 (sym (keeps.kinds d) ∙ is),
-        );
-        led = λ d other m h. keeps.nodes m ∙ elim (HasName-moved d other m h) [
-          | inl came ↦ ap (λ x. is_some (get t.nodes x)) came.2 ∙ tree.led from name n named
-          | inr before ↦ tree.led d other m before.2
-        ];
-        counted = λ q node there.
-        let links = ap links_in there in
-        let lost = links_of-moved tree q in
-        let names = names_count-moved named off q in
-        let count = counts_names t tree q in
-        omega arith;
-        single = λ d is. let most = tree.single d (sym (keeps.kinds d) ∙ is) in let count = links_of-moved tree d in omega arith;
-        bare = λ d is none.
-        let empty_before = bare_before tree can.bare d (sym (keeps.kinds d) ∙ is) none in
-        names_of-put_name-other dropped to new n d (not_target tree linked d none)
-        ∙ names_of-drop_name-other less from name d (λ same. names_of_name t from name n named (sym (ap (names_of t) same) ∙ empty_before))
-        ∙ names_of-without_old t (entry_of t to new) d
-        ∙ empty_before;
-        acyclic = no_cycle-moved tree can.beside;
-      }
+      tree_where_nodes_stay t moved tree
+      (KeepsNodes-moved (table_of_directory t tree from source) (table_of_directory t tree to target))
+      (λ q. let lost = links_of-moved tree q in let names = names_count-moved named off q in omega arith)
+      (λ d other m h. elim (HasName-moved d other m h) [
+        | inl came ↦ ap (λ x. is_some (get t.nodes x)) came.2 ∙ tree.led from name n named
+        | inr before ↦ tree.led d other m before.2
+      ])
+      (λ d is. let most = tree.single d is in let count = links_of-moved tree d in omega arith)
+      (λ d is none.
+      let empty_before = bare_before tree can.bare d is none in
+      names_of-put_name-other dropped to new n d (not_target tree linked d none)
+      ∙ names_of-drop_name-other less from name d (λ same. names_of_name t from name n named (sym (ap (names_of t) same) ∙ empty_before))
+      ∙ names_of-without_old t (entry_of t to new) d
+      ∙ empty_before)
+      (no_cycle-moved tree can.beside)
 
 -- ---- a rename
 
@@ -242,7 +232,7 @@ module _ (t : Tree) (from : ℕ) (name : List ℕ) (to : ℕ) (new : List ℕ) w
       renamed_cases P same (λ e. subst (λ o. P (moved_to t from name to new o)) (sym named) (differ e))
 
   -- two names of one node stay as they are
-  pub renamed-same : alike ≡ true → renamed t from name to new ≡ t
+  pub renamed-same : is_same (entry_of t from name) (entry_of t to new) ≡ true → renamed t from name to new ≡ t
   renamed-same e = ap (λ b. if b then t else moved_to t from name to new (entry_of t from name)) e
 
   -- the node has the new name
@@ -253,7 +243,8 @@ module _ (t : Tree) (from : ℕ) (name : List ℕ) (to : ℕ) (new : List ℕ) w
       (λ e. entry_of-put_name-same (dropped t from name to new n) to new n)
 
   -- the old name is gone
-  pub renamed-old_name : (n : ℕ) → HasName t from name n → alike ≡ false → entry_of (renamed t from name to new) from name ≡ None
+  pub renamed-old_name : (n : ℕ) → HasName t from name n → is_same (entry_of t from name) (entry_of t to new) ≡ false
+      → entry_of (renamed t from name to new) from name ≡ None
   renamed-old_name n named differ =
       renamed_by (λ u. entry_of u from name ≡ None) n named
       (λ e. absurd (false≢true (sym differ ∙ e)))
