@@ -1,4 +1,5 @@
 -- What is below a directory, by names.
+--     some_name      where some names are the node's, there is one
 --     has_node_exactly      whether some name in the directory is the node's
 --     leads_exactly      whether some name in one of the directories is the node's
 --     below_self      a directory is below itself
@@ -42,7 +43,7 @@ some_name n =
     ])
 
 -- a name of the node is one of those that are the node's
-pub name_counts : (n : ℕ) (names : Names) (name : List ℕ) → get names name ≡ Some n → 1 ≤ count_in n names
+name_counts : (n : ℕ) (names : Names) (name : List ℕ) → get names name ≡ Some n → 1 ≤ count_in n names
 unfolding count_in
 name_counts n names name e =
     let one = one_for-same n in
@@ -153,13 +154,13 @@ below_induction t a P first step =
     let part : IsSubset found result = λ q h. rest.0 q (member_later q k found h) in (
       part,
       λ keys all holds.
-      let one = leads_name t found k now in
-      let new : P k = step one.0 one.1 k (all one.0 (part one.0 one.2)) (holds one.0 one.2) one.3 (keys k here) in
-      rest.1 (λ q key. keys q (key_before pending k q key)) all
-      (λ q h. elim (eqb_tells q k) [
-        | inl same ↦ subst P (sym same.1) new
-        | inr other ↦ holds q (sym (ap (λ b. b || member q found) other.0) ∙ h)
-      ]),
+          let one = leads_name t found k now in
+          let new : P k = step one.0 one.1 k (all one.0 (part one.0 one.2)) (holds one.0 one.2) one.3 (keys k here) in
+          rest.1 (λ q key. keys q (key_before pending k q key)) all
+          (λ q h. elim (eqb_tells q k) [
+            | inl same ↦ subst P (sym same.1) new
+            | inr other ↦ holds q (sym (ap (λ b. b || member q found) other.0) ∙ h)
+          ]),
     ))
     t.nodes (a ∷ [])).1
     (λ q h. h) (λ q h. h) (λ q h. subst P (sym (member_only q a h)) first)

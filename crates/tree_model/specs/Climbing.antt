@@ -7,23 +7,21 @@
 --     climb_ends      another directory that has no name is not below n
 --     climb_lowers      each climb leads to a lower height
 --     depth t q, climb_shortens      how many nodes q is below;  each climb leaves fewer
-use Rattle.std.proofs.Common.{◌≡◌, ◌≢◌, ◌⊎◌, ℕ, zero, suc, ◌+◌, ◌<◌, ◌≤◌, Bool, true, false, cond, inl, inr, List, Option, Some, None, IsSome, is_some, refl, sym, ap, ◌∙◌, arith}
+use Rattle.std.proofs.Common.{◌≡◌, ◌≢◌, ◌⊎◌, ℕ, zero, suc, ◌<◌, ◌≤◌, Bool, true, false, cond, inl, inr, List, Option, Some, None, IsSome, is_some, refl, sym, ap, ◌∙◌, arith}
 use Rattle.std.proofs.lemmas.Bool.{false≢true, false_from_ne_true}
-use Rattle.std.proofs.lemmas.Option.{none-some}
 use Rattle.std.proofs.lemmas.Bool.Decides.{eqb_tells, same_from_decides}
-use Rattle.std.specs.FinMap.{FinMap, get, get-empty, insert, remove, len, retain_keys}
+use Rattle.std.specs.FinMap.{FinMap, get, insert, remove, len, retain_keys}
 use Rattle.std.specs.Ordering.{nat_cmp}
 use Rattle.abi_types.specs.declared.node.Node.{Node}
 use Rattle.number_map.specs.Closure.{member, total_ones, total_below}
-use Rattle.number_map.specs.Maps.{weight, total, map_induction, total-empty, total-insert_new, total-remove, get-insert-same, get-insert-other, get-remove-other, get-retain, len-removed}
-use Rattle.name_map.specs.Names as name_map
+use Rattle.number_map.specs.Maps.{weight, total, map_induction, total-empty, total-insert_new, get-insert-same, get-insert-other, get-remove-other, get-retain, len-removed}
 use Rattle.tree_model.specs.declared.limits.TheConstants.{ROOT}
-use Rattle.tree_model.specs.Tree.{Tree, Names, HasName, IsTree, names_in, entry_of, below, is_directory, is_directory_node, links_in, links_of, one_for, count_in, names_count}
+use Rattle.tree_model.specs.Tree.{Tree, Names, HasName, IsTree, names_in, below, is_directory, links_of, one_for, count_in}
 use Rattle.tree_model.specs.Changes.{drop_name}
 use Rattle.tree_model.specs.Entries.{entry_of-drop_name-other, same_place_or_not}
 use Rattle.tree_model.specs.Counts.{one_for-same, one_for-other, names_count_at_least, names_count-drop_name}
 use Rattle.tree_model.specs.Facts.{counts_names, links_of_root}
-use Rattle.tree_model.specs.Below.{name_counts, some_name, below_self, below_closed, below_cases}
+use Rattle.tree_model.specs.Below.{some_name, below_self, below_closed, below_cases}
 use Rattle.tree_model.specs.Heights.{not_below_child}
 
 -- ---- a directory has one name
@@ -99,8 +97,7 @@ climb_from_itself t d n same = ap (λ x. member x (below t n)) same ∙ below_se
 pub climb : (t : Tree) → IsTree t → (n p : ℕ) (name : List ℕ) (d : ℕ) → is_directory t d ≡ true → HasName t p name d → d ≢ n
     → member d (below t n) ≡ member p (below t n)
 climb t h n p name d is e other =
-    same_from_decides _ _ (λ e. e, λ e. e)
-    (
+    same_from_decides _ _ (λ e. e, λ e. e) (
       λ over. below_closed t n p name d over e (h.led p name d e),
       λ under. elim (below_cases t n d under) [
         | inl same ↦ absurd (other same)

@@ -6,25 +6,25 @@
 --     renamed-name      the node has the new name
 --     renamed-old_name      the old name is gone
 --     renamed-other_names      each other name is as it was
---     renamed-nodes      no node came or went, and none changed its kind
---     renamed-links      the node that lost its name counts one name less, and each other as many
-use Rattle.std.proofs.Common.{◌≡◌, ◌≢◌, ◌⊎◌, ℕ, ◌+◌, ◌-◌, ◌≤◌, Bool, true, false, cond, not, ◌==◌, ◌&&◌, inl, inr, List, [], ◌∷◌, Option, Some, None, IsSome, is_some, refl, sym, ap, subst, ◌∙◌, arith}
+--     renamed-replaced, renamed-other_nodes      the node that lost its name counts one less;  each other is as it was
+--     renamed-links      so each counts as many names as before, but for that one
+--     KeepsNodes-renamed      no node came or went, and none changed its kind
+use Rattle.std.proofs.Common.{◌≡◌, ◌≢◌, ◌⊎◌, ℕ, ◌+◌, ◌-◌, Bool, true, false, not, ◌&&◌, inl, inr, List, [], Option, Some, None, IsSome, is_some, refl, sym, ap, subst, ◌∙◌, arith}
 use Rattle.std.specs.Prelude.{if◌then◌else◌}
 use Rattle.std.proofs.lemmas.Bool.{eq-eqb, eqb-true, false≢true, not-false}
 use Rattle.std.proofs.lemmas.Bool.Decides.{eqb_tells}
 use Rattle.std.proofs.lemmas.Option.{none-some}
 use Rattle.std.specs.FinMap.{empty, get}
 use Rattle.std.specs.Option.{option_map}
-use Rattle.abi_types.specs.declared.node.Node.{Node}
 use Rattle.number_map.specs.Closure.{member}
 use Rattle.number_map.specs.Maps.{weight}
 use Rattle.tree_model.specs.declared.limits.TheConstants.{ROOT}
-use Rattle.tree_model.specs.Tree.{Tree, HasName, HasNoCycle, IsTree, below, entry_of, is_directory, links_in, links_of, names_count, names_of, one_for}
-use Rattle.tree_model.specs.Changes.{first_fault, drop_name, is_full, is_removed, is_same, leads_to_directory, moved_to, put_name, rename_faults, renamed, replace_faults, replaced, with_count, without_old}
-use Rattle.tree_model.specs.Entries.{IsElsewhere, HasName-drop_name, HasName-put_name, KeepsNodes, KeepsNodes-drop_name, KeepsNodes-itself, KeepsNodes-put_name, KeepsNodes-twice, KeepsNodes-without_old, entry_of-drop_name-other, entry_of-drop_name-same, entry_of-put_name-other, entry_of-put_name-same, entry_of-without_old, names-without_old, names_of-drop_name-other, names_of-put_name-other, names_of-without_old, one_less-changes}
+use Rattle.tree_model.specs.Tree.{Tree, HasName, HasNoCycle, IsTree, below, entry_of, is_directory, links_of, names_count, names_of, one_for}
+use Rattle.tree_model.specs.Changes.{first_fault, drop_name, is_full, is_same, leads_to_directory, moved_to, put_name, rename_faults, renamed, replace_faults, replaced, with_count, without_old}
+use Rattle.tree_model.specs.Entries.{IsElsewhere, HasName-drop_name, HasName-put_name, KeepsNodes, KeepsNodes-drop_name, KeepsNodes-itself, KeepsNodes-put_name, KeepsNodes-twice, KeepsNodes-without_old, entry_of-drop_name-other, entry_of-drop_name-same, entry_of-put_name-other, entry_of-put_name-same, entry_of-without_old, names_of-drop_name-other, names_of-put_name-other, names_of-without_old, one_less-changes}
 use Rattle.tree_model.specs.Counts.{links_of-without_old, names_count-drop_name, names_count-put_name, names_count-without_old, one_for-other}
 use Rattle.tree_model.specs.Faults.{NoneHolds, name_there, none_holds, no_names, not_removed}
-use Rattle.tree_model.specs.Facts.{counts_names, links_of_held, links_of_named, names_of_name, table_of_directory}
+use Rattle.tree_model.specs.Facts.{links_of_held, links_of_named, names_of_name, table_of_directory}
 use Rattle.tree_model.specs.Heights.{no_cycle-fewer, no_cycle-put_name, no_own_name}
 use Rattle.tree_model.specs.Keeps.{tree_where_nodes_stay}
 
@@ -61,9 +61,9 @@ can_replace : (t : Tree) (n to : ℕ) (old : Option ℕ) → NoneHolds (replace_
 can_replace t n to old none = record {
   beside = none.0;
   kinds = λ m is.
-  same_kinds (is_directory t n) (is_directory t m)
-  (sym (ap (λ o. is_some o && (is_directory t n && not (leads_to_directory t o))) is) ∙ none.1.0)
-  (sym (ap (λ o. is_some o && (not (is_directory t n) && leads_to_directory t o)) is) ∙ none.1.1.0);
+      same_kinds (is_directory t n) (is_directory t m)
+      (sym (ap (λ o. is_some o && (is_directory t n && not (leads_to_directory t o))) is) ∙ none.1.0)
+      (sym (ap (λ o. is_some o && (not (is_directory t n) && leads_to_directory t o)) is) ∙ none.1.1.0);
   bare = λ m is. no_names t m (sym (ap (is_full t) is) ∙ none.1.1.1.0);
 }
 
@@ -80,8 +80,8 @@ can_rename t from name to new e =
       node = there.0;
       named = there.1;
       apart = λ differ. can_replace t there.0 to (entry_of t to new)
-      (subst (λ o. NoneHolds (replace_faults t o to (entry_of t to new))) there.1
-      (subst (λ s. NoneHolds (if s then [] else replace_faults t (entry_of t from name) to (entry_of t to new))) differ after.1.1.1));
+          (subst (λ o. NoneHolds (replace_faults t o to (entry_of t to new))) there.1
+          (subst (λ s. NoneHolds (if s then [] else replace_faults t (entry_of t from name) to (entry_of t to new))) differ after.1.1.1));
     }
 
 -- ---- the tree after a name was moved
@@ -142,7 +142,7 @@ module _ (t : Tree) (from : ℕ) (name : List ℕ) (to : ℕ) (new : List ℕ) (
       let gone = ap (weight (one_for q)) (entry_of-without_old t (entry_of t to new) from name ∙ named) in
       omega arith
 
-  -- and counts one less
+  -- and what had the new name counts one less
   links_of-moved : IsTree t → (q : ℕ) → links_of moved q + weight (one_for q) (entry_of t to new) ≡ links_of t q
   links_of-moved tree = links_of-without_old t (entry_of t to new) (λ m is. links_of_named t tree to new m is)
 
@@ -157,7 +157,7 @@ module _ (t : Tree) (from : ℕ) (name : List ℕ) (to : ℕ) (new : List ℕ) (
       ])
       (no_cycle-put_name t to new n tree.led tree.acyclic beside)
 
-  -- a directory that counts no name has no names in it
+  -- a directory that counts no name afterwards had no names in it
   bare_before : IsTree t → ((m : ℕ) → entry_of t to new ≡ Some m → names_of t m ≡ empty)
       → (d : ℕ) → is_directory t d ≡ true → links_of moved d ≡ 0 → names_of t d ≡ empty
   bare_before tree bare d is none =
@@ -170,7 +170,7 @@ module _ (t : Tree) (from : ℕ) (name : List ℕ) (to : ℕ) (new : List ℕ) (
         ]
       ] refl
 
-  -- nor is it the target
+  -- a directory that counts no name afterwards is not the target
   not_target : IsTree t → links_of t to ≢ 0 → (d : ℕ) → links_of moved d ≡ 0 → d ≢ to
   not_target tree linked d none same =
       let count = links_of-moved tree to in
@@ -282,7 +282,7 @@ module _ (t : Tree) (from : ℕ) (name : List ℕ) (to : ℕ) (new : List ℕ) w
       ap (λ o. get (without_old t o).nodes m) (sym (ap (λ b. if b then None else entry_of t to new) e) ∙ is)
       ∙ (one_less-changes t m).node)
 
-  -- so each node counts as many names as before, but for that one
+  -- so each node counts as many names as before, and one less where it lost its name
   pub renamed-links : IsTree t → (n : ℕ) → HasName t from name n
       → (q : ℕ) → links_of (renamed t from name to new) q + weight (one_for q) (replaced t from name to new) ≡ links_of t q
   renamed-links tree n named q =
