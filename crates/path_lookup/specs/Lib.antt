@@ -1,0 +1,4 @@
+pub mod Finding
+pub mod Split
+pub mod Walk
+pub mod Laws
