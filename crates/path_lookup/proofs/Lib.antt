@@ -1,3 +1,5 @@
 pub mod Below
 pub mod Agreeing
 pub mod Starts
+pub mod Names
+pub mod Left

@@ -6,7 +6,14 @@
 
 pub use directories::{Dirs, Found};
 pub use ends::{End, WalkFault, WalkMode};
+pub use laws::{dot_is_nothing, empty_path_is_no_entry, reads_below, start_is_not_left};
+pub use lookup::walk;
 
 mod directories;
 mod ends;
+mod frames;
+pub mod laws;
+mod lookup;
+mod texts;
 mod treatment;
+mod walker;
