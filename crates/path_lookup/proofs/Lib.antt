@@ -3,3 +3,4 @@ pub mod Agreeing
 pub mod Starts
 pub mod Names
 pub mod Left
+pub mod Turns

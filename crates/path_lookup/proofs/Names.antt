@@ -95,8 +95,8 @@ read_last : (text : List ℕ) (from end : ℕ) → from ≤ end → end ≡ leng
 read_last text from end order same =
     let len : length (slice_range text from end) ≡ end - from = length-between text from end (omega arith) in
     elim (eqb_tells from (length text)) as (λ w. last_name from (slice_range text from end) ≡ name_at text (record { from = from; end = end }) ∷ []) [
-      inl w ↦ last_none from (slice_range text from end) (omega arith) ∙ ap (λ p. p ∷ []) (sym (name_behind text from end (eqb from (length text)) w.0))
-    | inr w ↦ last_some from (slice_range text from end) (omega arith) ∙ ap (λ p. p ∷ []) (sym (name_before text from end (eqb from (length text)) w.0))
+      | inl w ↦ last_none from (slice_range text from end) (omega arith) ∙ ap (λ p. p ∷ []) (sym (name_behind text from end (eqb from (length text)) w.0))
+      | inr w ↦ last_some from (slice_range text from end) (omega arith) ∙ ap (λ p. p ∷ []) (sym (name_before text from end (eqb from (length text)) w.0))
     ]
 
 read_at_end : (text : List ℕ) (from end : ℕ) → from ≤ end → end ≡ length text
@@ -109,6 +109,6 @@ pub name_read : (text : List ℕ) (from end : ℕ) → from ≤ end → end ≤ 
     → names_from from (slice_range text from end) (drop end text) ≡ name_at text (record { from = from; end = end }) ∷ names_after text end
 name_read text from end order within other ended =
     elim (eqb_tells end (length text)) as (λ w. names_from from (slice_range text from end) (drop end text) ≡ name_at text (record { from = from; end = end }) ∷ names_after text end) [
-      inl w ↦ read_at_end text from end order w.1
-    | inr w ↦ let before : end < length text = omega arith in read_before text from end order before other (ended before)
+      | inl w ↦ read_at_end text from end order w.1
+      | inr w ↦ let before : end < length text = omega arith in read_before text from end order before other (ended before)
     ]

@@ -20,7 +20,7 @@ fn walk_on<'a, D: Dirs>(
     requires start { walker.old.above.items ≡ [] }
     ensures { result ≡ walk_within (D.finds dirs.now) mode 1024 walker.old.links walker.old.top (parents_of walker.old) (left_of walker.old) }
 {
-    for _i in 0..MOST_COMPONENTS {
+    for _treated in 0..MOST_COMPONENTS {
         match walker.turn(dirs, mode) {
             Turn::On => {}
             Turn::Done(end) => return end,
@@ -35,12 +35,7 @@ fn walk_on<'a, D: Dirs>(
 /// dropped, and a `..` leads back to the directory before. Where the walk stands at its start a `..` is
 /// `Outside`, as is a path that begins with a slash. A symlink's text takes its place, up to 32 times. Names have at most 255
 /// bytes, and at most 1024 components are treated. `WalkMode` says what is done at the last component.
-pub fn walk<D: Dirs>(
-    dirs: &D,
-    start: ObjId,
-    path: &[u8],
-    mode: WalkMode,
-) -> Result<End, WalkFault>
+pub fn walk<D: Dirs>(dirs: &D, start: ObjId, path: &[u8], mode: WalkMode) -> Result<End, WalkFault>
     ensures walked { result ≡ walk_of (D.finds dirs.now) mode start path.now }
     ensures below { StaysBelow (D.finds dirs.now) start result }
 {

@@ -7,5 +7,5 @@ loop-end-preserved c = record {
   after = omega arith;
   within = omega arith;
   same = c.loop-end.invariant.same
-    ∙ byte_joined c.args.text.now c.args.from c.loop-end.end c.loop-end.invariant.after (omega arith) c.if-text-end-ne47.true;
+      ∙ byte_joined c.args.text.now c.args.from c.loop-end.end c.loop-end.invariant.after (omega arith) c.if-text-end-ne47.true;
 }
