@@ -1,10 +1,10 @@
 -- A walk reads nothing but what is in a closed set that has its start. One lemma for each piece of the definition.
-use Rattle.std.proofs.Common.{◌≡◌, ◌∷◌, ℕ, zero, suc, Bool, true, false, cond, not, ◌&&◌, ◌++◌, Err, List, [], refl, ap, ◌∙◌}
+use Rattle.std.proofs.Common.{◌≡◌, ◌∷◌, ℕ, zero, suc, Bool, true, cond, not, ◌&&◌, ◌++◌, Err, List, [], refl, ap, ◌∙◌}
 use Rattle.path_lookup.proofs.Below.{AreIn}
 use Rattle.path_lookup.specs.Finding.{Finding, Nothing, Directory, File, Link}
 use Rattle.path_lookup.specs.Laws.{FindsIn, IsClosed, Agree, ReadsBelow}
-use Rattle.path_lookup.specs.Split.{Component, is_absolute, path_components, text_components}
-use Rattle.path_lookup.specs.Walk.{WalkEnd, Finds, Onward, walk_of, walk_within, climb, follow, stand, by_finding, by_treatment, treatment_of, step, is_last, follows_last, most_links, most_components}
+use Rattle.path_lookup.specs.Split.{Component, is_absolute, text_components}
+use Rattle.path_lookup.specs.Walk.{Finds, Onward, walk_within, climb, follow, stand, by_finding, by_treatment, step, is_last, follows_last, most_links, most_components}
 use Rattle.path_lookup.specs.declared.ends.WalkMode.{WalkMode}
 use Rattle.path_lookup.specs.declared.ends.WalkFault.TheVariants as fault
 use Rattle.path_lookup.specs.declared.treatment.Treatment.{Treatment}

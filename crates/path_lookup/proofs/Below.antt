@@ -4,7 +4,7 @@ use Rattle.std.specs.List.{AllByRecursion}
 use Rattle.path_lookup.specs.Finding.{Finding, Nothing, Directory, File, Link}
 use Rattle.path_lookup.specs.Laws.{FindsIn, IsClosed, EndsIn, StaysBelow}
 use Rattle.path_lookup.specs.Split.{Component, is_absolute, path_components, text_components}
-use Rattle.path_lookup.specs.Walk.{WalkEnd, Finds, Onward, walk_of, walk_components, walk_within, climb, lack, follow, stand, by_finding, by_treatment, treatment_of, step, spent, is_last, follows_last, most_links, most_components}
+use Rattle.path_lookup.specs.Walk.{WalkEnd, Finds, Onward, walk_of, walk_components, walk_within, climb, lack, follow, stand, by_finding, by_treatment, step, spent, is_last, follows_last, most_links, most_components}
 use Rattle.path_lookup.specs.declared.ends.End.TheVariants as end
 use Rattle.path_lookup.specs.declared.ends.WalkFault.TheVariants as fault
 use Rattle.path_lookup.specs.declared.ends.WalkMode.{WalkMode}

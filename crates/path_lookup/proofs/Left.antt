@@ -1,10 +1,10 @@
 -- A text that is left has a component that is left.
-use Rattle.std.proofs.Common.{◌≡◌, ◌∷◌, ◌++◌, ◌+◌, ℕ, Bool, true, false, List, [], length, reverse, drop, refl, ap, sym, ◌∙◌, eqb}
+use Rattle.std.proofs.Common.{◌≡◌, ◌∷◌, ◌++◌, ℕ, Bool, true, false, List, [], length, reverse, drop, refl, ap, sym, ◌∙◌, eqb}
 use Rattle.std.proofs.lemmas.List.{length-reverse}
 use Rattle.std.proofs.Math.Dec.{eqb-suc-zero}
 use Rattle.path_lookup.proofs.Starts.{no_names, some_name, not_last}
 use Rattle.path_lookup.specs.Reading.{components_from, rest_of, coming}
-use Rattle.path_lookup.specs.Split.{Component, Piece, names_from, counted_from}
+use Rattle.path_lookup.specs.Split.{Component, Piece, names_from}
 use Rattle.path_lookup.specs.Walk.{is_last}
 use Rattle.path_lookup.specs.declared.frames.Frame.{Frame}
 

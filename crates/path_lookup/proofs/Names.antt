@@ -1,12 +1,11 @@
 -- How the names of a text are read, byte by byte.
-use Rattle.std.proofs.Common.{◌≡◌, ◌≢◌, ◌⊎◌, inl, inr, ◌∷◌, ◌++◌, ◌+◌, ◌-◌, ◌<◌, ◌≤◌, ℕ, zero, suc, Bool, true, false, cond, List, [], length, drop, take, get_or, refl, ap, sym, ◌∙◌, arith, rules, tests, eqb, ltb}
+use Rattle.std.proofs.Common.{◌≡◌, ◌≢◌, inl, inr, ◌∷◌, ◌++◌, ◌+◌, ◌-◌, ◌<◌, ◌≤◌, ℕ, Bool, true, false, cond, List, [], length, drop, get_or, refl, ap, sym, ◌∙◌, arith, rules, tests, eqb, ltb}
 use Rattle.std.specs.List.{slice_range}
 use Rattle.std.proofs.lemmas.Bool.Decides.{eqb_tells}
 use Rattle.std.proofs.lemmas.List.{drop_more, drop_all}
 use Rattle.std.proofs.lemmas.List.Edits.{between_more, length-between}
-use Rattle.path_lookup.specs.Split.{Piece, names_from, with_name, last_name, piece, added_dot, slash}
+use Rattle.path_lookup.specs.Split.{Piece, names_from, with_name, last_name, piece, added_dot}
 use Rattle.path_lookup.specs.Reading.{name_at, names_after}
-use Rattle.path_lookup.specs.declared.texts.Place.{Place}
 
 -- a slash ends a name, and any other byte goes on with it
 at_slash : (from b : ℕ) (begun rest : List ℕ) → b ≡ 47 → names_from from begun (b ∷ rest) ≡ with_name from begun (names_from (from + length begun + 1) [] rest)

@@ -1,8 +1,8 @@
 -- What a walk is at its start, and at a `.`.
-use Rattle.std.proofs.Common.{◌≡◌, ◌∷◌, ◌++◌, ◌+◌, ℕ, zero, suc, Bool, true, false, cond, List, [], length, ◌==◌, Err, refl, ap, sym, ◌∙◌}
+use Rattle.std.proofs.Common.{◌≡◌, ◌∷◌, ◌++◌, ◌+◌, ℕ, Bool, true, false, cond, List, [], length, ◌==◌, Err, refl, ap}
 use Rattle.path_lookup.specs.Laws.{ClimbsOutside, ClimbsOutsideAtOnce, SlashIsOutside, EmptyIsNoEntry, DotIsNothing}
-use Rattle.path_lookup.specs.Split.{Component, Piece, names_from, with_name, last_name, counted_from, slash, dot}
-use Rattle.path_lookup.specs.Walk.{WalkEnd, Finds, Onward, walk_within, step, is_last, most_links}
+use Rattle.path_lookup.specs.Split.{Component, Piece, names_from, with_name, counted_from, slash, dot}
+use Rattle.path_lookup.specs.Walk.{WalkEnd, Finds, walk_within, step, is_last, most_links}
 use Rattle.path_lookup.specs.declared.ends.WalkFault.TheVariants as fault
 use Rattle.path_lookup.specs.declared.ends.WalkMode.{WalkMode}
 use Rattle.path_lookup.specs.declared.ends.WalkMode.TheVariants as mode

@@ -1,7 +1,7 @@
 -- The walk, one component at a time.
 use Rattle.std.proofs.Common.{◌≡◌, ◌<◌, ◌≤◌, ◌-◌, ◌+◌, ℕ, zero, suc, List, refl, ap, ◌∙◌, arith}
 use Rattle.path_lookup.specs.Split.{Component}
-use Rattle.path_lookup.specs.Walk.{WalkEnd, Finds, walk_within, step, spent}
+use Rattle.path_lookup.specs.Walk.{Finds, walk_within, step, spent}
 use Rattle.path_lookup.specs.declared.ends.WalkMode.{WalkMode}
 
 one_more : (find : Finds) (mode : WalkMode) (left links top : ℕ) (above : List ℕ) (rest : List Component)

@@ -1,14 +1,12 @@
 -- What holds of every walk: the statements that are the contracts of `walk` and of the functions of src/laws.rt.
-use Rattle.std.specs.Prelude.{◌≡◌, ⊤, ℕ, suc, true, false, Bool, List, [], ◌∷◌, ◌++◌, Result, Ok, Err}
+use Rattle.std.specs.Prelude.{◌≡◌, ⊤, ℕ, suc, true, false, Bool, List, [], ◌∷◌, Ok, Err}
 use Rattle.path_lookup.specs.Finding.{Finding, Nothing, Directory, File, Link}
-use Rattle.path_lookup.specs.Split.{Component, dot, slash, path_components}
+use Rattle.path_lookup.specs.Split.{Component, dot, slash}
 use Rattle.path_lookup.specs.Walk.{WalkEnd, Finds, walk_of, walk_within, stops_before_last}
 use Rattle.path_lookup.specs.declared.ends.End.{End}
 use Rattle.path_lookup.specs.declared.ends.End.TheVariants as end
-use Rattle.path_lookup.specs.declared.ends.WalkFault.{WalkFault}
 use Rattle.path_lookup.specs.declared.ends.WalkFault.TheVariants as fault
 use Rattle.path_lookup.specs.declared.ends.WalkMode.{WalkMode}
-use Rattle.path_lookup.specs.declared.ends.WalkMode.TheVariants as mode
 
 -- ---- a walk stays below its start
 

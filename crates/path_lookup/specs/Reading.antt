@@ -1,5 +1,5 @@
 -- What the code's values are: a text that is read, and the texts whose components are left.
-use Rattle.std.specs.Prelude.{◌≡◌, ◌≤◌, ℕ, ◌+◌, ◌==◌, Bool, true, false, cond, nat_lt, List, [], ◌∷◌, length, map, drop, slice_range}
+use Rattle.std.specs.Prelude.{◌≡◌, ◌≤◌, ℕ, ◌+◌, ◌==◌, Bool, true, false, cond, nat_lt, List, [], length, map, drop, slice_range}
 use Rattle.std.specs.List.{AllByRecursion, flat_map}
 use Rattle.path_lookup.specs.Split.{Piece, piece, added_dot, names_from, Component, counted_from, given_at}
 use Rattle.path_lookup.specs.declared.frames.Component as code

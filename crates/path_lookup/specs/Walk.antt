@@ -1,5 +1,5 @@
 -- The walk of a path: where it ends, by what each name is in each directory.
-use Rattle.std.specs.Prelude.{ℕ, zero, suc, ◌==◌, ◌&&◌, Bool, true, false, cond, not, nat_lt, List, [], ◌∷◌, ◌++◌, length, Result, Ok, Err}
+use Rattle.std.specs.Prelude.{ℕ, zero, suc, ◌&&◌, Bool, true, false, cond, not, nat_lt, List, [], ◌∷◌, ◌++◌, length, Result, Ok, Err}
 use Rattle.std.specs.Str.{bytes_eq}
 use Rattle.path_lookup.specs.Finding.{Finding, Nothing, Directory, File, Link}
 use Rattle.path_lookup.specs.Split.{Component, dot, is_absolute, path_components, text_components}

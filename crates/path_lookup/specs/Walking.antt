@@ -1,5 +1,5 @@
 -- What the code's values are: a walk that stands somewhere, and what comes of a component.
-use Rattle.std.specs.Prelude.{◌≡◌, ◌≤◌, ℕ, ◌+◌, List, reverse}
+use Rattle.std.specs.Prelude.{◌≤◌, ℕ, ◌+◌, List, reverse}
 use Rattle.arrayvec.specs.ArrayVec.{array_vec_len}
 use Rattle.path_lookup.specs.Reading.{AreFrames, coming}
 use Rattle.path_lookup.specs.Split.{Component}

@@ -1,11 +1,10 @@
-use Rattle.std.proofs.Common.{◌≡◌, ◌≢◌, ◌∷◌, ℕ, Bool, true, false, cond, eqb, List, [], length, reverse, refl, ap, sym, subst, ◌∙◌, rules, tests, arith}
+use Rattle.std.proofs.Common.{◌≡◌, ◌∷◌, ℕ, Bool, true, false, cond, eqb, List, [], length, reverse, refl, ap, sym, subst, ◌∙◌}
 use Rattle.path_lookup.proofs.Below.{stays_below}
 use Rattle.path_lookup.specs.Laws.{EndsIn}
 use Rattle.path_lookup.specs.Split.{Component, is_absolute, path_components}
 use Rattle.path_lookup.specs.Walk.{WalkEnd, Finds, walk_of, walk_components, walk_within, most_components, most_links}
-use Rattle.path_lookup.specs.Walking.{left_of, parents_of}
+use Rattle.path_lookup.specs.Walking.{left_of}
 use Rattle.path_lookup.specs.declared.ends.WalkMode.{WalkMode}
-use Rattle.path_lookup.specs.declared.walker.Walker.{Walker}
 use Rattle.path_lookup.proofs.lookup.walk.Goals as goal
 
 by_test : (t : Bool) (v w : WalkEnd) → t ≡ false → cond t v w ≡ w

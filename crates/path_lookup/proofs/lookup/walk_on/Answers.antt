@@ -1,4 +1,4 @@
-use Rattle.std.proofs.Common.{◌≡◌, ◌-◌, ◌+◌, sym, ◌∙◌, arith}
+use Rattle.std.proofs.Common.{◌-◌, ◌+◌, sym, ◌∙◌, arith}
 use Rattle.path_lookup.proofs.Turns.{step_next, step_last}
 use Rattle.path_lookup.specs.Walk.{walk_within}
 use Rattle.path_lookup.specs.Walking.{left_of, parents_of}
