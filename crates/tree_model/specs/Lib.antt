@@ -13,3 +13,5 @@ pub mod Keeps
 pub mod Renames
 pub mod Outcomes
 pub mod Start
+pub mod Retained
+pub mod Opens

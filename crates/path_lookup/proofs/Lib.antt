@@ -1,0 +1,6 @@
+pub mod Below
+pub mod Agreeing
+pub mod Starts
+pub mod Names
+pub mod Left
+pub mod Turns

@@ -1,0 +1,6 @@
+pub mod Finding
+pub mod Split
+pub mod Walk
+pub mod Reading
+pub mod Walking
+pub mod Laws
