@@ -2,16 +2,15 @@
 --     retained t keep      the tree with those nodes, and the names in those directories, that pass
 --     retained-node, retained-names, retained-kind      what it answers
 --     retained-tree      it is a tree, where the root and each node that has a name pass
-use Rattle.std.proofs.Common.{◌≡◌, ◌↔◌, ℕ, zero, suc, ◌+◌, ◌<◌, ◌≤◌, Bool, true, false, cond, List, Option, None, Some, IsSome, is_some, refl, sym, ap, subst, ◌∙◌, arith}
+use Rattle.std.proofs.Common.{◌≡◌, ◌↔◌, ℕ, zero, suc, ◌+◌, ◌≤◌, Bool, true, false, cond, List, Option, None, Some, IsSome, is_some, refl, sym, ap, subst, ◌∙◌, arith}
 use Rattle.std.proofs.lemmas.Bool.{false≢true}
 use Rattle.std.specs.FinMap.{empty, get, retain_keys}
 use Rattle.abi_types.specs.declared.node.Node.{Node}
 use Rattle.number_map.specs.Maps.{get-retain}
 use Rattle.tree_model.specs.declared.limits.TheConstants.{ROOT}
-use Rattle.tree_model.specs.Tree.{Tree, HasName, IsTree, is_directory, is_directory_node, links_in, links_of, names_count, names_in, names_of, one_for}
+use Rattle.tree_model.specs.Tree.{Tree, HasName, IsTree, is_directory, is_directory_node, links_in, links_of, names_in, names_of, one_for}
 use Rattle.tree_model.specs.Counts.{names_count-same}
-use Rattle.tree_model.specs.Entries.{empty_answers}
-use Rattle.tree_model.specs.Facts.{counts_names, links_of_named, no_names_in}
+use Rattle.tree_model.specs.Facts.{links_of_named, no_names_in}
 use Rattle.tree_model.specs.Heights.{no_cycle-fewer}
 
 -- the tree with those nodes, and the names in those directories, that pass
@@ -69,9 +68,9 @@ module _ (t : Tree) (keep : ℕ → Bool) where
           | false ↦ λ e. no_names_in t tree q e
           | true ↦ λ e. tree.bare q e (no_links q dropped (links_of t q) refl)
         ] refl where
-      no_links : (q : ℕ) → keep q ≡ false → (k : ℕ) → links_of t q ≡ k → links_of t q ≡ 0
-      no_links q dropped zero e = e
-      no_links q dropped (suc k) e = absurd (false≢true (sym dropped ∙ named q (omega (arith, e))))
+          no_links : (q : ℕ) → keep q ≡ false → (k : ℕ) → links_of t q ≡ k → links_of t q ≡ 0
+          no_links q dropped zero e = e
+          no_links q dropped (suc k) e = absurd (false≢true (sym dropped ∙ named q (omega (arith, e))))
 
     -- the names in each directory are as they were
     pub retained-names : (q : ℕ) → names_of (retained t keep) q ≡ names_of t q
