@@ -1,6 +1,6 @@
 //! The walk of a path.
 ghost use Rattle.std.specs.Prelude.{◌≡◌, []};
-ghost use Rattle.path_lookup.specs.Laws.{StaysBelow};
+ghost use Rattle.path_lookup.specs.Laws.{StaysBelow, EndsAtPlace};
 ghost use Rattle.path_lookup.specs.Walk.{walk_of, walk_within};
 ghost use Rattle.path_lookup.specs.Walking.{IsReady, left_of, parents_of};
 
@@ -38,6 +38,7 @@ fn walk_on<'a, D: Dirs>(
 pub fn walk<D: Dirs>(dirs: &D, start: ObjId, path: &[u8], mode: WalkMode) -> Result<End, WalkFault>
     ensures walked { result ≡ walk_of (D.finds dirs.now) mode start path.now }
     ensures below { StaysBelow (D.finds dirs.now) start result }
+    ensures place { EndsAtPlace path.now result }
 {
     if path.is_empty() {
         return Err(WalkFault::NoEntry);
