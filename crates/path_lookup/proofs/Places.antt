@@ -59,7 +59,8 @@ put_last : (path before begun : List ℕ) (from : ℕ) → path ≡ before ++ (b
 put_last path before [] from e f h = (put_dot path before [] from e f, tt)
 put_last path before (b ∷ bs) from e f h = (put_piece path before (b ∷ bs) [] from e f h, tt)
 
-put_with : (path before begun rest : List ℕ) (from : ℕ) (others : List Piece) → path ≡ before ++ (begun ++ rest) → from ≡ length before → IsPlain begun → ArePut path others → ArePut path (with_name from begun others)
+put_with : (path before begun rest : List ℕ) (from : ℕ) (others : List Piece) → path ≡ before ++ (begun ++ rest) → from ≡ length before → IsPlain begun
+    → ArePut path others → ArePut path (with_name from begun others)
 put_with path before [] rest from others e f h more = more
 put_with path before (b ∷ bs) rest from others e f h more = (put_piece path before (b ∷ bs) rest from e f h, more)
 
@@ -70,7 +71,8 @@ by_slash path false ps qs hp hq = hq refl
 not_slash : (b : ℕ) → eqb b slash ≡ false → b ≢ slash
 not_slash b h = elim (eqb_tells b slash) as (λ w. b ≢ slash) [ inl w ↦ absurd (false≢true (sym h ∙ w.0)) | inr w ↦ w.1 ]
 
-names_put : (path before begun rest : List ℕ) (from : ℕ) → path ≡ before ++ (begun ++ rest) → from ≡ length before → IsPlain begun → ArePut path (names_from from begun rest)
+names_put : (path before begun rest : List ℕ) (from : ℕ) → path ≡ before ++ (begun ++ rest) → from ≡ length before → IsPlain begun
+    → ArePut path (names_from from begun rest)
 names_put path before begun [] from e f h = put_last path before begun from e f h
 names_put path before begun (b ∷ rest) from e f h =
     by_slash path (eqb b slash) (with_name from begun (names_from (from + length begun + 1) [] rest)) (names_from from (begun ++ b ∷ []) rest)
@@ -164,7 +166,7 @@ second_of false b h = absurd (false≢true h)
 
 -- which tests a treatment comes from
 abbrev of_tests : Bool → Bool → Bool → Bool → Treatment
-of_tests long left dropped climbed = cond long treatment.Refused (cond left treatment.Left (cond dropped treatment.Dropped (cond climbed treatment.Climbed treatment.Found)))
+of_tests long left dropped climbed = cond long treatment.Refused (cond left treatment.Left (cond dropped treatment.Dropped (cond climbed treatment.Climbed treatment.LookedUp)))
 
 left_tests : (long left dropped climbed : Bool) → of_tests long left dropped climbed ≡ treatment.Left → (long ≡ false) × (left ≡ true)
 left_tests true left dropped climbed h = cc
@@ -173,7 +175,7 @@ left_tests false false true climbed h = cc
 left_tests false false false true h = cc
 left_tests false false false false h = cc
 
-found_tests : (long left dropped climbed : Bool) → of_tests long left dropped climbed ≡ treatment.Found → (long ≡ false) × (left ≡ false)
+found_tests : (long left dropped climbed : Bool) → of_tests long left dropped climbed ≡ treatment.LookedUp → (long ≡ false) × (left ≡ false)
 found_tests true left dropped climbed h = cc
 found_tests false true dropped climbed h = cc
 found_tests false false true climbed h = cc
@@ -195,7 +197,8 @@ module _ (path : List ℕ) (mode : WalkMode) (go : Onward) (goes : GoesPlaced pa
   climb_ends links [] c rest placed = record { ends = tt }
   climb_ends links (parent ∷ above) c rest placed = goes links parent above rest placed
 
-  follow_ends : (links top : ℕ) (above : List ℕ) (c : Component) (text : List ℕ) (rest : List Component) → (is_last rest && stops_before_last mode) ≡ false → ArePlaced path mode rest → Ends path (follow go links top above c text rest)
+  follow_ends : (links top : ℕ) (above : List ℕ) (c : Component) (text : List ℕ) (rest : List Component) → (is_last rest && stops_before_last mode) ≡ false
+      → ArePlaced path mode rest → Ends path (follow go links top above c text rest)
   follow_ends zero top above c text rest more placed = record { ends = tt }
   follow_ends (suc links) top above c text rest more placed =
       either path (is_absolute text) (Err (fault.Outside c.index)) (go links top above (text_components c.index text ++ rest)) (λ h. record { ends = tt })
@@ -212,7 +215,8 @@ module _ (path : List ℕ) (mode : WalkMode) (go : Onward) (goes : GoesPlaced pa
       either path (is_last rest && c.is_spelled) (Ok (end.Absent top c.from c.len)) (Err fault.NoEntry)
       (λ h. record { ends = put_place path c.name c.from c.len short (placed.spelled.0 (second_of (is_last rest) c.is_spelled h)) }) (λ h. record { ends = tt })
 
-  finding_ends : (links top : ℕ) (above : List ℕ) (c : Component) (rest : List Component) (found : Finding) → length c.name ≤ longest_name → (is_last rest && stops_before_last mode) ≡ false
+  finding_ends : (links top : ℕ) (above : List ℕ) (c : Component) (rest : List Component) (found : Finding) → length c.name ≤ longest_name
+      → (is_last rest && stops_before_last mode) ≡ false
       → ArePlaced path mode (c ∷ rest) → Ends path (by_finding go mode links top above c rest found)
   finding_ends links top above c rest Nothing short more placed = lack_ends top c rest short placed
   finding_ends links top above c rest (Directory n) short more placed = goes links n (top ∷ above) rest (behind c rest placed)
@@ -221,7 +225,8 @@ module _ (path : List ℕ) (mode : WalkMode) (go : Onward) (goes : GoesPlaced pa
       either path (is_last rest && not (follows_last mode)) (stand n rest) (follow go links top above c text rest) (λ h. stand_ends n rest)
       (λ h. follow_ends links top above c text rest more (behind c rest placed))
 
-  treatment_ends : (find : Finds) (links top : ℕ) (above : List ℕ) (c : Component) (rest : List Component) (t : Treatment) → treatment_of mode c.name (is_last rest) ≡ t → ArePlaced path mode (c ∷ rest)
+  treatment_ends : (find : Finds) (links top : ℕ) (above : List ℕ) (c : Component) (rest : List Component) (t : Treatment)
+      → treatment_of mode c.name (is_last rest) ≡ t → ArePlaced path mode (c ∷ rest)
       → Ends path (by_treatment find mode go links top above c rest t)
   treatment_ends find links top above c rest treatment.Refused e placed = record { ends = tt }
   treatment_ends find links top above c rest treatment.Left e placed =
@@ -232,7 +237,7 @@ module _ (path : List ℕ) (mode : WalkMode) (go : Onward) (goes : GoesPlaced pa
       }
   treatment_ends find links top above c rest treatment.Dropped e placed = goes links top above rest (behind c rest placed)
   treatment_ends find links top above c rest treatment.Climbed e placed = climb_ends links above c rest (behind c rest placed)
-  treatment_ends find links top above c rest treatment.Found e placed =
+  treatment_ends find links top above c rest treatment.LookedUp e placed =
       let w : (ltb longest_name (length c.name) ≡ false) × ((is_last rest && stops_before_last mode) ≡ false) = found_tests (ltb longest_name (length c.name)) (is_last rest && stops_before_last mode) _ _ e in
       finding_ends links top above c rest (find top c.name) (ltb-false longest_name (length c.name) w.0) w.1 placed
 

@@ -19,7 +19,8 @@ walked find mode start [] some h = cc
 walked find mode start (b ∷ rest) some h = sym (by_test (is_absolute (b ∷ rest)) _ (walk_components find mode start (path_components (b ∷ rest))) h)
 
 -- a walk that begins at its start
-begun : (find : Finds) (mode : WalkMode) (start links top : ℕ) (above : List ℕ) (left components : List Component) → above ≡ [] → top ≡ start → links ≡ most_links → left ≡ components
+begun : (find : Finds) (mode : WalkMode) (start links top : ℕ) (above : List ℕ) (left components : List Component) → above ≡ [] → top ≡ start → links ≡ most_links
+    → left ≡ components
     → walk_within find mode most_components links top (reverse above) left ≡ walk_components find mode start components
 begun find mode start links top above left components ha ht hl hc = let e : reverse above ≡ [] = ap reverse ha in cc
 
