@@ -19,11 +19,13 @@ module _ (inside : ℕ → Bool) (mode : WalkMode) (go on : Onward) (alike : GoA
   climb_alike links [] c rest h = refl
   climb_alike links (parent ∷ above) c rest h = alike links parent above rest h.0 h.1
 
-  follow_alike : (links top : ℕ) (above : List ℕ) (c : Component) (text : List ℕ) (rest : List Component) → inside top ≡ true → AreIn inside above → follow go links top above c text rest ≡ follow on links top above c text rest
+  follow_alike : (links top : ℕ) (above : List ℕ) (c : Component) (text : List ℕ) (rest : List Component) → inside top ≡ true → AreIn inside above
+      → follow go links top above c text rest ≡ follow on links top above c text rest
   follow_alike zero top above c text rest ht ha = refl
   follow_alike (suc links) top above c text rest ht ha = ap (cond (is_absolute text) (Err (fault.Outside c.index))) (alike links top above (text_components c.index text ++ rest) ht ha)
 
-  finding_alike : (links top : ℕ) (above : List ℕ) (c : Component) (rest : List Component) (found : Finding) → inside top ≡ true → AreIn inside above → FindsIn inside found
+  finding_alike : (links top : ℕ) (above : List ℕ) (c : Component) (rest : List Component) (found : Finding) → inside top ≡ true → AreIn inside above
+      → FindsIn inside found
       → by_finding go mode links top above c rest found ≡ by_finding on mode links top above c rest found
   finding_alike links top above c rest Nothing ht ha h = refl
   finding_alike links top above c rest (Directory n) ht ha h = alike links n (top ∷ above) rest h (ht, ha)
@@ -31,17 +33,19 @@ module _ (inside : ℕ → Bool) (mode : WalkMode) (go on : Onward) (alike : GoA
   finding_alike links top above c rest (Link n text) ht ha h =
       ap (cond (is_last rest && not (follows_last mode)) (stand n rest)) (follow_alike links top above c text rest ht ha)
 
-  treatment_alike : (find other : Finds) → IsClosed find inside → Agree find other inside → (links top : ℕ) (above : List ℕ) (c : Component) (rest : List Component) (treatment : Treatment) → inside top ≡ true → AreIn inside above
+  treatment_alike : (find other : Finds) → IsClosed find inside → Agree find other inside
+      → (links top : ℕ) (above : List ℕ) (c : Component) (rest : List Component) (treatment : Treatment) → inside top ≡ true → AreIn inside above
       → by_treatment find mode go links top above c rest treatment ≡ by_treatment other mode on links top above c rest treatment
   treatment_alike find other closed same links top above c rest treatment.Refused ht ha = refl
   treatment_alike find other closed same links top above c rest treatment.Left ht ha = refl
   treatment_alike find other closed same links top above c rest treatment.Dropped ht ha = alike links top above rest ht ha
   treatment_alike find other closed same links top above c rest treatment.Climbed ht ha = climb_alike links above c rest ha
-  treatment_alike find other closed same links top above c rest treatment.Found ht ha =
+  treatment_alike find other closed same links top above c rest treatment.LookedUp ht ha =
       finding_alike links top above c rest (find top c.name) ht ha (closed.closed top c.name ht)
       ∙ ap (by_finding on mode links top above c rest) (same.same top c.name ht)
 
-  step_alike : (find other : Finds) → IsClosed find inside → Agree find other inside → (links top : ℕ) (above : List ℕ) (rest : List Component) → inside top ≡ true → AreIn inside above
+  step_alike : (find other : Finds) → IsClosed find inside → Agree find other inside → (links top : ℕ) (above : List ℕ) (rest : List Component) → inside top ≡ true
+      → AreIn inside above
       → step find mode go links top above rest ≡ step other mode on links top above rest
   step_alike find other closed same links top above [] ht ha = refl
   step_alike find other closed same links top above (c ∷ rest) ht ha = treatment_alike find other closed same links top above c rest _ ht ha

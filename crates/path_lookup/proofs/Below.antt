@@ -32,7 +32,8 @@ module _ (inside : ℕ → Bool) (mode : WalkMode) (go : Onward) (goes : GoesIn 
   climb_ends links [] c rest h = record { ends = tt }
   climb_ends links (parent ∷ above) c rest h = goes links parent above rest h.0 h.1
 
-  follow_ends : (links top : ℕ) (above : List ℕ) (c : Component) (text : List ℕ) (rest : List Component) → inside top ≡ true → AreIn inside above → Ends inside (follow go links top above c text rest)
+  follow_ends : (links top : ℕ) (above : List ℕ) (c : Component) (text : List ℕ) (rest : List Component) → inside top ≡ true → AreIn inside above
+      → Ends inside (follow go links top above c text rest)
   follow_ends zero top above c text rest ht ha = record { ends = tt }
   follow_ends (suc links) top above c text rest ht ha =
       either (is_absolute text) (Err (fault.Outside c.index)) (go links top above (text_components c.index text ++ rest)) (record { ends = tt }) (goes links top above _ ht ha)
@@ -43,23 +44,26 @@ module _ (inside : ℕ → Bool) (mode : WalkMode) (go : Onward) (goes : GoesIn 
   lack_ends : (top : ℕ) (c : Component) (rest : List Component) → inside top ≡ true → Ends inside (lack top c rest)
   lack_ends top c rest h = either (is_last rest && c.is_spelled) (Ok (end.Absent top c.from c.len)) (Err fault.NoEntry) (record { ends = h }) (record { ends = tt })
 
-  finding_ends : (links top : ℕ) (above : List ℕ) (c : Component) (rest : List Component) (found : Finding) → inside top ≡ true → AreIn inside above → FindsIn inside found → Ends inside (by_finding go mode links top above c rest found)
+  finding_ends : (links top : ℕ) (above : List ℕ) (c : Component) (rest : List Component) (found : Finding) → inside top ≡ true → AreIn inside above
+      → FindsIn inside found → Ends inside (by_finding go mode links top above c rest found)
   finding_ends links top above c rest Nothing ht ha h = lack_ends top c rest ht
   finding_ends links top above c rest (Directory n) ht ha h = goes links n (top ∷ above) rest h (ht, ha)
   finding_ends links top above c rest (File n) ht ha h = stand_ends n rest h
   finding_ends links top above c rest (Link n text) ht ha h =
       either (is_last rest && not (follows_last mode)) (stand n rest) (follow go links top above c text rest) (stand_ends n rest h) (follow_ends links top above c text rest ht ha)
 
-  treatment_ends : (find : Finds) → IsClosed find inside → (links top : ℕ) (above : List ℕ) (c : Component) (rest : List Component) (treatment : Treatment) → inside top ≡ true → AreIn inside above
+  treatment_ends : (find : Finds) → IsClosed find inside → (links top : ℕ) (above : List ℕ) (c : Component) (rest : List Component) (treatment : Treatment)
+      → inside top ≡ true → AreIn inside above
       → Ends inside (by_treatment find mode go links top above c rest treatment)
   treatment_ends find closed links top above c rest treatment.Refused ht ha = record { ends = tt }
   treatment_ends find closed links top above c rest treatment.Left ht ha = record { ends = ht }
   treatment_ends find closed links top above c rest treatment.Dropped ht ha = goes links top above rest ht ha
   treatment_ends find closed links top above c rest treatment.Climbed ht ha = climb_ends links above c rest ha
-  treatment_ends find closed links top above c rest treatment.Found ht ha =
+  treatment_ends find closed links top above c rest treatment.LookedUp ht ha =
       finding_ends links top above c rest (find top c.name) ht ha (closed.closed top c.name ht)
 
-  step_ends : (find : Finds) → IsClosed find inside → (links top : ℕ) (above : List ℕ) (rest : List Component) → inside top ≡ true → AreIn inside above → Ends inside (step find mode go links top above rest)
+  step_ends : (find : Finds) → IsClosed find inside → (links top : ℕ) (above : List ℕ) (rest : List Component) → inside top ≡ true → AreIn inside above
+      → Ends inside (step find mode go links top above rest)
   step_ends find closed links top above [] ht ha = record { ends = ht }
   step_ends find closed links top above (c ∷ rest) ht ha = treatment_ends find closed links top above c rest _ ht ha
 
@@ -73,7 +77,8 @@ within_ends find inside mode closed zero links top above rest ht ha = spent_ends
 within_ends find inside mode closed (suc left) links top above rest ht ha =
     step_ends inside mode (walk_within find mode left) (within_ends find inside mode closed left) find closed links top above rest ht ha
 
-path_ends : (find : Finds) (inside : ℕ → Bool) (mode : WalkMode) (start : ℕ) (path : List ℕ) → IsClosed find inside → inside start ≡ true → Ends inside (walk_of find mode start path)
+path_ends : (find : Finds) (inside : ℕ → Bool) (mode : WalkMode) (start : ℕ) (path : List ℕ) → IsClosed find inside → inside start ≡ true
+    → Ends inside (walk_of find mode start path)
 path_ends find inside mode start [] closed h = record { ends = tt }
 path_ends find inside mode start (b ∷ rest) closed h =
     either (is_absolute (b ∷ rest)) (Err (fault.Outside 0)) (walk_components find mode start (path_components (b ∷ rest))) (record { ends = tt })

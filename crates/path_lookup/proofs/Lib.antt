@@ -4,3 +4,4 @@ pub mod Starts
 pub mod Names
 pub mod Left
 pub mod Turns
+pub mod Places

@@ -58,7 +58,8 @@ at_end text from end h l e =
     ∙ ap (λ n. piece from (slice_range text from end) ∷ names_from n [] (drop (end + 1) text)) (let k : from + length (slice_range text from end) + 1 ≡ end + 1 = omega arith in k)
 
 -- what a name that was read is, where its place is known to be before the text's end or at it
-name_before : (text : List ℕ) (from end : ℕ) (t : Bool) → t ≡ false → cond t (added_dot from) (piece from (slice_range text from end)) ≡ piece from (slice_range text from end)
+name_before : (text : List ℕ) (from end : ℕ) (t : Bool) → t ≡ false
+    → cond t (added_dot from) (piece from (slice_range text from end)) ≡ piece from (slice_range text from end)
 name_before text from end true h = cc
 name_before text from end false h = refl
 
@@ -90,7 +91,8 @@ read_before text from end order before other ended =
     ∙ ap (λ ps. name_at text (record { from = from; end = end }) ∷ ps) (sym (after_true (ltb end (length text)) _ (search (rules, tests))))
 
 -- at a text's end, where some bytes of a name stand before it, and where none do
-read_last : (text : List ℕ) (from end : ℕ) → from ≤ end → end ≡ length text → last_name from (slice_range text from end) ≡ name_at text (record { from = from; end = end }) ∷ []
+read_last : (text : List ℕ) (from end : ℕ) → from ≤ end → end ≡ length text
+    → last_name from (slice_range text from end) ≡ name_at text (record { from = from; end = end }) ∷ []
 read_last text from end order same =
     let len : length (slice_range text from end) ≡ end - from = length-between text from end (omega arith) in
     elim (eqb_tells from (length text)) as (λ w. last_name from (slice_range text from end) ≡ name_at text (record { from = from; end = end }) ∷ []) [
@@ -104,7 +106,8 @@ read_at_end text from end order same =
     ap (names_from from (slice_range text from end)) (drop_all end text (omega arith)) ∙ read_last text from end order same
     ∙ ap (λ ps. name_at text (record { from = from; end = end }) ∷ ps) (sym (after_false (ltb end (length text)) _ (search (rules, tests))))
 
-pub name_read : (text : List ℕ) (from end : ℕ) → from ≤ end → end ≤ length text → (from < length text → get_or text from 0 ≢ 47) → (end < length text → get_or text end 0 ≡ 47)
+pub name_read : (text : List ℕ) (from end : ℕ) → from ≤ end → end ≤ length text → (from < length text → get_or text from 0 ≢ 47)
+    → (end < length text → get_or text end 0 ≡ 47)
     → names_from from (slice_range text from end) (drop end text) ≡ name_at text (record { from = from; end = end }) ∷ names_after text end
 name_read text from end order within other ended =
     elim (eqb_tells end (length text)) as (λ w. names_from from (slice_range text from end) (drop end text) ≡ name_at text (record { from = from; end = end }) ∷ names_after text end) [

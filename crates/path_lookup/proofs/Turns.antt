@@ -21,6 +21,7 @@ step_next find mode most i links top above rest h =
     ∙ one_more find mode (most - (i + 1)) links top above rest
 
 -- and in the end none may
-pub step_last : (find : Finds) (mode : WalkMode) (most i links top : ℕ) (above : List ℕ) (rest : List Component) → most ≤ i → walk_within find mode (most - i) links top above rest ≡ spent top rest
+pub step_last : (find : Finds) (mode : WalkMode) (most i links top : ℕ) (above : List ℕ) (rest : List Component) → most ≤ i
+    → walk_within find mode (most - i) links top above rest ≡ spent top rest
 step_last find mode most i links top above rest h =
     ap (λ n. walk_within find mode n links top above rest) (let e : most - i ≡ zero = omega arith in e) ∙ none_more find mode links top above rest

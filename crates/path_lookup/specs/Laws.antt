@@ -1,8 +1,9 @@
 -- What holds of every walk: the statements that are the contracts of `walk` and of the functions of src/laws.rt.
-use Rattle.std.specs.Prelude.{◌≡◌, ⊤, ℕ, suc, true, false, Bool, List, [], ◌∷◌, Ok, Err}
+use Rattle.std.specs.Prelude.{◌≡◌, ◌≢◌, ◌≤◌, ◌+◌, ⊤, ℕ, suc, true, false, Bool, List, [], ◌∷◌, length, slice_range, Ok, Err}
+use Rattle.std.specs.List.{AllByRecursion}
 use Rattle.path_lookup.specs.Finding.{Finding, Nothing, Directory, File, Link}
 use Rattle.path_lookup.specs.Split.{Component, dot, slash}
-use Rattle.path_lookup.specs.Walk.{WalkEnd, Finds, walk_of, walk_within, stops_before_last}
+use Rattle.path_lookup.specs.Walk.{WalkEnd, Finds, walk_of, walk_within, stops_before_last, longest_name}
 use Rattle.path_lookup.specs.declared.ends.End.{End}
 use Rattle.path_lookup.specs.declared.ends.End.TheVariants as end
 use Rattle.path_lookup.specs.declared.ends.WalkFault.TheVariants as fault
@@ -77,3 +78,21 @@ abbrev pub DotIsNothing : Type 0
 DotIsNothing =
     (find : Finds) (mode : WalkMode) (left links top : ℕ) (above : List ℕ) (c next : Component) (rest : List Component)
     → c.name ≡ dot ∷ [] → walk_within find mode (suc left) links top above (c ∷ next ∷ rest) ≡ walk_within find mode left links top above (next ∷ rest)
+
+-- ---- the place that an end tells
+
+-- The place of a name in a path: it lies in the path, and has at most 255 bytes, none of which is a slash.
+pub record IsPlace (path : List ℕ) (from len : ℕ) : Type 0 where
+  pub within : from + len ≤ length path
+  pub short : len ≤ longest_name
+  pub plain : AllByRecursion (λ b. b ≢ slash) (slice_range path from (from + len))
+
+abbrev pub HasPlace : List ℕ → End → Type 0
+HasPlace path (end.Found n) = ⊤
+HasPlace path (end.Absent dir from len) = IsPlace path from len
+HasPlace path (end.Last dir from len) = IsPlace path from len
+
+-- the place that a walk's end tells is that of a name in its path
+abbrev pub EndsAtPlace : List ℕ → WalkEnd → Type 0
+EndsAtPlace path (Ok end) = HasPlace path end
+EndsAtPlace path (Err fault) = ⊤

@@ -105,7 +105,7 @@ treatment_of mode name last =
     cond (nat_lt longest_name (length name)) treatment.Refused
     (cond (last && stops_before_last mode) treatment.Left
     (cond (bytes_eq name (dot ∷ [])) treatment.Dropped
-    (cond (bytes_eq name (dot ∷ dot ∷ [])) treatment.Climbed treatment.Found)))
+    (cond (bytes_eq name (dot ∷ dot ∷ [])) treatment.Climbed treatment.LookedUp)))
 
 -- what comes by how the component is treated
 abbrev pub by_treatment : Finds → WalkMode → Onward → ℕ → ℕ → List ℕ → Component → List Component → Treatment → WalkEnd
@@ -113,7 +113,7 @@ by_treatment find mode go links top above c rest treatment.Refused = Err fault.T
 by_treatment find mode go links top above c rest treatment.Left = Ok (end.Last top c.from c.len)
 by_treatment find mode go links top above c rest treatment.Dropped = stay go links top above rest
 by_treatment find mode go links top above c rest treatment.Climbed = climb go links above c rest
-by_treatment find mode go links top above c rest treatment.Found = by_finding go mode links top above c rest (find top c.name)
+by_treatment find mode go links top above c rest treatment.LookedUp = by_finding go mode links top above c rest (find top c.name)
 
 -- one component of those that are left
 abbrev pub step : Finds → WalkMode → Onward → ℕ → ℕ → List ℕ → List Component → WalkEnd

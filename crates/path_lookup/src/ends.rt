@@ -12,8 +12,8 @@ pub enum WalkMode {
     Parent,
 }
 
-/// Where a walk ends. A name's place is told by the number of bytes before it in the path, and its length in bytes. For the
-/// `.` that a slash at a path's end adds, these are the path's length and 0.
+/// Where a walk ends. A name's place is told by the number of bytes before it in the path, and its length in bytes. For
+/// the `.` that a slash at a path's end adds, these are the path's length and 0.
 #[derive(Clone, Copy)]
 pub enum End {
     /// At what the path names: a directory, a file, or a symlink that isn't followed.
@@ -35,7 +35,7 @@ pub enum WalkFault {
     Loop,
     /// More than 1024 components, or a name over 255 bytes.
     TooLong,
-    /// The path leads out of the directory where it starts, at the component with this index, counted from 0. A component
-    /// that a symlink's text gave has the symlink's index.
+    /// The path leads out of the directory where it starts, at the component with this index, counted from 0. A
+    /// component that a symlink's text gave has the symlink's index.
     Outside(u64),
 }

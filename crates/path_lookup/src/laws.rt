@@ -6,8 +6,8 @@ pub fn reads_below()
     ensures { ReadsBelow }
 {}
 
-/// A `..` at the start leads outside, where the mode looks at it, and with a slash and anything behind it in each mode. So does a
-/// slash at once.
+/// A `..` at the start leads outside, where the mode looks at it, and with a slash and anything behind it in each mode.
+/// So does a slash at once.
 pub fn start_is_not_left()
     ensures dots { ClimbsOutside }
     ensures more { ClimbsOutsideAtOnce }

@@ -1,7 +1,7 @@
 //! Looking a path up from a directory, by what the names of each directory are: the walk of a path.
 //!
-//! A walk never leaves what is below the directory that it starts from. Its definition is in `specs/Walk.antt`, the split of a
-//! path into its components in `specs/Split.antt`.
+//! A walk never leaves what is below the directory that it starts from. Its definition is in `specs/Walk.antt`, the split
+//! of a path into its components in `specs/Split.antt`.
 #![tactic(auto)]
 
 pub use directories::{Dirs, Found};

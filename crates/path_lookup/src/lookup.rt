@@ -1,6 +1,6 @@
 //! The walk of a path.
 ghost use Rattle.std.specs.Prelude.{◌≡◌, []};
-ghost use Rattle.path_lookup.specs.Laws.{StaysBelow};
+ghost use Rattle.path_lookup.specs.Laws.{StaysBelow, EndsAtPlace};
 ghost use Rattle.path_lookup.specs.Walk.{walk_of, walk_within};
 ghost use Rattle.path_lookup.specs.Walking.{IsReady, left_of, parents_of};
 
@@ -32,12 +32,13 @@ fn walk_on<'a, D: Dirs>(
 /// Where the path leads from a directory, or why it leads nowhere. It takes no memory.
 ///
 /// The path is bytes, split at each slash. Names of no bytes are passed over, and a slash at the end adds a `.`. A `.` is
-/// dropped, and a `..` leads back to the directory before. Where the walk stands at its start a `..` is
-/// `Outside`, as is a path that begins with a slash. A symlink's text takes its place, up to 32 times. Names have at most 255
-/// bytes, and at most 1024 components are treated. `WalkMode` says what is done at the last component.
+/// dropped, and a `..` leads back to the directory before. Where the walk stands at its start a `..` is `Outside`, as is
+/// a path that begins with a slash. A symlink's text takes its place, up to 32 times. Names have at most 255 bytes, and at
+/// most 1024 components are treated. `WalkMode` says what is done at the last component.
 pub fn walk<D: Dirs>(dirs: &D, start: ObjId, path: &[u8], mode: WalkMode) -> Result<End, WalkFault>
     ensures walked { result ≡ walk_of (D.finds dirs.now) mode start path.now }
     ensures below { StaysBelow (D.finds dirs.now) start result }
+    ensures place { EndsAtPlace path.now result }
 {
     if path.is_empty() {
         return Err(WalkFault::NoEntry);

@@ -19,7 +19,7 @@ pub(crate) enum Treatment {
     /// It is `..`.
     Climbed,
     /// It is looked up.
-    Found,
+    LookedUp,
 }
 
 // Whether a walk in this mode leaves the last component.
@@ -45,6 +45,6 @@ pub(crate) fn treatment_of(mode: WalkMode, name: &[u8], is_last: bool) -> Treatm
     } else if name == b"..".as_slice() {
         Treatment::Climbed
     } else {
-        Treatment::Found
+        Treatment::LookedUp
     }
 }

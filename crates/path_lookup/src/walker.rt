@@ -187,7 +187,7 @@ impl<'a> Walker<'a> {
             })),
             Treatment::Dropped => Turn::On,
             Treatment::Climbed => self.climb(component.index),
-            Treatment::Found => {
+            Treatment::LookedUp => {
                 let found = dirs.find(ObjId(self.top), component.name);
                 self.meet(&found, mode, &component)
             }
