@@ -8,18 +8,16 @@
 --     names_count_at_least      a node with a name has one at least
 --     names_count_none      a node without a name has none
 --     links_of-one_more, links_of-one_less, links_of-without_old      how many names each node counts after each of these
---     CountsAll t      each number counts its names, and the root one more
-use Rattle.std.proofs.Common.{◌≡◌, ◌≢◌, ℕ, ◌+◌, ◌-◌, ◌≤◌, cond, inl, inr, List, Option, None, Some, IsSome, is_some, refl, sym, ap, ◌∙◌, arith}
+--     links_of-new_node-same, links_of-new_node-other      a new node counts one, the others what they did
+use Rattle.std.proofs.Common.{◌≡◌, ◌≢◌, ℕ, ◌+◌, ◌≤◌, cond, inl, inr, List, Option, None, Some, IsSome, refl, sym, ap, ◌∙◌, arith}
 use Rattle.std.proofs.lemmas.Bool.{eq-eqb, false≢true}
 use Rattle.std.proofs.lemmas.Bool.Decides.{eqb_tells}
-use Rattle.std.specs.FinMap.{FinMap, empty, get, insert, remove}
-use Rattle.std.specs.Ordering.{nat_cmp}
+use Rattle.std.specs.FinMap.{empty, get, insert, remove}
 use Rattle.abi_types.specs.declared.node.Node.{Node}
 use Rattle.number_map.specs.Maps.{weight, total, total-insert, total-remove, total_none, total_same}
 use Rattle.name_map.specs.Names as name_map
-use Rattle.tree_model.specs.declared.limits.TheConstants.{ROOT}
-use Rattle.tree_model.specs.Tree.{Tree, Names, HasName, IsTree, count_in, entry_of, is_directory, links_in, links_of, names_count, names_in, names_of, one_for}
-use Rattle.tree_model.specs.Changes.{drop_name, forgotten, is_absent, new_node, one_less, one_more, put_name, with_count, without_old}
+use Rattle.tree_model.specs.Tree.{Tree, Names, HasName, count_in, entry_of, links_in, links_of, names_count, names_in, names_of, one_for}
+use Rattle.tree_model.specs.Changes.{drop_name, forgotten, new_node, one_less, one_more, put_name, without_old}
 use Rattle.tree_model.specs.Entries.{ChangesNode, get-new_node-same, get-new_node-other, here_or_other, links_of-changed, links_of-changed-other, names-without_old, names_of-new_node, one_less-changes, one_more-changes}
 
 -- ---- the node itself, and another one

@@ -7,8 +7,7 @@
 --     ChangesNode t u n f      u is the tree t with the node n, where it is there, changed by f
 --     one_more-changes, one_less-changes, with_bytes-changes, with_times-changes      each of these does so
 --     KeepsNodes t u      no node came or went, and none became a directory or ceased to be one
---     made-name, made-other_names ..      what names and nodes answer after each whole change
-use Rattle.std.proofs.Common.{◌≡◌, ◌≢◌, ◌⊎◌, ℕ, ◌+◌, ◌-◌, Bool, true, false, inl, inr, List, Option, None, Some, IsSome, is_some, is_none, refl, sym, ap, subst, ◌∙◌}
+use Rattle.std.proofs.Common.{◌≡◌, ◌≢◌, ◌⊎◌, ℕ, ◌+◌, ◌-◌, true, false, inl, inr, List, Option, None, Some, IsSome, is_some, refl, sym, ap, subst, ◌∙◌}
 use Rattle.std.proofs.lemmas.Bool.Decides.{eqb_tells}
 use Rattle.std.specs.Prelude.{if◌then◌else◌}
 use Rattle.std.specs.Option.{option_map, unwrap_or}
@@ -16,10 +15,10 @@ use Rattle.std.specs.FinMap.{empty, get, insert, remove, get-empty}
 use Rattle.abi_types.specs.declared.node.Node.{Node}
 use Rattle.abi_types.specs.declared.node.NodeKind.TheVariants as kind
 use Rattle.abi_types.specs.declared.node.Times.{Times}
-use Rattle.number_map.specs.Maps.{get-insert-same, get-insert-other, get-remove-same, get-remove-other}
+use Rattle.number_map.specs.Maps.{get-insert-same, get-insert-other}
 use Rattle.name_map.specs.Names as name_map
 use Rattle.tree_model.specs.Tree.{Tree, HasName, entry_of, is_directory, is_directory_kind, is_directory_node, links_in, links_of, names_in, names_of}
-use Rattle.tree_model.specs.Changes.{drop_name, forgotten, is_absent, is_file_node, is_file, linked, made, new_node, one_less, one_less_in, one_more, one_more_in, put_name, put_node, unlinked, with_bytes, with_bytes_in, with_count, with_times, with_times_in, without_old}
+use Rattle.tree_model.specs.Changes.{drop_name, new_node, one_less, one_less_in, one_more, one_more_in, put_name, put_node, with_bytes, with_bytes_in, with_count, with_times, with_times_in, without_old}
 
 -- ---- numbers, and places of names
 
@@ -42,7 +41,7 @@ same_place_or_not d name d' name' =
       | inr is ↦ inr (λ e _. is.1 e)
     ]
 
--- what answers alike, one answering `Some`, answers so
+-- `Some` is of one value
 some_of : {A : Type 0} (x y : A) → Some x ≡ Some y → x ≡ y
 some_of x y e = ap (λ o. unwrap_or o x) e
 
@@ -71,8 +70,12 @@ module _ (t : Tree) (d : ℕ) (name : List ℕ) where
       → ((d' ≡ d) × (name' ≡ name) × (m ≡ n)) ⊎ (IsElsewhere d name d' name' × HasName t d' name' m)
   HasName-put_name n d' name' m h =
       elim (same_place_or_not d name d' name') [
-        | inl same ↦ inl (same.0, same.1, some_of m n
-            (sym h ∙ ap (λ x. entry_of (put_name t d name n) x name') same.0 ∙ ap (entry_of (put_name t d name n) d) same.1 ∙ entry_of-put_name-same n))
+        | inl same ↦ inl (
+          same.0,
+          same.1,
+          some_of m n
+              (sym h ∙ ap (λ x. entry_of (put_name t d name n) x name') same.0 ∙ ap (entry_of (put_name t d name n) d) same.1 ∙ entry_of-put_name-same n),
+        )
         | inr away ↦ inr (away, sym (entry_of-put_name-other n d' name' away) ∙ h)
       ]
 
@@ -107,7 +110,7 @@ module _ (t : Tree) (d : ℕ) (name : List ℕ) where
 
 -- ---- a new node
 
--- no number has a name in what is no directory
+-- where there is no directory, no name is in it
 pub empty_answers : (name : List ℕ) → get (names_in None) name ≡ None
 empty_answers name = get-empty name_map.name_cmp name
 
@@ -290,7 +293,7 @@ KeepsNodes-put_name t d name n there = record {
   nodes = λ _. refl;
   kinds = λ _. refl;
   tables = λ q. here_or_other (λ x. is_some (get (put_name t d name n).names x) ≡ is_some (get t.names x)) d q
-  (ap is_some (get-insert-same t.names d _) ∙ sym there) (λ other. ap is_some (get-insert-other t.names d _ q other));
+      (ap is_some (get-insert-same t.names d _) ∙ sym there) (λ other. ap is_some (get-insert-other t.names d _ q other));
 }
 
 pub KeepsNodes-drop_name : (t : Tree) (d : ℕ) (name : List ℕ) → IsSome (get t.names d) → KeepsNodes t (drop_name t d name)
@@ -298,5 +301,5 @@ KeepsNodes-drop_name t d name there = record {
   nodes = λ _. refl;
   kinds = λ _. refl;
   tables = λ q. here_or_other (λ x. is_some (get (drop_name t d name).names x) ≡ is_some (get t.names x)) d q
-  (ap is_some (get-insert-same t.names d _) ∙ sym there) (λ other. ap is_some (get-insert-other t.names d _ q other));
+      (ap is_some (get-insert-same t.names d _) ∙ sym there) (λ other. ap is_some (get-insert-other t.names d _ q other));
 }

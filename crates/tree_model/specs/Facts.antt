@@ -1,21 +1,19 @@
 -- What holds in each tree.
---     table_of_directory, no_table, no_names_in      a directory has a table of names, and nothing else has one, or a name in it
+--     table_of_directory, no_table, no_names_in      a directory has a table of names;  nothing else has one, or a name in it
 --     directory_of_name      what has a name in it is a directory
+--     absent_no_directory, links_of_absent, no_name_of_absent      what isn't there is no directory, counts no name, and has none
 --     counts_names      each number counts its names, and the root one more
---     links_of_absent, no_name_of_absent, no_names_in_absent      what isn't there counts no name, has none, and has none in it
---     links_of_named      a node with a name counts one at least
---     links_of_root      the root counts one, and has no name
---     no_name_of_nameless      a node that counts no name has none
-use Rattle.std.proofs.Common.{◌≡◌, ◌≢◌, ℕ, ◌+◌, ◌≤◌, Bool, true, false, inl, inr, List, Option, None, Some, IsSome, is_some, is_none, refl, sym, ap, subst, ◌∙◌, arith}
+--     links_of_named, no_name_of_nameless      a node with a name counts one at least;  a node that counts none has none
+--     links_of_root, links_of_held      the root counts one;  a directory that has a name, or is the root, counts some
+use Rattle.std.proofs.Common.{◌≡◌, ◌≢◌, ℕ, ◌+◌, ◌≤◌, true, false, List, None, Some, IsSome, is_some, refl, sym, ap, ◌∙◌, arith}
 use Rattle.std.proofs.lemmas.Bool.{false≢true, not-true, false_from_ne_true, true_from_ne_false}
 use Rattle.std.specs.FinMap.{empty, get}
-use Rattle.abi_types.specs.declared.node.Node.{Node}
 use Rattle.tree_model.specs.declared.limits.TheConstants.{ROOT}
-use Rattle.tree_model.specs.Tree.{Tree, Names, HasName, IsTree, entry_of, is_directory, is_directory_node, links_in, links_of, names_count, names_in, names_of, one_for}
+use Rattle.tree_model.specs.Tree.{Tree, HasName, IsTree, is_directory, is_directory_node, links_in, links_of, names_count, names_in, names_of, one_for}
 use Rattle.tree_model.specs.Changes.{is_absent}
 use Rattle.tree_model.specs.Entries.{empty_answers}
 use Rattle.tree_model.specs.Counts.{names_count_at_least, names_count_none, one_for-other, one_for-same}
-use Rattle.tree_model.specs.Faults.{none_of, some_there}
+use Rattle.tree_model.specs.Faults.{none_of}
 
 -- what isn't there is no directory
 pub absent_no_directory : (t : Tree) (n : ℕ) → get t.nodes n ≡ None → is_directory t n ≡ false

@@ -3,15 +3,14 @@
 --     none_holds      so it is where there is no first fault
 --     CanMake, CanLink, CanUnlink      what then holds, each part by its name
 --     can_make, can_link, can_unlink      it does where the table has no fault
-use Rattle.std.proofs.Common.{◌≡◌, ◌≢◌, ℕ, ◌<◌, Bool, true, false, inl, inr, not, ◌==◌, ◌&&◌, List, [], ◌∷◌, Option, None, Some, IsSome, is_some, refl, sym, ap, ◌∙◌, arith}
+use Rattle.std.proofs.Common.{◌≡◌, ℕ, ◌<◌, Bool, true, false, not, ◌==◌, ◌&&◌, List, [], ◌∷◌, Option, None, Some, IsSome, is_some, refl, sym, ap, ◌∙◌, arith}
 use Rattle.std.proofs.lemmas.Bool.{false≢true, not-false, not-true, leb-false, ltb-false, eqb-true, eq-eqb}
 use Rattle.std.specs.Prelude.{if◌then◌else◌, ⊤}
 use Rattle.std.specs.FinMap.{empty, get, len}
-use Rattle.abi_types.specs.declared.node.Node.{Node}
 use Rattle.name_map.specs.Names as name_map
 use Rattle.tree_model.specs.declared.fault.TreeFault.{TreeFault}
 use Rattle.tree_model.specs.declared.limits.TheConstants.{ROOT, MOST_LINKS}
-use Rattle.tree_model.specs.Tree.{Tree, HasName, Names, entry_of, is_directory, links_of, names_of}
+use Rattle.tree_model.specs.Tree.{Tree, HasName, entry_of, is_directory, links_of, names_of}
 use Rattle.tree_model.specs.Changes.{Faults, first_fault, has_names, is_full, is_removed, lacks_name, make_faults, link_faults, unlink_faults}
 
 -- ---- tables of faults

@@ -5,10 +5,10 @@
 --     unlinked-tree      after a name goes
 --     with_bytes-tree, with_times-tree      after a file has other bytes;  after a node has other times
 --     forgotten-tree      after a node without a name goes
-use Rattle.std.proofs.Common.{◌≡◌, ◌≢◌, ◌↔◌, ◌⊎◌, ℕ, ◌+◌, ◌≤◌, Bool, true, false, inl, inr, List, Option, None, Some, IsSome, is_some, refl, sym, ap, subst, ◌∙◌, arith}
+use Rattle.std.proofs.Common.{◌≡◌, ◌≢◌, ◌↔◌, ℕ, ◌+◌, ◌≤◌, true, false, inl, inr, List, None, Some, IsSome, is_some, refl, sym, ap, subst, ◌∙◌, arith}
 use Rattle.std.proofs.lemmas.Bool.{false≢true, false_from_ne_true}
 use Rattle.std.proofs.lemmas.Bool.Decides.{same_from_decides}
-use Rattle.std.specs.FinMap.{empty, get, insert, remove}
+use Rattle.std.specs.FinMap.{empty, get}
 use Rattle.abi_types.specs.declared.node.Node.{Node}
 use Rattle.abi_types.specs.declared.node.NodeKind.{NodeKind}
 use Rattle.abi_types.specs.declared.node.NodeKind.TheVariants as kind
@@ -17,13 +17,13 @@ use Rattle.number_map.specs.Closure.{member}
 use Rattle.number_map.specs.Maps.{get-insert-same, get-insert-other, get-remove-same, get-remove-other, weight}
 use Rattle.tree_model.specs.declared.limits.TheConstants.{ROOT}
 use Rattle.tree_model.specs.Tree.{Tree, HasName, HasNoCycle, IsTree, below, entry_of, is_directory, is_directory_kind, is_directory_node, links_in, links_of, names_count, names_in, names_of, one_for}
-use Rattle.tree_model.specs.Changes.{drop_name, first_fault, forgotten, is_absent, is_file, is_file_kind, is_file_node, linked, link_faults, made, make_faults, new_node, one_more, put_name, unlinked, unlink_faults, with_bytes, with_count, with_times, without_old}
-use Rattle.tree_model.specs.Entries.{KeepsNodes, KeepsNodes-changed, KeepsNodes-drop_name, KeepsNodes-one_more, KeepsNodes-put_name, KeepsNodes-twice, KeepsNodes-without_old, HasName-drop_name, HasName-put_name, ChangesNode, by_node, entry_of-changed, entry_of-new_node, entry_of-without_old, get-new_node-same, get-new_node-other, here_or_other, links_of-changed-kept, names-without_old, names_of-changed, names_of-drop_name-other, names_of-new_node, names_of-put_name-other, names_of-without_old, KeepsCount, one_more-changes, table-new_node-other, table-new_node-same, with_bytes-changes, with_times-changes}
-use Rattle.tree_model.specs.Counts.{links_of-new_node-other, links_of-new_node-same, links_of-one_more, links_of-without_old, names_count-changed, names_count-drop_name, names_count-forgotten, names_count-new_node, names_count-put_name, names_count-put_new_name, names_count-without_old, one_for-other, one_for-same}
-use Rattle.tree_model.specs.Faults.{CanLink, CanMake, CanUnlink, can_link, can_make, can_unlink, some_there}
-use Rattle.tree_model.specs.Facts.{absent, absent_no_directory, absent_not_root, counts_names, directory_of_name, links_of_absent, links_of_held, links_of_named, links_of_root, names_of_name, no_name_of_absent, no_name_of_nameless, no_names_in, no_table, table_of_directory, two_kinds}
+use Rattle.tree_model.specs.Changes.{first_fault, forgotten, is_absent, is_file, is_file_kind, is_file_node, linked, link_faults, made, make_faults, new_node, one_more, unlinked, unlink_faults, with_bytes, with_times, without_old}
+use Rattle.tree_model.specs.Entries.{KeepsNodes, KeepsNodes-changed, KeepsNodes-drop_name, KeepsNodes-one_more, KeepsNodes-put_name, KeepsNodes-twice, KeepsNodes-without_old, HasName-drop_name, HasName-put_name, ChangesNode, by_node, entry_of-changed, entry_of-new_node, entry_of-without_old, get-new_node-same, get-new_node-other, here_or_other, links_of-changed-kept, names_of-changed, names_of-drop_name-other, names_of-new_node, names_of-put_name-other, names_of-without_old, KeepsCount, one_more-changes, table-new_node-other, table-new_node-same, with_bytes-changes, with_times-changes}
+use Rattle.tree_model.specs.Counts.{links_of-new_node-other, links_of-new_node-same, links_of-one_more, links_of-without_old, names_count-changed, names_count-drop_name, names_count-forgotten, names_count-new_node, names_count-put_new_name, names_count-without_old, one_for-other, one_for-same}
+use Rattle.tree_model.specs.Faults.{CanLink, CanMake, CanUnlink, can_link, can_make, can_unlink}
+use Rattle.tree_model.specs.Facts.{absent, absent_no_directory, absent_not_root, counts_names, links_of_absent, links_of_held, links_of_named, links_of_root, names_of_name, no_name_of_absent, no_name_of_nameless, no_names_in, no_table, table_of_directory, two_kinds}
 use Rattle.tree_model.specs.Below.{below_induction}
-use Rattle.tree_model.specs.Heights.{no_cycle-drop_name, no_cycle-fewer, no_cycle-put_name}
+use Rattle.tree_model.specs.Heights.{no_cycle-fewer, no_cycle-put_name}
 
 -- ---- parts of the proofs
 
@@ -349,17 +349,17 @@ module _ (t : Tree) (n : ℕ) (tree : IsTree t) (nameless : links_of t n ≡ 0) 
   forgotten_is_tree = record {
     root = ap is_directory_node (forgotten_nodes ROOT (λ same. forgotten_not_root (sym same))) ∙ tree.root;
     directories = directories_from (forgotten t n)
-    (λ q. here_or_other (λ x. is_some (get (forgotten t n).names x) ≡ is_directory (forgotten t n) x) n q
-    (ap is_some (get-remove-same t.names n) ∙ sym (ap is_directory_node forgotten_gone))
-    (λ other. ap is_some (get-remove-other t.names n q other) ∙ tables_of t tree q ∙ sym (ap is_directory_node (forgotten_nodes q other))));
+        (λ q. here_or_other (λ x. is_some (get (forgotten t n).names x) ≡ is_directory (forgotten t n) x) n q
+        (ap is_some (get-remove-same t.names n) ∙ sym (ap is_directory_node forgotten_gone))
+        (λ other. ap is_some (get-remove-other t.names n q other) ∙ tables_of t tree q ∙ sym (ap is_directory_node (forgotten_nodes q other))));
     led = λ d name m h.
-    let old = forgotten_old d name m h in
-    ap is_some (forgotten_nodes m (λ same. no_name_of_nameless t tree n nameless d name (old ∙ ap Some same))) ∙ tree.led d name m old;
+        let old = forgotten_old d name m h in
+        ap is_some (forgotten_nodes m (λ same. no_name_of_nameless t tree n nameless d name (old ∙ ap Some same))) ∙ tree.led d name m old;
     counted = counted_from (forgotten t n) (λ q.
-    let links = forgotten_counts q in
-    let names = names_count-forgotten t n forgotten_bare q in
-    let before = counts_names t tree q in
-    omega arith);
+        let links = forgotten_counts q in
+        let names = names_count-forgotten t n forgotten_bare q in
+        let before = counts_names t tree q in
+        omega arith);
     single = λ d is. let links = forgotten_counts d in let most = tree.single d (forgotten_kinds d is).1 in omega arith;
     bare = λ d is zero. forgotten_names d ∙ tree.bare d (forgotten_kinds d is).1 (sym (forgotten_counts d) ∙ zero);
     acyclic = no_cycle-fewer t (forgotten t n) forgotten_old tree.acyclic;

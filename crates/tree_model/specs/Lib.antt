@@ -1,4 +1,4 @@
--- The definitions of a file tree.
+-- The definitions of a file tree, and their laws.
 pub mod Tree
 pub mod Files
 pub mod Changes
@@ -10,6 +10,6 @@ pub mod Below
 pub mod Heights
 pub mod Climbing
 pub mod Keeps
+pub mod Renames
 pub mod Outcomes
 pub mod Start
-pub mod Renames

@@ -6,17 +6,17 @@
 --     with_times-names, with_times-bytes, with_times-other_nodes      after a node has other times
 --     forgotten-names, forgotten-node, forgotten-other_nodes      after a node without a name goes
 --     linked-counts, unlinked-counts      how many names each node counts
-use Rattle.std.proofs.Common.{◌≡◌, ◌≢◌, ℕ, ◌+◌, ◌-◌, Bool, true, false, List, Option, None, Some, IsSome, is_some, refl, sym, ap, ◌∙◌, arith}
+use Rattle.std.proofs.Common.{◌≡◌, ◌≢◌, ℕ, ◌+◌, ◌-◌, true, List, Option, None, Some, IsSome, refl, ap, ◌∙◌}
 use Rattle.std.proofs.lemmas.Bool.{false≢true}
 use Rattle.std.specs.Option.{option_map}
-use Rattle.std.specs.FinMap.{get, insert, remove}
+use Rattle.std.specs.FinMap.{get}
 use Rattle.abi_types.specs.declared.node.Node.{Node}
 use Rattle.abi_types.specs.declared.node.NodeKind.TheVariants as kind
 use Rattle.abi_types.specs.declared.node.Times.{Times}
 use Rattle.number_map.specs.Maps.{get-remove-same, get-remove-other}
-use Rattle.tree_model.specs.Tree.{Tree, HasName, IsTree, entry_of, links_of, names_of, one_for}
-use Rattle.tree_model.specs.Changes.{bytes_in, bytes_of, bytes_of_kind, forgotten, is_absent, is_file, is_file_node, linked, made, new_node, one_less, one_more, put_name, unlinked, with_bytes, with_count, with_times, without_old}
-use Rattle.tree_model.specs.Entries.{ChangesNode, IsElsewhere, entry_of-changed, entry_of-drop_name-other, entry_of-drop_name-same, entry_of-new_node, entry_of-put_name-other, entry_of-put_name-same, entry_of-without_old, get-new_node-other, get-new_node-same, here_or_other, one_less-changes, one_more-changes, with_bytes-changes, with_times-changes}
+use Rattle.tree_model.specs.Tree.{Tree, HasName, IsTree, entry_of, links_of, one_for}
+use Rattle.tree_model.specs.Changes.{bytes_in, bytes_of, forgotten, is_absent, is_file, is_file_node, linked, made, new_node, one_more, unlinked, with_bytes, with_count, with_times, without_old}
+use Rattle.tree_model.specs.Entries.{IsElsewhere, entry_of-changed, entry_of-drop_name-other, entry_of-drop_name-same, entry_of-new_node, entry_of-put_name-other, entry_of-put_name-same, entry_of-without_old, get-new_node-other, get-new_node-same, one_less-changes, one_more-changes, with_bytes-changes, with_times-changes}
 use Rattle.tree_model.specs.Counts.{links_of-one_less, links_of-one_more}
 use Rattle.tree_model.specs.Facts.{absent, absent_no_directory, links_of_named, no_names_in}
 use Rattle.tree_model.specs.Keeps.{forgotten_names}

@@ -1,8 +1,7 @@
 -- The tree that a launch begins with: the root alone.
 --     root_node times, root_tree times      the root, a directory without names in it;  the tree of it alone
 --     root_tree-tree      it is a tree
-use Rattle.std.proofs.Common.{◌≡◌, ◌≢◌, ℕ, ◌+◌, ◌≤◌, true, false, List, Option, None, Some, is_some, refl, sym, ap, ◌∙◌, arith}
-use Rattle.std.proofs.lemmas.Bool.{false≢true}
+use Rattle.std.proofs.Common.{◌≡◌, ◌≢◌, ℕ, ◌+◌, ◌≤◌, List, None, Some, is_some, refl, sym, ap, ◌∙◌, arith}
 use Rattle.std.specs.FinMap.{empty, get, insert, get-empty}
 use Rattle.std.specs.Ordering.{nat_cmp}
 use Rattle.abi_types.specs.declared.node.Node.{Node}
@@ -10,7 +9,7 @@ use Rattle.abi_types.specs.declared.node.NodeKind.TheVariants as kind
 use Rattle.abi_types.specs.declared.node.Times.{Times}
 use Rattle.number_map.specs.Maps.{get-insert-same, get-insert-other}
 use Rattle.tree_model.specs.declared.limits.TheConstants.{ROOT}
-use Rattle.tree_model.specs.Tree.{Tree, HasName, IsTree, entry_of, is_directory, is_directory_node, links_in, links_of, names_count, names_in, names_of, one_for}
+use Rattle.tree_model.specs.Tree.{Tree, HasName, IsTree, is_directory, is_directory_node, links_in, links_of, names_count, names_in, names_of, one_for}
 use Rattle.tree_model.specs.Entries.{here_or_other}
 use Rattle.tree_model.specs.Counts.{names_count_none, one_for-other, one_for-same}
 use Rattle.tree_model.specs.Facts.{names_of_name}
@@ -67,9 +66,9 @@ module _ (times : Times) where
   root_tree-tree = record {
     root = ap is_directory_node root_here;
     directories = directories_from (root_tree times) (λ q.
-    here_or_other (λ x. is_some (get (root_tree times).names x) ≡ is_directory (root_tree times) x) ROOT q
-    (ap is_some (get-insert-same empty ROOT empty) ∙ sym (ap is_directory_node root_here))
-    (λ other. ap is_some (no_other_table q other) ∙ sym (ap is_directory_node (no_other q other))));
+        here_or_other (λ x. is_some (get (root_tree times).names x) ≡ is_directory (root_tree times) x) ROOT q
+        (ap is_some (get-insert-same empty ROOT empty) ∙ sym (ap is_directory_node root_here))
+        (λ other. ap is_some (no_other_table q other) ∙ sym (ap is_directory_node (no_other q other))));
     led = λ d name n h. absurd (root_tree-no_name d name n h);
     counted = counted_from (root_tree times) root_counts;
     single = λ d _. root_links d;
