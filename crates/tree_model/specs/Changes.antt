@@ -1,13 +1,15 @@
 -- What each change of a tree makes of it, and the faults for which it is refused.
 --     first_fault faults      the first fault of the table whose condition holds
+--     IsRefusal first fault      a change is refused with its table's first fault, or where there is none for want of memory
 --     make_faults, made      a new node with its first name
 --     link_faults, linked      one more name of a node
 --     unlink_faults, unlinked      a name is taken away
 --     rename_faults, renamed      a name is moved; what had the new name loses it
 --     with_bytes, with_times      a file's bytes are others;  a node's times are
+--     write_faults, size_faults      why a write, and a new size, are refused
 --     forgotten      a node without a name is gone
 --     nameless_after t n      the least node above n, the root aside, that has no name
-use Rattle.std.specs.Prelude.{ℕ, ◌+◌, ◌-◌, ◌==◌, ◌&&◌, nat_lt, nat_le, not, Bool, true, false, List, [], ◌∷◌, Option, None, Some, is_none, is_some, if◌then◌else◌}
+use Rattle.std.specs.Prelude.{◌≡◌, ℕ, ◌+◌, ◌-◌, ◌==◌, ◌&&◌, nat_lt, nat_le, not, Bool, true, false, List, [], ◌∷◌, Option, None, Some, is_none, is_some, if◌then◌else◌}
 use Rattle.std.specs.FinMap.{empty, get, insert, remove, len}
 use Rattle.abi_types.specs.declared.node.Node.{Node}
 use Rattle.abi_types.specs.declared.node.NodeKind.{NodeKind}
@@ -16,8 +18,9 @@ use Rattle.abi_types.specs.declared.node.Times.{Times}
 use Rattle.number_map.specs.Closure.{member}
 use Rattle.number_map.specs.Maps.{least_key}
 use Rattle.tree_model.specs.declared.fault.TreeFault.{TreeFault}
-use Rattle.tree_model.specs.declared.fault.TreeFault.TheVariants.{Absent, Taken, NotDirectory, IsDirectory, NotEmpty, Below, Links}
-use Rattle.tree_model.specs.declared.limits.TheConstants.{ROOT, MOST_LINKS}
+use Rattle.tree_model.specs.declared.fault.TreeFault.TheVariants.{Absent, Taken, NotDirectory, IsDirectory, NotEmpty, Below, Links, TooLarge, NoMemory}
+use Rattle.tree_model.specs.declared.limits.TheConstants.{ROOT, MOST_FILE_BYTES, MOST_LINKS}
+use Rattle.tree_model.specs.Files.{is_beyond}
 use Rattle.tree_model.specs.Tree.{Tree, below, entry_of, is_directory, is_directory_kind, links_of, names_of}
 
 -- conditions, each with the fault that it is, in the order in which they are looked at
@@ -28,6 +31,11 @@ Faults = List (Bool × TreeFault)
 abbrev pub first_fault : Faults → Option TreeFault
 first_fault [] = None
 first_fault (f ∷ faults) = if f.0 then Some f.1 else first_fault faults
+
+-- a change whose table has this first fault is refused with it; and for want of memory only where the table has none
+abbrev pub IsRefusal : Option TreeFault → TreeFault → Type 0
+IsRefusal None fault = fault ≡ NoMemory
+IsRefusal (Some first) fault = fault ≡ first
 
 -- ---- conditions
 
@@ -217,6 +225,13 @@ with_times_in t n times (Some node) = put_node t n (record node { times = times 
 
 abbrev pub with_times : Tree → ℕ → Times → Tree
 with_times t n times = with_times_in t n times (get t.nodes n)
+
+-- a write of these bytes at this place of a file, and a file's new size
+abbrev pub write_faults : ℕ → List ℕ → Faults
+write_faults at new = (is_beyond at new, TooLarge) ∷ []
+
+abbrev pub size_faults : ℕ → Faults
+size_faults size = (nat_lt MOST_FILE_BYTES size, TooLarge) ∷ []
 
 -- ---- nodes without a name
 

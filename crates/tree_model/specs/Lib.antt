@@ -11,7 +11,8 @@ pub mod Heights
 pub mod Climbing
 pub mod Keeps
 pub mod Renames
+pub mod Retained
 pub mod Outcomes
 pub mod Start
-pub mod Retained
 pub mod Opens
+pub mod Releasing

@@ -1,4 +1,8 @@
 //! Why a change of the tree is refused.
+ghost use Rattle.std.specs.Prelude.{◌≡◌};
+ghost use Rattle.tree_model.specs.declared.fault.TreeFault.TheVariants.{NoMemory};
+
+use std::alloc::AllocError;
 
 /// Why a change of the tree is refused. A refused change leaves the tree as it is.
 #[derive(Clone, Copy)]
@@ -21,4 +25,12 @@ pub enum TreeFault {
     TooLarge,
     /// Memory is wanting.
     NoMemory,
+}
+
+impl From<AllocError> for TreeFault {
+    ghost from_gives = { λ _ fault. fault ≡ NoMemory };
+
+    fn from(_error: AllocError) -> TreeFault {
+        TreeFault::NoMemory
+    }
 }
