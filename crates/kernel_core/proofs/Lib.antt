@@ -11,3 +11,5 @@ pub mod Answers
 pub mod Acts
 pub mod Starts
 pub mod Steps
+pub mod Uses
+pub mod Releases

@@ -16,8 +16,8 @@ use Rattle.kernel_core.specs.Start.{granted_objects}
 use Rattle.kernel_core.proofs.Kept.{AreSmall, small_set}
 use Rattle.kernel_model.specs.Release.{names_open, count_in, holders}
 use Rattle.abi_base.specs.Grants.{AreGrants}
-use Rattle.kernel_model.specs.Start.{launch_object, numbered, granted_descriptor, granted_open, granted_table, start_state}
-use Rattle.kernel_model.specs.State.{State, Table}
+use Rattle.kernel_model.specs.Start.{IsStartTree, launch_object, numbered, granted_descriptor, granted_open, granted_table, start_state}
+use Rattle.kernel_model.specs.State.{State, Table, Tree}
 use Rattle.kernel_model.specs.Valid.{IsValid}
 use Rattle.kernel_model.proofs.Starts.{find_below, find_above, from_numbered-push, start_valid}
 
@@ -102,8 +102,8 @@ numbered_counts (grant ∷ grants) n m o e =
           omega (arith, rest, sums, none, here)
     ]
 
-pub start_counted : (grants : List Grant) (stdin : List ℕ) (o : ℕ) → number (get (granted_objects grants).counts o) ≡ holders (start_state grants stdin) o
-start_counted grants stdin o =
+pub start_counted : (tree : Tree) (grants : List Grant) (stdin : List ℕ) (o : ℕ) → number (get (granted_objects grants).counts o) ≡ holders (start_state tree grants stdin) o
+start_counted tree grants stdin o =
     let counts = numbered_counts grants 0 (launch_object 5) o refl in
     let bare : total (count_in o) (empty {X = Table} {R = nat_cmp}) ≡ 0 = total-empty (count_in o) in
     let sums = total-insert_new (count_in o) empty 0 (granted_table grants) (get-empty nat_cmp 0) in
@@ -125,11 +125,11 @@ start_small grants all =
     small_set empty 0 (granted_table grants) (λ p table there. absurd (none_is_no table (sym (get-empty nat_cmp p) ∙ there)))
     (λ k there. let less = granted_below grants 0 k there in omega (arith, less, all.0))
 
-pub start_kept : (grants : List Grant) (stdin : List ℕ) (S : State) (counts : FinMap nat_cmp ℕ) → AreGrants grants → S ≡ start_state grants stdin
+pub start_kept : (tree : Tree) (grants : List Grant) (stdin : List ℕ) (S : State) (counts : FinMap nat_cmp ℕ) → IsStartTree tree → AreGrants grants → S ≡ start_state tree grants stdin
     → counts ≡ (granted_objects grants).counts → IsKept S counts
-start_kept grants stdin S counts all is counted = record {
-  valid = subst IsValid (sym is) (start_valid grants stdin all);
-  counted = λ o. ap (λ (m : FinMap nat_cmp ℕ). number (get m o)) counted ∙ start_counted grants stdin o ∙ sym (ap (λ (T : State). holders T o) is);
+start_kept tree grants stdin S counts begins all is counted = record {
+  valid = subst IsValid (sym is) (start_valid tree grants stdin begins all);
+  counted = λ o. ap (λ (m : FinMap nat_cmp ℕ). number (get m o)) counted ∙ start_counted tree grants stdin o ∙ sym (ap (λ (T : State). holders T o) is);
   small = subst (λ (T : State). AreSmall T.tables) (sym is) (start_small grants all);
   processes = subst (λ (T : State). KeysBelow (2 ^ 32) T.tables) (sym is)
       (below-insert (2 ^ 32) empty 0 (granted_table grants) (below-empty Table (2 ^ 32)) (omega arith));

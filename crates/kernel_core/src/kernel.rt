@@ -12,7 +12,7 @@ ghost use Rattle.kernel_model.specs.Release.{release, is_released};
 ghost use Rattle.kernel_model.specs.Reply.{denied};
 ghost use Rattle.abi_base.specs.Grants.{AreGrants};
 ghost use Rattle.kernel_model.specs.Sight.{own_parts};
-ghost use Rattle.kernel_model.specs.Start.{start_state};
+ghost use Rattle.kernel_model.specs.Start.{first_tree, start_state};
 ghost use Rattle.kernel_model.specs.State.{put_all, Table, Part, has_part, Agree, thread_of, written_to};
 ghost use Rattle.kernel_model.specs.Step.{act, failed, MayLackMemory, IsStep, IsUntouched, end_unreleased, end_state};
 ghost use Rattle.kernel_model.specs.DescriptorCalls.{stat_get, stat_of, type_number, flags_of};
@@ -22,15 +22,17 @@ ghost use Rattle.kernel_model.specs.View.{whole};
 
 use crate::answering::answer_of;
 use crate::own::Own;
+use crate::release::release;
 use crate::start::{granted, single, streams};
 use crate::table::let_go_all;
 use crate::table_change::TableChange;
 use crate::terminal::Terminal;
 use abi_types::{
     Answer, Bytes, Call, Constants, Denial, Descriptor, Errno, FdStat, Needed, OpenKind, Payload,
-    Pid, Reply, Status, Thread, Tid, Who,
+    Pid, Reply, Status, Thread, Tid, Times, Who,
 };
 use fd_table::FdTable;
+use file_tree::Tree;
 use number_map::NumMap;
 use object_store::Objects;
 use right_rules::{refusal, refused, success, success_with};
@@ -41,7 +43,7 @@ use std::marker::Model;
 // How long each call takes, and each end from outside, in nanoseconds.
 const STEP_TIME: u64 = 1000;
 
-/// The state of the kernel, in contracts a `State` (docs/MODEL.md), which is always valid. It has no file tree yet.
+/// The state of the kernel, in contracts a `State` (docs/MODEL.md), which is always valid.
 #[derive(Drop)]
 pub struct Kernel {
     clock: u64,
@@ -49,12 +51,12 @@ pub struct Kernel {
     own: NumMap<Own>,
     statuses: NumMap<Status>,
     objects: Objects,
+    tree: Tree,
     terms: NumMap<Terminal>,
     alloc: Global,
 }
 
 impl Model for Kernel {
-    ghost use Rattle.std.specs.FinMap.{empty};
     ghost use Rattle.kernel_model.specs.State.{State};
     ghost use Rattle.kernel_model.specs.Codes.{state_code};
     ghost use Rattle.kernel_core.specs.Kernel.{IsKept};
@@ -63,9 +65,9 @@ impl Model for Kernel {
 
     ghost coded = { state_code };
 
-    ghost view = { λ k. record { clock = k.clock; tables = k.tables; own = k.own; statuses = k.statuses; opens = k.objects.kinds; nodes = empty; names = empty; terms = k.terms } };
+    ghost view = { λ k. record { clock = k.clock; tables = k.tables; own = k.own; statuses = k.statuses; opens = k.objects.kinds; nodes = k.tree.nodes; names = k.tree.names; terms = k.terms } };
 
-    ghost invariant = { λ k. IsKept (record { clock = k.clock; tables = k.tables; own = k.own; statuses = k.statuses; opens = k.objects.kinds; nodes = empty; names = empty; terms = k.terms }) k.objects.counts };
+    ghost invariant = { λ k. IsKept (record { clock = k.clock; tables = k.tables; own = k.own; statuses = k.statuses; opens = k.objects.kinds; nodes = k.tree.nodes; names = k.tree.names; terms = k.terms }) k.objects.counts };
 }
 
 // Writes the bytes to a standard stream. `Err` changes nothing.
@@ -162,19 +164,27 @@ fn is_live(status: &Status) -> bool
 
 impl Kernel {
     /// The state that a launch starts from: process 0 is live with thread 1 and the granted descriptors, numbered from 0,
-    /// standard input has the launch's bytes, and nothing was written yet. `Err` where memory is wanting.
+    /// the file tree is the root alone, standard input has the launch's bytes, and nothing was written yet. `Err` where
+    /// memory is wanting.
     pub fn start(alloc: Global, launch: &Launch) -> Result<Kernel, AllocError>
         requires { AreGrants launch.now.grants }
-        ensures state { IfOk result (λ kernel. kernel ≡ start_state launch.now.grants launch.now.stdin) }
+        ensures state { IfOk result (λ kernel. kernel ≡ start_state (first_tree launch.now.constants) launch.now.grants launch.now.stdin) }
         ensures valid { IfOk result IsValid }
     {
         let (table, objects) = granted(alloc, launch.grants.as_slice())?;
+        let begun = launch.constants.epoch;
+        let times = Times {
+            atim: begun,
+            mtim: begun,
+            ctim: begun,
+        };
         Ok(Kernel {
             clock: 0,
             tables: single(alloc, 0, table)?,
             own: single(alloc, 0, Own::first(alloc)?)?,
             statuses: single(alloc, 0, Status::Live)?,
             objects,
+            tree: Tree::new(alloc, times)?,
             terms: streams(alloc, &launch.stdin)?,
             alloc,
         })
@@ -189,7 +199,7 @@ impl Kernel {
         self.statuses.replace(p, status);
         self.own.get_mut(p).end();
         let_go_all(self.tables.get_mut(p), &mut self.objects);
-        self.objects.remove_unheld();
+        release(&mut self.objects, &mut self.tree);
     }
 
     // Writes the bytes to what the descriptor stands for. `Err` changes nothing.
@@ -272,7 +282,7 @@ impl Kernel {
     {
         let p = u64::from(pid.0);
         let reply = change.apply(self.tables.get_mut(p), &mut self.objects)?;
-        self.objects.remove_unheld();
+        release(&mut self.objects, &mut self.tree);
         Ok(Answer::Reply(reply))
     }
 

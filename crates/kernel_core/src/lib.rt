@@ -7,6 +7,7 @@ pub use run_types::{Act, Entry, History, Launch, Record};
 mod answering;
 mod kernel;
 mod own;
+mod release;
 mod start;
 mod table;
 mod table_change;

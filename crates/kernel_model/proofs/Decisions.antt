@@ -1,24 +1,31 @@
 -- What a call sees decides its outcome, and the values after the step of all that it sees.
-use Rattle.std.proofs.Common.{◌≡◌, ◌+◌, ◌||◌, not, Bool, true, false, cond, T, List, [], ◌∷◌, Option, None, refl, sym, ap, subst, ◌∙◌}
+use Rattle.std.proofs.Common.{◌≡◌, ℕ, ◌+◌, ◌||◌, not, Bool, true, false, cond, T, List, [], ◌∷◌, Option, None, refl, sym, ap, subst, ◌∙◌}
 use Rattle.std.proofs.lemmas.Bool.{eq-eqb}
-use Rattle.std.specs.FinMap.{get}
+use Rattle.std.specs.Ordering.{nat_cmp}
+use Rattle.std.specs.FinMap.{FinMap, get, retain_keys}
+use Rattle.number_map.specs.Maps.{get-retain, same_numbers}
 use Rattle.abi_types.specs.declared.call.Call.{Call}
 use Rattle.abi_types.specs.declared.constants.Constants.{Constants}
 use Rattle.abi_types.specs.declared.who.Who.{Who}
 use Rattle.kernel_model.specs.Calls.{refusal_of}
 use Rattle.kernel_model.specs.Outcome.{Outcome}
 use Rattle.kernel_model.specs.Laws.{HasSameSight, EndsAlike}
-use Rattle.kernel_model.specs.Release.{is_released, release}
+use Rattle.kernel_model.specs.Release.{is_node_kept, is_released, release, without_ended}
 use Rattle.kernel_model.specs.State.{State, Part, at_clock, at_proc, at_status, at_open, at_node, at_names, at_term, same_part, has_part, Agree, AgreeOn, put_all}
 use Rattle.kernel_model.specs.Step.{tick, sight, act, outcome, unreleased, step_answer, step_state}
 use Rattle.kernel_model.specs.View.{only, restrict}
 use Rattle.kernel_model.proofs.Parts.{agree_at, put_same}
 use Rattle.kernel_model.proofs.Valids.{get_released}
-use Rattle.kernel_model.proofs.Tests.{or_true}
+use Rattle.kernel_model.proofs.Tests.{not_true, or_true}
 
 only_alike : {X : Type 0} (b : Bool) (x y : Option X) → (b ≡ true → x ≡ y) → only b x ≡ only b y
 only_alike true x y h = h refl
 only_alike false x y h = refl
+
+-- the entries that pass are the same where the maps agree on those keys
+retained_alike : {X : Type 0} (m n : FinMap nat_cmp X) (p : ℕ → Bool) → ((q : ℕ) → p q ≡ true → get m q ≡ get n q) → retain_keys m p ≡ retain_keys n p
+retained_alike m n p alike =
+    same_numbers _ _ (λ q. get-retain m p q ∙ only_alike (p q) (get m q) (get n q) (alike q) ∙ sym (get-retain n p q))
 
 -- what is seen of two states at their next moment is the same where they agree on the parts seen
 restrict_alike : (S T : State) (parts : List Part) → S.clock ≡ T.clock → AgreeOn S T parts → restrict (tick S) parts ≡ restrict (tick T) parts
@@ -30,8 +37,8 @@ restrict_alike S T parts now all =
       status = λ p. only_alike (has_part parts (at_status p)) (get S.statuses p) (get T.statuses p) (λ h. agree_at S T parts (at_status p) all h) i;
       opened = λ o. only_alike (has_part parts (at_open o)) (get S.opens o) (get T.opens o) (λ h. agree_at S T parts (at_open o) all h) i;
       branch = record {
-        node = λ n. only_alike (has_part parts (at_node n)) (get S.nodes n) (get T.nodes n) (λ h. agree_at S T parts (at_node n) all h) i;
-        names = λ n. only_alike (has_part parts (at_names n)) (get S.names n) (get T.names n) (λ h. agree_at S T parts (at_names n) all h) i;
+        nodes = retained_alike S.nodes T.nodes (λ n. has_part parts (at_node n)) (λ n h. agree_at S T parts (at_node n) all h) i;
+        names = retained_alike S.names T.names (λ n. has_part parts (at_names n)) (λ n h. agree_at S T parts (at_names n) all h) i;
       };
       term = λ k. only_alike (has_part parts (at_term k)) (get S.terms k) (get T.terms k) (λ h. agree_at S T parts (at_term k) all h) i;
     }
@@ -79,14 +86,24 @@ unreleased_alike constants S T who call q same h =
     subst (λ (o : Outcome). Agree (unreleased constants S who call) (put_all o.updates (tick T)) q) same
     (put_same (outcome constants S who call).updates (tick S) (tick T) q (tick_alike S T q h))
 
+same_test : (a b : Bool) → not a ≡ not b → a ≡ b
+same_test true true e = refl
+same_test true false e = absurd (not_true e)
+same_test false true e = absurd (not_true (sym e))
+same_test false false e = refl
+
 pub release_alike : (S T : State) (q : Part) → Agree S T q → is_released S q ≡ is_released T q → Agree (release S) (release T) q
 release_alike S T at_clock h ends = h
 release_alike S T (at_proc p) h ends = h
 release_alike S T (at_status p) h ends = h
 release_alike S T (at_open o) h ends =
     get_released S o ∙ (λ i. cond (not (ends i)) (h i) None) ∙ sym (get_released T o)
-release_alike S T (at_node n) h ends = h
-release_alike S T (at_names n) h ends = h
+release_alike S T (at_node n) h ends =
+    get-retain S.nodes (is_node_kept (without_ended S)) n
+    ∙ (λ i. cond (same_test _ _ ends i) (h i) None) ∙ sym (get-retain T.nodes (is_node_kept (without_ended T)) n)
+release_alike S T (at_names n) h ends =
+    get-retain S.names (is_node_kept (without_ended S)) n
+    ∙ (λ i. cond (same_test _ _ ends i) (h i) None) ∙ sym (get-retain T.names (is_node_kept (without_ended T)) n)
 release_alike S T (at_term k) h ends = h
 
 same_itself : (q : Part) → same_part q q ≡ true

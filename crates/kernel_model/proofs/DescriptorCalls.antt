@@ -211,7 +211,7 @@ same_with_flags (Terminal which flags) new = record { base = refl; inheriting = 
 same_with_flags (Process p) new = record { base = refl; inheriting = refl; behind = λ S h. h }
 
 -- what holds of none, of either and of both of two updates
-either_set : (P : List Update → Type 0) (no_first no_second : Bool) (u w : Update) → P [] → P (u ∷ []) → P (w ∷ []) → P (u ∷ w ∷ [])
+pub either_set : (P : List Update → Type 0) (no_first no_second : Bool) (u w : Update) → P [] → P (u ∷ []) → P (w ∷ []) → P (u ∷ w ∷ [])
     → P (cond no_first [] (u ∷ []) ++ cond no_second [] (w ∷ []))
 either_set P true true u w none first second all = none
 either_set P true false u w none first second all = second

@@ -15,13 +15,18 @@ use Rattle.abi_types.specs.declared.status.Status.TheVariants.{Live}
 use Rattle.abi_types.specs.declared.stream.Stream.{Stream}
 use Rattle.abi_types.specs.declared.thread.Thread.TheVariants.{Runnable}
 use Rattle.number_map.specs.Maps.{get-insert-same, get-insert-other}
+use Rattle.abi_types.specs.declared.constants.Constants.{Constants}
+use Rattle.tree_model.specs.declared.limits.TheConstants.{ROOT}
+use Rattle.tree_model.specs.Facts.{links_of_root}
+use Rattle.tree_model.specs.Start.{root_tree-tree}
+use Rattle.tree_model.specs.Tree.{IsTree, links_of}
 use Rattle.kernel_model.specs.Release.{holders}
 use Rattle.abi_base.specs.Grants.{IsTarget, IsGrant, AreGrants, HasRightsOfTarget}
-use Rattle.kernel_model.specs.Start.{launch_object, numbered, granted_descriptor, open_of, granted_open, granted_table, first_own, unwritten, start_state}
-use Rattle.kernel_model.specs.State.{Table, Own, thread_in, thread_of, counts_in}
+use Rattle.kernel_model.specs.Start.{IsStartTree, first_tree, launch_object, numbered, granted_descriptor, open_of, granted_open, granted_table, first_own, unwritten, start_state}
+use Rattle.kernel_model.specs.State.{Table, Own, Tree, thread_in, thread_of, counts_in}
 use Rattle.kernel_model.specs.Valid.{object_of, HasRightsOf, IsNamed, HasBehind, IsValid}
 use Rattle.kernel_model.proofs.Tests.{none_is_no, not_true}
-use Rattle.kernel_model.proofs.Valids.{same_value, named_is_held, same_keys_inserted}
+use Rattle.kernel_model.proofs.Valids.{same_value, named_is_held, named_is_kept, same_keys_inserted}
 
 -- ---- numbered values
 
@@ -105,13 +110,13 @@ only_one x y p there =
 -- ---- grants
 
 -- what is granted under a number: its descriptor, and the open that it names
-record IsGranted (grants : List Grant) (k : ℕ) (grant : Grant) : Type 0 where
+record IsGranted (tree : Tree) (grants : List Grant) (k : ℕ) (grant : Grant) : Type 0 where
   allowed : IsGrant grant
   held : get (granted_table grants) k ≡ Some (granted_descriptor k grant)
-  opened : get (start_state grants []).opens (launch_object (5 + k)) ≡ Some (open_of grant.target)
+  opened : get (start_state tree grants []).opens (launch_object (5 + k)) ≡ Some (open_of grant.target)
 
-granted_at : (grants : List Grant) (k : ℕ) (grant : Grant) → AreGrants grants → slice_get grants k ≡ Some grant → IsGranted grants k grant
-granted_at grants k grant all there = record {
+granted_at : (tree : Tree) (grants : List Grant) (k : ℕ) (grant : Grant) → AreGrants grants → slice_get grants k ≡ Some grant → IsGranted tree grants k grant
+granted_at tree grants k grant all there = record {
   allowed = all_at IsGrant grants k grant all.1 there;
   held = get-from_entries nat_cmp_total _ k ∙ find_numbered granted_descriptor 0 grants k k (omega arith) ∙ ap (option_map (granted_descriptor k)) there;
   opened = get-from_entries nat_cmp_total _ (launch_object (5 + k))
@@ -120,37 +125,37 @@ granted_at grants k grant all there = record {
 }
 
 -- a descriptor of the table is that of a grant
-of_descriptor : (grants : List Grant) (n : ℕ) (d : Descriptor) → AreGrants grants → get (granted_table grants) n ≡ Some d
-    → (grant : Grant) × IsGranted grants n grant × (granted_descriptor n grant ≡ d)
-of_descriptor grants n d all there =
+of_descriptor : (tree : Tree) (grants : List Grant) (n : ℕ) (d : Descriptor) → AreGrants grants → get (granted_table grants) n ≡ Some d
+    → (grant : Grant) × IsGranted tree grants n grant × (granted_descriptor n grant ≡ d)
+of_descriptor tree grants n d all there =
     let at = from_option_map (granted_descriptor n) (slice_get grants n) d
     (sym (find_numbered granted_descriptor 0 grants n n (omega arith)) ∙ sym (get-from_entries nat_cmp_total _ n) ∙ there) in
-    (at.0, granted_at grants n at.0 all at.1, at.2)
+    (at.0, granted_at tree grants n at.0 all at.1, at.2)
 
 -- an open is that of a grant
-of_open : (grants : List Grant) (o : ℕ) (kind : OpenKind) → AreGrants grants → get (start_state grants []).opens o ≡ Some kind
-    → (k : ℕ) × (grant : Grant) × (o ≡ launch_object (5 + k)) × IsGranted grants k grant × (open_of grant.target ≡ kind)
-of_open grants o kind all there =
+of_open : (tree : Tree) (grants : List Grant) (o : ℕ) (kind : OpenKind) → AreGrants grants → get (start_state tree grants []).opens o ≡ Some kind
+    → (k : ℕ) × (grant : Grant) × (o ≡ launch_object (5 + k)) × IsGranted tree grants k grant × (open_of grant.target ≡ kind)
+of_open tree grants o kind all there =
     let found = sym (get-from_entries nat_cmp_total (numbered granted_open (launch_object 5) grants) o) ∙ there in
     let number = at_number granted_open (launch_object 5) grants o kind found in
     let at = from_option_map (granted_open o) (slice_get grants number.0) kind
     (sym (find_numbered granted_open (launch_object 5) grants number.0 o number.1) ∙ found) in
     let place = number.1 in
-    (number.0, at.0, omega (arith, place), granted_at grants number.0 at.0 all at.1, at.2)
+    (number.0, at.0, omega (arith, place), granted_at tree grants number.0 at.0 all at.1, at.2)
 
 has_rights : (k : ℕ) (grant : Grant) (t : GrantTarget) → HasRightsOfTarget grant t → HasRightsOf (granted_descriptor k grant) (open_of t)
 has_rights k grant (target.Terminal which) has = has
 
-named : (grants : List Grant) (k : ℕ) (grant : Grant) → IsGranted grants k grant
-    → IsNamed (get (start_state grants []).opens (granted_descriptor k grant).id) (granted_descriptor k grant)
-named grants k grant at = subst (λ o. IsNamed o (granted_descriptor k grant)) (sym at.opened) (has_rights k grant grant.target at.allowed.1)
+named : (tree : Tree) (grants : List Grant) (k : ℕ) (grant : Grant) → IsGranted tree grants k grant
+    → IsNamed (get (start_state tree grants []).opens (granted_descriptor k grant).id) (granted_descriptor k grant)
+named tree grants k grant at = subst (λ o. IsNamed o (granted_descriptor k grant)) (sym at.opened) (has_rights k grant grant.target at.allowed.1)
 
 -- ---- the standard streams
 
-stream_there : (grants : List Grant) (stdin : List ℕ) (which : ℕ) → which < 3 → IsSome (get (start_state grants stdin).terms which)
-stream_there grants stdin which few =
+stream_there : (tree : Tree) (grants : List Grant) (stdin : List ℕ) (which : ℕ) → which < 3 → IsSome (get (start_state tree grants stdin).terms which)
+stream_there tree grants stdin which few =
     elim (eqb_tells which 2) [
-      | inl is ↦ ap (λ j. is_some (get (start_state grants stdin).terms j)) is.1 ∙ ap is_some (get-insert-same _ 2 _)
+      | inl is ↦ ap (λ j. is_some (get (start_state tree grants stdin).terms j)) is.1 ∙ ap is_some (get-insert-same _ 2 _)
       | inr not_2 ↦ ap is_some (get-insert-other _ 2 _ which not_2.1) ∙ elim (eqb_tells which 1) [
         | inl is ↦ ap (λ j. is_some (get (insert (insert (empty {X = Stream} {R = nat_cmp}) 0 (unwritten stdin)) 1 (unwritten [])) j)) is.1
             ∙ ap is_some (get-insert-same _ 1 _)
@@ -160,30 +165,30 @@ stream_there grants stdin which few =
       ]
     ]
 
-behind_there : (grants : List Grant) (stdin : List ℕ) (t : GrantTarget) → IsTarget t → HasBehind (start_state grants stdin) (open_of t)
-behind_there grants stdin (target.Terminal which) few = stream_there grants stdin which few
+behind_there : (tree : Tree) (grants : List Grant) (stdin : List ℕ) (t : GrantTarget) → IsTarget t → HasBehind (start_state tree grants stdin) (open_of t)
+behind_there tree grants stdin (target.Terminal which) few = stream_there tree grants stdin which few
 
 -- ---- the state
 
-start_named : (grants : List Grant) → AreGrants grants → (p n : ℕ) (table : Table) (d : Descriptor)
-    → get (start_state grants []).tables p ≡ Some table → get table n ≡ Some d → IsNamed (get (start_state grants []).opens d.id) d
-start_named grants all p n table d there here =
+start_named : (tree : Tree) (grants : List Grant) → AreGrants grants → (p n : ℕ) (table : Table) (d : Descriptor)
+    → get (start_state tree grants []).tables p ≡ Some table → get table n ≡ Some d → IsNamed (get (start_state tree grants []).opens d.id) d
+start_named tree grants all p n table d there here =
     let own = only_one (granted_table grants) table p there in
-    let at = of_descriptor grants n d all (ap (λ (m : Table). get m n) own.1 ∙ here) in
-    subst (λ (e : Descriptor). IsNamed (get (start_state grants []).opens e.id) e) at.2 (named grants n at.0 at.1)
+    let at = of_descriptor tree grants n d all (ap (λ (m : Table). get m n) own.1 ∙ here) in
+    subst (λ (e : Descriptor). IsNamed (get (start_state tree grants []).opens e.id) e) at.2 (named tree grants n at.0 at.1)
 
-start_held : (grants : List Grant) → AreGrants grants → (o : ℕ) → IsSome (get (start_state grants []).opens o) → 0 < holders (start_state grants []) o
-start_held grants all o h =
-    let there = some_of (get (start_state grants []).opens o) h in
-    let at = of_open grants o there.0 all there.1 in
-    subst (λ r. 0 < holders (start_state grants []) r) (sym at.2)
-    (named_is_held (start_state grants []) 0 at.0 (granted_table grants) (granted_descriptor at.0 at.1) (get-insert-same empty 0 _) at.3.held)
+start_held : (tree : Tree) (grants : List Grant) → AreGrants grants → (o : ℕ) → IsSome (get (start_state tree grants []).opens o) → 0 < holders (start_state tree grants []) o
+start_held tree grants all o h =
+    let there = some_of (get (start_state tree grants []).opens o) h in
+    let at = of_open tree grants o there.0 all there.1 in
+    subst (λ r. 0 < holders (start_state tree grants []) r) (sym at.2)
+    (named_is_held (start_state tree grants []) 0 at.0 (granted_table grants) (granted_descriptor at.0 at.1) (get-insert-same empty 0 _) at.3.held)
 
-start_behind : (grants : List Grant) (stdin : List ℕ) → AreGrants grants → (o : ℕ) (kind : OpenKind) → get (start_state grants stdin).opens o ≡ Some kind
-    → HasBehind (start_state grants stdin) kind
-start_behind grants stdin all o kind there =
-    let at = of_open grants o kind all there in
-    subst (HasBehind (start_state grants stdin)) at.4 (behind_there grants stdin at.1.target at.3.allowed.0)
+start_behind : (tree : Tree) (grants : List Grant) (stdin : List ℕ) → AreGrants grants → (o : ℕ) (kind : OpenKind) → get (start_state tree grants stdin).opens o ≡ Some kind
+    → HasBehind (start_state tree grants stdin) kind
+start_behind tree grants stdin all o kind there =
+    let at = of_open tree grants o kind all there in
+    subst (HasBehind (start_state tree grants stdin)) at.4 (behind_there tree grants stdin at.1.target at.3.allowed.0)
 
 -- ---- what is numbered
 
@@ -195,23 +200,23 @@ one_thread t there =
       | inr other ↦ absurd (not_true (subst IsSome (get-insert-other empty 1 Runnable t other.1 ∙ get-empty nat_cmp t) there))
     ]
 
-start_numbered : (grants : List Grant) (stdin : List ℕ) (p t : ℕ) → IsSome (thread_of (start_state grants stdin) p t)
-    → t ≤ (counts_in (get (start_state grants stdin).own p)).threads
-start_numbered grants stdin p t there =
+start_numbered : (tree : Tree) (grants : List Grant) (stdin : List ℕ) (p t : ℕ) → IsSome (thread_of (start_state tree grants stdin) p t)
+    → t ≤ (counts_in (get (start_state tree grants stdin).own p)).threads
+start_numbered tree grants stdin p t there =
     elim (eqb_tells p 0) [
       | inl is ↦ subst (λ o. IsSome (thread_in (option_map (λ (own : Own). own.threads) o) t) → t ≤ (counts_in o).threads)
-          (sym (ap (get (start_state grants stdin).own) is.1 ∙ get-insert-same empty 0 first_own)) (one_thread t) there
+          (sym (ap (get (start_state tree grants stdin).own) is.1 ∙ get-insert-same empty 0 first_own)) (one_thread t) there
       | inr other ↦ absurd (not_true (subst (λ o. IsSome (thread_in (option_map (λ (own : Own). own.threads) o) t))
           (get-insert-other empty 0 first_own p other.1 ∙ get-empty nat_cmp p) there))
     ]
 
 -- the opens of the launch are of no process's number
-start_made : (grants : List Grant) → AreGrants grants → (p k : ℕ) → p < 0xffffffff → k < 2 ^ 32 → get (start_state grants []).opens (object_of p k) ≡ None
-start_made grants all p k small fits =
-    elim (get (start_state grants []).opens (object_of p k)) as (λ o. get (start_state grants []).opens (object_of p k) ≡ o → o ≡ None) [
+start_made : (tree : Tree) (grants : List Grant) → AreGrants grants → (p k : ℕ) → p < 0xffffffff → k < 2 ^ 32 → get (start_state tree grants []).opens (object_of p k) ≡ None
+start_made tree grants all p k small fits =
+    elim (get (start_state tree grants []).opens (object_of p k)) as (λ o. get (start_state tree grants []).opens (object_of p k) ≡ o → o ≡ None) [
       | None ↦ λ e. refl
       | Some kind ↦ λ e. (
-          let at = of_open grants (object_of p k) kind all e in
+          let at = of_open tree grants (object_of p k) kind all e in
           let place : p * 2 ^ 32 + k ≡ 0xffffffff * 2 ^ 32 + (5 + at.0) = at.2 in
           absurd (omega (arith, place, small, fits)))
     ] refl
@@ -219,16 +224,31 @@ start_made grants all p k small fits =
 same_keys_one : {X Y : Type 0} (x : X) (y : Y) (p : ℕ) → is_some (get (insert (empty {R = nat_cmp}) 0 x) p) ≡ is_some (get (insert (empty {R = nat_cmp}) 0 y) p)
 same_keys_one x y = same_keys_inserted empty empty 0 x y (λ q. ap is_some (get-empty nat_cmp q) ∙ sym (ap is_some (get-empty nat_cmp q)))
 
-pub start_valid : (grants : List Grant) (stdin : List ℕ) → AreGrants grants → IsValid (start_state grants stdin)
-start_valid grants stdin all = record {
+-- the root alone is a tree that a launch may begin with
+pub first_tree_is : (constants : Constants) → IsStartTree (first_tree constants)
+first_tree_is constants =
+    let tree : IsTree (first_tree constants) = root_tree-tree _ in
+    record {
+      tree = tree;
+      named = λ n there. elim (eqb_tells n ROOT) [
+        | inl is ↦ (let one : links_of (first_tree constants) ROOT ≡ 1 = links_of_root (first_tree constants) tree in
+            subst (λ k. 1 ≤ links_of (first_tree constants) k) (sym is.1) (omega arith))
+        | inr other ↦ absurd (not_true (sym (ap is_some (get-insert-other empty ROOT _ n other.1 ∙ get-empty nat_cmp n)) ∙ there))
+      ];
+    }
+
+pub start_valid : (tree : Tree) (grants : List Grant) (stdin : List ℕ) → IsStartTree tree → AreGrants grants → IsValid (start_state tree grants stdin)
+start_valid tree grants stdin is all = record {
   nearly = record {
-    named = start_named grants all;
-    behind = start_behind grants stdin all;
+    named = start_named tree grants all;
+    behind = start_behind tree grants stdin all;
     tables = same_keys_one _ _;
     owns = same_keys_one _ _;
     ended = λ p status there ends. absurd (ends (sym (only_one Live status p there).1));
-    numbered = start_numbered grants stdin;
-    made = λ p k small beyond fits. start_made grants all p k small fits;
+    numbered = start_numbered tree grants stdin;
+    made = λ p k small beyond fits. start_made tree grants all p k small fits;
+    tree = is.tree;
   };
-  held = start_held grants all;
+  held = start_held tree grants all;
+  kept = λ n there. named_is_kept (start_state tree grants stdin) n (is.named n there);
 }

@@ -11,15 +11,17 @@ use Rattle.kernel_model.specs.Calls.{meaning_of, refusal}
 use Rattle.kernel_model.specs.Outcome.{Outcome}
 use Rattle.kernel_model.specs.ProcessCalls.{end_updates}
 use Rattle.kernel_model.specs.Proper.{IsUnset}
-use Rattle.kernel_model.specs.Release.{is_released, release}
+use Rattle.tree_model.specs.Retained.{retained-node, retained-table}
+use Rattle.kernel_model.specs.Release.{is_node_kept, is_released, release, without_ended}
 use Rattle.kernel_model.specs.Sight.{own_parts}
-use Rattle.kernel_model.specs.State.{State, Table, Part, at_clock, at_proc, at_status, at_open, at_node, at_names, at_term, same_part, has_part, Agree, part_of}
+use Rattle.kernel_model.specs.State.{State, Table, tree_of, Part, at_clock, at_proc, at_status, at_open, at_node, at_names, at_term, same_part, has_part, Agree, part_of}
 use Rattle.kernel_model.specs.Step.{tick, unless_refused, changed, touch, unless, act_on, outcome, unreleased, step_state, IsStep, IsUntouched, end_unreleased, end_state}
 use Rattle.kernel_model.specs.View.{whole}
 use Rattle.kernel_model.proofs.Calls.{proper}
 use Rattle.kernel_model.proofs.Outcomes.{outcome_reads}
 use Rattle.kernel_model.proofs.Parts.{outside_cons, agree_through, put_keeps}
 use Rattle.kernel_model.proofs.ProcessCalls.{end_unset}
+use Rattle.kernel_model.proofs.Tests.{not_false}
 use Rattle.kernel_model.proofs.Valids.{released_stays}
 
 -- ---- what a call sets
@@ -59,8 +61,8 @@ release_keeps S at_clock h = refl
 release_keeps S (at_proc p) h = (refl, refl)
 release_keeps S (at_status p) h = refl
 release_keeps S (at_open o) h = released_stays S o h
-release_keeps S (at_node n) h = refl
-release_keeps S (at_names n) h = refl
+release_keeps S (at_node n) h = retained-node (tree_of S) (is_node_kept (without_ended S)) n (not_false _ h)
+release_keeps S (at_names n) h = retained-table (tree_of S) (is_node_kept (without_ended S)) n (not_false _ h)
 release_keeps S (at_term k) h = refl
 
 -- ---- steps

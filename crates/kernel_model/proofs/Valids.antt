@@ -1,9 +1,9 @@
 -- What keeps a state valid, or nearly so: one part set, the end of a process, and the release.
-use Rattle.std.proofs.Common.{◌≡◌, ◌≢◌, inl, inr, ℕ, ◌+◌, ◌<◌, ◌≤◌, ◌==◌, Bool, true, false, not, cond, T, Option, Some, None, IsSome, is_some, refl, sym, ap, subst, ◌∙◌, arith}
+use Rattle.std.proofs.Common.{◌≡◌, ◌≢◌, inl, inr, ℕ, ◌+◌, ◌<◌, ◌≤◌, ◌==◌, Bool, true, false, not, cond, ◌||◌, T, Option, Some, None, IsSome, is_some, refl, sym, ap, subst, ◌∙◌, arith}
 use Rattle.std.proofs.lemmas.Bool.Decides.{eqb_tells}
-use Rattle.std.proofs.lemmas.Bool.{eq-eqb, eqb-true}
+use Rattle.std.proofs.lemmas.Bool.{eq-eqb, eqb-true, lt-ltb}
 use Rattle.std.proofs.lemmas.Nat.{and_assoc}
-use Rattle.std.specs.Prelude.{bit_and, IsTrue}
+use Rattle.std.specs.Prelude.{bit_and, nat_lt, IsTrue}
 use Rattle.abi_base.specs.Rights.{has_all}
 use Rattle.std.specs.Ordering.{nat_cmp}
 use Rattle.std.specs.FinMap.{FinMap, get, get-empty, insert, empty, retain_keys}
@@ -18,12 +18,19 @@ use Rattle.abi_types.specs.declared.stream.Stream.{Stream}
 use Rattle.number_map.specs.Closure.{member}
 use Rattle.number_map.specs.Maps.{get-insert-same, get-insert-other, get-retain, same_numbers, total, weight, total-empty, total-insert, total_at_least}
 use Rattle.kernel_model.specs.ProcessCalls.{ended_own, end_updates}
-use Rattle.kernel_model.specs.Release.{names_open, count_in, holders, ends, release, is_ending}
-use Rattle.kernel_model.specs.State.{State, Table, Own, put_one, put_all, set_open, set_table, set_term, threads_of, thread_in, thread_of, counts_in}
+use Rattle.tree_model.specs.declared.limits.TheConstants.{ROOT}
+use Rattle.tree_model.specs.Changes.{is_file_node}
+use Rattle.tree_model.specs.Counts.{one_for-same}
+use Rattle.tree_model.specs.Opens.{one_of_node, opens_of_node}
+use Rattle.tree_model.specs.Releasing.{retained-all, used_by_links, used_by_opens}
+use Rattle.tree_model.specs.Retained.{retained, retained-node, retained-no_node, retained-tree}
+use Rattle.tree_model.specs.Tree.{IsTree, is_directory_node, links_in, links_of}
+use Rattle.kernel_model.specs.Release.{names_open, count_in, holders, ends, release, is_ending, is_node_kept, without_ended, without_nodes}
+use Rattle.kernel_model.specs.State.{State, Table, Own, tree_of, put_one, put_all, set_open, set_table, set_term, threads_of, thread_in, thread_of, counts_in}
 use Rattle.kernel_model.specs.Step.{tick}
 use Rattle.kernel_model.specs.Valid.{object_of, fits, fits_inheriting, IsNamed, HasBehind, IsNearlyValid, IsValid}
 use Rattle.kernel_model.proofs.Ends.{ends_closed, ends_unheld}
-use Rattle.kernel_model.proofs.Tests.{not_true, none_is_no, same_some}
+use Rattle.kernel_model.proofs.Tests.{not_true, none_is_no, or_true, same_some}
 
 -- ---- what holds an open
 
@@ -77,13 +84,50 @@ left_is_held S o false stays there =
       | inr other ↦ (let apart : holders S o ≢ 0 = other.1 in omega arith)
     ]
 
--- what stands behind an open does not depend on the other parts
-behind_same : (S T : State) → ((k : ℕ) → IsSome (get S.terms k) → IsSome (get T.terms k)) → (kind : OpenKind) → HasBehind S kind → HasBehind T kind
-behind_same S T more (Terminal which flags) h = more which h
-behind_same S T more (File node offset flags) h = absurd h
-behind_same S T more (Directory node flags) h = absurd h
-behind_same S T more (End reads writes flags) h = absurd h
-behind_same S T more (Process p) h = absurd h
+-- what stands behind an open does not depend on the parts that aren't behind any
+behind_same : (S T : State) → ((n : ℕ) → get T.nodes n ≡ get S.nodes n) → ((k : ℕ) → IsSome (get S.terms k) → IsSome (get T.terms k)) → (kind : OpenKind)
+    → HasBehind S kind → HasBehind T kind
+behind_same S T nodes more (Terminal which flags) h = more which h
+behind_same S T nodes more (File node offset flags) h = ap is_file_node (nodes node) ∙ h
+behind_same S T nodes more (Directory node flags) h = ap is_directory_node (nodes node) ∙ h
+behind_same S T nodes more (End reads writes flags) h = absurd h
+behind_same S T nodes more (Process p) h = absurd h
+
+-- ---- the nodes that stay
+
+-- the root stays, and what has a name, and what is open
+pub root_is_kept : (S : State) → is_node_kept S ROOT ≡ true
+root_is_kept S = ap (λ b. b || (nat_lt 0 (links_of (tree_of S) ROOT) || nat_lt 0 (opens_of_node S.opens ROOT))) (eq-eqb ROOT ROOT refl)
+
+pub named_is_kept : (S : State) (n : ℕ) → 1 ≤ links_of (tree_of S) n → is_node_kept S n ≡ true
+named_is_kept S n some = used_by_links S.opens (tree_of S) n some
+
+pub open_is_kept : (S : State) (o n : ℕ) (kind : OpenKind) → get S.opens o ≡ Some kind → one_of_node n kind ≡ 1 → is_node_kept S n ≡ true
+open_is_kept S o n kind there one =
+    let all : one_of_node n kind ≤ opens_of_node S.opens n = total_at_least (one_of_node n) S.opens o kind there in
+    used_by_opens S.opens (tree_of S) n (omega arith)
+
+-- what stands behind an open that is left is left
+released_behind : (S : State) (o : ℕ) (kind : OpenKind) → get (release S).opens o ≡ Some kind → HasBehind S kind → HasBehind (release S) kind
+released_behind S o (Terminal which flags) there h = h
+released_behind S o (File node offset flags) there h =
+    ap is_file_node (retained-node (tree_of S) (is_node_kept (without_ended S)) node
+    (open_is_kept (without_ended S) o node (File node offset flags) there (one_for-same node))) ∙ h
+released_behind S o (Directory node flags) there h =
+    ap is_directory_node (retained-node (tree_of S) (is_node_kept (without_ended S)) node
+    (open_is_kept (without_ended S) o node (Directory node flags) there (one_for-same node))) ∙ h
+released_behind S o (End reads writes flags) there h = absurd h
+released_behind S o (Process p) there h = absurd h
+
+-- a node that is left stays still
+released_kept : (S : State) (n : ℕ) → IsSome (get (release S).nodes n) → is_node_kept (release S) n ≡ true
+released_kept S n there =
+    elim (is_node_kept (without_ended S) n) as (λ b. is_node_kept (without_ended S) n ≡ b → is_node_kept (release S) n ≡ true) [
+      | true ↦ λ kept.
+          ap (λ k. (n == ROOT) || (nat_lt 0 k || nat_lt 0 (opens_of_node (without_ended S).opens n)))
+          (ap links_in (retained-node (tree_of S) (is_node_kept (without_ended S)) n kept)) ∙ kept
+      | false ↦ λ gone. absurd (not_true (sym (ap is_some (retained-no_node (tree_of S) (is_node_kept (without_ended S)) n gone)) ∙ there))
+    ] refl
 
 none_left : {X : Type 0} (b : Bool) (o : Option X) → o ≡ None → cond (not b) o None ≡ None
 none_left true o h = refl
@@ -96,18 +140,19 @@ release_restores S v = record {
         subst (λ o. IsNamed o d) (sym (released_stays S d.id (held_stays S d.id (named_is_held S p n table d there here))))
         (v.named p n table d there here);
     behind = λ o kind e.
-        behind_same S (release S) (λ _ h. h) kind
-        (v.behind o kind (kept_some (not (is_ending S o)) (get S.opens o) kind (sym (get_released S o) ∙ e)));
+        released_behind S o kind e (v.behind o kind (kept_some (not (is_ending S o)) (get S.opens o) kind (sym (get_released S o) ∙ e)));
     tables = v.tables;
     owns = v.owns;
     ended = v.ended;
     numbered = v.numbered;
     made = λ p k small beyond fits. get_released S (object_of p k) ∙ none_left (is_ending S (object_of p k)) (get S.opens (object_of p k)) (v.made p k small beyond fits);
+    tree = retained-tree (tree_of S) (is_node_kept (without_ended S)) v.tree (root_is_kept (without_ended S)) (named_is_kept (without_ended S));
   };
   held = λ o h. left_is_held S o (is_ending S o) refl (subst IsSome (get_released S o) h);
+  kept = released_kept S;
 }
 
--- where each open is held nothing is released
+-- where each open is held none ends
 held_or_absent : (S : State) → ((o : ℕ) → IsSome (get S.opens o) → 0 < holders S o) → (o : ℕ) → is_ending S o ≡ false
 held_or_absent S held o =
     elim (is_ending S o) as (λ b. is_ending S o ≡ b → b ≡ false) [
@@ -119,14 +164,21 @@ held_or_absent S held o =
       | false ↦ λ e. refl
     ] refl
 
-pub release_held : (S : State) → ((o : ℕ) → IsSome (get S.opens o) → 0 < holders S o) → release S ≡ S
-release_held S held =
-    let same : (release S).opens ≡ S.opens = same_numbers _ _ (λ o. released_stays S o (held_or_absent S held o)) in
+pub ended_held : (S : State) → ((o : ℕ) → IsSome (get S.opens o) → 0 < holders S o) → without_ended S ≡ S
+ended_held S held =
+    let same : (without_ended S).opens ≡ S.opens = same_numbers _ _ (λ o. released_stays S o (held_or_absent S held o)) in
     λ i. record S { opens = same i }
+
+-- where each node that is there stays, no node goes
+pub nodes_stay : (S : State) → IsTree (tree_of S) → ((n : ℕ) → IsSome (get S.nodes n) → is_node_kept S n ≡ true) → without_nodes S ≡ S
+nodes_stay S tree kept =
+    let same : retained (tree_of S) (is_node_kept S) ≡ tree_of S = retained-all (tree_of S) (is_node_kept S) tree kept in
+    λ i. record S { nodes = (same i).nodes; names = (same i).names }
 
 -- nothing of a valid state is released
 pub release_valid : (S : State) → IsValid S → release S ≡ S
-release_valid S v = release_held S v.held
+release_valid S v =
+    ap without_nodes (ended_held S v.held) ∙ nodes_stay S v.nearly.tree v.kept
 
 -- the opens that are left are those that are held
 ending_is : (S : State) (o : ℕ) → IsSome (get S.opens o) → is_ending S o ≡ (holders S o == 0)
@@ -143,9 +195,9 @@ left_alike true false None h = refl
 left_alike false true None h = refl
 left_alike false false None h = refl
 
-pub release_is : (S : State) → release S ≡ record S { opens = retain_keys S.opens (λ o. not (holders S o == 0)) }
-release_is S =
-    let same : (release S).opens ≡ retain_keys S.opens (λ o. not (holders S o == 0)) =
+pub ended_is : (S : State) → without_ended S ≡ record S { opens = retain_keys S.opens (λ o. not (holders S o == 0)) }
+ended_is S =
+    let same : (without_ended S).opens ≡ retain_keys S.opens (λ o. not (holders S o == 0)) =
     same_numbers _ _ (λ o.
     get_released S o ∙ left_alike (is_ending S o) (holders S o == 0) (get S.opens o) (ending_is S o)
     ∙ sym (get-retain S.opens (λ r. not (holders S r == 0)) o)) in
@@ -156,16 +208,17 @@ release_is S =
 pub tick_nearly_valid : (S : State) → IsNearlyValid S → IsNearlyValid (tick S)
 tick_nearly_valid S v = record {
   named = v.named;
-  behind = λ o kind e. behind_same S (tick S) (λ _ h. h) kind (v.behind o kind e);
+  behind = λ o kind e. behind_same S (tick S) (λ _. refl) (λ _ h. h) kind (v.behind o kind e);
   tables = v.tables;
   owns = v.owns;
   ended = v.ended;
   numbered = v.numbered;
   made = v.made;
+  tree = v.tree;
 }
 
 pub tick_valid : (S : State) → IsValid S → IsValid (tick S)
-tick_valid S v = record { nearly = tick_nearly_valid S v.nearly; held = v.held }
+tick_valid S v = record { nearly = tick_nearly_valid S v.nearly; held = v.held; kept = v.kept }
 
 -- ---- one part set
 
@@ -192,12 +245,13 @@ pub streams_nearly_valid : (S : State) (terms : FinMap nat_cmp Stream) → ((k :
     → IsNearlyValid (record S { terms = terms })
 streams_nearly_valid S terms more v = record {
   named = v.named;
-  behind = λ o kind e. behind_same S (record S { terms = terms }) more kind (v.behind o kind e);
+  behind = λ o kind e. behind_same S (record S { terms = terms }) (λ _. refl) more kind (v.behind o kind e);
   tables = v.tables;
   owns = v.owns;
   ended = v.ended;
   numbered = v.numbered;
   made = v.made;
+  tree = v.tree;
 }
 
 pub set_term_nearly_valid : (S : State) (k : ℕ) (stream : Stream) → IsNearlyValid S → IsNearlyValid (put_one (set_term k stream) S)
@@ -277,7 +331,7 @@ ended_numbered S p status v q t there =
 pub end_nearly_valid : (S : State) (p : ℕ) (status : Status) → IsNearlyValid S → IsNearlyValid (put_all (end_updates p (get S.own p) status) S)
 end_nearly_valid S p status v = record {
   named = λ q n table d there here. v.named q n table d (emptied_before S.tables p q n table d there here) here;
-  behind = λ o kind e. behind_same S (put_all (end_updates p (get S.own p) status) S) (λ _ h. h) kind (v.behind o kind e);
+  behind = λ o kind e. behind_same S (put_all (end_updates p (get S.own p) status) S) (λ _. refl) (λ _ h. h) kind (v.behind o kind e);
   tables = same_keys_inserted S.tables S.statuses p empty status v.tables;
   owns = same_keys_inserted S.own S.statuses p (ended_own (get S.own p)) status v.owns;
   ended = λ q s e ends. (
@@ -287,6 +341,7 @@ end_nearly_valid S p status v = record {
   numbered = λ q t there. subst (λ (c : Counts). t ≤ c.threads) (sym (counts_stay S p status q)) (ended_numbered S p status v q t there);
   made = λ q k small beyond fits.
       v.made q k small (subst (λ (c : Counts). c.objects < k) (counts_stay S p status q) beyond) fits;
+  tree = v.tree;
 }
 
 -- ---- another table
@@ -357,12 +412,13 @@ pub set_table_nearly_valid : (S : State) (p : ℕ) (old new : Table) → get S.t
     → IsNearlyValid (put_one (set_table p new) S)
 set_table_nearly_valid S p old new there from v = record {
   named = table_named S p old new there from v;
-  behind = λ o kind e. behind_same S (put_one (set_table p new) S) (λ _ h. h) kind (v.behind o kind e);
+  behind = λ o kind e. behind_same S (put_one (set_table p new) S) (λ _. refl) (λ _ h. h) kind (v.behind o kind e);
   tables = λ q. some_again S.tables p old new q there ∙ v.tables q;
   owns = v.owns;
   ended = λ q status is ends. (ended_table S p old new there from v q status is ends, (v.ended q status is ends).1);
   numbered = v.numbered;
   made = v.made;
+  tree = v.tree;
 }
 
 -- ---- another value of an open
@@ -411,10 +467,11 @@ pub set_open_nearly_valid : (S : State) (o : ℕ) (kind new : OpenKind) → get 
     → IsNearlyValid (put_one (set_open o new) S)
 set_open_nearly_valid S o kind new there same v = record {
   named = λ q n table d at here. open_named S o kind new there same d (v.named q n table d at here);
-  behind = λ r k at. behind_same S (put_one (set_open o new) S) (λ _ h. h) k (open_behind S o kind new there same v r k at);
+  behind = λ r k at. behind_same S (put_one (set_open o new) S) (λ _. refl) (λ _ h. h) k (open_behind S o kind new there same v r k at);
   tables = v.tables;
   owns = v.owns;
   ended = v.ended;
   numbered = v.numbered;
   made = λ p k small beyond fits. open_made S o kind new (object_of p k) there (v.made p k small beyond fits);
+  tree = v.tree;
 }

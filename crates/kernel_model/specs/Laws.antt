@@ -22,8 +22,8 @@ use Rattle.kernel_model.specs.Release.{ends, is_released, IsEnd}
 use Rattle.kernel_model.specs.Reply.{refused, denied}
 use Rattle.abi_base.specs.Grants.{AreGrants}
 use Rattle.kernel_model.specs.Sight.{own_parts, behind}
-use Rattle.kernel_model.specs.Start.{start_state}
-use Rattle.kernel_model.specs.State.{State, Table, Part, at_open, has_part, Agree, AgreeOn, threads_of}
+use Rattle.kernel_model.specs.Start.{IsStartTree, start_state}
+use Rattle.kernel_model.specs.State.{State, Tree, Table, Part, at_open, has_part, Agree, AgreeOn, threads_of}
 use Rattle.kernel_model.specs.Step.{tick, sight, touch, act, outcome, unreleased, step_answer, step_state, failed, IsStep, IsUntouched, end_unreleased, end_state}
 use Rattle.kernel_model.specs.Valid.{IsValid}
 use Rattle.kernel_model.specs.View.{whole}
@@ -247,4 +247,4 @@ EndKeepsValid = (S : State) (p : ℕ) (status : Status) → IsValid S → IsVali
 
 -- The state that a launch starts from is valid, where its grants are of what is there.
 abbrev pub StartIsValid : Type 0
-StartIsValid = (grants : List Grant) (stdin : List ℕ) → AreGrants grants → IsValid (start_state grants stdin)
+StartIsValid = (tree : Tree) (grants : List Grant) (stdin : List ℕ) → IsStartTree tree → AreGrants grants → IsValid (start_state tree grants stdin)

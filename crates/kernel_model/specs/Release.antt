@@ -1,10 +1,11 @@
--- Which opens end because nothing holds them any more.
+-- Which opens end because nothing holds them any more, and which nodes are gone because nothing leads to them any more.
 use Rattle.std.specs.Prelude.{◌≡◌, ℕ, ◌==◌, not, Bool, true, false, List, [], IsSome, if◌then◌else◌}
 use Rattle.std.specs.FinMap.{get, retain_keys}
 use Rattle.abi_types.specs.declared.descriptor.Descriptor.{Descriptor}
 use Rattle.number_map.specs.Closure.{member, closure}
 use Rattle.number_map.specs.Maps.{total}
-use Rattle.kernel_model.specs.State.{State, Table, Part, at_clock, at_proc, at_status, at_open, at_node, at_names, at_term}
+use Rattle.tree_model.specs.Opens.{is_used}
+use Rattle.kernel_model.specs.State.{State, Table, tree_of, Part, at_clock, at_proc, at_status, at_open, at_node, at_names, at_term}
 
 -- 1 where the descriptor names the open, else 0
 abbrev pub names_open : ℕ → Descriptor → ℕ
@@ -31,12 +32,24 @@ unfoldable pub ends : State → List ℕ
 ends S = closure (is_unheld S) S.opens []
 
 -- the state without the opens that end
-abbrev pub release : State → State
-release S = without (ends S) S
+abbrev pub without_ended : State → State
+without_ended S = without (ends S) S
 
 -- whether the open is one that ends
 abbrev pub is_ending : State → ℕ → Bool
 is_ending S o = member o (ends S)
+
+-- whether the node stays: it is the root, has a name or is open
+abbrev pub is_node_kept : State → ℕ → Bool
+is_node_kept S n = is_used S.opens (tree_of S) n
+
+-- the state without the nodes that don't stay, nor the names in them
+abbrev pub without_nodes : State → State
+without_nodes S = record S { nodes = retain_keys S.nodes (is_node_kept S); names = retain_keys S.names (is_node_kept S) }
+
+-- the state without the opens that end, and then without the nodes that have neither a name nor an open
+abbrev pub release : State → State
+release S = without_nodes (without_ended S)
 
 -- whether the part is one that the release of this state ends
 abbrev pub is_released : State → Part → Bool
@@ -44,8 +57,8 @@ is_released S at_clock = false
 is_released S (at_proc p) = false
 is_released S (at_status p) = false
 is_released S (at_open o) = is_ending S o
-is_released S (at_node n) = false
-is_released S (at_names n) = false
+is_released S (at_node n) = not (is_node_kept (without_ended S) n)
+is_released S (at_names n) = not (is_node_kept (without_ended S) n)
 is_released S (at_term k) = false
 
 -- The set of opens is the one that ends: it has each open which nothing holds once the set has ended, each of it is such

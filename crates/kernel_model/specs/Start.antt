@@ -1,6 +1,6 @@
 -- The state that a launch starts from.
-use Rattle.std.specs.Prelude.{ℕ, ◌+◌, ◌*◌, ◌^◌, List, [], ◌∷◌}
-use Rattle.std.specs.FinMap.{empty, insert, from_entries}
+use Rattle.std.specs.Prelude.{ℕ, ◌+◌, ◌*◌, ◌^◌, ◌≤◌, List, [], ◌∷◌, IsSome}
+use Rattle.std.specs.FinMap.{empty, get, insert, from_entries}
 use Rattle.abi_types.specs.declared.descriptor.Descriptor.{Descriptor}
 use Rattle.abi_base.specs.declared.grant.Grant.{Grant}
 use Rattle.abi_base.specs.declared.grant.GrantTarget.{GrantTarget}
@@ -10,7 +10,10 @@ use Rattle.abi_types.specs.declared.open_kind.OpenKind.TheVariants as kind
 use Rattle.abi_types.specs.declared.status.Status.TheVariants.{Live}
 use Rattle.abi_types.specs.declared.stream.Stream.{Stream}
 use Rattle.abi_types.specs.declared.thread.Thread.TheVariants.{Runnable}
-use Rattle.kernel_model.specs.State.{State, Table, Own, no_locks}
+use Rattle.abi_types.specs.declared.constants.Constants.{Constants}
+use Rattle.tree_model.specs.Start.{root_tree}
+use Rattle.tree_model.specs.Tree.{IsTree, links_of}
+use Rattle.kernel_model.specs.State.{State, Table, Own, Tree, no_locks}
 
 -- Objects that the launch makes have numbers of process 0xffffffff: 1 to 3 are the standard streams, 4 is the root of
 -- the file tree, and from 5 on come the opens of the granted descriptors.
@@ -45,16 +48,25 @@ first_own = record { threads = insert empty 1 Runnable; counts = record { object
 abbrev pub unwritten : List ℕ → Stream
 unwritten left = record { left = left; written = [] }
 
--- Process 0 is live with thread 1 and the granted descriptors, there is no file tree yet, standard input has these bytes,
--- and nothing was written.
-abbrev pub start_state : List Grant → List ℕ → State
-start_state grants stdin = record {
+-- The tree that a launch begins with is a tree, and each node of it has a name, the root aside, which counts one.
+pub record IsStartTree (t : Tree) : Type 0 where
+  pub tree : IsTree t
+  pub named : (n : ℕ) → IsSome (get t.nodes n) → 1 ≤ links_of t n
+
+-- the root alone, with the times at which the run begins
+abbrev pub first_tree : Constants → Tree
+first_tree constants = root_tree (record { atim = constants.epoch; mtim = constants.epoch; ctim = constants.epoch })
+
+-- Process 0 is live with thread 1 and the granted descriptors, the file tree is this one, standard input has these bytes, and
+-- nothing was written.
+abbrev pub start_state : Tree → List Grant → List ℕ → State
+start_state tree grants stdin = record {
   clock = 0;
   tables = insert empty 0 (granted_table grants);
   own = insert empty 0 first_own;
   statuses = insert empty 0 Live;
   opens = from_entries (numbered granted_open (launch_object 5) grants);
-  nodes = empty;
-  names = empty;
+  nodes = tree.nodes;
+  names = tree.names;
   terms = insert (insert (insert empty 0 (unwritten stdin)) 1 (unwritten [])) 2 (unwritten []);
 }

@@ -1,6 +1,5 @@
 -- The state of a kernel: what it keeps between two calls.
 use Rattle.std.specs.Prelude.{◌≡◌, ℕ, ◌==◌, ◌||◌, Bool, true, false, List, [], ◌∷◌, Option, None, Some}
-use Rattle.std.specs.Cmp.Lexicographic.{slice_cmp}
 use Rattle.std.specs.Ordering.{nat_cmp}
 use Rattle.std.specs.FinMap.{FinMap, empty, get, insert}
 use Rattle.std.specs.Option.{option_map}
@@ -12,6 +11,7 @@ use Rattle.abi_types.specs.declared.stream.Stream.{Stream}
 use Rattle.abi_types.specs.declared.thread.Thread.{Thread}
 use Rattle.abi_types.specs.declared.waiter.Waiter.{Waiter}
 pub use Rattle.fd_table.specs.Table.{Table}
+pub use Rattle.tree_model.specs.Tree.{Tree, Names}
 
 -- a process's live threads by number
 abbrev pub Threads : Type 0
@@ -37,10 +37,6 @@ pub record Own : Type 0 where
   pub counts : Counts
   pub locks : Locks
 
--- the names in a directory, in the order of their bytes, each with the number of its node
-abbrev pub Names : Type 0
-Names = FinMap (slice_cmp nat_cmp) ℕ
-
 -- the moment in nanoseconds; each process's descriptors, what else it has of its own, and its status; the opens that
 -- descriptors name; the nodes of the file tree, and the names in each directory; and the standard streams
 pub record State : Type 0 where
@@ -52,6 +48,10 @@ pub record State : Type 0 where
   pub nodes : FinMap nat_cmp Node
   pub names : FinMap nat_cmp Names
   pub terms : FinMap nat_cmp Stream
+
+-- the file tree
+abbrev pub tree_of : State → Tree
+tree_of S = record { nodes = S.nodes; names = S.names }
 
 -- a process's live threads, if it was ever made
 abbrev pub threads_of : State → ℕ → Option Threads

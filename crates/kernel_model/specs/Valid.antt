@@ -1,5 +1,5 @@
 -- States that a kernel may be in.
-use Rattle.std.specs.Prelude.{◌≡◌, ◌≢◌, ℕ, ◌+◌, ◌*◌, ◌^◌, ◌<◌, ◌≤◌, Option, None, Some, IsSome, IsTrue, is_some}
+use Rattle.std.specs.Prelude.{◌≡◌, ◌≢◌, ℕ, ◌+◌, ◌*◌, ◌^◌, ◌<◌, ◌≤◌, true, Option, None, Some, IsSome, IsTrue, is_some}
 use Rattle.std.specs.FinMap.{get, empty}
 use Rattle.abi_types.specs.declared.descriptor.Descriptor.{Descriptor}
 use Rattle.abi_types.specs.declared.open_kind.OpenKind.{OpenKind}
@@ -11,8 +11,10 @@ use Rattle.abi_types.specs.declared.status.Status.{Status}
 use Rattle.abi_types.specs.declared.status.Status.TheVariants.{Live}
 use Rattle.abi_base.specs.Grants.{stream_rights}
 use Rattle.abi_base.specs.Rights.{has_all}
-use Rattle.kernel_model.specs.Release.{holders}
-use Rattle.kernel_model.specs.State.{State, Table, threads_of, thread_of, counts_in}
+use Rattle.tree_model.specs.Changes.{is_file}
+use Rattle.tree_model.specs.Tree.{IsTree, is_directory}
+use Rattle.kernel_model.specs.Release.{holders, is_node_kept}
+use Rattle.kernel_model.specs.State.{State, Table, tree_of, threads_of, thread_of, counts_in}
 
 -- the type of an end of channels, by those that it reads and writes
 abbrev pub end_type : Option ℕ → Option ℕ → OpenType
@@ -41,9 +43,11 @@ abbrev pub IsNamed : Option OpenKind → Descriptor → Type 0
 IsNamed None d = ⊥
 IsNamed (Some kind) d = HasRightsOf d kind
 
--- What stands behind the open is there. Files and directories come with the file tree, ends with channels, and opens of
--- processes with forks, so none of these is there yet.
+-- What stands behind the open is there. Ends come with channels and opens of processes with forks, so none of these is there
+-- yet.
 abbrev pub HasBehind : State → OpenKind → Type 0
+HasBehind S (kind.File node offset flags) = is_file (tree_of S) node ≡ true
+HasBehind S (kind.Directory node flags) = is_directory (tree_of S) node ≡ true
 HasBehind S (kind.Terminal which flags) = IsSome (get S.terms which)
 HasBehind S _ = ⊥
 
@@ -51,10 +55,10 @@ HasBehind S _ = ⊥
 abbrev pub object_of : ℕ → ℕ → ℕ
 object_of p k = p * 2 ^ 32 + k
 
--- All of validity but that each open is held: what each call keeps before the release, which brings the rest. Each
--- descriptor's open is there with its rights, and each open has what stands behind it. A process has a table, what is its
--- own and a status, or none of these, and an ended process has no descriptor and no thread. No thread and no open that a
--- process has is numbered beyond its count.
+-- All of validity but that each open is held and each node has a name or an open: what each call keeps before the release,
+-- which brings the rest. Each descriptor's open is there with its rights, and each open has what stands behind it. A process
+-- has a table, what is its own and a status, or none of these, and an ended process has no descriptor and no thread. No thread
+-- and no open that a process has is numbered beyond its count. The file tree is a tree.
 pub record IsNearlyValid (S : State) : Type 0 where
   pub named : (p n : ℕ) (table : Table) (d : Descriptor) → get S.tables p ≡ Some table → get table n ≡ Some d → IsNamed (get S.opens d.id) d
   pub behind : (o : ℕ) (kind : OpenKind) → get S.opens o ≡ Some kind → HasBehind S kind
@@ -63,8 +67,10 @@ pub record IsNearlyValid (S : State) : Type 0 where
   pub ended : (p : ℕ) (status : Status) → get S.statuses p ≡ Some status → status ≢ Live → (get S.tables p ≡ Some empty) × (threads_of S p ≡ Some empty)
   pub numbered : (p t : ℕ) → IsSome (thread_of S p t) → t ≤ (counts_in (get S.own p)).threads
   pub made : (p k : ℕ) → p < 0xffffffff → (counts_in (get S.own p)).objects < k → k < 2 ^ 32 → get S.opens (object_of p k) ≡ None
+  pub tree : IsTree (tree_of S)
 
--- a state is valid where it is nearly so, and each open is held
+-- a state is valid where it is nearly so, each open is held, and each node is the root, has a name or is open
 pub record IsValid (S : State) : Type 0 where
   pub nearly : IsNearlyValid S
   pub held : (o : ℕ) → IsSome (get S.opens o) → 0 < holders S o
+  pub kept : (n : ℕ) → IsSome (get S.nodes n) → is_node_kept S n ≡ true

@@ -1,25 +1,20 @@
 -- What a call may read of a state: the values of some parts, and nothing of the others.
 use Rattle.std.specs.Prelude.{ℕ, Bool, List, Option, None, if◌then◌else◌}
-use Rattle.std.specs.FinMap.{get}
-use Rattle.abi_types.specs.declared.node.Node.{Node}
+use Rattle.std.specs.FinMap.{get, retain_keys}
 use Rattle.abi_types.specs.declared.open_kind.OpenKind.{OpenKind}
 use Rattle.abi_types.specs.declared.status.Status.{Status}
 use Rattle.abi_types.specs.declared.stream.Stream.{Stream}
-use Rattle.kernel_model.specs.State.{State, Table, Own, Names, Part, at_proc, at_status, at_open, at_node, at_names, at_term, has_part}
+use Rattle.kernel_model.specs.State.{State, Table, Own, Tree, tree_of, Part, at_proc, at_status, at_open, at_node, at_names, at_term, has_part}
 
--- what is seen of the file tree: for each number the node, and the names in the directory, where that is seen
-pub record Branch : Type 0 where
-  pub node : ℕ → Option Node
-  pub names : ℕ → Option Names
-
--- what is seen of a state: the moment, and for each number the value of its part, where that is seen
+-- what is seen of a state: the moment, for each number the value of its part, where that is seen, and the nodes and names of
+-- the file tree that are seen
 pub record View : Type 0 where
   pub clock : ℕ
   pub table : ℕ → Option Table
   pub own : ℕ → Option Own
   pub status : ℕ → Option Status
   pub opened : ℕ → Option OpenKind
-  pub branch : Branch
+  pub branch : Tree
   pub term : ℕ → Option Stream
 
 -- the value where the test is true, else nothing
@@ -34,10 +29,7 @@ restrict S parts = record {
   own = λ p. only (has_part parts (at_proc p)) (get S.own p);
   status = λ p. only (has_part parts (at_status p)) (get S.statuses p);
   opened = λ o. only (has_part parts (at_open o)) (get S.opens o);
-  branch = record {
-    node = λ n. only (has_part parts (at_node n)) (get S.nodes n);
-    names = λ n. only (has_part parts (at_names n)) (get S.names n);
-  };
+  branch = record { nodes = retain_keys S.nodes (λ n. has_part parts (at_node n)); names = retain_keys S.names (λ n. has_part parts (at_names n)) };
   term = λ k. only (has_part parts (at_term k)) (get S.terms k);
 }
 
@@ -49,6 +41,6 @@ whole S = record {
   own = λ p. get S.own p;
   status = λ p. get S.statuses p;
   opened = λ o. get S.opens o;
-  branch = record { node = λ n. get S.nodes n; names = λ n. get S.names n };
+  branch = tree_of S;
   term = λ k. get S.terms k;
 }

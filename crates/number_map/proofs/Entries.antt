@@ -1,15 +1,16 @@
 -- How the entries of a `BTreeMap` stand for a finite map from numbers.
-use Rattle.std.proofs.Common.{◌≡◌, ◌≢◌, ◌↔◌, ℕ, Bool, Less, Equal, Greater, false, true, T, is_some, IsSome, IsNone, IsTrue, ◌==◌, ◌&&◌, nat_le, inl, inr, subst, ◌<◌, ◌≤◌, ◌+◌, cond, List, [], ◌∷◌, length, Option, Some, None, sym, ap, ◌∙◌, refl, arith}
-use Rattle.std.proofs.lemmas.Bool.{le-leb, lt-leb}
+use Rattle.std.proofs.Common.{◌≡◌, ◌≢◌, ◌↔◌, ℕ, Bool, Less, Equal, Greater, false, true, T, is_some, IsSome, IsNone, IsTrue, ◌==◌, ◌&&◌, nat_le, nat_lt, inl, inr, subst, ◌<◌, ◌≤◌, ◌+◌, cond, List, [], ◌∷◌, length, Option, Some, None, sym, ap, ◌∙◌, refl, arith}
+use Rattle.std.proofs.lemmas.Bool.{le-leb, lt-leb, lt-ltb, le-ltb}
 use Rattle.std.proofs.lemmas.Bool.Decides.{eqb_tells}
-use Rattle.std.specs.Ordering.{nat_cmp, eq_by_cmp, is_gt, is_le}
+use Rattle.std.specs.Ordering.{nat_cmp, eq_by_cmp, is_gt, is_le, is_lt}
 use Rattle.std.specs.Cmp.{nat_cmp_total, eq_by_cmp_equiv, ranked}
 use Rattle.std.specs.Map.{lookup, keys_of}
 use Rattle.std.specs.List.{AllByRecursion}
 use Rattle.std.specs.List.Sorted.{IsStrictlySortedBy}
 use Rattle.std.specs.BTreeMap.{is_at}
-use Rattle.std.specs.BTreeMap.Range.{entries_between}
-use Rattle.std.specs.declared.ops.Bound.TheVariants.{Included, Unbounded}
+use Rattle.std.specs.BTreeMap.Range.{entries_between, range_contains}
+use Rattle.std.specs.declared.ops.Bound.{Bound}
+use Rattle.std.specs.declared.ops.Bound.TheVariants.{Included, Excluded, Unbounded}
 use Rattle.std.specs.FinMap.Entries.{by_order}
 use Rattle.std.specs.FinMap.{FinMap, from_entries, find, put, get, insert, remove, empty, entries, len, len-entries, len-empty, get-empty, empty_of_len, entries-insert, get-from_entries, get-insert, get-remove, same_map, nat_cmp-IsAntisymmetric}
 use Rattle.number_map.specs.Maps.{get-insert-same, len-removed, least_key, first_key}
@@ -121,17 +122,33 @@ at_least k q =
       | Greater ↦ λ e. let above : q < k = ranked k q Greater e in sym (lt-leb k q above)
     ] refl
 
+above : (k q : ℕ) → (is_lt (nat_cmp k q) && true) ≡ nat_lt k q
+above k q =
+    elim (nat_cmp k q) as (λ r. r ≡ nat_cmp k q → (is_lt r && true) ≡ nat_lt k q) [
+      | Less ↦ λ e. let below : k < q = ranked k q Less e in sym (lt-ltb k q below)
+      | Equal ↦ λ e. let same : k ≡ q = ranked k q Equal e in sym (le-ltb k q (omega arith))
+      | Greater ↦ λ e. let above : q < k = ranked k q Greater e in sym (le-ltb k q (omega arith))
+    ] refl
+
 module _ {X : Type 0} where
-  first_between : (k : ℕ) (es : List (ℕ × X)) → first_key (λ q _. nat_le k q) es ≡ key_of_first (entries_between nat_cmp (Included k) Unbounded es)
-  first_between k [] = refl
-  first_between k (e ∷ es) =
-      elim (nat_le k e.0) as (λ b. nat_le k e.0 ≡ b → cond b (Some e.0) (first_key (λ q _. nat_le k q) es) ≡ key_of_first (entries_between nat_cmp (Included k) Unbounded (e ∷ es))) [
-        | true ↦ λ is. sym (ap (λ b. key_of_first (cond b (e ∷ entries_between nat_cmp (Included k) Unbounded es) (entries_between nat_cmp (Included k) Unbounded es))) (at_least k e.0 ∙ is))
-        | false ↦ λ is. first_between k es
-            ∙ sym (ap (λ b. key_of_first (cond b (e ∷ entries_between nat_cmp (Included k) Unbounded es) (entries_between nat_cmp (Included k) Unbounded es))) (at_least k e.0 ∙ is))
+  -- the first key that passes a test that is the lower bound's
+  first_between : (lo : Bound ℕ) (test : ℕ → Bool) → ((q : ℕ) → range_contains nat_cmp lo Unbounded q ≡ test q) → (es : List (ℕ × X))
+      → first_key (λ q _. test q) es ≡ key_of_first (entries_between nat_cmp lo Unbounded es)
+  first_between lo test same [] = refl
+  first_between lo test same (e ∷ es) =
+      let rest = entries_between nat_cmp lo Unbounded es in
+      elim (test e.0) as (λ b. test e.0 ≡ b → cond b (Some e.0) (first_key (λ q _. test q) es) ≡ key_of_first (entries_between nat_cmp lo Unbounded (e ∷ es))) [
+        | true ↦ λ is. sym (ap (λ b. key_of_first (cond b (e ∷ rest) rest)) (same e.0 ∙ is))
+        | false ↦ λ is. first_between lo test same es ∙ sym (ap (λ b. key_of_first (cond b (e ∷ rest) rest)) (same e.0 ∙ is))
       ] refl
 
-  -- the least key that is at least k is that of the first entry from k on
+  -- the least key that is at least k, or above it, is that of the first entry from there on
   pub least_from : (k : ℕ) (es fs : List (ℕ × X)) (m : FinMap nat_cmp X) → from_entries es ≡ m → IsStrictlySortedBy nat_cmp (keys_of es)
       → fs ≡ entries_between nat_cmp (Included k) Unbounded es → least_key (λ q _. nat_le k q) m ≡ key_of_first fs
-  least_from k es fs m e o is = least_of_entries (λ q _. nat_le k q) es m e o ∙ first_between k es ∙ ap key_of_first (sym is)
+  least_from k es fs m e o is =
+      least_of_entries (λ q _. nat_le k q) es m e o ∙ first_between (Included k) (nat_le k) (at_least k) es ∙ ap key_of_first (sym is)
+
+  pub least_after : (k : ℕ) (es fs : List (ℕ × X)) (m : FinMap nat_cmp X) → from_entries es ≡ m → IsStrictlySortedBy nat_cmp (keys_of es)
+      → fs ≡ entries_between nat_cmp (Excluded k) Unbounded es → least_key (λ q _. nat_lt k q) m ≡ key_of_first fs
+  least_after k es fs m e o is =
+      least_of_entries (λ q _. nat_lt k q) es m e o ∙ first_between (Excluded k) (nat_lt k) (above k) es ∙ ap key_of_first (sym is)

@@ -1,5 +1,5 @@
 //! A map from numbers to values.
-ghost use Rattle.std.specs.Prelude.{◌≡◌, ◌^◌, ◌<◌, ◌+◌, ◌==◌, OnOk, OnErr, IfOk, IfErr, IfSome, IfNone, IsNone, IsSome, IsTrue, option_copied, nat_le, ℕ, Bool, ◌≤◌, ◌↔◌};
+ghost use Rattle.std.specs.Prelude.{◌≡◌, ◌^◌, ◌<◌, ◌+◌, ◌==◌, OnOk, OnErr, IfOk, IfErr, IfSome, IfNone, IsNone, IsSome, IsTrue, option_copied, nat_le, nat_lt, ℕ, Bool, ◌≤◌, ◌↔◌};
 ghost use Rattle.std.specs.Ordering.{nat_cmp};
 ghost use Rattle.std.specs.FinMap as map;
 ghost use Rattle.std.specs.Borrow.{sem};
@@ -11,6 +11,7 @@ use std::alloc::{AllocFailed, Global};
 use std::collections::BTreeMap;
 use std::marker::Model;
 use std::mem;
+use std::ops::Bound;
 
 /// A map from numbers of 64 bits to values, with the keys in order.
 ///
@@ -92,6 +93,15 @@ impl<V> NumMap<V> {
         ensures { result ≡ least_key (λ q _. nat_le key q) self.now }
     {
         let (first, _) = self.entries.range(key..).next()?;
+        Some(*first)
+    }
+
+    /// The least key that is above `key`, if there is one.
+    pub fn first_after(&self, key: u64) -> Option<u64>
+        ensures { result ≡ least_key (λ q _. nat_lt key q) self.now }
+    {
+        let above = (Bound::Excluded(key), Bound::Unbounded);
+        let (first, _) = self.entries.range(above).next()?;
         Some(*first)
     }
 

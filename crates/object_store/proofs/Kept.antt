@@ -95,6 +95,10 @@ is_there counts o n there = ap is_some there
 pub kept_as : (m n : FinMap nat_cmp Entry) (list other : List ℕ) (room more : ℕ) → m ≡ n → list ≡ other → room ≡ more → IsKept n other more → IsKept m list room
 kept_as m n list other room more e f g kept = rw (e, f, g) kept
 
+-- with more room
+pub kept_room : (m : FinMap nat_cmp Entry) (list : List ℕ) (room more : ℕ) → len (counts_of m) ≤ more → IsKept m list room → IsKept m list more
+kept_room m list room more enough kept = record { listed = kept.listed; counted = kept.counted; roomy = enough }
+
 pub kept_new : (room : ℕ) → IsKept empty [] room
 kept_new room =
     let none : counts_of empty ≡ empty = changed-empty (λ (_ : ℕ) (e : Entry). e.count) in

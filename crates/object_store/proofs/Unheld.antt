@@ -1,14 +1,15 @@
--- Which opens nothing holds, and that they are gone once the list is empty.
-use Rattle.std.proofs.Common.{◌≡◌, ◌≢◌, ◌↔◌, ℕ, ◌==◌, ◌-◌, Bool, true, false, cond, not, List, [], ◌∷◌, length, slice_get, Option, Some, None, IsNone, IfSome, is_some, refl, sym, ap, ◌∙◌, inl, inr, arith}
-use Rattle.std.proofs.lemmas.Bool.Decides.{eqb_tells}
+-- Which opens nothing holds, by the list, and what is left as they go.
+use Rattle.std.proofs.Common.{◌≡◌, ◌≢◌, ◌↔◌, ℕ, ◌-◌, ◌<◌, true, false, List, [], ◌∷◌, length, slice_get, Option, Some, None, IsNone, IfSome, IfNone, is_some, refl, sym, ap, ◌∙◌, arith}
 use Rattle.std.proofs.lemmas.Option.{same_Some, slice_get_within, slice_get-get_or}
 use Rattle.std.specs.Ordering.{nat_cmp}
-use Rattle.std.specs.FinMap.{FinMap, get, remove, retain_keys}
-use Rattle.number_map.specs.Maps.{number, get-remove-same, get-remove-other, get-retain, same_numbers, same_around}
-use Rattle.object_store.specs.Entries.{place_of, kinds_of, counts_of, held_of, AreListed}
-use Rattle.object_store.specs.Objects.{Held, is_held, unheld_removed}
+use Rattle.std.specs.FinMap.{FinMap, get, remove, len}
+use Rattle.abi_types.specs.declared.open_kind.OpenKind.{OpenKind}
+use Rattle.number_map.specs.Maps.{len-removed}
+use Rattle.object_store.specs.Entries.{place_of, counts_of, held_of, AreListed}
+use Rattle.object_store.specs.Objects.{Held, HasCounts, unheld_removed}
+use Rattle.object_store.specs.Removed.{unheld_removed-once, unheld_removed-none}
 use Rattle.object_store.specs.declared.entry.Entry.{Entry}
-use Rattle.object_store.proofs.Views.{count_at, count_absent, kinds-remove, counts-remove, has_counts}
+use Rattle.object_store.proofs.Views.{count_at, count_absent}
 use Rattle.object_store.proofs.Places.{listed_entry, place_unheld}
 
 -- ---- the opens in the list
@@ -50,50 +51,19 @@ module _ (m : FinMap nat_cmp Entry) (list : List ℕ) (h : Held) (told : AreList
   no_last None is = (λ _ o zero. none_unheld m list told (last_none list (sym is)) o ((λ i. get (view i).counts o) ∙ zero), λ _. refl)
   no_last (Some o) is = (λ none. absurd (cc), λ held. absurd (held o (last_unheld (Some o) is)))
 
--- ---- the opens without a holder go
+-- ---- one of them goes
 
--- nothing is left at a key that is not held
-dropped : {X : Type 0} (m : FinMap nat_cmp X) (p : ℕ → Bool) (q : ℕ) → p q ≡ false → get (retain_keys m p) q ≡ None
-dropped m p q e = get-retain m p q ∙ ap (λ b. cond b (get m q) None) e
+-- fewer are left, and in the end the same
+pub popped : (h new : Held) (gone : Option (ℕ × OpenKind)) → is_some gone ≡ true → IfSome gone (λ g. get h.counts g.0 ≡ Some 0)
+    → IfSome gone (λ g. new ≡ record { kinds = remove h.kinds g.0; counts = remove h.counts g.0 })
+    → (len new.counts < len h.counts) × (unheld_removed new ≡ unheld_removed h)
+popped h new None some unheld is = absurd (cc)
+popped h new (Some g) some unheld is =
+    let one = len-removed h.counts g.0 0 unheld in
+    let counts = ap (λ (x : Held). len x.counts) is in
+    (omega (arith, one, counts), ap unheld_removed is ∙ unheld_removed-once h g.0 unheld)
 
--- a key that is not held may go first, whatever the map is of
-retain-removed : {X : Type 0} (m : FinMap nat_cmp X) (counts : FinMap nat_cmp ℕ) (o : ℕ) → is_held counts o ≡ false
-    → retain_keys (remove m o) (is_held (remove counts o)) ≡ retain_keys m (is_held counts)
-retain-removed m counts o gone =
-    same_around _ _ o
-    (dropped (remove m o) _ o (ap (λ n. not (number n == 0)) (get-remove-same counts o)) ∙ sym (dropped m _ o gone))
-    (λ q other.
-    get-retain (remove m o) _ q
-    ∙ ap (λ n. cond (not (number n == 0)) (get (remove m o) q) None) (get-remove-other counts o q other)
-    ∙ ap (λ v. cond (is_held counts q) v None) (get-remove-other m o q other)
-    ∙ sym (get-retain m _ q))
-
-pub unheld_once : (m : FinMap nat_cmp Entry) (o : ℕ) → get (counts_of m) o ≡ Some 0
-    → unheld_removed (held_of (remove m o)) ≡ unheld_removed (held_of m)
-unheld_once m o zero =
-    let unheld : is_held (counts_of m) o ≡ false = ap (λ n. not (number n == 0)) zero in
-    let kinds = retain-removed (kinds_of m) (counts_of m) o unheld in
-    let counts = retain-removed (counts_of m) (counts_of m) o unheld in
-    (λ i. unheld_removed (record { kinds = kinds-remove m o i; counts = counts-remove m o i })) ∙ (λ i. record { kinds = kinds i; counts = counts i })
-
--- what is there and isn't 0 is held
-held_if : (n : Option ℕ) → is_some n ≡ true → n ≢ Some 0 → not (number n == 0) ≡ true
-held_if None there nonzero = there
-held_if (Some n) there nonzero = elim (eqb_tells n 0) [ inl h ↦ absurd (nonzero (ap Some h.1)) | inr h ↦ ap not h.0 ]
-
-kept : {X : Type 0} (counts : FinMap nat_cmp ℕ) (q : ℕ) (v : Option X) → is_some v ≡ is_some (get counts q) → get counts q ≢ Some 0
-    → cond (is_held counts q) v None ≡ v
-kept {X} counts q None same nonzero = elim (is_held counts q) as (λ b. cond {A = Option X} b None None ≡ None) [ true ↦ refl | false ↦ refl ]
-kept counts q (Some x) same nonzero = ap (λ b. cond b (Some x) None) (held_if (get counts q) (sym same) nonzero)
-
-retain-all : {X : Type 0} (m : FinMap nat_cmp X) (counts : FinMap nat_cmp ℕ) → ((o : ℕ) → is_some (get m o) ≡ is_some (get counts o))
-    → ((q : ℕ) → get counts q ≢ Some 0) → retain_keys m (is_held counts) ≡ m
-retain-all m counts same none = same_numbers _ _ (λ q. get-retain m _ q ∙ kept counts q (get m q) (same q) (none q))
-
-pub unheld_none : (m : FinMap nat_cmp Entry) (list : List ℕ) → AreListed m list → length list ≡ 0
-    → unheld_removed (held_of m) ≡ held_of m
-unheld_none m list told short =
-    let none = none_unheld m list told short in
-    let kinds = retain-all (kinds_of m) (counts_of m) (has_counts m) none in
-    let counts = retain-all (counts_of m) (counts_of m) (λ o. refl) none in
-    λ i. record { kinds = kinds i; counts = counts i }
+pub none_popped : (h new : Held) (gone : Option (ℕ × OpenKind)) → is_some gone ≡ false → IfNone gone (new ≡ h) → HasCounts h.kinds h.counts
+    → (IsNone gone → (o : ℕ) → get h.counts o ≢ Some 0) → new ≡ unheld_removed h
+none_popped h new None none same all unheld = same ∙ sym (unheld_removed-none h all (unheld refl))
+none_popped h new (Some g) none same all unheld = absurd (cc)

@@ -5,6 +5,7 @@ use Rattle.std.specs.FinMap.{FinMap, get, len}
 use Rattle.abi_types.specs.declared.open_kind.OpenKind.{OpenKind}
 use Rattle.number_map.specs.Closure.{changed}
 use Rattle.number_map.specs.Maps.{total}
+use Rattle.object_store.specs.Nodes.{AreCounted}
 use Rattle.object_store.specs.Objects.{Held}
 use Rattle.object_store.specs.declared.entry.Entry.{Entry}
 
@@ -42,3 +43,8 @@ pub record IsKept (entries : FinMap nat_cmp Entry) (unheld : List ℕ) (room : �
   pub listed : AreListed entries unheld
   pub counted : total unheld_one (counts_of entries) ≡ length unheld
   pub roomy : len (counts_of entries) ≤ room
+
+-- what is kept beside the entries agrees with them: the list of opens that nothing holds, and how many opens are of each node
+pub record IsConsistent (entries : FinMap nat_cmp Entry) (unheld : List ℕ) (room : ℕ) (by_node : FinMap nat_cmp ℕ) : Type 0 where
+  pub list : IsKept entries unheld room
+  pub nodes : AreCounted (kinds_of entries) by_node

@@ -1,2 +1,4 @@
 pub mod Objects
+pub mod Removed
+pub mod Nodes
 pub mod Entries

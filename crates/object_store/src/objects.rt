@@ -1,10 +1,13 @@
 //! The opens that descriptors name, and how many name each.
-ghost use Rattle.std.specs.Prelude.{◌≡◌, ◌≢◌, ◌+◌, ◌-◌, ◌<◌, ◌^◌, ◌↔◌, ℕ, Some, None, IsSome, IsNone, IfSome, IsTrue, OnOk, OnErr, option_copied, vec_len, vec_capacity};
+ghost use Rattle.std.specs.Prelude.{◌≡◌, ◌≢◌, ◌+◌, ◌-◌, ◌<◌, ◌^◌, ◌↔◌, ℕ, Some, None, IsSome, IsNone, IfSome, IfNone, IsTrue, OnOk, OnErr, option_copied, vec_len, vec_capacity};
 ghost use Rattle.std.specs.FinMap as map;
 ghost use Rattle.number_map.specs.Maps.{number};
 ghost use Rattle.object_store.specs.Entries.{kinds_of, counts_of, AreListed, AreListedBut};
+ghost use Rattle.object_store.specs.Nodes.{IsOfSameNode};
 ghost use Rattle.object_store.specs.Objects.{Held, no_objects, HasCounts, unheld_removed};
+ghost use Rattle.tree_model.specs.Opens.{opens_of_node};
 
+use crate::by_node;
 use crate::entry::Entry;
 use abi_types::{ObjId, OpenKind};
 use number_map::NumMap;
@@ -20,11 +23,14 @@ pub struct Objects {
     // leaves it without a search: the last of the list fills a gap. It is a vector because the room of a vector can be
     // taken beforehand: a new open takes the room for all opens, and a release takes none.
     unheld: Vec<ObjId>,
+
+    // For each node of the file tree that some open is of, how many opens are of it.
+    by_node: NumMap<u64>,
 }
 
 impl Model for Objects {
     ghost use Rattle.std.specs.Prelude.{vec_capacity};
-    ghost use Rattle.object_store.specs.Entries.{held_of, IsKept};
+    ghost use Rattle.object_store.specs.Entries.{held_of, IsConsistent};
     ghost use Rattle.object_store.specs.Objects.{Held, held_code};
 
     ghost Value = { Held };
@@ -33,8 +39,9 @@ impl Model for Objects {
 
     ghost view = { λ a. held_of a.entries };
 
-    // The list has exactly the opens without a holder, and room for all opens.
-    ghost invariant = { λ a. IsKept a.entries a.unheld.items (vec_capacity a.unheld) };
+    // The list has exactly the opens without a holder, and room for all opens. Each node's number is how many opens are of
+    // it, and a node without an open has no entry.
+    ghost invariant = { λ a. IsConsistent a.entries a.unheld.items (vec_capacity a.unheld) a.by_node };
 }
 
 impl Objects {
@@ -45,6 +52,7 @@ impl Objects {
         Objects {
             entries: NumMap::new(alloc),
             unheld: Vec::new(alloc),
+            by_node: NumMap::new(alloc),
         }
     }
 
@@ -69,7 +77,14 @@ impl Objects {
         }
     }
 
-    /// A new open that nothing holds.
+    /// How many opens are of the node. Looks at no open.
+    pub fn opens_of(&self, node: ObjId) -> u64
+        ensures { result ≡ opens_of_node self.now.kinds node }
+    {
+        by_node::count_of(&self.by_node, node)
+    }
+
+    /// A new open that nothing holds. Where memory is wanting, all is as before.
     pub fn add(&mut self, id: ObjId, kind: OpenKind) -> Result<(), AllocError>
         requires { map.get self.old.kinds id ≡ None }
         ensures ok { OnOk result (self.new ≡ record { kinds = map.insert self.old.kinds id kind; counts = map.insert self.old.counts id 0 }) }
@@ -84,13 +99,19 @@ impl Objects {
             place: self.unheld.len(),
         };
         self.entries.insert(id.0, entry)?;
+        // The first open of a node takes memory too: where it is wanting, the entry goes again.
+        if let Err(error) = by_node::count_open(&mut self.by_node, &kind) {
+            self.entries.remove(id.0);
+            return Err(error);
+        }
         self.unheld.push_reserved(id);
         Ok(())
     }
 
-    /// Makes the open another one, with the same holders.
+    /// Makes the open another one, of the same node and with the same holders.
     pub fn set(&mut self, id: ObjId, kind: OpenKind)
-        requires { IsSome (map.get self.old.kinds id) }
+        requires there { IsSome (map.get self.old.kinds id) }
+        requires same_node { IfSome (map.get self.old.kinds id) (IsOfSameNode kind) }
         ensures { self.new ≡ record self.old { kinds = map.insert self.old.kinds id kind } }
     {
         let entry = self.entries.get_mut(id.0);
@@ -133,6 +154,7 @@ impl Objects {
     pub fn unheld(&self) -> Option<ObjId>
         ensures none { IsNone result ↔ ((o : ℕ) → map.get self.now.counts o ≢ Some 0) }
         ensures unheld { IfSome result (λ o. map.get self.now.counts o ≡ Some 0) }
+        ensures all { HasCounts self.now.kinds self.now.counts }
     {
         self.unheld.last().copied()
     }
@@ -143,19 +165,33 @@ impl Objects {
         ensures new { self.new ≡ record { kinds = map.remove self.old.kinds id; counts = map.remove self.old.counts id } }
     {
         let entry = self.entries.remove(id.0)?;
+        by_node::uncount_open(&mut self.by_node, &entry.kind);
         if entry.count == 0 {
             unlist(&mut self.entries, &mut self.unheld, entry.place);
         }
         Some(entry.kind)
     }
 
+    /// Takes away an open that nothing holds, if there is one, and returns its number and what it was. Which of them it is,
+    /// is left open. Takes no memory, and looks at no other open.
+    pub fn pop_unheld(&mut self) -> Option<(ObjId, OpenKind)>
+        ensures none { IsNone result ↔ ((o : ℕ) → map.get self.old.counts o ≢ Some 0) }
+        ensures unchanged { IfNone result (self.new ≡ self.old) }
+        ensures unheld { IfSome result (λ gone. map.get self.old.counts gone.0 ≡ Some 0) }
+        ensures kind { IfSome result (λ gone. map.get self.old.kinds gone.0 ≡ Some gone.1) }
+        ensures all { HasCounts self.old.kinds self.old.counts }
+        ensures new { IfSome result (λ gone. self.new ≡ record { kinds = map.remove self.old.kinds gone.0; counts = map.remove self.old.counts gone.0 }) }
+    {
+        let id = self.unheld()?;
+        let kind = self.remove(id).unwrap();
+        Some((id, kind))
+    }
+
     /// Takes each open away that nothing holds. Looks at no other.
     pub fn remove_unheld(&mut self)
         ensures { self.new ≡ unheld_removed self.old }
     {
-        while let Some(id) = self.unheld.pop() {
-            self.entries.remove(id.0);
-        }
+        while self.pop_unheld().is_some() {}
     }
 }
 

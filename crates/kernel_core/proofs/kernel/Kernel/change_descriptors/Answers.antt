@@ -8,10 +8,12 @@ use Rattle.fd_table.specs.Sizes.{below-insert_again}
 use Rattle.fd_table.specs.Table.{IsTable}
 use Rattle.object_store.specs.Objects.{Held, is_held}
 use Rattle.kernel_model.specs.Outcome.{Outcome}
-use Rattle.kernel_model.specs.Release.{count_in, holders, release}
+use Rattle.tree_model.specs.Opens.{is_used}
+use Rattle.tree_model.specs.Retained.{retained}
+use Rattle.kernel_model.specs.Release.{count_in, holders, release, without_nodes}
 use Rattle.kernel_model.specs.State.{State, Table, Update, put_all}
 use Rattle.kernel_model.specs.Valid.{IsValid}
-use Rattle.kernel_model.proofs.Valids.{release_is, release_restores, same_value}
+use Rattle.kernel_model.proofs.Valids.{ended_is, release_restores, same_value}
 use Rattle.kernel_core.specs.Changes.{change_outcome, opens_after, table_after}
 use Rattle.kernel_core.specs.Kernel.{IsKept}
 use Rattle.kernel_core.specs.contracts.kernel.Kernel.{the_view}
@@ -19,8 +21,9 @@ use Rattle.kernel_core.proofs.Changes.{change_of_own, change_small, change_valid
 use Rattle.kernel_core.proofs.Ends.{covered, number-retain, retain_same}
 use Rattle.kernel_core.proofs.Kept.{holders_few, small_set}
 use Rattle.kernel_core.proofs.Tests.{on_err}
+use Rattle.kernel_core.proofs.Uses.{change_use}
 use Rattle.kernel_core.proofs.kernel.Kernel.change_descriptors.Goals as goal
-use Rattle.kernel_core.proofs.kernel.Kernel.change_descriptors.Goals.{In_err-reply, After-remove_unheld}
+use Rattle.kernel_core.proofs.kernel.Kernel.change_descriptors.Goals.{In_err-reply, After-release}
 
 pub apply-requires-clause-covered : goal.apply-requires-clause-covered
 apply-requires-clause-covered c = λ o. rw c.self.invariant.counted (covered _ _ _ (sym c.get_mut.ensures.value) o)
@@ -38,8 +41,8 @@ unchanged c = record {
   own = c.self.inside.own;
   statuses = c.self.inside.statuses;
   opens = c.apply.new.objects.kinds;
-  nodes = empty;
-  names = empty;
+  nodes = c.self.inside.tree.nodes;
+  names = c.self.inside.tree.names;
   terms = c.self.inside.terms;
 }
 
@@ -54,8 +57,8 @@ as_before c = λ i. record {
   own = c.self.inside.own;
   statuses = c.self.inside.statuses;
   opens = (ap (λ (h : Held). h.kinds) c.in_err-reply.ensures.same_objects) i;
-  nodes = empty;
-  names = empty;
+  nodes = c.self.inside.tree.nodes;
+  names = c.self.inside.tree.names;
   terms = c.self.inside.terms;
 }
 
@@ -74,61 +77,72 @@ returns-in_err-reply-clause-err c = on_err c.from_residual.result (as_before (go
 -- ---- the change, and what ends after it
 
 -- the table that was changed
-there : (c : After-remove_unheld) → get c.self.inside.tables c.args.pid ≡ Some c.get_mut.result.now
+there : (c : After-release) → get c.self.inside.tables c.args.pid ≡ Some c.get_mut.result.now
 there c = ap (get c.self.inside.tables) (sym (c.from-p.ensures ∙ c.pid.view_is)) ∙ sym c.get_mut.ensures.value
 
-abbrev us : After-remove_unheld → List Update
+abbrev us : After-release → List Update
 us c = (change_outcome c.args.pid c.self.inside.objects.kinds c.get_mut.result.now c.args.change.now).updates
 
 -- the fields as they are in the end
-abbrev fields : After-remove_unheld → State
+abbrev fields : After-release → State
 fields c = record {
   clock = c.self.inside.clock;
   tables = insert c.self.inside.tables c.from-p.result c.apply.new.table;
   own = c.self.inside.own;
   statuses = c.self.inside.statuses;
-  opens = c.remove_unheld.new.self.kinds;
-  nodes = empty;
-  names = empty;
+  opens = c.release.new.objects.kinds;
+  nodes = c.release.new.tree.nodes;
+  names = c.release.new.tree.names;
   terms = c.self.inside.terms;
 }
 
 -- the state with the change alone
-abbrev changed : After-remove_unheld → State
+abbrev changed : After-release → State
 changed c = record (the_view c.self.inside) {
   tables = insert c.self.inside.tables c.args.pid (table_after c.get_mut.result.now (us c));
   opens = opens_after c.self.inside.objects.kinds (us c);
 }
 
-set : (c : After-remove_unheld) → insert c.self.inside.tables c.from-p.result c.apply.new.table ≡ insert c.self.inside.tables c.args.pid (table_after c.get_mut.result.now (us c))
+set : (c : After-release) → insert c.self.inside.tables c.from-p.result c.apply.new.table ≡ insert c.self.inside.tables c.args.pid (table_after c.get_mut.result.now (us c))
 set c =
     ap (insert c.self.inside.tables c.from-p.result) (c.in_ok-reply.ensures.table c.args.pid)
     ∙ ap (λ (p : ℕ). insert c.self.inside.tables p (table_after c.get_mut.result.now (us c))) (c.from-p.ensures ∙ c.pid.view_is)
 
-counted : (c : After-remove_unheld) (o : ℕ) → number (get c.apply.new.objects.counts o) ≡ total (count_in o) (insert c.self.inside.tables c.args.pid (table_after c.get_mut.result.now (us c)))
+counted : (c : After-release) (o : ℕ) → number (get c.apply.new.objects.counts o) ≡ total (count_in o) (insert c.self.inside.tables c.args.pid (table_after c.get_mut.result.now (us c)))
 counted c o =
     moved_holders c.self.inside.tables c.args.pid c.get_mut.result.now c.apply.new.table c.self.inside.objects.counts c.apply.new.objects.counts (there c)
     c.self.invariant.counted c.in_ok-reply.ensures.counts o
     ∙ ap (λ (t : Table). total (count_in o) (insert c.self.inside.tables c.args.pid t)) (c.in_ok-reply.ensures.table c.args.pid)
 
-after : (c : After-remove_unheld) → fields c ≡ release (put_all (us c) (the_view c.self.inside))
+after : (c : After-release) → fields c ≡ release (put_all (us c) (the_view c.self.inside))
 after c =
     let k = c.self.inside in
-    let opens : c.remove_unheld.new.self.kinds ≡ retain_keys (opens_after k.objects.kinds (us c)) (λ o. not (holders (changed c) o == 0)) =
-    ap (λ (h : Held). h.kinds) c.remove_unheld.ensures
+    let opens : c.release.new.objects.kinds ≡ retain_keys (opens_after k.objects.kinds (us c)) (λ o. not (holders (changed c) o == 0)) =
+    ap (λ (h : Held). h.kinds) c.release.ensures.objects
     ∙ ap (λ (m : FinMap nat_cmp OpenKind). retain_keys m (is_held c.apply.new.objects.counts)) (c.in_ok-reply.ensures.kinds c.args.pid)
     ∙ retain_same _ _ _ (λ o. ap (λ (n : ℕ). not (n == 0)) (counted c o)) in
-    (λ i. record { clock = k.clock; tables = set c i; own = k.own; statuses = k.statuses; opens = opens i; nodes = empty; names = empty; terms = k.terms })
-    ∙ sym (release_is (changed c))
+    let tree : c.release.new.tree ≡ retained k.tree (is_used (retain_keys (opens_after k.objects.kinds (us c)) (λ o. not (holders (changed c) o == 0))) k.tree) =
+    c.release.ensures.tree ∙ ap (λ (m : FinMap nat_cmp OpenKind). retained k.tree (is_used m k.tree)) opens in
+    (λ i. record { clock = k.clock; tables = set c i; own = k.own; statuses = k.statuses; opens = opens i; nodes = (tree i).nodes; names = (tree i).names; terms = k.terms })
+    ∙ sym (ap without_nodes (ended_is (changed c)))
     ∙ sym (ap release (puts_are (us c) (the_view k) c.args.pid c.get_mut.result.now (there c) (change_of_own c.args.pid k.objects.kinds c.get_mut.result.now c.args.change.now)))
 
+-- each node is as much used after the change as before it, and so is used
+pub release-requires-clause-used : goal.release-requires-clause-used
+release-requires-clause-used c = λ n there.
+    ap (λ (m : FinMap nat_cmp OpenKind). is_used m c.self.inside.tree n) (c.in_ok-reply.ensures.kinds c.args.pid)
+    ∙ change_use c.args.pid c.self.inside.objects.kinds c.get_mut.result.now c.self.inside.tree n c.args.change.now ∙ c.self.invariant.valid.kept n there
+
+pub release-requires-clause-tree : goal.release-requires-clause-tree
+release-requires-clause-tree c = c.self.invariant.valid.nearly.tree
+
 -- the process had this table before the change
-had : (c : After-remove_unheld) → get c.args.self.now.tables c.args.pid ≡ Some c.get_mut.result.now
+had : (c : After-release) → get c.args.self.now.tables c.args.pid ≡ Some c.get_mut.result.now
 had c = ap (λ (S : State). get S.tables c.args.pid) (sym c.self.view_is) ∙ there c
 
 pub invariant_of-self-2 : goal.invariant_of-self-2
 invariant_of-self-2 d =
-    let c = (goal.at.invariant_of-self-2 d).After-remove_unheld in
+    let c = (goal.at.invariant_of-self-2 d).After-release in
     let k = c.self.inside in
     let table = c.get_mut.result.now in
     let fits : IsTable (table_after table (us c)) =
@@ -136,7 +150,7 @@ invariant_of-self-2 d =
     record {
       valid = subst IsValid (sym (after c)) (release_restores _ (change_valid (the_view k) c.args.pid table c.args.change.now (there c) c.self.invariant.valid.nearly));
       counted = λ o.
-          ap (λ (h : Held). number (get h.counts o)) c.remove_unheld.ensures ∙ number-retain c.apply.new.objects.counts o ∙ counted c o
+          ap (λ (h : Held). number (get h.counts o)) c.release.ensures.objects ∙ number-retain c.apply.new.objects.counts o ∙ counted c o
           ∙ sym (ap (λ (m : FinMap nat_cmp Table). total (count_in o) m) (set c));
       small = small_set k.tables c.from-p.result c.apply.new.table c.self.invariant.small (subst IsTable (sym (c.in_ok-reply.ensures.table c.args.pid)) fits);
       processes = below-insert_again (2 ^ 32) k.tables c.from-p.result c.apply.new.table c.self.invariant.processes (ap is_some (sym c.get_mut.ensures.value));
@@ -144,7 +158,7 @@ invariant_of-self-2 d =
 
 pub returns-clause-ok : goal.returns-clause-ok
 returns-clause-ok d = λ table here.
-    let c = (goal.at.returns-clause-ok d).After-remove_unheld in
+    let c = (goal.at.returns-clause-ok d).After-release in
     let k = c.self.inside in
     let same : c.get_mut.result.now ≡ table = same_value _ _ _ (had c) here in
     let outcome : change_outcome c.args.pid k.objects.kinds c.get_mut.result.now c.args.change.now ≡ change_outcome c.args.pid c.args.self.now.opens table c.args.change.now =

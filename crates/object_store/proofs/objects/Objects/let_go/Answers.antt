@@ -1,5 +1,6 @@
 use Rattle.std.proofs.Common.{◌-◌, ◌++◌, ◌∷◌, [], refl, sym, ap, ◌∙◌, arith}
 use Rattle.object_store.proofs.Kept.{kept_as, kept_held, kept_let_go, room_left}
+use Rattle.object_store.proofs.Nodes.{counted_stay}
 use Rattle.object_store.proofs.Views.{entry_of_holder, seen_count, seen_counted}
 use Rattle.object_store.proofs.objects.Objects.let_go.Goals as goal
 
@@ -14,7 +15,11 @@ overflow_sub-entry c =
 pub invariant_of-self : goal.invariant_of-self
 invariant_of-self c =
     let count = seen_count _ _ _ _ c.self.view_is c.id.view_is c.get_mut-entry.result.now c.get_mut-entry.ensures.value in
-    kept_held _ _ _ _ c.get_mut-entry.result.now _ (sym c.get_mut-entry.ensures.value) (omega (arith, count, c.requires)) c.if-entry-gt0.true c.self.invariant
+    let there = sym c.get_mut-entry.ensures.value in
+    record {
+      list = kept_held _ _ _ _ c.get_mut-entry.result.now _ there (omega (arith, count, c.requires)) c.if-entry-gt0.true c.self.invariant.list;
+      nodes = counted_stay _ _ _ c.get_mut-entry.result.now _ there refl c.self.invariant.nodes;
+    }
 
 pub returns-then-entry-gt0-clause-last : goal.returns-then-entry-gt0-clause-last
 returns-then-entry-gt0-clause-last c =
@@ -29,16 +34,19 @@ returns-then-entry-gt0-clause-new c =
 pub push_reserved-requires : goal.push_reserved-requires
 push_reserved-requires c =
     let count = seen_count _ _ _ _ c.self.view_is c.id.view_is c.get_mut-entry.result.now c.get_mut-entry.ensures.value in
-    let room = room_left _ _ _ _ c.get_mut-entry.result.now (sym c.get_mut-entry.ensures.value) (omega (arith, count, c.requires)) c.self.invariant in
+    let room = room_left _ _ _ _ c.get_mut-entry.result.now (sym c.get_mut-entry.ensures.value) (omega (arith, count, c.requires)) c.self.invariant.list in
     omega (arith, room, c.self.inside.unheld.ok.0)
 
 pub invariant_of-self-2 : goal.invariant_of-self-2
 invariant_of-self-2 c =
     let list = c.self.inside.unheld.items in
     let count = seen_count _ _ _ _ c.self.view_is c.id.view_is c.get_mut-entry.result.now c.get_mut-entry.ensures.value in
+    let there = sym c.get_mut-entry.ensures.value in
+    let kept =
     kept_as _ _ _ _ _ _ refl (c.push_reserved.ensures.items ∙ ap (λ o. list ++ o ∷ []) (sym c.id.view_is)) c.push_reserved.ensures.capacity
     (kept_let_go c.self.inside.entries list _ c.id.inside.0 c.get_mut-entry.result.now _ (sym c.get_mut-entry.ensures.value) (omega (arith, count, c.requires))
-    (omega (arith, c.if-entry-gt0.false)) (c.len-place.ensures ∙ c.self.inside.unheld.ok.0) c.self.invariant)
+    (omega (arith, c.if-entry-gt0.false)) (c.len-place.ensures ∙ c.self.inside.unheld.ok.0) c.self.invariant.list) in
+    record { list = kept; nodes = counted_stay _ _ _ c.get_mut-entry.result.now _ there refl c.self.invariant.nodes }
 
 pub returns-clause-last : goal.returns-clause-last
 returns-clause-last c =

@@ -1,14 +1,12 @@
-use Rattle.std.proofs.Common.{◌≡◌, length, vec_capacity}
-use Rattle.object_store.specs.Entries.{held_of, IsKept}
+use Rattle.std.proofs.Common.{◌≡◌}
+use Rattle.std.specs.FinMap.{len}
 use Rattle.object_store.specs.Objects.{unheld_removed}
 use Rattle.object_store.proofs.objects.Objects.remove_unheld.Given as goal
 
--- the same is left in the end, and the list is the one of the opens without a holder
-abbrev pub invariant-loop-id : goal.invariant-loop-id
-invariant-loop-id l = record {
-  left : unheld_removed (held_of l.self-inside.entries) ≡ unheld_removed l.fn.self;
-  kept : IsKept l.self-inside.entries l.self-inside.unheld.items (vec_capacity l.self-inside.unheld);
-}
+-- the same is left in the end
+abbrev pub invariant-loop : goal.invariant-loop
+invariant-loop l = unheld_removed l.self ≡ unheld_removed l.fn.self
 
-abbrev pub decreases-loop-id : goal.decreases-loop-id
-decreases-loop-id l = length l.self-inside.unheld.items
+-- a turn takes one open away
+abbrev pub decreases-loop : goal.decreases-loop
+decreases-loop l = len l.self.counts

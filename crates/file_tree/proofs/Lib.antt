@@ -1,0 +1,9 @@
+pub mod Behind
+pub mod Bytes
+pub mod Keyed
+pub mod Views
+pub mod Stays
+pub mod Edits
+pub mod Forgets
+pub mod Climbs
+pub mod Starts

@@ -1,0 +1,6 @@
+-- The records of a tree document, and the text that spells each.
+pub mod Paths
+pub mod Escapes
+pub mod Records
+pub mod Views
+pub mod Reading

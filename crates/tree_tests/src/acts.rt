@@ -1,0 +1,232 @@
+//! What is done with a tree, and what it answers.
+use abi_types::{Bytes, Node, NodeKind, ObjId, Times};
+use file_tree::Tree;
+use path_lookup::{End, WalkFault, WalkMode, walk};
+use std::alloc::{AllocError, Global};
+use tree_model::{ROOT, TreeFault};
+
+/// Times that no test looks at.
+pub const TIMES: Times = Times {
+    atim: 1,
+    mtim: 2,
+    ctim: 3,
+};
+
+/// What is done with a tree. Nodes have small numbers here: 0 is the root.
+#[derive(Clone, Copy)]
+pub enum Act {
+    /// A new directory, file or symlink with this text: in which directory, by which name, of which number.
+    Directory(u16, &'static [u8], u16),
+    File(u16, &'static [u8], u16),
+    Symlink(u16, &'static [u8], u16, &'static [u8]),
+    /// One more name in a directory of a node.
+    Link(u16, &'static [u8], u16),
+    Unlink(u16, &'static [u8]),
+    Rename(u16, &'static [u8], u16, &'static [u8]),
+    /// The node of a name, and how many names a node counts.
+    Entry(u16, &'static [u8]),
+    Links(u16),
+    /// The node at a place of a directory's names.
+    NameAt(u16, u64),
+    /// The least node without a name above a number.
+    Nameless(u16),
+    Forget(u16),
+    /// Bytes of a file: put at a place; the size; at most so many from a place on, which are these.
+    Write(u16, u64, &'static [u8]),
+    Size(u16, u64),
+    Read(u16, u64, u32, &'static [u8]),
+    Walk(u16, &'static [u8], WalkMode),
+}
+
+/// What comes of an act.
+#[derive(Clone, Copy, Debug, PartialEq, Eq)]
+pub enum Answer {
+    Done,
+    /// A node, a number of names or of bytes.
+    Is(u64),
+    /// There is no such node, name or file.
+    Nothing,
+    /// The bytes are others.
+    Other,
+    /// The directory where a walk stands, and the place of the path's last name.
+    Absent(u64, u64, u64),
+    Last(u64, u64, u64),
+    Refused(TreeFault),
+    Lost(WalkFault),
+    NoMemory,
+}
+
+// The node of a small number.
+fn id(number: u16) -> ObjId {
+    ObjId(ROOT + u64::from(number))
+}
+
+fn of_change<T>(result: Result<T, TreeFault>) -> Answer {
+    match result {
+        Ok(_) => Answer::Done,
+        Err(TreeFault::NoMemory) => Answer::NoMemory,
+        Err(fault) => Answer::Refused(fault),
+    }
+}
+
+// The number of a node, as in acts. A node of another launch's number isn't one that a test has.
+fn number(node: ObjId) -> Answer {
+    match node.0.checked_sub(ROOT) {
+        Some(number) => Answer::Is(number),
+        None => Answer::Other,
+    }
+}
+
+fn of_node(node: Option<ObjId>) -> Answer {
+    match node {
+        Some(node) => number(node),
+        None => Answer::Nothing,
+    }
+}
+
+fn make(tree: &mut Tree, dir: u16, name: &[u8], made: u16, kind: NodeKind) -> Answer {
+    if tree.node(id(made)).is_some() {
+        return Answer::Other;
+    }
+    let node = Node {
+        kind,
+        times: TIMES,
+        links: 7,
+    };
+    of_change(tree.make(id(dir), name, id(made), node))
+}
+
+fn symlink(tree: &mut Tree, alloc: Global, dir: u16, name: &[u8], made: u16, text: &[u8]) -> Answer {
+    match Bytes::of(alloc, text) {
+        Ok(text) => make(tree, dir, name, made, NodeKind::Link(text)),
+        Err(_) => Answer::NoMemory,
+    }
+}
+
+fn unlink(tree: &mut Tree, dir: u16, name: &[u8]) -> Answer {
+    match tree.unlink(id(dir), name) {
+        Ok(node) => number(node),
+        Err(fault) => of_change::<()>(Err(fault)),
+    }
+}
+
+fn rename(tree: &mut Tree, from: u16, name: &[u8], to: u16, new: &[u8]) -> Answer {
+    match tree.rename(id(from), name, id(to), new) {
+        Ok(node) => of_node(node),
+        Err(fault) => of_change::<()>(Err(fault)),
+    }
+}
+
+fn links(tree: &Tree, node: u16) -> Answer {
+    match tree.node(id(node)) {
+        Some(node) => Answer::Is(u64::from(node.links)),
+        None => Answer::Nothing,
+    }
+}
+
+fn name_at(tree: &Tree, dir: u16, place: u64) -> Answer {
+    match tree.name_at(id(dir), place) {
+        Some((_, node)) => number(node),
+        None => Answer::Nothing,
+    }
+}
+
+fn is_file(tree: &Tree, node: ObjId) -> bool {
+    match tree.node(node) {
+        Some(node) => matches!(node.kind, NodeKind::File(_)),
+        None => false,
+    }
+}
+
+fn write(tree: &mut Tree, node: u16, at: u64, bytes: &'static [u8]) -> Answer {
+    let node = id(node);
+    if !is_file(tree, node) || bytes.len() > 65_536 {
+        return Answer::Other;
+    }
+    match tree.write_at(node, at, bytes) {
+        Ok(count) => Answer::Is(u64::from(count)),
+        Err(fault) => of_change::<()>(Err(fault)),
+    }
+}
+
+fn set_size(tree: &mut Tree, node: u16, size: u64) -> Answer {
+    let node = id(node);
+    if !is_file(tree, node) {
+        return Answer::Other;
+    }
+    of_change(tree.set_size(node, size))
+}
+
+fn read(tree: &Tree, node: u16, at: u64, most: u32, want: &[u8]) -> Answer {
+    match tree.read_at(id(node), at, most) {
+        Ok(bytes) if bytes.as_slice() == want => Answer::Done,
+        Ok(_) => Answer::Other,
+        Err(_) => Answer::NoMemory,
+    }
+}
+
+fn forget(tree: &mut Tree, node: u16) -> Answer {
+    if links(tree, node) != Answer::Is(0) {
+        return Answer::Other;
+    }
+    tree.forget(id(node));
+    Answer::Done
+}
+
+/// Where a walk ends.
+pub fn walked(tree: &Tree, start: u16, path: &[u8], mode: WalkMode) -> Answer {
+    match walk(tree, id(start), path, mode) {
+        Ok(End::Found(node)) => number(node),
+        Ok(End::Absent { dir, from, len }) => place(dir, from, len, false),
+        Ok(End::Last { dir, from, len }) => place(dir, from, len, true),
+        Err(fault) => Answer::Lost(fault),
+    }
+}
+
+fn place(dir: ObjId, from: u64, len: u64, is_last: bool) -> Answer {
+    match dir.0.checked_sub(ROOT) {
+        Some(dir) if is_last => Answer::Last(dir, from, len),
+        Some(dir) => Answer::Absent(dir, from, len),
+        None => Answer::Other,
+    }
+}
+
+// What is asked of a tree, and changes nothing.
+fn asked(tree: &Tree, act: Act) -> Answer {
+    match act {
+        Act::Entry(dir, name) => of_node(tree.entry(id(dir), name)),
+        Act::Links(node) => links(tree, node),
+        Act::NameAt(dir, place) => name_at(tree, dir, place),
+        Act::Nameless(after) => of_node(tree.nameless(Some(id(after)))),
+        Act::Read(node, at, most, want) => read(tree, node, at, most, want),
+        Act::Walk(start, path, mode) => walked(tree, start, path, mode),
+        _ => Answer::Other,
+    }
+}
+
+/// Does an act.
+pub fn answer(tree: &mut Tree, alloc: Global, act: Act) -> Answer {
+    match act {
+        Act::Directory(dir, name, made) => make(tree, dir, name, made, NodeKind::Directory),
+        Act::File(dir, name, made) => make(tree, dir, name, made, NodeKind::File(Bytes::new(alloc))),
+        Act::Symlink(dir, name, made, text) => symlink(tree, alloc, dir, name, made, text),
+        Act::Link(dir, name, node) => of_change(tree.link(id(dir), name, id(node))),
+        Act::Unlink(dir, name) => unlink(tree, dir, name),
+        Act::Rename(from, name, to, new) => rename(tree, from, name, to, new),
+        Act::Write(node, at, bytes) => write(tree, node, at, bytes),
+        Act::Size(node, size) => set_size(tree, node, size),
+        Act::Forget(node) => forget(tree, node),
+        other => asked(tree, other),
+    }
+}
+
+/// Does acts one after another on a tree of the root alone. The first row that gives another answer.
+pub fn first_other(alloc: Global, acts: &[(Act, Answer)]) -> Result<Option<usize>, AllocError> {
+    let mut tree = Tree::new(alloc, TIMES)?;
+    for (i, &(act, want)) in acts.iter().enumerate() {
+        if answer(&mut tree, alloc, act) != want {
+            return Ok(Some(i));
+        }
+    }
+    Ok(None)
+}
