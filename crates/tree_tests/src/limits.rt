@@ -122,7 +122,7 @@ fn symlinks_have_a_limit(rt: HostRuntime) -> Result<(), Fail> {
     Ok(())
 }
 
-// A name of two bytes, none of which is a slash or a dot.
+// A name of two bytes.
 fn pair(number: u32) -> [u8; 2]
     requires { number < 65_536 }
 {
