@@ -7,3 +7,6 @@ pub mod Edits
 pub mod Forgets
 pub mod Climbs
 pub mod Starts
+pub mod NewNames
+pub mod Makes
+pub mod Links
