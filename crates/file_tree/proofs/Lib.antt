@@ -7,3 +7,5 @@ pub mod Edits
 pub mod Forgets
 pub mod Climbs
 pub mod Starts
+pub mod SlotChanges
+pub mod Unlinks
