@@ -9,3 +9,4 @@ pub mod Climbs
 pub mod Starts
 pub mod SlotChanges
 pub mod Unlinks
+pub mod Moves
