@@ -37,7 +37,8 @@ module _ (w : Tree) (from : ℕ) (name : List ℕ) (to : ℕ) (new : List ℕ) (
 
   other_tables : to ≢ from → AreAlike
   other_tables other =
-      ap (λ names. insert (insert w.names to (insert (names_of w to) new n)) from (remove names name)) (names_of-put_name-other w to new n from (λ same. other (sym same)))
+      ap (λ names. insert (insert w.names to (insert (names_of w to) new n)) from (remove names name))
+      (names_of-put_name-other w to new n from (λ same. other (sym same)))
       ∙ insert-insert w.names to from _ _ (λ same. other (sym same))
       ∙ ap (λ names. insert (insert w.names from (remove (names_of w from) name)) to (insert names new n)) (sym (names_of-drop_name-other w from name to other))
 
@@ -141,7 +142,8 @@ module _ (m : Slots) (nameless : Numbers) (kept : IsKept m nameless) (from : ℕ
   dropped_alike : {A : Type 0} (f : Option Slot → A) → ((s : Slot) → f (Some (record s { names = remove s.names name })) ≡ f (Some s))
       → ((s : Slot) → f (Some (record s { names = insert s.names new n })) ≡ f (Some s)) → (q : ℕ) → f (get dropped q) ≡ f (get lost q)
   dropped_alike f less more q =
-      found_alike (λ s. record s { names = remove s.names name }) put from f less q ∙ found_alike (λ s. record s { names = insert s.names new n }) lost to f more q
+      found_alike (λ s. record s { names = remove s.names name }) put from f less q
+      ∙ found_alike (λ s. record s { names = insert s.names new n }) lost to f more q
 
   named_now : HasName after to new n
   named_now = renamed-name before from name to new n named
@@ -226,8 +228,8 @@ each_of : (P : ℕ → Type 0) (o e : Option ℕ) → o ≡ e → ((x : ℕ) →
 each_of P None e is each = tt
 each_of P (Some x) e is each = each x (sym is)
 
-module _ (m : Slots) (nameless : Numbers) (kept : IsKept m nameless) (t : Tree) (view : tree_of m ≡ t) (from : ℕ) (name : List ℕ) (to : ℕ) (new : List ℕ) (n : ℕ)
-    (named : HasName t from name n) (free : first_fault (rename_faults t from name to new) ≡ None) where
+module _ (m : Slots) (nameless : Numbers) (kept : IsKept m nameless) (t : Tree) (view : tree_of m ≡ t)
+    (from : ℕ) (name : List ℕ) (to : ℕ) (new : List ℕ) (n : ℕ) (named : HasName t from name n) (free : first_fault (rename_faults t from name to new) ≡ None) where
   seen_named : HasName (tree_of m) from name n
   seen_named = (λ i. entry_of (view i) from name) ∙ named
 
@@ -290,4 +292,5 @@ module _ (m : Slots) (nameless : Numbers) (kept : IsKept m nameless) (t : Tree) 
 
           pub kept_renamed : (numbers : Numbers) → numbers ≡ listed_if_lost m nameless o → IsKept moved numbers
           kept_renamed numbers listed =
-              rw moved_is (rw (listed ∙ ap (listed_if_lost m nameless) entry_is) (moved_kept m nameless kept from name to new n seen_named seen_free seen_differ))
+              rw moved_is (rw (listed ∙ ap (listed_if_lost m nameless) entry_is)
+              (moved_kept m nameless kept from name to new n seen_named seen_free seen_differ))
