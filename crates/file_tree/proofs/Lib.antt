@@ -10,3 +10,6 @@ pub mod Starts
 pub mod NewNames
 pub mod Makes
 pub mod Links
+pub mod SlotChanges
+pub mod Unlinks
+pub mod Moves

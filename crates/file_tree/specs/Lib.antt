@@ -5,3 +5,4 @@ pub mod Lending
 pub mod Listing
 pub mod Kept
 pub mod Checks
+pub mod Finds

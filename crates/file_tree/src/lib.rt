@@ -3,6 +3,7 @@
 
 mod changes;
 mod checks;
+mod dirs;
 mod entries;
 mod file_bytes;
 mod files;

@@ -11,7 +11,13 @@ use tree_model::TreeFault;
 impl Tree {
     /// Moves a name to another place, in the same directory or in another one. The node that had the new name loses it, and
     /// is returned. Two names of one node stay as they are.
-    pub fn rename(&mut self, from: ObjId, name: &[u8], to: ObjId, new: &[u8]) -> Result<Option<ObjId>, TreeFault>
+    pub fn rename(
+        &mut self,
+        from: ObjId,
+        name: &[u8],
+        to: ObjId,
+        new: &[u8],
+    ) -> Result<Option<ObjId>, TreeFault>
         ensures allowed { OnOk result (first_fault (rename_faults self.old from name.now to new.now) ≡ None) }
         ensures replaced { IfOk result (λ node. node ≡ replaced self.old from name.now to new.now) }
         ensures ok { OnOk result (self.new ≡ renamed self.old from name.now to new.now) }
