@@ -5,4 +5,3 @@ pub mod Lending
 pub mod Listing
 pub mod Kept
 pub mod Checks
-pub mod Finds

@@ -2,14 +2,16 @@
 ghost use Rattle.std.specs.Prelude.{◌≡◌};
 ghost use Rattle.path_lookup.specs.Laws.{EndsAtPlace, EndsIn};
 ghost use Rattle.path_lookup.specs.Walk.{walk_of};
-ghost use Rattle.file_tree.specs.Finds.{finds_in, is_under};
+ghost use Rattle.number_map.specs.Closure.{member};
+ghost use Rattle.tree_model.specs.Finds.{finds};
+ghost use Rattle.tree_model.specs.Tree.{below};
 
 use crate::tree::Tree;
 use abi_types::{NodeKind, ObjId};
 use path_lookup::{Dirs, End, Found, WalkFault, WalkMode, walk};
 
 impl Dirs for Tree {
-    ghost finds = { finds_in };
+    ghost finds = { finds };
 
     fn find(&self, dir: ObjId, name: &[u8]) -> Found<'_> {
         let Some(id) = self.entry(dir, name) else {
@@ -30,12 +32,10 @@ impl Tree {
     /// Where a path leads from a directory, or why it leads nowhere: `walk` of path_lookup over this tree. Each node and each
     /// directory that its end names is the start, or below it. It takes no memory.
     pub fn walk(&self, start: ObjId, path: &[u8], mode: WalkMode) -> Result<End, WalkFault>
-        ensures walked { result ≡ walk_of (finds_in self.now) mode start path.now }
-        ensures below { EndsIn (is_under self.now start) result }
+        ensures walked { result ≡ walk_of (finds self.now) mode start path.now }
+        ensures below { EndsIn (λ n. member n (below self.now start)) result }
         ensures place { EndsAtPlace path.now result }
     {
-        // The invariant: it is a tree.
-        let _ = &self.slots;
         walk(self, start, path, mode)
     }
 }

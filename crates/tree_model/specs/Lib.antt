@@ -16,3 +16,4 @@ pub mod Outcomes
 pub mod Start
 pub mod Opens
 pub mod Releasing
+pub mod Finds
