@@ -9,6 +9,8 @@ use std::alloc::AllocError;
 pub enum GrantTarget {
     /// A standard stream: 0 is stdin, 1 is stdout, 2 is stderr.
     Terminal(u32),
+    /// A file or directory of the file tree.
+    Node(ObjId),
 }
 
 /// A descriptor of the launched process.

@@ -1,11 +1,11 @@
 -- The state that a launch starts from is valid.
 use Rattle.std.proofs.Common.{◌≡◌, ◌≢◌, inl, inr, ℕ, zero, suc, ◌+◌, ◌*◌, ◌^◌, ◌-◌, ◌<◌, ◌≤◌, true, cond, List, [], ◌∷◌, ◌++◌, length, Option, Some, None, IsSome, is_some, refl, sym, ap, subst, ◌∙◌, arith}
 use Rattle.std.proofs.lemmas.Bool.Decides.{eqb_tells}
-use Rattle.std.specs.Prelude.{option_map, slice_get}
+use Rattle.std.specs.Prelude.{option_map, slice_get, if◌then◌else◌}
 use Rattle.std.specs.Ordering.{nat_cmp, eq_by_cmp, is_eq}
 use Rattle.std.specs.Cmp.{nat_cmp_total, tied_itself}
 use Rattle.std.specs.List.{AllByRecursion}
-use Rattle.std.specs.FinMap.{get, get-empty, get-from_entries, insert, empty, find, from_entries, from_entries_push, nat_cmp-IsAntisymmetric}
+use Rattle.std.specs.FinMap.{get, len, get-empty, get-from_entries, insert, empty, find, from_entries, from_entries_push, nat_cmp-IsAntisymmetric}
 use Rattle.abi_types.specs.declared.descriptor.Descriptor.{Descriptor}
 use Rattle.abi_base.specs.declared.grant.Grant.{Grant}
 use Rattle.abi_base.specs.declared.grant.GrantTarget.{GrantTarget}
@@ -15,15 +15,15 @@ use Rattle.abi_types.specs.declared.status.Status.TheVariants.{Live}
 use Rattle.abi_types.specs.declared.stream.Stream.{Stream}
 use Rattle.abi_types.specs.declared.thread.Thread.TheVariants.{Runnable}
 use Rattle.number_map.specs.Maps.{get-insert-same, get-insert-other}
-use Rattle.abi_types.specs.declared.constants.Constants.{Constants}
-use Rattle.tree_model.specs.declared.limits.TheConstants.{ROOT}
-use Rattle.tree_model.specs.Facts.{links_of_root}
-use Rattle.tree_model.specs.Start.{root_tree-tree}
-use Rattle.tree_model.specs.Tree.{IsTree, links_of}
+use Rattle.abi_types.specs.declared.node.Node.{Node}
+use Rattle.abi_types.specs.declared.node.NodeKind.TheVariants as node_kind
+use Rattle.abi_types.specs.declared.open_kind.OpenKind.TheVariants as kind
+use Rattle.tree_model.specs.Tree.{is_directory_kind, is_directory_node}
 use Rattle.kernel_model.specs.Release.{holders}
-use Rattle.abi_base.specs.Grants.{IsTarget, IsGrant, AreGrants, HasRightsOfTarget}
-use Rattle.kernel_model.specs.Start.{IsStartTree, first_tree, launch_object, numbered, granted_descriptor, open_of, granted_open, granted_table, first_own, unwritten, start_state}
-use Rattle.kernel_model.specs.State.{Table, Own, Tree, thread_in, thread_of, counts_in}
+use Rattle.tree_model.specs.Changes.{is_file_kind, is_file_node}
+use Rattle.tree_model.specs.Grants.{IsGrant, IsGrantOf, AreGrants, HasRightsOfType, MayBegin, type_of_kind, type_of_node}
+use Rattle.kernel_model.specs.Start.{first_open, numbered, granted_descriptor, open_of, open_of_node, granted_open, granted_table, first_own, unwritten, start_state}
+use Rattle.kernel_model.specs.State.{State, Table, Own, Tree, thread_in, thread_of, counts_in}
 use Rattle.kernel_model.specs.Valid.{object_of, HasRightsOf, IsNamed, HasBehind, IsValid}
 use Rattle.kernel_model.proofs.Tests.{none_is_no, not_true}
 use Rattle.kernel_model.proofs.Valids.{same_value, named_is_held, named_is_kept, same_keys_inserted}
@@ -111,44 +111,54 @@ only_one x y p there =
 
 -- what is granted under a number: its descriptor, and the open that it names
 record IsGranted (tree : Tree) (grants : List Grant) (k : ℕ) (grant : Grant) : Type 0 where
-  allowed : IsGrant grant
-  held : get (granted_table grants) k ≡ Some (granted_descriptor k grant)
-  opened : get (start_state tree grants []).opens (launch_object (5 + k)) ≡ Some (open_of grant.target)
+  allowed : IsGrant tree grant
+  held : get (granted_table tree grants) k ≡ Some (granted_descriptor tree k grant)
+  opened : get (start_state tree grants []).opens (first_open tree + k) ≡ Some (open_of tree grant.target)
 
-granted_at : (tree : Tree) (grants : List Grant) (k : ℕ) (grant : Grant) → AreGrants grants → slice_get grants k ≡ Some grant → IsGranted tree grants k grant
+granted_at : (tree : Tree) (grants : List Grant) (k : ℕ) (grant : Grant) → AreGrants tree grants → slice_get grants k ≡ Some grant → IsGranted tree grants k grant
 granted_at tree grants k grant all there = record {
-  allowed = all_at IsGrant grants k grant all.1 there;
-  held = get-from_entries nat_cmp_total _ k ∙ find_numbered granted_descriptor 0 grants k k (omega arith) ∙ ap (option_map (granted_descriptor k)) there;
-  opened = get-from_entries nat_cmp_total _ (launch_object (5 + k))
-      ∙ find_numbered granted_open (launch_object 5) grants k (launch_object (5 + k)) (omega arith)
-      ∙ ap (option_map (granted_open (launch_object (5 + k)))) there;
+  allowed = all_at (IsGrant tree) grants k grant all.1 there;
+  held = get-from_entries nat_cmp_total _ k ∙ find_numbered (granted_descriptor tree) 0 grants k k (omega arith) ∙ ap (option_map (granted_descriptor tree k)) there;
+  opened = get-from_entries nat_cmp_total _ (first_open tree + k)
+      ∙ find_numbered (granted_open tree) (first_open tree) grants k (first_open tree + k) refl
+      ∙ ap (option_map (granted_open tree (first_open tree + k))) there;
 }
 
 -- a descriptor of the table is that of a grant
-of_descriptor : (tree : Tree) (grants : List Grant) (n : ℕ) (d : Descriptor) → AreGrants grants → get (granted_table grants) n ≡ Some d
-    → (grant : Grant) × IsGranted tree grants n grant × (granted_descriptor n grant ≡ d)
+of_descriptor : (tree : Tree) (grants : List Grant) (n : ℕ) (d : Descriptor) → AreGrants tree grants → get (granted_table tree grants) n ≡ Some d
+    → (grant : Grant) × IsGranted tree grants n grant × (granted_descriptor tree n grant ≡ d)
 of_descriptor tree grants n d all there =
-    let at = from_option_map (granted_descriptor n) (slice_get grants n) d
-    (sym (find_numbered granted_descriptor 0 grants n n (omega arith)) ∙ sym (get-from_entries nat_cmp_total _ n) ∙ there) in
+    let at = from_option_map (granted_descriptor tree n) (slice_get grants n) d
+    (sym (find_numbered (granted_descriptor tree) 0 grants n n (omega arith)) ∙ sym (get-from_entries nat_cmp_total _ n) ∙ there) in
     (at.0, granted_at tree grants n at.0 all at.1, at.2)
 
 -- an open is that of a grant
-of_open : (tree : Tree) (grants : List Grant) (o : ℕ) (kind : OpenKind) → AreGrants grants → get (start_state tree grants []).opens o ≡ Some kind
-    → (k : ℕ) × (grant : Grant) × (o ≡ launch_object (5 + k)) × IsGranted tree grants k grant × (open_of grant.target ≡ kind)
+of_open : (tree : Tree) (grants : List Grant) (o : ℕ) (kind : OpenKind) → AreGrants tree grants → get (start_state tree grants []).opens o ≡ Some kind
+    → (k : ℕ) × (grant : Grant) × (o ≡ first_open tree + k) × IsGranted tree grants k grant × (open_of tree grant.target ≡ kind)
 of_open tree grants o kind all there =
-    let found = sym (get-from_entries nat_cmp_total (numbered granted_open (launch_object 5) grants) o) ∙ there in
-    let number = at_number granted_open (launch_object 5) grants o kind found in
-    let at = from_option_map (granted_open o) (slice_get grants number.0) kind
-    (sym (find_numbered granted_open (launch_object 5) grants number.0 o number.1) ∙ found) in
-    let place = number.1 in
-    (number.0, at.0, omega (arith, place), granted_at tree grants number.0 at.0 all at.1, at.2)
+    let found = sym (get-from_entries nat_cmp_total (numbered (granted_open tree) (first_open tree) grants) o) ∙ there in
+    let number = at_number (granted_open tree) (first_open tree) grants o kind found in
+    let at = from_option_map (granted_open tree o) (slice_get grants number.0) kind
+    (sym (find_numbered (granted_open tree) (first_open tree) grants number.0 o number.1) ∙ found) in
+    (number.0, at.0, number.1, granted_at tree grants number.0 at.0 all at.1, at.2)
 
-has_rights : (k : ℕ) (grant : Grant) (t : GrantTarget) → HasRightsOfTarget grant t → HasRightsOf (granted_descriptor k grant) (open_of t)
-has_rights k grant (target.Terminal which) has = has
+node_rights : (d : Descriptor) (n : ℕ) (grant : Grant) (o : Option Node) → d.base ≡ grant.base → d.inheriting ≡ grant.inheriting
+    → HasRightsOfType grant (type_of_node o) → HasRightsOf d (open_of_node n o)
+node_rights d n grant None base inheriting has = absurd has
+node_rights d n grant (Some node) base inheriting has =
+    elim node.kind as (λ k. HasRightsOfType grant (type_of_kind k) → HasRightsOf d (if is_directory_kind k then kind.Directory n 0 else kind.File n 0 0)) [
+      | node_kind.File bytes ↦ λ h. rw base (rw inheriting h)
+      | node_kind.Directory ↦ λ h. rw base (rw inheriting h)
+      | node_kind.Link text ↦ λ h. absurd h
+    ] has
+
+has_rights : (tree : Tree) (k : ℕ) (grant : Grant) (t : GrantTarget) → IsGrantOf tree grant t → HasRightsOf (granted_descriptor tree k grant) (open_of tree t)
+has_rights tree k grant (target.Terminal which) has = (has.1, has.2)
+has_rights tree k grant (target.Node n) has = node_rights (granted_descriptor tree k grant) n grant (get tree.nodes n) refl refl has
 
 named : (tree : Tree) (grants : List Grant) (k : ℕ) (grant : Grant) → IsGranted tree grants k grant
-    → IsNamed (get (start_state tree grants []).opens (granted_descriptor k grant).id) (granted_descriptor k grant)
-named tree grants k grant at = subst (λ o. IsNamed o (granted_descriptor k grant)) (sym at.opened) (has_rights k grant grant.target at.allowed.1)
+    → IsNamed (get (start_state tree grants []).opens (granted_descriptor tree k grant).id) (granted_descriptor tree k grant)
+named tree grants k grant at = subst (λ o. IsNamed o (granted_descriptor tree k grant)) (sym at.opened) (has_rights tree k grant grant.target at.allowed)
 
 -- ---- the standard streams
 
@@ -165,30 +175,43 @@ stream_there tree grants stdin which few =
       ]
     ]
 
-behind_there : (tree : Tree) (grants : List Grant) (stdin : List ℕ) (t : GrantTarget) → IsTarget t → HasBehind (start_state tree grants stdin) (open_of t)
-behind_there tree grants stdin (target.Terminal which) few = stream_there tree grants stdin which few
+-- ---- files and directories
+
+node_behind : (S : State) (n : ℕ) (grant : Grant) (o : Option Node) → get S.nodes n ≡ o → HasRightsOfType grant (type_of_node o) → HasBehind S (open_of_node n o)
+node_behind S n grant None is has = absurd has
+node_behind S n grant (Some node) is has =
+    elim node.kind as (λ k. node.kind ≡ k → HasRightsOfType grant (type_of_kind k) → HasBehind S (if is_directory_kind k then kind.Directory n 0 else kind.File n 0 0)) [
+      | node_kind.File bytes ↦ λ e h. ap is_file_node is ∙ ap is_file_kind e
+      | node_kind.Directory ↦ λ e h. ap is_directory_node is ∙ ap is_directory_kind e
+      | node_kind.Link text ↦ λ e h. absurd h
+    ] refl has
+
+behind_there : (tree : Tree) (grants : List Grant) (stdin : List ℕ) (grant : Grant) (t : GrantTarget) → IsGrantOf tree grant t
+    → HasBehind (start_state tree grants stdin) (open_of tree t)
+behind_there tree grants stdin grant (target.Terminal which) has = stream_there tree grants stdin which has.0
+behind_there tree grants stdin grant (target.Node n) has = node_behind (start_state tree grants stdin) n grant (get tree.nodes n) refl has
 
 -- ---- the state
 
-start_named : (tree : Tree) (grants : List Grant) → AreGrants grants → (p n : ℕ) (table : Table) (d : Descriptor)
+start_named : (tree : Tree) (grants : List Grant) → AreGrants tree grants → (p n : ℕ) (table : Table) (d : Descriptor)
     → get (start_state tree grants []).tables p ≡ Some table → get table n ≡ Some d → IsNamed (get (start_state tree grants []).opens d.id) d
 start_named tree grants all p n table d there here =
-    let own = only_one (granted_table grants) table p there in
+    let own = only_one (granted_table tree grants) table p there in
     let at = of_descriptor tree grants n d all (ap (λ (m : Table). get m n) own.1 ∙ here) in
     subst (λ (e : Descriptor). IsNamed (get (start_state tree grants []).opens e.id) e) at.2 (named tree grants n at.0 at.1)
 
-start_held : (tree : Tree) (grants : List Grant) → AreGrants grants → (o : ℕ) → IsSome (get (start_state tree grants []).opens o) → 0 < holders (start_state tree grants []) o
+start_held : (tree : Tree) (grants : List Grant) → AreGrants tree grants → (o : ℕ) → IsSome (get (start_state tree grants []).opens o) → 0 < holders (start_state tree grants []) o
 start_held tree grants all o h =
     let there = some_of (get (start_state tree grants []).opens o) h in
     let at = of_open tree grants o there.0 all there.1 in
     subst (λ r. 0 < holders (start_state tree grants []) r) (sym at.2)
-    (named_is_held (start_state tree grants []) 0 at.0 (granted_table grants) (granted_descriptor at.0 at.1) (get-insert-same empty 0 _) at.3.held)
+    (named_is_held (start_state tree grants []) 0 at.0 (granted_table tree grants) (granted_descriptor tree at.0 at.1) (get-insert-same empty 0 _) at.3.held)
 
-start_behind : (tree : Tree) (grants : List Grant) (stdin : List ℕ) → AreGrants grants → (o : ℕ) (kind : OpenKind) → get (start_state tree grants stdin).opens o ≡ Some kind
+start_behind : (tree : Tree) (grants : List Grant) (stdin : List ℕ) → AreGrants tree grants → (o : ℕ) (kind : OpenKind) → get (start_state tree grants stdin).opens o ≡ Some kind
     → HasBehind (start_state tree grants stdin) kind
 start_behind tree grants stdin all o kind there =
     let at = of_open tree grants o kind all there in
-    subst (HasBehind (start_state tree grants stdin)) at.4 (behind_there tree grants stdin at.1.target at.3.allowed.0)
+    subst (HasBehind (start_state tree grants stdin)) at.4 (behind_there tree grants stdin at.1 at.1.target at.3.allowed)
 
 -- ---- what is numbered
 
@@ -211,44 +234,31 @@ start_numbered tree grants stdin p t there =
     ]
 
 -- the opens of the launch are of no process's number
-start_made : (tree : Tree) (grants : List Grant) → AreGrants grants → (p k : ℕ) → p < 0xffffffff → k < 2 ^ 32 → get (start_state tree grants []).opens (object_of p k) ≡ None
+start_made : (tree : Tree) (grants : List Grant) → AreGrants tree grants → (p k : ℕ) → p < 0xffffffff → k < 2 ^ 32 → get (start_state tree grants []).opens (object_of p k) ≡ None
 start_made tree grants all p k small fits =
     elim (get (start_state tree grants []).opens (object_of p k)) as (λ o. get (start_state tree grants []).opens (object_of p k) ≡ o → o ≡ None) [
       | None ↦ λ e. refl
       | Some kind ↦ λ e. (
           let at = of_open tree grants (object_of p k) kind all e in
-          let place : p * 2 ^ 32 + k ≡ 0xffffffff * 2 ^ 32 + (5 + at.0) = at.2 in
+          let place : p * 2 ^ 32 + k ≡ 0xffffffff * 2 ^ 32 + (4 + len tree.nodes) + at.0 = at.2 in
           absurd (omega (arith, place, small, fits)))
     ] refl
 
 same_keys_one : {X Y : Type 0} (x : X) (y : Y) (p : ℕ) → is_some (get (insert (empty {R = nat_cmp}) 0 x) p) ≡ is_some (get (insert (empty {R = nat_cmp}) 0 y) p)
 same_keys_one x y = same_keys_inserted empty empty 0 x y (λ q. ap is_some (get-empty nat_cmp q) ∙ sym (ap is_some (get-empty nat_cmp q)))
 
--- the root alone is a tree that a launch may begin with
-pub first_tree_is : (constants : Constants) → IsStartTree (first_tree constants)
-first_tree_is constants =
-    let tree : IsTree (first_tree constants) = root_tree-tree _ in
-    record {
-      tree = tree;
-      named = λ n there. elim (eqb_tells n ROOT) [
-        | inl is ↦ (let one : links_of (first_tree constants) ROOT ≡ 1 = links_of_root (first_tree constants) tree in
-            subst (λ k. 1 ≤ links_of (first_tree constants) k) (sym is.1) (omega arith))
-        | inr other ↦ absurd (not_true (sym (ap is_some (get-insert-other empty ROOT _ n other.1 ∙ get-empty nat_cmp n)) ∙ there))
-      ];
-    }
-
-pub start_valid : (tree : Tree) (grants : List Grant) (stdin : List ℕ) → IsStartTree tree → AreGrants grants → IsValid (start_state tree grants stdin)
-start_valid tree grants stdin is all = record {
+pub start_valid : (tree : Tree) (grants : List Grant) (stdin : List ℕ) → MayBegin tree grants → IsValid (start_state tree grants stdin)
+start_valid tree grants stdin begins = record {
   nearly = record {
-    named = start_named tree grants all;
-    behind = start_behind tree grants stdin all;
+    named = start_named tree grants begins.grants;
+    behind = start_behind tree grants stdin begins.grants;
     tables = same_keys_one _ _;
     owns = same_keys_one _ _;
     ended = λ p status there ends. absurd (ends (sym (only_one Live status p there).1));
     numbered = start_numbered tree grants stdin;
-    made = λ p k small beyond fits. start_made tree grants all p k small fits;
-    tree = is.tree;
+    made = λ p k small beyond fits. start_made tree grants begins.grants p k small fits;
+    tree = begins.tree.tree;
   };
-  held = start_held tree grants all;
-  kept = λ n there. named_is_kept (start_state tree grants stdin) n (is.named n there);
+  held = start_held tree grants begins.grants;
+  kept = λ n there. named_is_kept (start_state tree grants stdin) n (begins.tree.named n there);
 }

@@ -20,9 +20,9 @@ use Rattle.kernel_model.specs.Need.{has_needed, missing}
 use Rattle.kernel_model.specs.Proper.{IsIn, IsProper}
 use Rattle.kernel_model.specs.Release.{ends, is_released, IsEnd}
 use Rattle.kernel_model.specs.Reply.{refused, denied}
-use Rattle.abi_base.specs.Grants.{AreGrants}
 use Rattle.kernel_model.specs.Sight.{own_parts, behind}
-use Rattle.kernel_model.specs.Start.{IsStartTree, start_state}
+use Rattle.tree_model.specs.Grants.{MayBegin}
+use Rattle.kernel_model.specs.Start.{start_state}
 use Rattle.kernel_model.specs.State.{State, Tree, Table, Part, at_open, has_part, Agree, AgreeOn, threads_of}
 use Rattle.kernel_model.specs.Step.{tick, sight, touch, act, outcome, unreleased, step_answer, step_state, failed, IsStep, IsUntouched, end_unreleased, end_state}
 use Rattle.kernel_model.specs.Valid.{IsValid}
@@ -245,6 +245,6 @@ StepKeepsValid =
 abbrev pub EndKeepsValid : Type 0
 EndKeepsValid = (S : State) (p : ℕ) (status : Status) → IsValid S → IsValid (end_state S p status)
 
--- The state that a launch starts from is valid, where its grants are of what is there.
+-- The state that a launch starts from is valid, where it may begin with its tree and its grants.
 abbrev pub StartIsValid : Type 0
-StartIsValid = (tree : Tree) (grants : List Grant) (stdin : List ℕ) → IsStartTree tree → AreGrants grants → IsValid (start_state tree grants stdin)
+StartIsValid = (tree : Tree) (grants : List Grant) (stdin : List ℕ) → MayBegin tree grants → IsValid (start_state tree grants stdin)

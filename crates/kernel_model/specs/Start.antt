@@ -1,22 +1,21 @@
 -- The state that a launch starts from.
-use Rattle.std.specs.Prelude.{ℕ, ◌+◌, ◌*◌, ◌^◌, ◌≤◌, List, [], ◌∷◌, IsSome}
-use Rattle.std.specs.FinMap.{empty, get, insert, from_entries}
+use Rattle.std.specs.Prelude.{ℕ, ◌+◌, ◌*◌, ◌^◌, List, [], ◌∷◌, Option, None, Some, if◌then◌else◌}
+use Rattle.std.specs.FinMap.{empty, get, insert, len, from_entries}
 use Rattle.abi_types.specs.declared.descriptor.Descriptor.{Descriptor}
 use Rattle.abi_base.specs.declared.grant.Grant.{Grant}
 use Rattle.abi_base.specs.declared.grant.GrantTarget.{GrantTarget}
 use Rattle.abi_base.specs.declared.grant.GrantTarget.TheVariants as target
+use Rattle.abi_types.specs.declared.node.Node.{Node}
 use Rattle.abi_types.specs.declared.open_kind.OpenKind.{OpenKind}
 use Rattle.abi_types.specs.declared.open_kind.OpenKind.TheVariants as kind
 use Rattle.abi_types.specs.declared.status.Status.TheVariants.{Live}
 use Rattle.abi_types.specs.declared.stream.Stream.{Stream}
 use Rattle.abi_types.specs.declared.thread.Thread.TheVariants.{Runnable}
-use Rattle.abi_types.specs.declared.constants.Constants.{Constants}
-use Rattle.tree_model.specs.Start.{root_tree}
-use Rattle.tree_model.specs.Tree.{IsTree, links_of}
+use Rattle.tree_model.specs.Tree.{is_directory_kind}
 use Rattle.kernel_model.specs.State.{State, Table, Own, Tree, no_locks}
 
 -- Objects that the launch makes have numbers of process 0xffffffff: 1 to 3 are the standard streams, 4 is the root of
--- the file tree, and from 5 on come the opens of the granted descriptors.
+-- the file tree, and from 5 on come the tree's other nodes and then the opens of the granted descriptors.
 abbrev pub launch_object : ℕ → ℕ
 launch_object n = 0xffffffff * 2 ^ 32 + n
 
@@ -25,20 +24,30 @@ abbrev pub numbered : {X Y : Type 0} → (ℕ → X → Y) → ℕ → List X �
 numbered f n [] = []
 numbered f n (x ∷ xs) = (n, f n x) ∷ numbered f (n + 1) xs
 
+-- the number of the first granted descriptor's open
+abbrev pub first_open : Tree → ℕ
+first_open tree = launch_object (4 + len tree.nodes)
+
 -- the descriptor with this number
-abbrev pub granted_descriptor : ℕ → Grant → Descriptor
-granted_descriptor n grant = record { id = launch_object (5 + n); base = grant.base; inheriting = grant.inheriting }
+abbrev pub granted_descriptor : Tree → ℕ → Grant → Descriptor
+granted_descriptor tree n grant = record { id = first_open tree + n; base = grant.base; inheriting = grant.inheriting }
+
+-- what a node is opened as
+abbrev pub open_of_node : ℕ → Option Node → OpenKind
+open_of_node n None = kind.File n 0 0
+open_of_node n (Some node) = if is_directory_kind node.kind then kind.Directory n 0 else kind.File n 0 0
 
 -- what a grant opens
-abbrev pub open_of : GrantTarget → OpenKind
-open_of (target.Terminal which) = kind.Terminal which 0
+abbrev pub open_of : Tree → GrantTarget → OpenKind
+open_of tree (target.Terminal which) = kind.Terminal which 0
+open_of tree (target.Node n) = open_of_node n (get tree.nodes n)
 
-abbrev pub granted_open : ℕ → Grant → OpenKind
-granted_open n grant = open_of grant.target
+abbrev pub granted_open : Tree → ℕ → Grant → OpenKind
+granted_open tree n grant = open_of tree grant.target
 
 -- the first process's table
-abbrev pub granted_table : List Grant → Table
-granted_table grants = from_entries (numbered granted_descriptor 0 grants)
+abbrev pub granted_table : Tree → List Grant → Table
+granted_table tree grants = from_entries (numbered (granted_descriptor tree) 0 grants)
 
 -- what process 0 starts with beside its descriptors: thread 1, the one thread that it has numbered, and nobody who waits
 abbrev pub first_own : Own
@@ -48,24 +57,15 @@ first_own = record { threads = insert empty 1 Runnable; counts = record { object
 abbrev pub unwritten : List ℕ → Stream
 unwritten left = record { left = left; written = [] }
 
--- The tree that a launch begins with is a tree, and each node of it has a name, the root aside, which counts one.
-pub record IsStartTree (t : Tree) : Type 0 where
-  pub tree : IsTree t
-  pub named : (n : ℕ) → IsSome (get t.nodes n) → 1 ≤ links_of t n
-
--- the root alone, with the times at which the run begins
-abbrev pub first_tree : Constants → Tree
-first_tree constants = root_tree (record { atim = constants.epoch; mtim = constants.epoch; ctim = constants.epoch })
-
 -- Process 0 is live with thread 1 and the granted descriptors, the file tree is this one, standard input has these bytes, and
 -- nothing was written.
 abbrev pub start_state : Tree → List Grant → List ℕ → State
 start_state tree grants stdin = record {
   clock = 0;
-  tables = insert empty 0 (granted_table grants);
+  tables = insert empty 0 (granted_table tree grants);
   own = insert empty 0 first_own;
   statuses = insert empty 0 Live;
-  opens = from_entries (numbered granted_open (launch_object 5) grants);
+  opens = from_entries (numbered (granted_open tree) (first_open tree) grants);
   nodes = tree.nodes;
   names = tree.names;
   terms = insert (insert (insert empty 0 (unwritten stdin)) 1 (unwritten [])) 2 (unwritten []);

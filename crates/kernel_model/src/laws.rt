@@ -94,7 +94,7 @@ pub fn end_keeps_valid()
     ensures { EndKeepsValid }
 {}
 
-/// The state that a launch starts from is valid, where its grants are of what is there.
+/// The state that a launch starts from is valid, where the launch may begin with its tree and its grants.
 pub fn start_is_valid()
     ensures { StartIsValid }
 {}

@@ -17,3 +17,4 @@ pub mod Start
 pub mod Opens
 pub mod Releasing
 pub mod Finds
+pub mod Grants
