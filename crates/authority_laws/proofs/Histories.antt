@@ -5,7 +5,7 @@ use Rattle.std.proofs.lemmas.Bool.Decides.{eqb_tells}
 use Rattle.std.specs.FinMap.{get}
 use Rattle.abi_base.specs.declared.grant.Grant.{Grant}
 use Rattle.abi_base.specs.declared.signal.Signal.TheVariants.{Xcpu}
-use Rattle.abi_base.specs.Grants.{AreGrants}
+use Rattle.tree_model.specs.Grants.{MayBegin}
 use Rattle.abi_types.specs.declared.call.Call.{Call}
 use Rattle.abi_types.specs.declared.descriptor.Descriptor.{Descriptor}
 use Rattle.abi_types.specs.declared.status.Status.TheVariants.{Killed}
@@ -16,7 +16,7 @@ use Rattle.run_types.specs.declared.history.Entry.{Entry}
 use Rattle.run_types.specs.declared.launch.Launch.{Launch}
 use Rattle.kernel_model.specs.Calls.{need}
 use Rattle.kernel_model.specs.Laws.{IsReached, IsReachedByName}
-use Rattle.kernel_model.specs.State.{State, Table, Part}
+use Rattle.kernel_model.specs.State.{State, Table, Tree, Part}
 use Rattle.kernel_model.specs.Valid.{IsValid}
 use Rattle.kernel_model.proofs.Reaches.{sight_is_reached}
 use Rattle.run_model.specs.Legal.{FitsAct, Fits, FollowsFrom, Legal}
@@ -39,13 +39,13 @@ unfolding noted_all
 all_more l [] e = refl
 all_more l (first ∷ history) e = all_more (noted l first) history e
 
-pub ledger_none : (launch : Launch) → ledger launch [] ≡ launch_ledger launch.grants
+pub ledger_none : (launch : Launch) → ledger launch [] ≡ launch_ledger launch.tree launch.grants
 unfolding ledger noted_all
 ledger_none launch = refl
 
 pub ledger_more : (launch : Launch) (history : List Entry) (e : Entry) → ledger launch (history ++ e ∷ []) ≡ noted (ledger launch history) e
 unfolding ledger
-ledger_more launch history e = all_more (launch_ledger launch.grants) history e
+ledger_more launch history e = all_more (launch_ledger launch.tree launch.grants) history e
 
 -- ---- the tables
 
@@ -72,8 +72,8 @@ follows_rows w (e ∷ history) l follows before = follows_rows (apply w e) histo
 pub world_rows : (launch : Launch) (history : List Entry) → Legal launch history → HasRows (world launch history).state (ledger launch history)
 unfolding Legal world ledger
 world_rows launch history legal =
-    follows_rows (start_world launch) history (launch_ledger launch.grants) legal
-    (subst (λ (S : State). HasRows S (launch_ledger launch.grants)) (sym (first_state launch)) (start_rows launch.grants))
+    follows_rows (start_world launch) history (launch_ledger launch.tree launch.grants) legal
+    (subst (λ (S : State). HasRows S (launch_ledger launch.tree launch.grants)) (sym (first_state launch)) (start_rows launch.tree launch.grants))
 
 rows_tell : (S : State) (l : Ledger) → IsValid S → HasRows S l → Tells S l
 rows_tell S l valid rows = record {
@@ -82,10 +82,10 @@ rows_tell S l valid rows = record {
   ended = λ p ends n. (λ i. (sym (rows p) ∙ ended_row S p valid ends) i n);
 }
 
-pub ledger_tells : (launch : Launch) (history : List Entry) → AreGrants launch.grants → Legal launch history
+pub ledger_tells : (launch : Launch) (history : List Entry) → MayBegin launch.tree launch.grants → Legal launch history
     → Tells (world launch history).state (ledger launch history)
-ledger_tells launch history grants legal =
-    rows_tell (world launch history).state (ledger launch history) (world_is_valid launch history grants legal) (world_rows launch history legal)
+ledger_tells launch history begins legal =
+    rows_tell (world launch history).state (ledger launch history) (world_is_valid launch history begins legal) (world_rows launch history legal)
 
 -- ---- how what is held may change
 
@@ -119,59 +119,59 @@ entry_changes_one launch front e = (
 pub rights_never_grow : (launch : Launch) (front : List Entry) (e : Entry) → ComesFrom (ledger launch front) (ledger launch (front ++ e ∷ []))
 rights_never_grow launch front e = subst (ComesFrom (ledger launch front)) (sym (ledger_more launch front e)) (noted_from (ledger launch front) e)
 
-follows_granted : (grants : List Grant) (l : Ledger) (history : List Entry) → AllComeFromGrants grants l → AllComeFromGrants grants (noted_all l history)
+follows_granted : (tree : Tree) (grants : List Grant) (l : Ledger) (history : List Entry) → AllComeFromGrants tree grants l → AllComeFromGrants tree grants (noted_all l history)
 unfolding noted_all
-follows_granted grants l [] before = before
-follows_granted grants l (e ∷ history) before = follows_granted grants (noted l e) history (noted_granted grants l e before)
+follows_granted tree grants l [] before = before
+follows_granted tree grants l (e ∷ history) before = follows_granted tree grants (noted l e) history (noted_granted tree grants l e before)
 
-pub held_is_granted : (launch : Launch) (history : List Entry) → AllComeFromGrants launch.grants (ledger launch history)
+pub held_is_granted : (launch : Launch) (history : List Entry) → AllComeFromGrants launch.tree launch.grants (ledger launch history)
 unfolding ledger
-held_is_granted launch history = follows_granted launch.grants (launch_ledger launch.grants) history (launch_granted launch.grants)
+held_is_granted launch history = follows_granted launch.tree launch.grants (launch_ledger launch.tree launch.grants) history (launch_granted launch.tree launch.grants)
 
 -- a table's descriptor is there by the ledger
-pub tables_are_recorded : (launch : Launch) (history : List Entry) → AreGrants launch.grants → Legal launch history → (p n : ℕ) (table : Table) (d : Descriptor)
+pub tables_are_recorded : (launch : Launch) (history : List Entry) → MayBegin launch.tree launch.grants → Legal launch history → (p n : ℕ) (table : Table) (d : Descriptor)
     → get (world launch history).state.tables p ≡ Some table → get table n ≡ Some d
-    → ((ledger launch history).held p n ≡ Some d) × ComesFromGrant launch.grants d
-tables_are_recorded launch history grants legal p n table d there here =
-    let recorded : (ledger launch history).held p n ≡ Some d = sym ((ledger_tells launch history grants legal).tables p table there n) ∙ here in
+    → ((ledger launch history).held p n ≡ Some d) × ComesFromGrant launch.tree launch.grants d
+tables_are_recorded launch history begins legal p n table d there here =
+    let recorded : (ledger launch history).held p n ≡ Some d = sym ((ledger_tells launch history begins legal).tables p table there n) ∙ here in
     (recorded, held_is_granted launch history p n d recorded)
 
 -- ---- what a call may read
 
-by_held : (launch : Launch) (history : List Entry) → AreGrants launch.grants → Legal launch history → (who : Who) (call : Call) (part : Part) (table : Table)
+by_held : (launch : Launch) (history : List Entry) → MayBegin launch.tree launch.grants → Legal launch history → (who : Who) (call : Call) (part : Part) (table : Table)
     → get (world launch history).state.tables who.pid ≡ Some table → IsReached (world launch history).state table (need call) part
-    → IsReachedByHeld (world launch history).state (ledger launch history) launch.grants who.pid (need call) part
-by_held launch history grants legal who call part table own r =
-    let at = tables_are_recorded launch history grants legal who.pid r.row.fd table r.d own r.there in
+    → IsReachedByHeld (world launch history).state (ledger launch history) launch.tree launch.grants who.pid (need call) part
+by_held launch history begins legal who call part table own r =
+    let at = tables_are_recorded launch history begins legal who.pid r.row.fd table r.d own r.there in
     record { row = r.row; asked = r.asked; d = r.d; held = at.0; has = r.has; granted = at.1; reached = r.part }
 
-by_named : (launch : Launch) (history : List Entry) → AreGrants launch.grants → Legal launch history → (who : Who) (call : Call) (part : Part) (table : Table)
+by_named : (launch : Launch) (history : List Entry) → MayBegin launch.tree launch.grants → Legal launch history → (who : Who) (call : Call) (part : Part) (table : Table)
     → get (world launch history).state.tables who.pid ≡ Some table → IsReachedByName (world launch history).state table call part
-    → IsReachedByNamed (world launch history).state (ledger launch history) launch.grants who.pid call part
-by_named launch history grants legal who call part table own r =
-    let at = tables_are_recorded launch history grants legal who.pid r.fd table r.d own r.there in
+    → IsReachedByNamed (world launch history).state (ledger launch history) launch.tree launch.grants who.pid call part
+by_named launch history begins legal who call part table own r =
+    let at = tables_are_recorded launch history begins legal who.pid r.fd table r.d own r.there in
     record { none = r.none; fd = r.fd; asked = r.asked; d = r.d; held = at.0; granted = at.1; reached = r.part }
 
-pub sight_is_recorded : (launch : Launch) (history : List Entry) → AreGrants launch.grants → Legal launch history
-    → SeesByHeld (world launch history).state (ledger launch history) launch.grants
-sight_is_recorded launch history grants legal who call part seen =
+pub sight_is_recorded : (launch : Launch) (history : List Entry) → MayBegin launch.tree launch.grants → Legal launch history
+    → SeesByHeld (world launch history).state (ledger launch history) launch.tree launch.grants
+sight_is_recorded launch history begins legal who call part seen =
     elim (sight_is_reached (world launch history).state who call part seen) [
       | inl own ↦ inl own
       | inr by ↦ elim by.3 [
-        | inl needed ↦ inr (inl (by_held launch history grants legal who call part by.0 by.1 needed))
-        | inr named ↦ inr (inr (by_named launch history grants legal who call part by.0 by.1 named))
+        | inl needed ↦ inr (inl (by_held launch history begins legal who call part by.0 by.1 needed))
+        | inr named ↦ inr (inr (by_named launch history begins legal who call part by.0 by.1 named))
       ]
     ]
 
 -- ---- each point of a history
 
-recorded_at : (launch : Launch) (front : List Entry) → Legal launch front → AreGrants launch.grants → IsRecordedAt launch front
-recorded_at launch front legal grants = record {
-  tells = ledger_tells launch front grants legal;
+recorded_at : (launch : Launch) (front : List Entry) → Legal launch front → MayBegin launch.tree launch.grants → IsRecordedAt launch front
+recorded_at launch front legal begins = record {
+  tells = ledger_tells launch front begins legal;
   granted = held_is_granted launch front;
-  sees = sight_is_recorded launch front grants legal;
+  sees = sight_is_recorded launch front begins legal;
 }
 
-pub legal_is_recorded : (launch : Launch) (history : List Entry) → Legal launch history → AreGrants launch.grants → IsRecorded launch history
-legal_is_recorded launch history legal grants front rest is =
-    recorded_at launch front (legal_front launch front rest (subst (Legal launch) is legal)) grants
+pub legal_is_recorded : (launch : Launch) (history : List Entry) → Legal launch history → MayBegin launch.tree launch.grants → IsRecorded launch history
+legal_is_recorded launch history legal begins front rest is =
+    recorded_at launch front (legal_front launch front rest (subst (Legal launch) is legal)) begins

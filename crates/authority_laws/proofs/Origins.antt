@@ -6,6 +6,7 @@ use Rattle.abi_base.specs.declared.grant.Grant.{Grant}
 use Rattle.abi_types.specs.declared.descriptor.Descriptor.{Descriptor}
 use Rattle.run_types.specs.declared.history.Entry.{Entry}
 use Rattle.kernel_model.specs.Start.{granted_descriptor}
+use Rattle.kernel_model.specs.State.{Tree}
 use Rattle.kernel_model.proofs.Tests.{none_is_no, same_some}
 use Rattle.authority_laws.specs.Ledger.{Row, no_row, with_held, Ledger, with_row, launch_row, launch_ledger}
 use Rattle.authority_laws.specs.Origins.{Change, stays, ends, closes, copies, lowers, Origin, was_held, ComesFrom, IsNoMoreThan, ComesFromGrant, AllComeFromGrants}
@@ -67,36 +68,36 @@ noted_from l e =
 
 -- ---- grants
 
-no_more_than_granted : (grants : List Grant) (d x : Descriptor) → IsNoMoreThan d x → ComesFromGrant grants x → ComesFromGrant grants d
-no_more_than_granted grants d x less by = record {
+no_more_than_granted : (tree : Tree) (grants : List Grant) (d x : Descriptor) → IsNoMoreThan d x → ComesFromGrant tree grants x → ComesFromGrant tree grants d
+no_more_than_granted tree grants d x less by = record {
   number = by.number;
   grant = by.grant;
   listed = by.listed;
-  no_more = no_more_still d x (granted_descriptor by.number by.grant) less by.no_more;
+  no_more = no_more_still d x (granted_descriptor tree by.number by.grant) less by.no_more;
 }
 
-of_origin : (grants : List Grant) (l : Ledger) (p : ℕ) (d : Descriptor) → AllComeFromGrants grants l → Origin l p d → ComesFromGrant grants d
-of_origin grants l p d before (was_held m x there less) = no_more_than_granted grants d x less (before p m x there)
+of_origin : (tree : Tree) (grants : List Grant) (l : Ledger) (p : ℕ) (d : Descriptor) → AllComeFromGrants tree grants l → Origin l p d → ComesFromGrant tree grants d
+of_origin tree grants l p d before (was_held m x there less) = no_more_than_granted tree grants d x less (before p m x there)
 
-pub noted_granted : (grants : List Grant) (l : Ledger) (e : Entry) → AllComeFromGrants grants l → AllComeFromGrants grants (noted l e)
-noted_granted grants l e before p n d here = of_origin grants l p d before (noted_from l e p n d here)
+pub noted_granted : (tree : Tree) (grants : List Grant) (l : Ledger) (e : Entry) → AllComeFromGrants tree grants l → AllComeFromGrants tree grants (noted l e)
+noted_granted tree grants l e before p n d here = of_origin tree grants l p d before (noted_from l e p n d here)
 
-by_grant : (grants : List Grant) (n : ℕ) (d : Descriptor) (o : Option Grant) → slice_get grants n ≡ o → option_map (granted_descriptor n) o ≡ Some d
-    → ComesFromGrant grants d
-by_grant grants n d None is here = absurd (none_is_no d here)
-by_grant grants n d (Some grant) is here = record {
+by_grant : (tree : Tree) (grants : List Grant) (n : ℕ) (d : Descriptor) (o : Option Grant) → slice_get grants n ≡ o → option_map (granted_descriptor tree n) o ≡ Some d
+    → ComesFromGrant tree grants d
+by_grant tree grants n d None is here = absurd (none_is_no d here)
+by_grant tree grants n d (Some grant) is here = record {
   number = n;
   grant = grant;
   listed = is;
-  no_more = subst (λ x. IsNoMoreThan x (granted_descriptor n grant)) (same_some (granted_descriptor n grant) d here) (itself (granted_descriptor n grant));
+  no_more = subst (λ x. IsNoMoreThan x (granted_descriptor tree n grant)) (same_some (granted_descriptor tree n grant) d here) (itself (granted_descriptor tree n grant));
 }
 
 -- the grants themselves
-pub launch_granted : (grants : List Grant) → AllComeFromGrants grants (launch_ledger grants)
-launch_granted grants p =
+pub launch_granted : (tree : Tree) (grants : List Grant) → AllComeFromGrants tree grants (launch_ledger tree grants)
+launch_granted tree grants p =
     elim (eqb_tells p 0) [
-      | inl is ↦ subst (λ b. (n : ℕ) (d : Descriptor) → cond b (launch_row grants) no_row n ≡ Some d → ComesFromGrant grants d) (sym is.0)
-          (λ n d here. by_grant grants n d (slice_get grants n) refl here)
-      | inr other ↦ subst (λ b. (n : ℕ) (d : Descriptor) → cond b (launch_row grants) no_row n ≡ Some d → ComesFromGrant grants d) (sym other.0)
+      | inl is ↦ subst (λ b. (n : ℕ) (d : Descriptor) → cond b (launch_row tree grants) no_row n ≡ Some d → ComesFromGrant tree grants d) (sym is.0)
+          (λ n d here. by_grant tree grants n d (slice_get grants n) refl here)
+      | inr other ↦ subst (λ b. (n : ℕ) (d : Descriptor) → cond b (launch_row tree grants) no_row n ≡ Some d → ComesFromGrant tree grants d) (sym other.0)
           (λ n d here. absurd (none_is_no d here))
     ]

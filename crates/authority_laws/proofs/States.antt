@@ -15,7 +15,7 @@ use Rattle.abi_types.specs.declared.status.Status.TheVariants.{Live, Exit, Kille
 use Rattle.abi_types.specs.declared.who.Who.{Who}
 use Rattle.number_map.specs.Maps.{get-insert-same, get-insert-other}
 use Rattle.kernel_model.specs.Start.{granted_descriptor, granted_table}
-use Rattle.kernel_model.specs.State.{State, Table}
+use Rattle.kernel_model.specs.State.{State, Table, Tree}
 use Rattle.kernel_model.specs.Step.{tick, outcome, IsStep, end_state}
 use Rattle.kernel_model.specs.Valid.{IsValid}
 use Rattle.kernel_model.specs.View.{whole}
@@ -77,20 +77,20 @@ end_rows S p status l before =
 -- ---- the start
 
 -- what a launch grants is in the first process's table
-granted_row_is : (grants : List Grant) (n : ℕ) → get (granted_table grants) n ≡ launch_row grants n
-granted_row_is grants n = get-from_entries nat_cmp_total _ n ∙ find_numbered granted_descriptor 0 grants n n (omega arith)
+granted_row_is : (tree : Tree) (grants : List Grant) (n : ℕ) → get (granted_table tree grants) n ≡ launch_row tree grants n
+granted_row_is tree grants n = get-from_entries nat_cmp_total _ n ∙ find_numbered (granted_descriptor tree) 0 grants n n (omega arith)
 
 -- no other process has a table
-abbrev pub first_tables : List Grant → FinMap nat_cmp Table
-first_tables grants = insert empty 0 (granted_table grants)
+abbrev pub first_tables : Tree → List Grant → FinMap nat_cmp Table
+first_tables tree grants = insert empty 0 (granted_table tree grants)
 
-pub start_rows : (grants : List Grant) (p : ℕ) → row_in (get (first_tables grants) p) ≡ (launch_ledger grants).held p
-start_rows grants p =
+pub start_rows : (tree : Tree) (grants : List Grant) (p : ℕ) → row_in (get (first_tables tree grants) p) ≡ (launch_ledger tree grants).held p
+start_rows tree grants p =
     elim (eqb_tells p 0) [
-      | inl is ↦ ap row_in (ap (get (first_tables grants)) is.1 ∙ get-insert-same empty 0 (granted_table grants))
-          ∙ (λ i n. granted_row_is grants n i) ∙ sym (ap (λ b. cond b (launch_row grants) no_row) is.0)
-      | inr other ↦ ap row_in (get-insert-other empty 0 (granted_table grants) p other.1 ∙ get-empty nat_cmp p)
-          ∙ sym (ap (λ b. cond b (launch_row grants) no_row) other.0)
+      | inl is ↦ ap row_in (ap (get (first_tables tree grants)) is.1 ∙ get-insert-same empty 0 (granted_table tree grants))
+          ∙ (λ i n. granted_row_is tree grants n i) ∙ sym (ap (λ b. cond b (launch_row tree grants) no_row) is.0)
+      | inr other ↦ ap row_in (get-insert-other empty 0 (granted_table tree grants) p other.1 ∙ get-empty nat_cmp p)
+          ∙ sym (ap (λ b. cond b (launch_row tree grants) no_row) other.0)
     ]
 
 -- ---- processes that are not live

@@ -3,7 +3,7 @@ use Rattle.std.specs.Prelude.{◌≡◌, ◌≢◌, ◌⊎◌, ℕ, bit_and, tru
 use Rattle.std.specs.FinMap.{get}
 use Rattle.abi_base.specs.declared.errno.Errno.TheVariants.{Success}
 use Rattle.abi_base.specs.declared.grant.Grant.{Grant}
-use Rattle.abi_base.specs.Grants.{AreGrants}
+use Rattle.tree_model.specs.Grants.{MayBegin}
 use Rattle.abi_structures.specs.declared.structures.FdStat.{FdStat}
 use Rattle.abi_types.specs.declared.call.Call.{Call}
 use Rattle.abi_types.specs.declared.call.Call.TheVariants.{FdDup, FdReplace, FdStatPut}
@@ -20,7 +20,7 @@ use Rattle.kernel_model.specs.Calls.{named, need}
 use Rattle.kernel_model.specs.Need.{has_needed}
 use Rattle.kernel_model.specs.Proper.{IsIn}
 use Rattle.kernel_model.specs.Sight.{own_parts, behind}
-use Rattle.kernel_model.specs.State.{State, Table, Part, at_open, has_part}
+use Rattle.kernel_model.specs.State.{State, Table, Tree, Part, at_open, has_part}
 use Rattle.kernel_model.specs.Step.{sight}
 use Rattle.run_model.specs.Legal.{Legal}
 use Rattle.run_model.specs.World.{world}
@@ -32,7 +32,7 @@ use Rattle.authority_laws.specs.Recorded.{noted, ledger}
 
 -- The ledger of no entry is the launch's.
 abbrev pub LedgerBegins : Type 0
-LedgerBegins = (launch : Launch) → ledger launch [] ≡ launch_ledger launch.grants
+LedgerBegins = (launch : Launch) → ledger launch [] ≡ launch_ledger launch.tree launch.grants
 
 -- The ledger of one more entry is the ledger before it, with that entry noted.
 abbrev pub LedgerGoesOn : Type 0
@@ -54,7 +54,7 @@ pub record Tells (S : State) (l : Ledger) : Type 0 where
 -- The ledger of a legal history tells who holds what in its world.
 abbrev pub LedgerTells : Type 0
 LedgerTells =
-    (launch : Launch) (history : List Entry) → AreGrants launch.grants → Legal launch history → Tells (world launch history).state (ledger launch history)
+    (launch : Launch) (history : List Entry) → MayBegin launch.tree launch.grants → Legal launch history → Tells (world launch history).state (ledger launch history)
 
 -- ---- where descriptors come from
 
@@ -62,7 +62,7 @@ LedgerTells =
 -- with no right that this one lacked.
 abbrev pub RightsNeverGrow : Type 0
 RightsNeverGrow =
-    (launch : Launch) (front : List Entry) (e : Entry) (rest : List Entry) → AreGrants launch.grants → Legal launch (front ++ e ∷ rest)
+    (launch : Launch) (front : List Entry) (e : Entry) (rest : List Entry) → MayBegin launch.tree launch.grants → Legal launch (front ++ e ∷ rest)
     → ComesFrom (ledger launch front) (ledger launch (front ++ e ∷ []))
 
 -- An entry changes what its process holds in one of the few ways of `Change`, and leaves what each other process holds.
@@ -103,52 +103,52 @@ RightsAreLowered =
 -- What the ledger of a legal history says is held is no more than one of the launch's grants.
 abbrev pub HeldIsGranted : Type 0
 HeldIsGranted =
-    (launch : Launch) (history : List Entry) → AreGrants launch.grants → Legal launch history → AllComeFromGrants launch.grants (ledger launch history)
+    (launch : Launch) (history : List Entry) → MayBegin launch.tree launch.grants → Legal launch history → AllComeFromGrants launch.tree launch.grants (ledger launch history)
 
 -- Each descriptor in a table of a legal history's world is there by the ledger, and is no more than one of the launch's
 -- grants.
 abbrev pub TablesAreRecorded : Type 0
 TablesAreRecorded =
-    (launch : Launch) (history : List Entry) → AreGrants launch.grants → Legal launch history
+    (launch : Launch) (history : List Entry) → MayBegin launch.tree launch.grants → Legal launch history
     → (p n : ℕ) (table : Table) (d : Descriptor) → get (world launch history).state.tables p ≡ Some table → get table n ≡ Some d
-    → ((ledger launch history).held p n ≡ Some d) × ComesFromGrant launch.grants d
+    → ((ledger launch history).held p n ≡ Some d) × ComesFromGrant launch.tree launch.grants d
 
 -- ---- what a call may read
 
 -- the part is the open of a descriptor which the ledger says that process p holds, which has all rights that a row of the
 -- call's needs asks of it, and which is no more than one of the grants; or it stands behind that open
-pub record IsReachedByHeld (S : State) (l : Ledger) (grants : List Grant) (p : ℕ) (rows : List Needed) (part : Part) : Type 0 where
+pub record IsReachedByHeld (S : State) (l : Ledger) (tree : Tree) (grants : List Grant) (p : ℕ) (rows : List Needed) (part : Part) : Type 0 where
   pub row : Needed
   pub asked : IsIn row rows
   pub d : Descriptor
   pub held : l.held p row.fd ≡ Some d
   pub has : has_needed d row ≡ true
-  pub granted : ComesFromGrant grants d
+  pub granted : ComesFromGrant tree grants d
   pub reached : has_part (at_open d.id ∷ behind (get S.opens d.id)) part ≡ true
 
 -- the call needs no right at all, and the part is the open of a descriptor that it names, which the ledger says that process p
 -- holds, and which is no more than one of the grants; or it stands behind that open
-pub record IsReachedByNamed (S : State) (l : Ledger) (grants : List Grant) (p : ℕ) (call : Call) (part : Part) : Type 0 where
+pub record IsReachedByNamed (S : State) (l : Ledger) (tree : Tree) (grants : List Grant) (p : ℕ) (call : Call) (part : Part) : Type 0 where
   pub none : need call ≡ []
   pub fd : ℕ
   pub asked : IsIn fd (named call)
   pub d : Descriptor
   pub held : l.held p fd ≡ Some d
-  pub granted : ComesFromGrant grants d
+  pub granted : ComesFromGrant tree grants d
   pub reached : has_part (at_open d.id ∷ behind (get S.opens d.id)) part ≡ true
 
 -- what a call sees is the clock, its process's own and its status, or it is reached by what the ledger says that its process
 -- holds: with the rights needed, or by name alone where the call needs none
-abbrev pub SeesByHeld : State → Ledger → List Grant → Type 0
-SeesByHeld S l grants =
+abbrev pub SeesByHeld : State → Ledger → Tree → List Grant → Type 0
+SeesByHeld S l tree grants =
     (who : Who) (call : Call) (part : Part) → has_part (sight S who call) part ≡ true
-    → (has_part (own_parts who.pid) part ≡ true) ⊎ (IsReachedByHeld S l grants who.pid (need call) part ⊎ IsReachedByNamed S l grants who.pid call part)
+    → (has_part (own_parts who.pid) part ≡ true) ⊎ (IsReachedByHeld S l tree grants who.pid (need call) part ⊎ IsReachedByNamed S l tree grants who.pid call part)
 
 -- So it is in the world of a legal history.
 abbrev pub SightIsRecorded : Type 0
 SightIsRecorded =
-    (launch : Launch) (history : List Entry) → AreGrants launch.grants → Legal launch history
-    → SeesByHeld (world launch history).state (ledger launch history) launch.grants
+    (launch : Launch) (history : List Entry) → MayBegin launch.tree launch.grants → Legal launch history
+    → SeesByHeld (world launch history).state (ledger launch history) launch.tree launch.grants
 
 -- ---- all of it, at each point of a history
 
@@ -156,8 +156,8 @@ SightIsRecorded =
 -- a call may read is reached by it
 pub record IsRecordedAt (launch : Launch) (front : List Entry) : Type 0 where
   pub tells : Tells (world launch front).state (ledger launch front)
-  pub granted : AllComeFromGrants launch.grants (ledger launch front)
-  pub sees : SeesByHeld (world launch front).state (ledger launch front) launch.grants
+  pub granted : AllComeFromGrants launch.tree launch.grants (ledger launch front)
+  pub sees : SeesByHeld (world launch front).state (ledger launch front) launch.tree launch.grants
 
 -- so it is at each point of the history
 abbrev pub IsRecorded : Launch → List Entry → Type 0
@@ -165,4 +165,4 @@ IsRecorded launch history = (front rest : List Entry) → history ≡ front ++ r
 
 -- A legal history of a launch with proper grants is recorded.
 abbrev pub LegalIsRecorded : Type 0
-LegalIsRecorded = (launch : Launch) (history : List Entry) → Legal launch history → AreGrants launch.grants → IsRecorded launch history
+LegalIsRecorded = (launch : Launch) (history : List Entry) → Legal launch history → MayBegin launch.tree launch.grants → IsRecorded launch history

@@ -12,6 +12,7 @@ use Rattle.abi_types.specs.declared.reply.Reply.{Reply}
 use Rattle.abi_types.specs.declared.descriptor.Descriptor.{Descriptor}
 use Rattle.kernel_model.specs.DescriptorCalls.{lowered_to}
 use Rattle.kernel_model.specs.Start.{granted_descriptor}
+use Rattle.kernel_model.specs.State.{Tree}
 
 -- what one process holds: the descriptor under each number, where there is one
 abbrev pub Row : Type 0
@@ -35,12 +36,12 @@ with_row l p row = record l { held = λ q. if q == p then row else l.held q }
 -- ---- the start
 
 -- what a launch gives: the n-th grant under number n
-abbrev pub launch_row : List Grant → Row
-launch_row grants n = option_map (granted_descriptor n) (slice_get grants n)
+abbrev pub launch_row : Tree → List Grant → Row
+launch_row tree grants n = option_map (granted_descriptor tree n) (slice_get grants n)
 
 -- process 0 holds that, and no other process holds anything
-abbrev pub launch_ledger : List Grant → Ledger
-launch_ledger grants = with_row (record { held = λ p. no_row }) 0 (launch_row grants)
+abbrev pub launch_ledger : Tree → List Grant → Ledger
+launch_ledger tree grants = with_row (record { held = λ p. no_row }) 0 (launch_row tree grants)
 
 -- ---- calls
 

@@ -5,6 +5,7 @@ use Rattle.abi_base.specs.Rights.{Has}
 use Rattle.abi_structures.specs.declared.structures.FdStat.{FdStat}
 use Rattle.abi_types.specs.declared.descriptor.Descriptor.{Descriptor}
 use Rattle.kernel_model.specs.Start.{granted_descriptor}
+use Rattle.kernel_model.specs.State.{Tree}
 use Rattle.authority_laws.specs.Ledger.{Row, no_row, with_held, Ledger}
 
 -- each of the rights is among the others
@@ -28,15 +29,15 @@ abbrev pub ComesFrom : Ledger → Ledger → Type 0
 ComesFrom before after = (p n : ℕ) (d : Descriptor) → after.held p n ≡ Some d → Origin before p d
 
 -- the descriptor is no more than what one of the grants gave
-pub record ComesFromGrant (grants : List Grant) (d : Descriptor) : Type 0 where
+pub record ComesFromGrant (tree : Tree) (grants : List Grant) (d : Descriptor) : Type 0 where
   pub number : ℕ
   pub grant : Grant
   pub listed : slice_get grants number ≡ Some grant
-  pub no_more : IsNoMoreThan d (granted_descriptor number grant)
+  pub no_more : IsNoMoreThan d (granted_descriptor tree number grant)
 
 -- each descriptor that the ledger says is held is so, whichever process holds it, and under whatever number
-abbrev pub AllComeFromGrants : List Grant → Ledger → Type 0
-AllComeFromGrants grants l = (p n : ℕ) (d : Descriptor) → l.held p n ≡ Some d → ComesFromGrant grants d
+abbrev pub AllComeFromGrants : Tree → List Grant → Ledger → Type 0
+AllComeFromGrants tree grants l = (p n : ℕ) (d : Descriptor) → l.held p n ≡ Some d → ComesFromGrant tree grants d
 
 -- ---- how what a process holds may change
 

@@ -1,5 +1,5 @@
 //! Slots by the numbers of their nodes.
-ghost use Rattle.std.specs.Prelude.{◌≡◌, None, IsSome, OnOk, OnErr, is_some, option_copied};
+ghost use Rattle.std.specs.Prelude.{◌≡◌, ◌<◌, ◌^◌, None, IsSome, OnOk, OnErr, is_some, option_copied};
 ghost use Rattle.std.specs.FinMap as map;
 ghost use Rattle.std.specs.Borrow.{sem};
 ghost use Rattle.file_tree.specs.Lending.{LendsSlot};
@@ -46,6 +46,14 @@ impl Slots {
             slab: Slab::new(alloc),
             keys: NumMap::new(alloc),
         }
+    }
+
+    /// How many slots there are.
+    pub fn len(&self) -> usize
+        ensures len { result ≡ map.len self.now }
+        ensures small { result < 2 ^ 63 }
+    {
+        self.keys.len()
     }
 
     /// The slot of this number, where there is one.

@@ -1,5 +1,5 @@
 //! The tree and what is read of it.
-ghost use Rattle.std.specs.Prelude.{◌≡◌, ℕ, List, true, IfOk, IfSome, IfNone, option_copied, option_map, drop};
+ghost use Rattle.std.specs.Prelude.{◌≡◌, ◌<◌, ◌^◌, ℕ, List, true, IfOk, IfSome, IfNone, option_copied, option_map, drop};
 ghost use Rattle.std.specs.List.{slice_get};
 ghost use Rattle.std.specs.FinMap as map;
 ghost use Rattle.tree_model.specs.Tree.{HasName, IsTree, entry_of, is_directory, names_of};
@@ -59,6 +59,14 @@ impl Tree {
             nameless: NumMap::new(alloc),
             alloc,
         })
+    }
+
+    /// How many nodes there are.
+    pub fn len(&self) -> u64
+        ensures nodes { result ≡ map.len self.now.nodes }
+        ensures small { result < 2 ^ 63 }
+    {
+        self.slots.len() as u64
     }
 
     /// The node of this number, where there is one.

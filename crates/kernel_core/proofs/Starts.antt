@@ -15,8 +15,8 @@ use Rattle.kernel_model.proofs.Tests.{none_is_no}
 use Rattle.kernel_core.specs.Start.{granted_objects}
 use Rattle.kernel_core.proofs.Kept.{AreSmall, small_set}
 use Rattle.kernel_model.specs.Release.{names_open, count_in, holders}
-use Rattle.abi_base.specs.Grants.{AreGrants}
-use Rattle.kernel_model.specs.Start.{IsStartTree, launch_object, numbered, granted_descriptor, granted_open, granted_table, start_state}
+use Rattle.tree_model.specs.Grants.{AreGrants, MayBegin}
+use Rattle.kernel_model.specs.Start.{first_open, numbered, granted_descriptor, granted_open, granted_table, start_state}
 use Rattle.kernel_model.specs.State.{State, Table, Tree}
 use Rattle.kernel_model.specs.Valid.{IsValid}
 use Rattle.kernel_model.proofs.Starts.{find_below, find_above, from_numbered-push, start_valid}
@@ -38,99 +38,99 @@ held_once before added after o kind is then =
     ∙ (λ i. record { kinds = insert before.kinds o kind; counts = once i })
 
 -- the next grant's open is not there yet
-pub next_free : (grants : List Grant) (n : ℕ) → n ≡ length grants → get (granted_objects grants).kinds (launch_object (5 + n)) ≡ None
-next_free grants n e =
-    get-from_entries nat_cmp_total _ (launch_object (5 + n)) ∙ find_above granted_open (launch_object 5) grants (launch_object (5 + n)) (omega (arith, e))
+pub next_free : (tree : Tree) (grants : List Grant) (n : ℕ) → n ≡ length grants → get (granted_objects tree grants).kinds (first_open tree + n) ≡ None
+next_free tree grants n e =
+    get-from_entries nat_cmp_total _ (first_open tree + n) ∙ find_above (granted_open tree) (first_open tree) grants (first_open tree + n) (omega (arith, e))
 
-pub table-push : (grants : List Grant) (grant : Grant) (n : ℕ) → n ≡ length grants
-    → granted_table (grants ++ grant ∷ []) ≡ insert (granted_table grants) n (granted_descriptor n grant)
-table-push grants grant n e = from_numbered-push granted_descriptor 0 grants grant n (omega (arith, e))
+pub table-push : (tree : Tree) (grants : List Grant) (grant : Grant) (n : ℕ) → n ≡ length grants
+    → granted_table tree (grants ++ grant ∷ []) ≡ insert (granted_table tree grants) n (granted_descriptor tree n grant)
+table-push tree grants grant n e = from_numbered-push (granted_descriptor tree) 0 grants grant n (omega (arith, e))
 
-pub objects-push : (grants : List Grant) (grant : Grant) (n : ℕ) → n ≡ length grants
-    → granted_objects (grants ++ grant ∷ []) ≡ record {
-      kinds = insert (granted_objects grants).kinds (launch_object (5 + n)) (granted_open n grant);
-      counts = insert (granted_objects grants).counts (launch_object (5 + n)) 1;
+pub objects-push : (tree : Tree) (grants : List Grant) (grant : Grant) (n : ℕ) → n ≡ length grants
+    → granted_objects tree (grants ++ grant ∷ []) ≡ record {
+      kinds = insert (granted_objects tree grants).kinds (first_open tree + n) (granted_open tree n grant);
+      counts = insert (granted_objects tree grants).counts (first_open tree + n) 1;
     }
-objects-push grants grant n e =
-    let place : launch_object (5 + n) ≡ launch_object 5 + length grants = omega (arith, e) in
-    let kinds = from_numbered-push granted_open (launch_object 5) grants grant (launch_object (5 + n)) place in
-    let counts = from_numbered-push (λ (_ : ℕ) (_ : Grant). 1) (launch_object 5) grants grant (launch_object (5 + n)) place in
+objects-push tree grants grant n e =
+    let place : first_open tree + n ≡ first_open tree + length grants = omega (arith, e) in
+    let kinds = from_numbered-push (granted_open tree) (first_open tree) grants grant (first_open tree + n) place in
+    let counts = from_numbered-push (λ (_ : ℕ) (_ : Grant). 1) (first_open tree) grants grant (first_open tree + n) place in
     λ i. record { kinds = kinds i; counts = counts i }
 
 -- one grant more of a list
-pub table_next : (grants : List Grant) (i : ℕ) (d : Grant) (before after : Table) → i < length grants → before ≡ granted_table (take i grants)
-    → after ≡ insert before i (granted_descriptor i (get_or grants i d)) → after ≡ granted_table (take (i + 1) grants)
-table_next grants i d before after within so_far then =
+pub table_next : (tree : Tree) (grants : List Grant) (i : ℕ) (d : Grant) (before after : Table) → i < length grants → before ≡ granted_table tree (take i grants)
+    → after ≡ insert before i (granted_descriptor tree i (get_or grants i d)) → after ≡ granted_table tree (take (i + 1) grants)
+table_next tree grants i d before after within so_far then =
     then
-    ∙ ap (λ (t : Table). insert t i (granted_descriptor i (get_or grants i d))) so_far
-    ∙ sym (ap granted_table (take_more grants i d within) ∙ table-push (take i grants) (get_or grants i d) i (sym (length-take-le i grants (omega (arith, within)))))
+    ∙ ap (λ (t : Table). insert t i (granted_descriptor tree i (get_or grants i d))) so_far
+    ∙ sym (ap (granted_table tree) (take_more grants i d within) ∙ table-push tree (take i grants) (get_or grants i d) i (sym (length-take-le i grants (omega (arith, within)))))
 
-pub objects_next : (grants : List Grant) (i : ℕ) (d : Grant) (before after : Held) → i < length grants → before ≡ granted_objects (take i grants)
+pub objects_next : (tree : Tree) (grants : List Grant) (i : ℕ) (d : Grant) (before after : Held) → i < length grants → before ≡ granted_objects tree (take i grants)
     → after ≡ record {
-      kinds = insert before.kinds (launch_object (5 + i)) (granted_open i (get_or grants i d));
-      counts = insert before.counts (launch_object (5 + i)) 1;
+      kinds = insert before.kinds (first_open tree + i) (granted_open tree i (get_or grants i d));
+      counts = insert before.counts (first_open tree + i) 1;
     }
-    → after ≡ granted_objects (take (i + 1) grants)
-objects_next grants i d before after within so_far then =
+    → after ≡ granted_objects tree (take (i + 1) grants)
+objects_next tree grants i d before after within so_far then =
     then
-    ∙ ap (λ (h : Held). record { kinds = insert h.kinds (launch_object (5 + i)) (granted_open i (get_or grants i d)); counts = insert h.counts (launch_object (5 + i)) 1 }) so_far
-    ∙ sym (ap granted_objects (take_more grants i d within) ∙ objects-push (take i grants) (get_or grants i d) i (sym (length-take-le i grants (omega (arith, within)))))
+    ∙ ap (λ (h : Held). record { kinds = insert h.kinds (first_open tree + i) (granted_open tree i (get_or grants i d)); counts = insert h.counts (first_open tree + i) 1 }) so_far
+    ∙ sym (ap (granted_objects tree) (take_more grants i d within) ∙ objects-push tree (take i grants) (get_or grants i d) i (sym (length-take-le i grants (omega (arith, within)))))
 
 -- each open's count is how many descriptors name it
-numbered_counts : (grants : List Grant) (n m o : ℕ) → m ≡ launch_object (5 + n)
-    → number (get (from_entries {R = nat_cmp} (numbered (λ _ _. 1) m grants)) o) ≡ count_in o (from_entries (numbered granted_descriptor n grants))
-numbered_counts [] n m o e = ap number (get-empty nat_cmp o) ∙ sym (total-empty (names_open o))
-numbered_counts (grant ∷ grants) n m o e =
+numbered_counts : (tree : Tree) (grants : List Grant) (n m o : ℕ) → m ≡ first_open tree + n
+    → number (get (from_entries {R = nat_cmp} (numbered (λ _ _. 1) m grants)) o) ≡ count_in o (from_entries (numbered (granted_descriptor tree) n grants))
+numbered_counts tree [] n m o e = ap number (get-empty nat_cmp o) ∙ sym (total-empty (names_open o))
+numbered_counts tree (grant ∷ grants) n m o e =
     let counts : FinMap nat_cmp ℕ = from_entries (numbered (λ _ _. 1) (m + 1) grants) in
-    let table : Table = from_entries (numbered granted_descriptor (n + 1) grants) in
-    let rest : number (get counts o) ≡ count_in o table = numbered_counts grants (n + 1) (m + 1) o (omega (arith, e)) in
-    let sums = total-insert_new (names_open o) table n (granted_descriptor n grant)
-    (get-from_entries nat_cmp_total _ n ∙ find_below granted_descriptor (n + 1) grants n (omega arith)) in
-    elim (eqb_tells (launch_object (5 + n)) o) [
+    let table : Table = from_entries (numbered (granted_descriptor tree) (n + 1) grants) in
+    let rest : number (get counts o) ≡ count_in o table = numbered_counts tree grants (n + 1) (m + 1) o (omega (arith, e)) in
+    let sums = total-insert_new (names_open o) table n (granted_descriptor tree n grant)
+    (get-from_entries nat_cmp_total _ n ∙ find_below (granted_descriptor tree) (n + 1) grants n (omega arith)) in
+    elim (eqb_tells (first_open tree + n) o) [
       | inl is ↦
           let own : o ≡ m = omega (arith, is.1, e) in
-          let one : names_open o (granted_descriptor n grant) ≡ 1 = ap (λ b. cond b 1 0) is.0 in
+          let one : names_open o (granted_descriptor tree n grant) ≡ 1 = ap (λ b. cond b 1 0) is.0 in
           let here : number (get (insert counts m 1) o) ≡ 1 = ap (λ j. number (get (insert counts m 1) j)) own ∙ ap number (get-insert-same counts m 1) in
           let before : number (get counts o) ≡ 0 = ap (λ j. number (get counts j)) own
           ∙ ap number (get-from_entries nat_cmp_total _ m ∙ find_below (λ (_ : ℕ) (_ : Grant). 1) (m + 1) grants m (omega arith)) in
           omega (arith, rest, sums, one, here, before)
       | inr other ↦
           let apart : launch_object (5 + n) ≢ o = other.1 in
-          let none : names_open o (granted_descriptor n grant) ≡ 0 = ap (λ b. cond b 1 0) other.0 in
+          let none : names_open o (granted_descriptor tree n grant) ≡ 0 = ap (λ b. cond b 1 0) other.0 in
           let here : number (get (insert counts m 1) o) ≡ number (get counts o) =
           ap number (get-insert-other counts m 1 o (λ same. apart (omega (arith, same, e)))) in
           omega (arith, rest, sums, none, here)
     ]
 
-pub start_counted : (tree : Tree) (grants : List Grant) (stdin : List ℕ) (o : ℕ) → number (get (granted_objects grants).counts o) ≡ holders (start_state tree grants stdin) o
+pub start_counted : (tree : Tree) (grants : List Grant) (stdin : List ℕ) (o : ℕ) → number (get (granted_objects tree grants).counts o) ≡ holders (start_state tree grants stdin) o
 start_counted tree grants stdin o =
-    let counts = numbered_counts grants 0 (launch_object 5) o refl in
+    let counts = numbered_counts tree grants 0 (first_open tree) o refl in
     let bare : total (count_in o) (empty {X = Table} {R = nat_cmp}) ≡ 0 = total-empty (count_in o) in
-    let sums = total-insert_new (count_in o) empty 0 (granted_table grants) (get-empty nat_cmp 0) in
+    let sums = total-insert_new (count_in o) empty 0 (granted_table tree grants) (get-empty nat_cmp 0) in
     omega (arith, counts, bare, sums)
 
 -- the granted descriptors have numbers below their count
-granted_below : (grants : List Grant) (n k : ℕ) → IsSome (get (from_entries {R = nat_cmp} (numbered granted_descriptor n grants)) k) → k < n + length grants
-granted_below [] n k there = absurd (none_there (get empty k) (get-empty nat_cmp k) there)
-granted_below (grant ∷ grants) n k there =
+granted_below : (tree : Tree) (grants : List Grant) (n k : ℕ) → IsSome (get (from_entries {R = nat_cmp} (numbered (granted_descriptor tree) n grants)) k) → k < n + length grants
+granted_below tree [] n k there = absurd (none_there (get empty k) (get-empty nat_cmp k) there)
+granted_below tree (grant ∷ grants) n k there =
     elim (eqb_tells k n) [
       | inl is ↦ (let same = is.1 in omega (arith, same))
       | inr other ↦ (
-          let less = granted_below grants (n + 1) k (subst IsSome (get-insert-other _ n (granted_descriptor n grant) k other.1) there) in
+          let less = granted_below tree grants (n + 1) k (subst IsSome (get-insert-other _ n (granted_descriptor tree n grant) k other.1) there) in
           omega (arith, less))
     ]
 
-start_small : (grants : List Grant) → AreGrants grants → AreSmall (insert empty 0 (granted_table grants))
-start_small grants all =
-    small_set empty 0 (granted_table grants) (λ p table there. absurd (none_is_no table (sym (get-empty nat_cmp p) ∙ there)))
-    (λ k there. let less = granted_below grants 0 k there in omega (arith, less, all.0))
+start_small : (tree : Tree) (grants : List Grant) → AreGrants tree grants → AreSmall (insert empty 0 (granted_table tree grants))
+start_small tree grants all =
+    small_set empty 0 (granted_table tree grants) (λ p table there. absurd (none_is_no table (sym (get-empty nat_cmp p) ∙ there)))
+    (λ k there. let less = granted_below tree grants 0 k there in omega (arith, less, all.0))
 
-pub start_kept : (tree : Tree) (grants : List Grant) (stdin : List ℕ) (S : State) (counts : FinMap nat_cmp ℕ) → IsStartTree tree → AreGrants grants → S ≡ start_state tree grants stdin
-    → counts ≡ (granted_objects grants).counts → IsKept S counts
-start_kept tree grants stdin S counts begins all is counted = record {
-  valid = subst IsValid (sym is) (start_valid tree grants stdin begins all);
+pub start_kept : (tree : Tree) (grants : List Grant) (stdin : List ℕ) (S : State) (counts : FinMap nat_cmp ℕ) → MayBegin tree grants → S ≡ start_state tree grants stdin
+    → counts ≡ (granted_objects tree grants).counts → IsKept S counts
+start_kept tree grants stdin S counts begins is counted = record {
+  valid = subst IsValid (sym is) (start_valid tree grants stdin begins);
   counted = λ o. ap (λ (m : FinMap nat_cmp ℕ). number (get m o)) counted ∙ start_counted tree grants stdin o ∙ sym (ap (λ (T : State). holders T o) is);
-  small = subst (λ (T : State). AreSmall T.tables) (sym is) (start_small grants all);
+  small = subst (λ (T : State). AreSmall T.tables) (sym is) (start_small tree grants begins.grants);
   processes = subst (λ (T : State). KeysBelow (2 ^ 32) T.tables) (sym is)
-      (below-insert (2 ^ 32) empty 0 (granted_table grants) (below-empty Table (2 ^ 32)) (omega arith));
+      (below-insert (2 ^ 32) empty 0 (granted_table tree grants) (below-empty Table (2 ^ 32)) (omega arith));
 }

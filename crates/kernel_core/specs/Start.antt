@@ -3,11 +3,12 @@ use Rattle.std.specs.Prelude.{List}
 use Rattle.std.specs.FinMap.{from_entries}
 use Rattle.abi_base.specs.declared.grant.Grant.{Grant}
 use Rattle.object_store.specs.Objects.{Held}
-use Rattle.kernel_model.specs.Start.{launch_object, numbered, granted_open}
+use Rattle.kernel_model.specs.Start.{first_open, numbered, granted_open}
+use Rattle.tree_model.specs.Tree.{Tree}
 
 -- the opens of the granted descriptors, each held once
-abbrev pub granted_objects : List Grant → Held
-granted_objects grants = record {
-  kinds = from_entries (numbered granted_open (launch_object 5) grants);
-  counts = from_entries (numbered (λ _ _. 1) (launch_object 5) grants);
+abbrev pub granted_objects : Tree → List Grant → Held
+granted_objects tree grants = record {
+  kinds = from_entries (numbered (granted_open tree) (first_open tree) grants);
+  counts = from_entries (numbered (λ _ _. 1) (first_open tree) grants);
 }

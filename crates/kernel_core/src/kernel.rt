@@ -10,9 +10,9 @@ ghost use Rattle.kernel_model.specs.Need.{missing};
 ghost use Rattle.kernel_model.specs.ProcessCalls.{end_updates};
 ghost use Rattle.kernel_model.specs.Release.{release, is_released};
 ghost use Rattle.kernel_model.specs.Reply.{denied};
-ghost use Rattle.abi_base.specs.Grants.{AreGrants};
+ghost use Rattle.tree_model.specs.Grants.{MayBegin};
 ghost use Rattle.kernel_model.specs.Sight.{own_parts};
-ghost use Rattle.kernel_model.specs.Start.{first_tree, start_state};
+ghost use Rattle.kernel_model.specs.Start.{start_state};
 ghost use Rattle.kernel_model.specs.State.{put_all, Table, Part, has_part, Agree, thread_of, written_to};
 ghost use Rattle.kernel_model.specs.Step.{act, failed, MayLackMemory, IsStep, IsUntouched, end_unreleased, end_state};
 ghost use Rattle.kernel_model.specs.DescriptorCalls.{stat_get, stat_of, type_number, flags_of};
@@ -164,27 +164,20 @@ fn is_live(status: &Status) -> bool
 
 impl Kernel {
     /// The state that a launch starts from: process 0 is live with thread 1 and the granted descriptors, numbered from 0,
-    /// the file tree is the root alone, standard input has the launch's bytes, and nothing was written yet. `Err` where
-    /// memory is wanting.
+    /// file tree and standard input are the launch's, and nothing was written yet. `Err` where memory is wanting.
     pub fn start(alloc: Global, launch: &Launch) -> Result<Kernel, AllocError>
-        requires { AreGrants launch.now.grants }
-        ensures state { IfOk result (λ kernel. kernel ≡ start_state (first_tree launch.now.constants) launch.now.grants launch.now.stdin) }
+        requires { MayBegin launch.now.tree launch.now.grants }
+        ensures state { IfOk result (λ kernel. kernel ≡ start_state launch.now.tree launch.now.grants launch.now.stdin) }
         ensures valid { IfOk result IsValid }
     {
-        let (table, objects) = granted(alloc, launch.grants.as_slice())?;
-        let begun = launch.constants.epoch;
-        let times = Times {
-            atim: begun,
-            mtim: begun,
-            ctim: begun,
-        };
+        let (table, objects) = granted(alloc, &launch.tree, launch.grants.as_slice())?;
         Ok(Kernel {
             clock: 0,
             tables: single(alloc, 0, table)?,
             own: single(alloc, 0, Own::first(alloc)?)?,
             statuses: single(alloc, 0, Status::Live)?,
             objects,
-            tree: Tree::new(alloc, times)?,
+            tree: launch.tree.copy()?,
             terms: streams(alloc, &launch.stdin)?,
             alloc,
         })

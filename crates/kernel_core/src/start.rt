@@ -1,13 +1,14 @@
 //! What a launched process starts with: its descriptors and their opens.
-ghost use Rattle.std.specs.Prelude.{◌≡◌, ◌+◌, ◌^◌, ◌<◌, ◌≤◌, [], length, IfOk, OnOk, None};
+ghost use Rattle.std.specs.Prelude.{◌≡◌, ◌+◌, ◌^◌, ◌<◌, ◌≤◌, [], length, IfOk, OnOk, None, option_copied};
 ghost use Rattle.std.specs.FinMap as map;
-ghost use Rattle.kernel_model.specs.Start.{launch_object, open_of, granted_descriptor, granted_open, granted_table, unwritten};
+ghost use Rattle.kernel_model.specs.Start.{launch_object, first_open, open_of, open_of_node, granted_descriptor, granted_open, granted_table, unwritten};
 ghost use Rattle.kernel_core.specs.Start.{granted_objects};
 
 use crate::terminal::Terminal;
 use abi_base::MOST_DESCRIPTORS;
-use abi_types::{Bytes, Descriptor, Grant, GrantTarget, ObjId, OpenKind, TryClone};
+use abi_types::{Bytes, Descriptor, Grant, GrantTarget, NodeKind, ObjId, OpenKind, TryClone};
 use fd_table::FdTable;
+use file_tree::Tree;
 use number_map::NumMap;
 use object_store::Objects;
 use std::alloc::{AllocError, Global};
@@ -15,9 +16,9 @@ use std::alloc::{AllocError, Global};
 // The process number that stands in the numbers of the objects that the launch makes.
 const LAUNCH_PROCESS: u64 = 0xffff_ffff;
 
-// The count of the first grant's open among the launch's objects: 1 to 3 are the standard streams, 4 is the root of
-// the file tree, and from 5 on come the opens of the granted descriptors.
-const FIRST_GRANT: u64 = 5;
+// The count of the tree's root among the launch's objects: 1 to 3 are the standard streams, and behind the root come the
+// tree's other nodes, and then the opens of the granted descriptors.
+const ROOT_COUNT: u64 = 4;
 
 /// The number of the launch's object with this count.
 pub fn launch_object(count: u64) -> ObjId
@@ -46,12 +47,27 @@ pub fn streams(alloc: Global, stdin: &Bytes) -> Result<NumMap<Terminal>, AllocEr
     Ok(made)
 }
 
+// What a node is opened as.
+fn open_of_node(tree: &Tree, id: ObjId) -> OpenKind
+    ensures { result ≡ open_of_node id (map.get tree.now.nodes id) }
+{
+    match tree.node(id) {
+        Some(node) if matches!(node.kind, NodeKind::Directory) => OpenKind::Directory { node: id, flags: 0 },
+        _ => OpenKind::File {
+            node: id,
+            offset: 0,
+            flags: 0,
+        },
+    }
+}
+
 // What a grant opens.
-fn open_of(target: GrantTarget) -> OpenKind
-    ensures { result ≡ open_of target }
+fn open_of(tree: &Tree, target: GrantTarget) -> OpenKind
+    ensures { result ≡ open_of tree.now target }
 {
     match target {
         GrantTarget::Terminal(which) => OpenKind::Terminal { which, flags: 0 },
+        GrantTarget::Node(id) => open_of_node(tree, id),
     }
 }
 
@@ -59,19 +75,21 @@ fn open_of(target: GrantTarget) -> OpenKind
 fn put_grant(
     table: &mut FdTable,
     objects: &mut Objects,
+    tree: &Tree,
     number: u64,
     grant: &Grant,
 ) -> Result<(), AllocError>
     requires few { number < MOST_DESCRIPTORS }
-    requires free { map.get objects.old.kinds (launch_object (5 + number)) ≡ None }
-    ensures table { OnOk result (table.new ≡ map.insert table.old number (granted_descriptor number grant.now)) }
+    requires nodes { map.len tree.now.nodes ≤ 2 ^ 31 }
+    requires free { map.get objects.old.kinds (first_open tree.now + number) ≡ None }
+    ensures table { OnOk result (table.new ≡ map.insert table.old number (granted_descriptor tree.now number grant.now)) }
     ensures objects { OnOk result (objects.new ≡ record {
-      kinds = map.insert objects.old.kinds (launch_object (5 + number)) (granted_open number grant.now);
-      counts = map.insert objects.old.counts (launch_object (5 + number)) 1;
+      kinds = map.insert objects.old.kinds (first_open tree.now + number) (granted_open tree.now number grant.now);
+      counts = map.insert objects.old.counts (first_open tree.now + number) 1;
     }) }
 {
-    let id = launch_object(FIRST_GRANT + number);
-    objects.add(id, open_of(grant.target))?;
+    let id = launch_object(ROOT_COUNT + tree.len() + number);
+    objects.add(id, open_of(tree, grant.target))?;
     objects.hold(id);
     let descriptor = Descriptor {
         id,
@@ -83,14 +101,15 @@ fn put_grant(
 }
 
 /// The table of the granted descriptors, and their opens, each held once.
-pub fn granted(alloc: Global, grants: &[Grant]) -> Result<(FdTable, Objects), AllocError>
-    requires { length grants.now ≤ MOST_DESCRIPTORS }
-    ensures { IfOk result (λ made. (made.0 ≡ granted_table grants.now) × (made.1 ≡ granted_objects grants.now)) }
+pub fn granted(alloc: Global, tree: &Tree, grants: &[Grant]) -> Result<(FdTable, Objects), AllocError>
+    requires nodes { map.len tree.now.nodes ≤ 2 ^ 31 }
+    requires few { length grants.now ≤ MOST_DESCRIPTORS }
+    ensures { IfOk result (λ made. (made.0 ≡ granted_table tree.now grants.now) × (made.1 ≡ granted_objects tree.now grants.now)) }
 {
     let mut table = FdTable::new(alloc);
     let mut objects = Objects::new(alloc);
     for (number, grant) in grants.iter().enumerate() {
-        put_grant(&mut table, &mut objects, number as u64, grant)?;
+        put_grant(&mut table, &mut objects, tree, number as u64, grant)?;
     }
     Ok((table, objects))
 }

@@ -4,7 +4,7 @@ use Rattle.std.specs.Ordering.{nat_cmp}
 use Rattle.std.specs.FinMap.{FinMap, empty, get, insert}
 use Rattle.run_types.specs.declared.history.Entry.{Entry}
 use Rattle.run_types.specs.declared.launch.Launch.{Launch}
-use Rattle.kernel_model.specs.Start.{first_tree, start_state}
+use Rattle.kernel_model.specs.Start.{start_state}
 use Rattle.kernel_model.specs.State.{State}
 use Rattle.number_map.specs.Maps.{get-insert-same, insert-again}
 use Rattle.run_model.specs.Legal.{Legal, AreWhole, IsRunnable}
@@ -26,7 +26,7 @@ unfolding start_world
 first_guests launch = ap (insert (insert empty 0 (first_guest launch)) 0) (first_guest_is launch) ∙ insert-again empty 0 _ _
 
 pub begins : (launch : Launch) (kernel : State) (guests : FinMap nat_cmp Guest) (turns : List ℕ) (history : List Entry) → IsBounded launch
-    → kernel ≡ start_state (first_tree launch.constants) launch.grants launch.stdin → guests ≡ insert empty 0 (first_guest launch) → turns ≡ [] → history ≡ []
+    → kernel ≡ start_state launch.tree launch.grants launch.stdin → guests ≡ insert empty 0 (first_guest launch) → turns ≡ [] → history ≡ []
     → IsBetween (begun launch kernel guests turns history)
 begins launch kernel guests turns history bounded state first none fresh =
     let there : world launch history ≡ start_world launch = ap (world launch) fresh ∙ world_none launch in

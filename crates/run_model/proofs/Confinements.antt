@@ -17,7 +17,7 @@ use Rattle.kernel_model.specs.Calls.{takes_memory}
 use Rattle.kernel_model.specs.Laws.{HasSameSight, EndsAlike, IsNotDeniedEarly}
 use Rattle.kernel_model.specs.Outcome.{Outcome}
 use Rattle.kernel_model.specs.Reply.{refused}
-use Rattle.abi_base.specs.Grants.{AreGrants}
+use Rattle.tree_model.specs.Grants.{MayBegin}
 use Rattle.kernel_model.specs.State.{State, AgreeOn}
 use Rattle.kernel_model.specs.Step.{tick, sight, unreleased, step_answer, step_state, failed, IsStep}
 use Rattle.kernel_model.specs.Valid.{IsValid}
@@ -100,10 +100,10 @@ entry_confined w e valid fits =
     subst (λ (v : World). ActIsConfined w.constants w.state (who_of e) e.act v.state) (sym (apply_is w e))
     (act_confined (turned w e.pid e.turns) (who_of e) (guest_of w e.pid) e.turns e.act valid fits.act)
 
-legal_entry : (launch : Launch) (front : List Entry) (e : Entry) (rest : List Entry) → AreGrants launch.grants → Legal launch (front ++ e ∷ rest)
+legal_entry : (launch : Launch) (front : List Entry) (e : Entry) (rest : List Entry) → MayBegin launch.tree launch.grants → Legal launch (front ++ e ∷ rest)
     → EntryIsConfined (world launch front) e
 legal_entry launch front e rest grants legal =
     entry_confined (world launch front) e (world_is_valid launch front grants (legal_front launch front (e ∷ rest) legal)) (legal_next launch front e rest legal)
 
-pub legal_is_confined : (launch : Launch) (history : List Entry) → Legal launch history → AreGrants launch.grants → IsConfined launch history
+pub legal_is_confined : (launch : Launch) (history : List Entry) → Legal launch history → MayBegin launch.tree launch.grants → IsConfined launch history
 legal_is_confined launch history legal grants front e rest splits = legal_entry launch front e rest grants (subst (Legal launch) splits legal)

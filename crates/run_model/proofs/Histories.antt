@@ -14,7 +14,7 @@ use Rattle.run_types.specs.declared.history.Act.{Act}
 use Rattle.run_types.specs.declared.history.Act.TheVariants as act
 use Rattle.run_types.specs.declared.history.Entry.{Entry}
 use Rattle.run_types.specs.declared.launch.Launch.{Launch}
-use Rattle.kernel_model.specs.Start.{first_own, first_tree, start_state}
+use Rattle.kernel_model.specs.Start.{first_own, start_state}
 use Rattle.kernel_model.specs.State.{State, Own, threads_of, thread_in}
 use Rattle.number_map.specs.Maps.{get-insert-same}
 use Rattle.rv_interp.specs.declared.turns.TurnEnd.TheVariants.{Quantum}
@@ -128,7 +128,7 @@ pub first_guest_is : (launch : Launch) → guest_of (start_world launch) 0 ≡ f
 unfolding start_world
 first_guest_is launch = ap or_no_guest (get-insert-same empty 0 (first_guest launch))
 
-pub first_state : (launch : Launch) → (start_world launch).state ≡ start_state (first_tree launch.constants) launch.grants launch.stdin
+pub first_state : (launch : Launch) → (start_world launch).state ≡ start_state launch.tree launch.grants launch.stdin
 unfolding start_world
 first_state launch = refl
 

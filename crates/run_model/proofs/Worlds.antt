@@ -7,11 +7,10 @@ use Rattle.run_types.specs.declared.history.Act.{Act}
 use Rattle.run_types.specs.declared.history.Act.TheVariants as act
 use Rattle.run_types.specs.declared.history.Entry.{Entry}
 use Rattle.run_types.specs.declared.launch.Launch.{Launch}
-use Rattle.abi_base.specs.Grants.{AreGrants}
+use Rattle.tree_model.specs.Grants.{MayBegin}
 use Rattle.kernel_model.specs.State.{State}
 use Rattle.kernel_model.specs.Valid.{IsValid}
-use Rattle.kernel_model.specs.Start.{first_tree}
-use Rattle.kernel_model.proofs.Starts.{first_tree_is, start_valid}
+use Rattle.kernel_model.proofs.Starts.{start_valid}
 use Rattle.kernel_model.proofs.Steps.{step_keeps_valid, end_valid, step_moves_only, end_ends_only}
 use Rattle.number_map.specs.Maps.{get-insert-other}
 use Rattle.run_model.specs.Legal.{FitsAct, Fits, FollowsFrom, Legal}
@@ -43,9 +42,9 @@ legal_valid : (launch : Launch) (history : List Entry) → IsValid (start_world 
 unfolding Legal world
 legal_valid launch history start legal = follows_valid (start_world launch) history legal start
 
-pub world_is_valid : (launch : Launch) (history : List Entry) → AreGrants launch.grants → Legal launch history → IsValid (world launch history).state
-world_is_valid launch history grants legal =
-    legal_valid launch history (subst IsValid (sym (first_state launch)) (start_valid (first_tree launch.constants) launch.grants launch.stdin (first_tree_is launch.constants) grants)) legal
+pub world_is_valid : (launch : Launch) (history : List Entry) → MayBegin launch.tree launch.grants → Legal launch history → IsValid (world launch history).state
+world_is_valid launch history begins legal =
+    legal_valid launch history (subst IsValid (sym (first_state launch)) (start_valid launch.tree launch.grants launch.stdin begins)) legal
 
 -- ---- the clock
 

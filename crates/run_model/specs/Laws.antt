@@ -8,7 +8,7 @@ use Rattle.run_types.specs.declared.history.Act.{Act}
 use Rattle.run_types.specs.declared.history.Act.TheVariants as act
 use Rattle.run_types.specs.declared.history.Entry.{Entry}
 use Rattle.run_types.specs.declared.launch.Launch.{Launch}
-use Rattle.abi_base.specs.Grants.{AreGrants}
+use Rattle.tree_model.specs.Grants.{MayBegin}
 use Rattle.kernel_model.specs.Calls.{errors_of}
 use Rattle.kernel_model.specs.Valid.{IsValid}
 use Rattle.guest_memory.specs.Page.{Pages}
@@ -50,7 +50,7 @@ EntryIsOne =
 
 -- A legal history of a launch with proper grants is confined.
 abbrev pub LegalIsConfined : Type 0
-LegalIsConfined = (launch : Launch) (history : List Entry) → Legal launch history → AreGrants launch.grants → IsConfined launch history
+LegalIsConfined = (launch : Launch) (history : List Entry) → Legal launch history → MayBegin launch.tree launch.grants → IsConfined launch history
 
 -- ---- calls
 
@@ -63,7 +63,7 @@ SpelledIsPlain =
 
 -- The kernel's state of each legal history is valid, if the launch's grants are proper.
 abbrev pub WorldIsValid : Type 0
-WorldIsValid = (launch : Launch) (history : List Entry) → AreGrants launch.grants → Legal launch history → IsValid (world launch history).state
+WorldIsValid = (launch : Launch) (history : List Entry) → MayBegin launch.tree launch.grants → Legal launch history → IsValid (world launch history).state
 
 -- The clock of a legal history is at 1000 nanoseconds for each entry.
 abbrev pub ClockCounts : Type 0

@@ -17,7 +17,7 @@ use Rattle.run_types.specs.declared.history.Act.{Act}
 use Rattle.run_types.specs.declared.history.Act.TheVariants as act
 use Rattle.run_types.specs.declared.history.Entry.{Entry}
 use Rattle.run_types.specs.declared.launch.Launch.{Launch}
-use Rattle.kernel_model.specs.Start.{first_tree, start_state}
+use Rattle.kernel_model.specs.Start.{start_state}
 use Rattle.kernel_model.specs.State.{State}
 use Rattle.kernel_model.specs.Step.{failed, step_state, end_state}
 use Rattle.rv_interp.specs.declared.turns.TurnEnd.{TurnEnd}
@@ -48,7 +48,7 @@ first_guest launch = record {
 
 -- the world that a launch starts from: process 0 with thread 1
 unfoldable pub start_world : Launch → World
-start_world launch = record { constants = launch.constants; state = start_state (first_tree launch.constants) launch.grants launch.stdin; guests = insert empty 0 (first_guest launch) }
+start_world launch = record { constants = launch.constants; state = start_state launch.tree launch.grants launch.stdin; guests = insert empty 0 (first_guest launch) }
 
 -- ---- a guest of a world, and its registers; what isn't there is empty
 

@@ -2,6 +2,7 @@
 use abi_base::GrantList;
 use abi_types::Constants;
 use elf_image::Elf;
+use file_tree::Tree;
 use lists::{Bytes, TryClone};
 use std::alloc::AllocError;
 
@@ -14,6 +15,8 @@ pub struct Launch {
     pub argdata: Bytes,
     /// The descriptors that it is given.
     pub grants: GrantList,
+    /// The file tree at the start.
+    pub tree: Tree,
     /// What it can read from the terminal `stdin`.
     pub stdin: Bytes,
     /// The key of its random bytes, and the time at which it begins.
@@ -28,6 +31,7 @@ impl TryClone for Launch {
             elf: self.elf.copy()?,
             argdata: self.argdata.copy()?,
             grants: self.grants.copy()?,
+            tree: self.tree.copy()?,
             stdin: self.stdin.copy()?,
             constants: self.constants,
             turns: self.turns,

@@ -2,18 +2,18 @@ use Rattle.std.proofs.Common.{◌+◌, ap, sym, ◌∙◌, take}
 use Rattle.std.proofs.lemmas.List.{length-take-le}
 use Rattle.std.specs.FinMap.{get}
 use Rattle.object_store.specs.Objects.{Held}
-use Rattle.kernel_model.specs.Start.{launch_object}
+use Rattle.kernel_model.specs.Start.{first_open}
 use Rattle.kernel_core.proofs.Starts.{next_free, table_next, objects_next}
 use Rattle.kernel_core.proofs.start.granted.Goals as goal
 
 pub put_grant-requires-clause-free : goal.put_grant-requires-clause-free
 put_grant-requires-clause-free c =
     let grants = take c.loop-number.number c.args.grants.now in
-    ap (λ (h : Held). get h.kinds (launch_object (5 + c.loop-number.number))) c.loop-number.invariant.objects
-    ∙ next_free grants c.loop-number.number (sym (length-take-le _ _ c.loop-number.auto.number-end))
+    ap (λ (h : Held). get h.kinds (first_open c.args.tree.now + c.loop-number.number)) c.loop-number.invariant.objects
+    ∙ next_free c.args.tree.now grants c.loop-number.number (sym (length-take-le _ _ c.loop-number.auto.number-end))
 
 pub loop-number-preserved : goal.loop-number-preserved
 loop-number-preserved c = record {
-  table = table_next _ _ _ _ _ c.loop-number-test.true c.loop-number.invariant.table c.in_ok-put_grant.ensures.table;
-  objects = objects_next _ _ _ _ _ c.loop-number-test.true c.loop-number.invariant.objects c.in_ok-put_grant.ensures.objects;
+  table = table_next _ _ _ _ _ _ c.loop-number-test.true c.loop-number.invariant.table c.in_ok-put_grant.ensures.table;
+  objects = objects_next _ _ _ _ _ _ c.loop-number-test.true c.loop-number.invariant.objects c.in_ok-put_grant.ensures.objects;
 }

@@ -6,6 +6,6 @@ use Rattle.kernel_core.proofs.start.granted.Given as goal
 -- the grants so far are in the table and among the opens
 abbrev pub invariant-loop-number : goal.invariant-loop-number
 invariant-loop-number l = record {
-  table : l.table ≡ granted_table (take l.number l.grants);
-  objects : l.objects ≡ granted_objects (take l.number l.grants);
+  table : l.table ≡ granted_table l.tree (take l.number l.grants);
+  objects : l.objects ≡ granted_objects l.tree (take l.number l.grants);
 }

@@ -4,10 +4,10 @@ use Rattle.std.specs.FinMap.{insert, empty}
 use Rattle.object_store.specs.Objects.{Held}
 use Rattle.object_store.specs.contracts.objects.Objects.{the_view}
 use Rattle.kernel_core.specs.Start.{granted_objects}
-use Rattle.kernel_model.specs.Start.{first_tree, granted_table, start_state}
+use Rattle.kernel_model.specs.Start.{granted_table, start_state}
 use Rattle.kernel_model.specs.State.{State, Table, Own}
 use Rattle.kernel_model.specs.Valid.{IsValid}
-use Rattle.kernel_model.proofs.Starts.{first_tree_is, start_valid}
+use Rattle.kernel_model.proofs.Starts.{start_valid}
 use Rattle.kernel_core.proofs.Starts.{start_kept}
 use Rattle.kernel_core.proofs.kernel.Kernel.start.Goals as goal
 use Rattle.kernel_core.proofs.kernel.Kernel.start.Goals.{In_ok-streams}
@@ -20,27 +20,27 @@ fields c = record {
   own = c.in_ok-single-2.field-0;
   statuses = c.in_ok-single-3.field-0;
   opens = (the_view c.objects.inside).kinds;
-  nodes = c.in_ok-new.field-0.nodes;
-  names = c.in_ok-new.field-0.names;
+  nodes = c.in_ok-copy.field-0.nodes;
+  names = c.in_ok-copy.field-0.names;
   terms = c.in_ok-streams.field-0;
 }
 
-held : (c : In_ok-streams) → the_view c.objects.inside ≡ granted_objects c.args.launch.now.grants
-held c = c.objects.view_is ∙ c.in_ok-table.ensures.1 ∙ ap granted_objects c.as_slice.ensures
+held : (c : In_ok-streams) → the_view c.objects.inside ≡ granted_objects c.args.launch.now.tree c.args.launch.now.grants
+held c = c.objects.view_is ∙ c.in_ok-table.ensures.1 ∙ ap (granted_objects c.args.launch.now.tree) c.as_slice.ensures
 
-made : (c : In_ok-streams) → fields c ≡ start_state (first_tree c.args.launch.now.constants) c.args.launch.now.grants c.args.launch.now.stdin
+made : (c : In_ok-streams) → fields c ≡ start_state c.args.launch.now.tree c.args.launch.now.grants c.args.launch.now.stdin
 made c =
-    let tables : c.in_ok-single.field-0 ≡ insert empty 0 (granted_table c.args.launch.now.grants) =
-    c.in_ok-single.ensures ∙ ap (λ (t : Table). insert (empty {R = nat_cmp}) 0 t) (c.in_ok-table.ensures.0 ∙ ap granted_table c.as_slice.ensures) in
+    let tables : c.in_ok-single.field-0 ≡ insert empty 0 (granted_table c.args.launch.now.tree c.args.launch.now.grants) =
+    c.in_ok-single.ensures ∙ ap (λ (t : Table). insert (empty {R = nat_cmp}) 0 t) (c.in_ok-table.ensures.0 ∙ ap (granted_table c.args.launch.now.tree) c.as_slice.ensures) in
     let own = c.in_ok-single-2.ensures ∙ ap (λ (o : Own). insert (empty {R = nat_cmp}) 0 o) c.in_ok-first.ensures in
     let statuses = c.in_ok-single-3.ensures in
     let opens = ap (λ (h : Held). h.kinds) (held c) in
     let terms = c.in_ok-streams.ensures in
-    let tree = c.in_ok-new.ensures in
+    let tree = c.in_ok-copy.ensures in
     λ i. record { clock = 0; tables = tables i; own = own i; statuses = statuses i; opens = opens i; nodes = (tree i).nodes; names = (tree i).names; terms = terms i }
 
 pub invariant_of-result-2 : goal.invariant_of-result-2
-invariant_of-result-2 c = start_kept (first_tree c.args.launch.now.constants) c.args.launch.now.grants c.args.launch.now.stdin (fields c) (the_view c.objects.inside).counts (first_tree_is c.args.launch.now.constants) c.requires (made c) (ap (λ (h : Held). h.counts) (held c))
+invariant_of-result-2 c = start_kept c.args.launch.now.tree c.args.launch.now.grants c.args.launch.now.stdin (fields c) (the_view c.objects.inside).counts c.requires (made c) (ap (λ (h : Held). h.counts) (held c))
 
 pub returns-clause-valid : goal.returns-clause-valid
-returns-clause-valid c = subst IsValid (sym (made c)) (start_valid (first_tree c.args.launch.now.constants) c.args.launch.now.grants c.args.launch.now.stdin (first_tree_is c.args.launch.now.constants) c.requires)
+returns-clause-valid c = subst IsValid (sym (made c)) (start_valid c.args.launch.now.tree c.args.launch.now.grants c.args.launch.now.stdin c.requires)
