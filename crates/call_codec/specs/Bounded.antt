@@ -7,6 +7,6 @@ use Rattle.run_types.specs.declared.launch.Launch.{Launch}
 -- What a launch of the launcher keeps besides: it may begin with its tree and its grants, a program can start with its image and
 -- argument data, and it has at most 1,000,000,000 turns.
 pub record IsBounded (launch : Launch) : Type 0 where
-  pub grants : MayBegin launch.tree launch.grants
+  pub begins : MayBegin launch.tree launch.grants
   pub start : MayStart launch.elf launch.argdata canary
   pub turns : launch.turns ≤ 1000000000

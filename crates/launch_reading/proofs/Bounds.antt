@@ -3,7 +3,8 @@ use Rattle.std.proofs.Common.{◌≡◌, ℕ, List, Result, Ok, Err, refl, sym, 
 use Rattle.elf_image.specs.Sound.{IsSound}
 use Rattle.elf_image.proofs.FaultOrder.{image_sound}
 use Rattle.run_types.specs.declared.launch.Launch.{Launch}
-use Rattle.abi_base.specs.Grants.{AreGrants}
+use Rattle.tree_model.specs.Grants.{MayBegin}
+use Rattle.tree_model.specs.Tree.{Tree}
 use Rattle.abi_base.specs.declared.grant.Grant.{Grant}
 use Rattle.yaml_values.specs.Shape.{Shape}
 use Rattle.launch_rows.specs.declared.fault.Fault.{Fault}
@@ -11,8 +12,9 @@ use Rattle.launch_yaml.specs.Document.{parse_at}
 use Rattle.launch_plan.specs.declared.fault.PlanFault.{PlanFault}
 use Rattle.launch_plan.specs.Plan.{plan_of}
 use Rattle.launch_plan.proofs.Plans.{IsPlan, plan_is}
+use Rattle.tree_document.specs.Meaning.{meaning_begins}
 use Rattle.launch_words.specs.Settings.{Settings, IsWithin}
-use Rattle.launch_reading.specs.Launch.{IsBuiltLaunch}
+use Rattle.launch_reading.specs.Launch.{IsBuiltLaunch, times_of}
 use Rattle.launch_reading.specs.LaunchText.{with_plan, with_document, planned_text}
 use Rattle.call_codec.specs.Bounded.{IsBounded}
 use Rattle.launch_reading.specs.declared.lines.Refusal.{Refusal}
@@ -22,35 +24,40 @@ use Rattle.std.specs.Prelude.{IfOk}
 same_plan : (p q : List ℕ × List Grant) → with_plan (Ok p) ≡ Ok q → p ≡ q
 same_plan p q e = cc
 
-with_plan_is : (x : Shape) (read : Result (List ℕ × List Grant) PlanFault) (planned : List ℕ × List Grant) → plan_of x ≡ read → with_plan read ≡ Ok planned → IsPlan planned
-with_plan_is x (Ok p) planned is e = subst IsPlan (same_plan p planned e) (plan_is x p is)
-with_plan_is x (Err fault) planned is e = absurd (cc)
+module _ (tree : Tree) where
+  with_plan_is : (x : Shape) (read : Result (List ℕ × List Grant) PlanFault) (planned : List ℕ × List Grant) → plan_of tree x ≡ read → with_plan read ≡ Ok planned
+      → IsPlan tree planned
+  with_plan_is x (Ok p) planned is e = subst (IsPlan tree) (same_plan p planned e) (plan_is tree x p is)
+  with_plan_is x (Err fault) planned is e = absurd (cc)
 
-with_document_is : (read : Result Shape Fault) (planned : List ℕ × List Grant) → with_document read ≡ Ok planned → IsPlan planned
-with_document_is (Ok x) planned e = with_plan_is x (plan_of x) planned refl e
-with_document_is (Err fault) planned e = absurd (cc)
+  with_document_is : (read : Result Shape Fault) (planned : List ℕ × List Grant) → with_document tree read ≡ Ok planned → IsPlan tree planned
+  with_document_is (Ok x) planned e = with_plan_is x (plan_of tree x) planned refl e
+  with_document_is (Err fault) planned e = absurd (cc)
 
-pub text_plan_is : (text : List ℕ) (planned : List ℕ × List Grant) → planned_text text ≡ Ok planned → IsPlan planned
-unfolding planned_text
-text_plan_is text planned e = with_document_is (parse_at text) planned e
+  pub text_plan_is : (text : List ℕ) (planned : List ℕ × List Grant) → planned_text tree text ≡ Ok planned → IsPlan tree planned
+  unfolding planned_text
+  text_plan_is text planned e = with_document_is (parse_at text) planned e
 
-bounded : (settings : Settings) (launch : Launch) → IsWithin settings → IsBuiltLaunch settings launch → AreGrants launch.grants → IsBounded launch
-bounded settings launch within b grants =
+-- a launch that words and inputs spell begins with a tree, and grants what is there
+begins : (settings : Settings) (launch : Launch) → IsBuiltLaunch settings launch → MayBegin launch.tree launch.grants
+begins settings launch b = record {
+  tree = meaning_begins (times_of settings) b.document launch.tree (let short = b.short in omega arith) b.tree;
+  grants = (text_plan_is launch.tree b.text _ b.planned).1;
+}
+
+bounded : (settings : Settings) (launch : Launch) → IsWithin settings → IsBuiltLaunch settings launch → IsBounded launch
+bounded settings launch within b =
     let image : IsSound launch.elf = subst IsSound (sym b.elf) (image_sound b.program b.sound) in
     record {
-      grants = grants;
-      start = record { sound = image; short = omega (arith, (text_plan_is b.text _ b.planned).0); whole = refl };
+      begins = begins settings launch b;
+      start = record { sound = image; short = omega (arith, (text_plan_is launch.tree b.text _ b.planned).0); whole = refl };
       turns = omega (arith, b.turns, within.turns.1);
     }
 
--- a launch that words and inputs spell grants what is there
-granted : (settings : Settings) (launch : Launch) → IsBuiltLaunch settings launch → AreGrants launch.grants
-granted settings launch b = (text_plan_is b.text _ b.planned).1
-
-pub all_granted : (settings : Settings) (read : Result Launch Refusal) → IfOk read (IsBuiltLaunch settings) → IfOk read (λ launch. AreGrants launch.grants)
-all_granted settings (Ok launch) b = granted settings launch b
-all_granted settings (Err refusal) b = tt
+pub all_begin : (settings : Settings) (read : Result Launch Refusal) → IfOk read (IsBuiltLaunch settings) → IfOk read (λ launch. MayBegin launch.tree launch.grants)
+all_begin settings (Ok launch) b = begins settings launch b
+all_begin settings (Err refusal) b = tt
 
 pub all_bounded : (settings : Settings) (read : Result Launch Refusal) → IsWithin settings → IfOk read (IsBuiltLaunch settings) → IfOk read IsBounded
-all_bounded settings (Ok launch) within b = bounded settings launch within b (granted settings launch b)
+all_bounded settings (Ok launch) within b = bounded settings launch within b
 all_bounded settings (Err refusal) within b = tt

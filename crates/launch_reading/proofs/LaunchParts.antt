@@ -10,9 +10,11 @@ use Rattle.elf_image.specs.declared.fault.ElfFault.{ElfFault}
 use Rattle.run_types.specs.declared.launch.Launch.{Launch}
 use Rattle.launch_words.specs.Settings.{Settings}
 use Rattle.launch_reading.specs.Inputs.{AreRead, IsReadAs, IsUnread, IsUnreadOf, IsNoLaunch, IsNoLaunchOf}
-use Rattle.launch_reading.specs.Launch.{Spelled, untold, refuses, spells, input_limit, standard_input, launch_with, spelled_text, spelled_at, spelled_by, spelled_with, spelled_optional, inputs_spell, settings_inputs, IsToldAs, IsBuiltLaunch, AnswersSpelled}
+use Rattle.launch_reading.specs.Launch.{Spelled, untold, refuses, spells, input_limit, standard_input, launch_with, times_of, spelled_text, spelled_tree, spelled_at, spelled_by, spelled_with, spelled_optional, inputs_spell, settings_inputs, IsToldAs, IsBuiltLaunch, AnswersSpelled}
 use Rattle.launch_reading.specs.LaunchText.{TextPlan, planned_text}
-use Rattle.launch_reading.specs.Lines.{too_long_line, tree_line}
+use Rattle.tree_model.specs.Tree.{Tree}
+use Rattle.tree_document.specs.Meaning.{meaning}
+use Rattle.launch_reading.specs.Lines.{too_long_line}
 use Rattle.launch_reading.specs.declared.inputs.Inputs.{Inputs}
 use Rattle.launch_reading.specs.declared.lines.Refusal.{Refusal}
 use Rattle.launch_reading.specs.declared.lines.Refusal.TheVariants.{Words, Input, TooLong, Program, Tree, LaunchText, Memory}
@@ -57,7 +59,7 @@ unread_told name told later rose early Words stays since h = h
 unread_told name told later rose early (Input n) stays since h = (h.0, since h.1)
 unread_told name told later rose early (TooLong n) stays since h = (h.0, subst (IsLongerThan input_limit) (stays name) h.1)
 unread_told name told later rose early (Program found) stays since h = h
-unread_told name told later rose early Tree stays since h = h
+unread_told name told later rose early (Tree byte) stays since h = h
 unread_told name told later rose early (LaunchText fault) stays since h = h
 unread_told name told later rose early Memory stays since h = h
 
@@ -77,7 +79,7 @@ unread_here (Some name) told next rest rose (TooLong n) h = (
   subst (λ m. IsToldAs (spelled_with name (told name) next) (refuses 66 (too_long_line m))) (sym h.0) (input_long name (told name) next h.1),
 )
 unread_here (Some name) told next rest rose (Program found) h = absurd h
-unread_here (Some name) told next rest rose Tree h = absurd h
+unread_here (Some name) told next rest rose (Tree byte) h = absurd h
 unread_here (Some name) told next rest rose (LaunchText fault) h = absurd h
 unread_here (Some name) told next rest rose Memory h = tt
 
@@ -93,7 +95,7 @@ unread_behind o told next bytes rest rose Words read h = h
 unread_behind o told next bytes rest rose (Input n) read h = (behind_names o rest n.now h.0, h.1)
 unread_behind o told next bytes rest rose (TooLong n) read h = (behind_names o rest n.now h.0, optional_read o told next bytes _ read h.1)
 unread_behind o told next bytes rest rose (Program found) read h = optional_read o told next bytes _ read h
-unread_behind o told next bytes rest rose Tree read h = optional_read o told next bytes _ read h
+unread_behind o told next bytes rest rose (Tree byte) read h = optional_read o told next bytes _ read h
 unread_behind o told next bytes rest rose (LaunchText fault) read h = optional_read o told next bytes _ read h
 unread_behind o told next bytes rest rose Memory read h = tt
 
@@ -167,38 +169,45 @@ pub refusal_told : (settings : Settings) (told : List ℕ → Told) (inputs : In
 refusal_told settings told inputs rose (Ok launch) read e = tt
 refusal_told settings told inputs rose (Err refusal) read e = refusal_is_told (settings_inputs settings) settings told inputs rose refusal read e
 
--- what spells a launch spells one of a launch text without fault
-built_with : (settings : Settings) (inputs : Inputs) (planned : TextPlan) (launch : Launch) → fault_of inputs.program ≡ None → planned_text inputs.text ≡ planned →
-    spelled_text settings inputs planned ≡ spells launch → IsBuiltLaunch settings launch
-built_with settings inputs (Err fault) launch sound is e = cc
-built_with settings inputs (Ok planned) launch sound is e =
-    let same : launch_with settings inputs planned ≡ launch = cc in
-    subst (IsBuiltLaunch settings) same (record {
-      program = inputs.program;
-      text = inputs.text;
-      sound = sound;
-      elf = refl;
-      planned = is;
-      key = refl;
-      epoch = refl;
-      turns = refl;
-    })
+-- what spells a launch spells one of a tree document and a launch text without fault
+module _ (settings : Settings) (inputs : Inputs) (short : length inputs.tree ≤ input_limit) where
+  built_with : (tree : Tree) (planned : TextPlan) (launch : Launch) → fault_of inputs.program ≡ None → meaning (times_of settings) inputs.tree ≡ Ok tree →
+      planned_text tree inputs.text ≡ planned → spelled_text settings inputs tree planned ≡ spells launch → IsBuiltLaunch settings launch
+  built_with tree (Err fault) launch sound means is e = cc
+  built_with tree (Ok planned) launch sound means is e =
+      let same : launch_with settings inputs tree planned ≡ launch = cc in
+      subst (IsBuiltLaunch settings) same (record {
+        program = inputs.program;
+        document = inputs.tree;
+        text = inputs.text;
+        sound = sound;
+        elf = refl;
+        short = short;
+        tree = means;
+        planned = is;
+        key = refl;
+        epoch = refl;
+        turns = refl;
+      })
 
-built_tree : (settings : Settings) (inputs : Inputs) (empty : Bool) (launch : Launch) → fault_of inputs.program ≡ None →
-    cond empty (spelled_text settings inputs (planned_text inputs.text)) (refuses 68 tree_line) ≡ spells launch → IsBuiltLaunch settings launch
-built_tree settings inputs true launch sound e = built_with settings inputs (planned_text inputs.text) launch sound refl e
-built_tree settings inputs false launch sound e = cc
+  built_tree : (read : Result Tree ℕ) (launch : Launch) → fault_of inputs.program ≡ None → meaning (times_of settings) inputs.tree ≡ read →
+      spelled_tree settings inputs read ≡ spells launch → IsBuiltLaunch settings launch
+  built_tree (Ok tree) launch sound means e = built_with tree (planned_text tree inputs.text) launch sound means refl e
+  built_tree (Err byte) launch sound means e = cc
 
-built_at : (settings : Settings) (inputs : Inputs) (found : Option ElfFault) (launch : Launch) → fault_of inputs.program ≡ found →
-    spelled_at settings inputs found ≡ spells launch → IsBuiltLaunch settings launch
-built_at settings inputs (Some fault) launch is e = cc
-built_at settings inputs None launch is e = built_tree settings inputs (length inputs.tree == 0) launch is e
+  built_at : (found : Option ElfFault) (launch : Launch) → fault_of inputs.program ≡ found → spelled_at settings inputs found ≡ spells launch → IsBuiltLaunch settings launch
+  built_at (Some fault) launch is e = cc
+  built_at None launch is e = built_tree (meaning (times_of settings) inputs.tree) launch is refl e
 
-pub built : (settings : Settings) (inputs : Inputs) (r : Result Launch Refusal) → IfOk r (λ launch. spelled_by settings inputs ≡ spells launch) →
-    IfOk r (IsBuiltLaunch settings)
-unfolding spelled_by
-built settings inputs (Ok launch) e = built_at settings inputs (fault_of inputs.program) launch refl e
-built settings inputs (Err refusal) e = tt
+  pub built : (r : Result Launch Refusal) → IfOk r (λ launch. spelled_by settings inputs ≡ spells launch) → IfOk r (IsBuiltLaunch settings)
+  unfolding spelled_by
+  built (Ok launch) e = built_at (fault_of inputs.program) launch refl e
+  built (Err refusal) e = tt
+
+-- an input that was read is no longer than an input may be
+pub read_short : (o : Option (List ℕ)) (told : List ℕ → Told) (bytes : List ℕ) → IsReadAs o told bytes → length bytes ≤ input_limit
+read_short None told bytes read = subst (λ xs. length xs ≤ input_limit) (sym read) (omega arith)
+read_short (Some name) told bytes read = read.1
 
 -- what is answered is what is spelled
 refusal_answers : (names : List (List ℕ)) (spelled : Spelled) (rose : Type 0) (r : Refusal) → ¬ rose → IsNoLaunchOf names spelled rose r → AnswersSpelled spelled (Err r)
@@ -207,14 +216,14 @@ refusal_answers names (refuses status line) rose Words calm h = absurd h
 refusal_answers names (refuses status line) rose (Input n) calm h = absurd (calm h.1)
 refusal_answers names (refuses status line) rose (TooLong n) calm h = inr (cc, cc)
 refusal_answers names (refuses status line) rose (Program found) calm h = inr (cc, cc)
-refusal_answers names (refuses status line) rose Tree calm h = inr (cc, cc)
+refusal_answers names (refuses status line) rose (Tree byte) calm h = inr (cc, cc)
 refusal_answers names (refuses status line) rose (LaunchText fault) calm h = inr (cc, cc)
 refusal_answers names (refuses status line) rose Memory calm h = inl refl
 refusal_answers names (spells launch) rose Words calm h = absurd h
 refusal_answers names (spells launch) rose (Input n) calm h = absurd (calm h.1)
 refusal_answers names (spells launch) rose (TooLong n) calm h = absurd (cc)
 refusal_answers names (spells launch) rose (Program found) calm h = absurd (cc)
-refusal_answers names (spells launch) rose Tree calm h = absurd (cc)
+refusal_answers names (spells launch) rose (Tree byte) calm h = absurd (cc)
 refusal_answers names (spells launch) rose (LaunchText fault) calm h = absurd (cc)
 refusal_answers names (spells launch) rose Memory calm h = inr refl
 

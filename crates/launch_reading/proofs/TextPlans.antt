@@ -6,21 +6,22 @@ use Rattle.launch_yaml.specs.declared.document.YamlFault.TheVariants.{At, NoMemo
 use Rattle.launch_yaml.specs.Document.{parse_at}
 use Rattle.launch_yaml.specs.Parsing.{IsFault as IsFileFault}
 use Rattle.launch_plan.specs.Plan.{plan_of}
+use Rattle.tree_model.specs.Tree.{Tree}
 use Rattle.launch_reading.specs.LaunchText.{TextPlan, with_plan, with_document, planned_text, IsTextFault, of_file}
 use Rattle.launch_reading.specs.declared.launch_text.LaunchFault.{LaunchFault}
 use Rattle.launch_reading.specs.declared.launch_text.LaunchFault.TheVariants.{Yaml}
 
 -- the fault of a file
-pub file_fault : (fault : YamlFault) (text : List ℕ) → IsFileFault fault (parse_at text) → IsTextFault (planned_text text) (of_file fault)
+pub file_fault : (fault : YamlFault) (tree : Tree) (text : List ℕ) → IsFileFault fault (parse_at text) → IsTextFault (planned_text tree text) (of_file fault)
 unfolding planned_text
-file_fault NoMemory text h = tt
-file_fault (At line kind) text h =
-    ap with_document h.1 ∙ ap (λ (l : ℕ). text_err (Yaml l h.0.kind)) h.2 ∙ ap (λ k. text_err (Yaml line k)) h.3
+file_fault NoMemory tree text h = tt
+file_fault (At line kind) tree text h =
+    ap (with_document tree) h.1 ∙ ap (λ (l : ℕ). text_err (Yaml l h.0.kind)) h.2 ∙ ap (λ k. text_err (Yaml line k)) h.3
   where
     text_err : LaunchFault → TextPlan
     text_err fault = Err fault
 
 -- what a file that was read gives
-pub file_read : (text : List ℕ) (document : Shape) → parse_at text ≡ Ok document → planned_text text ≡ with_plan (plan_of document)
+pub file_read : (tree : Tree) (text : List ℕ) (document : Shape) → parse_at text ≡ Ok document → planned_text tree text ≡ with_plan (plan_of tree document)
 unfolding planned_text
-file_read text document h = ap with_document h
+file_read tree text document h = ap (with_document tree) h

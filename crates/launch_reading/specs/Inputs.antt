@@ -36,7 +36,7 @@ pub record AreRead (settings : Settings) (told : List ℕ → Told) (inputs : In
 -- why a program, a tree document and a launch text give no launch
 abbrev pub IsNoLaunch : Spelled → Refusal → Type 0
 IsNoLaunch spelled (Program found) = spelled ≡ refuses 67 (program_line found)
-IsNoLaunch spelled Tree = spelled ≡ refuses 68 tree_line
+IsNoLaunch spelled (Tree byte) = spelled ≡ refuses 68 (tree_line byte)
 IsNoLaunch spelled (LaunchText fault) = spelled ≡ refuses 65 (launch_line fault)
 IsNoLaunch spelled Memory = ⊤
 IsNoLaunch spelled _ = ⊥
@@ -48,7 +48,7 @@ abbrev pub IsNoLaunchOf : List (List ℕ) → Spelled → Type 0 → Refusal →
 IsNoLaunchOf names spelled rose (Input n) = Contains names n.now × rose
 IsNoLaunchOf names spelled rose (TooLong n) = Contains names n.now × IsToldAs spelled (refuses 66 (too_long_line n.now))
 IsNoLaunchOf names spelled rose (Program found) = IsToldAs spelled (refuses 67 (program_line found))
-IsNoLaunchOf names spelled rose Tree = IsToldAs spelled (refuses 68 tree_line)
+IsNoLaunchOf names spelled rose (Tree byte) = IsToldAs spelled (refuses 68 (tree_line byte))
 IsNoLaunchOf names spelled rose (LaunchText fault) = IsToldAs spelled (refuses 65 (launch_line fault))
 IsNoLaunchOf names spelled rose Memory = ⊤
 IsNoLaunchOf names spelled rose Words = ⊥

@@ -8,8 +8,11 @@ use Rattle.elf_image.specs.Image.{image}
 use Rattle.elf_image.specs.declared.fault.ElfFault.{ElfFault}
 use Rattle.run_types.specs.declared.launch.Launch.{Launch}
 use Rattle.abi_base.specs.declared.grant.Grant.{Grant}
+use Rattle.abi_types.specs.declared.node.Times.{Times}
 use Rattle.launch_words.specs.Settings.{Settings}
 use Rattle.launch_words.specs.Words.{words_of}
+use Rattle.tree_model.specs.Tree.{Tree}
+use Rattle.tree_document.specs.Meaning.{meaning}
 use Rattle.launch_reading.specs.LaunchText.{TextPlan, planned_text}
 use Rattle.launch_reading.specs.Lines.{words_line, input_line, too_long_line, program_line, tree_line, launch_line, line_of, status_of}
 use Rattle.launch_reading.specs.declared.inputs.Inputs.{Inputs}
@@ -27,29 +30,35 @@ pub data Spelled : Type 0 where
 abbrev pub input_limit : ℕ
 input_limit = INPUT_LIMIT
 
--- the launch of these settings and inputs, under what the launch text gives
-abbrev pub launch_with : Settings → Inputs → List ℕ × List Grant → Launch
-launch_with settings inputs planned = record {
+-- the times of all nodes that a launch begins with
+abbrev pub times_of : Settings → Times
+times_of settings = record { atim = settings.epoch; mtim = settings.epoch; ctim = settings.epoch }
+
+-- the launch of these settings and inputs, with a file tree, under what the launch text gives
+abbrev pub launch_with : Settings → Inputs → Tree → List ℕ × List Grant → Launch
+launch_with settings inputs tree planned = record {
   elf = image inputs.program;
   argdata = planned.0;
   grants = planned.1;
+  tree = tree;
   stdin = inputs.stdin;
   constants = record { key = settings.key; epoch = settings.epoch };
   turns = settings.turns;
 }
 
-abbrev pub spelled_text : Settings → Inputs → TextPlan → Spelled
-spelled_text settings inputs (Ok planned) = spells (launch_with settings inputs planned)
-spelled_text settings inputs (Err fault) = refuses 65 (launch_line fault)
+abbrev pub spelled_text : Settings → Inputs → Tree → TextPlan → Spelled
+spelled_text settings inputs tree (Ok planned) = spells (launch_with settings inputs tree planned)
+spelled_text settings inputs tree (Err fault) = refuses 65 (launch_line fault)
 
--- no tree document can be read yet, so it must be empty
-abbrev pub spelled_tree : Settings → Inputs → Spelled
-spelled_tree settings inputs = cond (length inputs.tree == 0) (spelled_text settings inputs (planned_text inputs.text)) (refuses 68 tree_line)
+-- what the inputs spell, where the tree document means this tree, or is faulty at this byte
+abbrev pub spelled_tree : Settings → Inputs → Result Tree ℕ → Spelled
+spelled_tree settings inputs (Ok tree) = spelled_text settings inputs tree (planned_text tree inputs.text)
+spelled_tree settings inputs (Err byte) = refuses 68 (tree_line byte)
 
 -- what the inputs spell, where this is the program's first fault, if it has one
 abbrev pub spelled_at : Settings → Inputs → Option ElfFault → Spelled
 spelled_at settings inputs (Some fault) = refuses 67 (program_line fault)
-spelled_at settings inputs None = spelled_tree settings inputs
+spelled_at settings inputs None = spelled_tree settings inputs (meaning (times_of settings) inputs.tree)
 
 -- what the contents of the inputs spell: first the program is looked at, then the tree document, then the launch text
 unfoldable pub spelled_by : Settings → Inputs → Spelled
@@ -117,14 +126,17 @@ IsToldAs untold answer = ⊤
 IsToldAs (refuses status line) answer = refuses status line ≡ answer
 IsToldAs (spells launch) answer = spells launch ≡ answer
 
--- a launch of these settings: the image of a program without fault, what a launch text without fault gives, and the
--- settings' key, epoch and turns
+-- a launch of these settings: the image of a program without fault, the tree that a tree document means, what a launch text
+-- without fault gives by this tree, and the settings' key, epoch and turns
 pub record IsBuiltLaunch (settings : Settings) (launch : Launch) : Type 0 where
   pub program : List ℕ
+  pub document : List ℕ
   pub text : List ℕ
   pub sound : fault_of program ≡ None
   pub elf : launch.elf ≡ image program
-  pub planned : planned_text text ≡ Ok (launch.argdata, launch.grants)
+  pub short : length document ≤ input_limit
+  pub tree : meaning (times_of settings) document ≡ Ok launch.tree
+  pub planned : planned_text launch.tree text ≡ Ok (launch.argdata, launch.grants)
   pub key : launch.constants.key ≡ settings.key
   pub epoch : launch.constants.epoch ≡ settings.epoch
   pub turns : launch.turns ≡ settings.turns

@@ -1,4 +1,4 @@
--- What a launch text gives a program, or its first fault.
+-- What a launch text gives a program that begins with a file tree, or its first fault.
 use Rattle.std.specs.Prelude.{◌≡◌, ℕ, List, Option, None, Some, Result, Ok, Err}
 use Rattle.abi_base.specs.declared.grant.Grant.{Grant}
 use Rattle.yaml_values.specs.Shape.{Shape}
@@ -9,6 +9,7 @@ use Rattle.launch_yaml.specs.declared.document.YamlFault.TheVariants.{At, NoMemo
 use Rattle.launch_plan.specs.declared.fault.PlanFault.{PlanFault}
 use Rattle.launch_plan.specs.declared.fault.PlanFault.TheVariants as plans
 use Rattle.launch_plan.specs.Plan.{plan_of}
+use Rattle.tree_model.specs.Tree.{Tree}
 use Rattle.launch_reading.specs.declared.launch_text.LaunchFault.{LaunchFault}
 use Rattle.launch_reading.specs.declared.launch_text.LaunchFault.TheVariants.{Yaml, Plan}
 
@@ -22,12 +23,12 @@ with_plan (Ok planned) = Ok planned
 with_plan (Err fault) = Err (Plan fault)
 
 -- a text that is no launch file has its first fault; one that is gives what its document gives
-abbrev pub with_document : Result Shape Fault → TextPlan
-with_document (Ok document) = with_plan (plan_of document)
-with_document (Err fault) = Err (Yaml fault.line fault.kind)
+abbrev pub with_document : Tree → Result Shape Fault → TextPlan
+with_document tree (Ok document) = with_plan (plan_of tree document)
+with_document tree (Err fault) = Err (Yaml fault.line fault.kind)
 
-unfoldable pub planned_text : List ℕ → TextPlan
-planned_text text = with_document (parse_at text)
+unfoldable pub planned_text : Tree → List ℕ → TextPlan
+planned_text tree text = with_document tree (parse_at text)
 
 -- the fault is the one that the text has; none was found for want of memory
 abbrev pub IsTextFault : TextPlan → Option LaunchFault → Type 0
@@ -42,7 +43,9 @@ of_file NoMemory = None
 abbrev pub of_plan : PlanFault → Option LaunchFault
 of_plan (plans.UnknownTag line) = Some (Plan (plans.UnknownTag line))
 of_plan (plans.BadFd line) = Some (Plan (plans.BadFd line))
-of_plan (plans.NotBuilt line) = Some (Plan (plans.NotBuilt line))
+of_plan (plans.BadFile line) = Some (Plan (plans.BadFile line))
+of_plan (plans.UnknownRight line) = Some (Plan (plans.UnknownRight line))
+of_plan (plans.NoSuchPath line) = Some (Plan (plans.NoSuchPath line))
 of_plan plans.TooMany = Some (Plan plans.TooMany)
 of_plan plans.TooLarge = Some (Plan plans.TooLarge)
 of_plan plans.NoMemory = None
@@ -52,7 +55,9 @@ abbrev pub line_of_fault : LaunchFault → Option ℕ
 line_of_fault (Yaml line kind) = Some line
 line_of_fault (Plan (plans.UnknownTag line)) = Some line
 line_of_fault (Plan (plans.BadFd line)) = Some line
-line_of_fault (Plan (plans.NotBuilt line)) = Some line
+line_of_fault (Plan (plans.BadFile line)) = Some line
+line_of_fault (Plan (plans.UnknownRight line)) = Some line
+line_of_fault (Plan (plans.NoSuchPath line)) = Some line
 line_of_fault (Plan plans.TooMany) = None
 line_of_fault (Plan plans.TooLarge) = None
 line_of_fault (Plan plans.NoMemory) = None

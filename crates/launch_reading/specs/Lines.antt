@@ -53,9 +53,9 @@ fault_number _ = []
 abbrev pub program_line : ElfFault → List ℕ
 program_line found = ended (codes "program: " ++ fault_name found ++ fault_number found)
 
--- a tree document is not empty, and none can be read yet
-abbrev pub tree_line : List ℕ
-tree_line = ended (codes "tree: not built")
+-- the first faulty record of the tree document begins at this byte
+abbrev pub tree_line : ℕ → List ℕ
+tree_line byte = ended (codes "tree: byte " ++ decimal byte)
 
 -- what stands behind the number of the line of a fault in a launch file
 abbrev pub kind_ending : YamlKind → List ℕ
@@ -87,7 +87,9 @@ abbrev pub launch_ending : LaunchFault → List ℕ
 launch_ending (Yaml line kind) = kind_ending kind
 launch_ending (Plan (plans.UnknownTag line)) = ended (codes ": UnknownTag")
 launch_ending (Plan (plans.BadFd line)) = ended (codes ": BadFd")
-launch_ending (Plan (plans.NotBuilt line)) = ended (codes ": NotBuilt")
+launch_ending (Plan (plans.BadFile line)) = ended (codes ": BadFile")
+launch_ending (Plan (plans.UnknownRight line)) = ended (codes ": UnknownRight")
+launch_ending (Plan (plans.NoSuchPath line)) = ended (codes ": NoSuchPath")
 launch_ending (Plan plans.TooMany) = ended (codes "too many")
 launch_ending (Plan plans.TooLarge) = ended (codes "too large")
 launch_ending (Plan plans.NoMemory) = ended (codes "no memory")
@@ -106,7 +108,7 @@ line_of Words = words_line
 line_of (Input name) = input_line name.now
 line_of (TooLong name) = too_long_line name.now
 line_of (Program found) = program_line found
-line_of Tree = tree_line
+line_of (Tree byte) = tree_line byte
 line_of (LaunchText fault) = launch_line fault
 line_of Memory = memory_line
 
@@ -116,7 +118,7 @@ status_of Words = 2
 status_of (Input name) = 66
 status_of (TooLong name) = 66
 status_of (Program found) = 67
-status_of Tree = 68
+status_of (Tree byte) = 68
 status_of (LaunchText fault) = 65
 status_of Memory = 70
 
@@ -126,7 +128,7 @@ front_of Words = codes "words: refused"
 front_of (Input name) = codes "input: "
 front_of (TooLong name) = codes "input: "
 front_of (Program found) = codes "program: "
-front_of Tree = codes "tree: not built"
+front_of (Tree byte) = codes "tree: byte "
 front_of (LaunchText fault) = launch_front fault
 front_of Memory = codes "memory"
 
@@ -138,6 +140,7 @@ name_of _ = []
 
 abbrev pub number_of : Refusal → List ℕ
 number_of (Program found) = fault_number found
+number_of (Tree byte) = decimal byte
 number_of (LaunchText fault) = line_number (line_of_fault fault)
 number_of _ = []
 

@@ -2,14 +2,15 @@
 ghost use Rattle.std.specs.Prelude.{◌≡◌, ◌≤◌, ℕ, List, length, All, IfOk, IfErr, option_map};
 ghost use Rattle.std.specs.Option.{option_to_list};
 ghost use Rattle.input_output.specs.Source.{Rose, IsWhole};
-ghost use Rattle.abi_base.specs.Grants.{AreGrants};
+ghost use Rattle.tree_model.specs.Grants.{MayBegin};
 ghost use Rattle.launch_words.specs.Settings.{IsWithin, view};
 ghost use Rattle.launch_reading.specs.Inputs.{AreRead, IsReadAs, IsUnread, IsUnreadOf, IsNoLaunch, IsNoLaunchOf};
-ghost use Rattle.launch_reading.specs.Launch.{spells, input_limit, spelled_by, inputs_spell, settings_inputs, IsToldAs, IsBuiltLaunch, AnswersSpelled};
+ghost use Rattle.launch_reading.specs.Launch.{spells, input_limit, spelled_by, inputs_spell, settings_inputs, times_of, IsToldAs, IsBuiltLaunch, AnswersSpelled};
 ghost use Rattle.call_codec.specs.Bounded.{IsBounded};
 
 use crate::launch_text::plan_text;
 use crate::lines::Refusal;
+use abi_types::Times;
 use elf_image::{ElfFault, read_elf};
 use input_output::{ReadFault, Source, read_whole};
 use launch_plan::Planned;
@@ -17,6 +18,7 @@ use launch_words::LaunchWords;
 use lists::Bytes;
 use run_types::{Constants, Launch};
 use std::alloc::{AllocError, Global};
+use tree_document::{TreeDocFault, read_tree};
 
 // The name of standard input, which has the launch text.
 const STANDARD_INPUT: &str = "-";
@@ -111,6 +113,17 @@ fn read_inputs<'a, S: Source>(
     })
 }
 
+// The times of all nodes that a launch begins with.
+fn times_of(settings: &LaunchWords<'_>) -> Times
+    ensures { result ≡ times_of (view settings.now) }
+{
+    Times {
+        atim: settings.epoch,
+        mtim: settings.epoch,
+        ctim: settings.epoch,
+    }
+}
+
 // The launch that settings and inputs spell.
 #[tactic(auto, unfolding(crate::specs::Launch::spelled_by))]
 fn launch_from<'a>(
@@ -118,6 +131,7 @@ fn launch_from<'a>(
     settings: &LaunchWords<'a>,
     inputs: Inputs,
 ) -> Result<Launch, Refusal<'a>>
+    requires { length inputs.tree ≤ input_limit }
     ensures ok { IfOk result (λ launch. spelled_by (view settings.now) inputs ≡ spells launch) }
     ensures err { IfErr result (IsNoLaunch (spelled_by (view settings.now) inputs)) }
 {
@@ -126,14 +140,17 @@ fn launch_from<'a>(
         Err(ElfFault::NoMemory) => return Err(Refusal::Memory),
         Err(fault) => return Err(Refusal::Program(fault)),
     };
-    if inputs.tree.len() != 0 {
-        return Err(Refusal::Tree);
-    }
-    match plan_text(alloc, inputs.text.as_slice()) {
+    let tree = match read_tree(alloc, inputs.tree.as_slice(), times_of(settings)) {
+        Ok(tree) => tree,
+        Err(TreeDocFault::At { byte }) => return Err(Refusal::Tree(byte)),
+        Err(TreeDocFault::NoMemory) => return Err(Refusal::Memory),
+    };
+    match plan_text(alloc, inputs.text.as_slice(), &tree) {
         Ok(Planned { argdata, grants }) => Ok(Launch {
             elf,
             argdata,
             grants,
+            tree,
             stdin: inputs.stdin,
             constants: Constants {
                 key: settings.key,
@@ -167,7 +184,7 @@ pub fn read_launch<'a, S: Source>(
     // A launch is the one that is spelled, where anything is told of it, and in any case one of these settings.
     ensures ok { IfOk result (λ launch. IsToldAs (inputs_spell (view settings.now) (S.told source.old)) (spells launch)) }
     ensures built { IfOk result (IsBuiltLaunch (view settings.now)) }
-    ensures grants { IfOk result (λ launch. AreGrants launch.grants) }
+    ensures begins { IfOk result (λ launch. MayBegin launch.tree launch.grants) }
     ensures bounded { IfOk result IsBounded }
 
     // When each refusal comes.

@@ -5,6 +5,7 @@ ghost use Rattle.yaml_values.specs.Views.{shape_of};
 ghost use Rattle.launch_plan.specs.Plan.{plan_of};
 ghost use Rattle.launch_reading.specs.LaunchText.{with_plan, planned_text, IsTextFault, of_file, of_plan, line_of_fault};
 
+use file_tree::Tree;
 use launch_plan::{PlanFault, Planned, plan};
 use launch_yaml::{Doc, YamlFault, YamlKind, parse};
 use std::alloc::Global;
@@ -26,7 +27,11 @@ impl LaunchFault {
         match self {
             LaunchFault::Yaml(line, _) => Some(*line),
             LaunchFault::Plan(
-                PlanFault::UnknownTag(line) | PlanFault::BadFd(line) | PlanFault::NotBuilt(line),
+                PlanFault::UnknownTag(line)
+                | PlanFault::BadFd(line)
+                | PlanFault::BadFile(line)
+                | PlanFault::UnknownRight(line)
+                | PlanFault::NoSuchPath(line),
             ) => Some(*line),
             LaunchFault::Plan(_) => None,
         }
@@ -50,7 +55,9 @@ fn of_plan(fault: PlanFault) -> Option<LaunchFault>
     match fault {
         PlanFault::UnknownTag(_) => Some(LaunchFault::Plan(fault)),
         PlanFault::BadFd(_) => Some(LaunchFault::Plan(fault)),
-        PlanFault::NotBuilt(_) => Some(LaunchFault::Plan(fault)),
+        PlanFault::BadFile(_) => Some(LaunchFault::Plan(fault)),
+        PlanFault::UnknownRight(_) => Some(LaunchFault::Plan(fault)),
+        PlanFault::NoSuchPath(_) => Some(LaunchFault::Plan(fault)),
         PlanFault::TooMany => Some(LaunchFault::Plan(fault)),
         PlanFault::TooLarge => Some(LaunchFault::Plan(fault)),
         PlanFault::NoMemory => None,
@@ -58,24 +65,24 @@ fn of_plan(fault: PlanFault) -> Option<LaunchFault>
 }
 
 // The argument data and the descriptors that a document gives.
-fn plan_document(alloc: Global, doc: &Doc) -> Result<Planned, Option<LaunchFault>>
+fn plan_document(alloc: Global, doc: &Doc, tree: &Tree) -> Result<Planned, Option<LaunchFault>>
     requires { IsDocument (shape_of doc.now.root) }
-    ensures ok { IfOk result (λ planned. with_plan (plan_of (shape_of doc.now.root)) ≡ Ok (planned.argdata, planned.grants)) }
-    ensures err { IfErr result (IsTextFault (with_plan (plan_of (shape_of doc.now.root)))) }
+    ensures ok { IfOk result (λ planned. with_plan (plan_of tree.now (shape_of doc.now.root)) ≡ Ok (planned.argdata, planned.grants)) }
+    ensures err { IfErr result (IsTextFault (with_plan (plan_of tree.now (shape_of doc.now.root)))) }
 {
-    match plan(alloc, doc) {
+    match plan(alloc, doc, tree) {
         Ok(planned) => Ok(planned),
         Err(fault) => Err(of_plan(fault)),
     }
 }
 
-/// The argument data and the descriptors that a launch text gives. Its fault is `None` for want of memory.
-pub fn plan_text(alloc: Global, text: &[u8]) -> Result<Planned, Option<LaunchFault>>
-    ensures ok { IfOk result (λ planned. planned_text text.now ≡ Ok (planned.argdata, planned.grants)) }
-    ensures err { IfErr result (IsTextFault (planned_text text.now)) }
+/// The argument data and the descriptors that a launch text gives where there is this file tree. Its fault is `None` for want of memory.
+pub fn plan_text(alloc: Global, text: &[u8], tree: &Tree) -> Result<Planned, Option<LaunchFault>>
+    ensures ok { IfOk result (λ planned. planned_text tree.now text.now ≡ Ok (planned.argdata, planned.grants)) }
+    ensures err { IfErr result (IsTextFault (planned_text tree.now text.now)) }
 {
     match parse(alloc, text) {
-        Ok(doc) => plan_document(alloc, &doc),
+        Ok(doc) => plan_document(alloc, &doc, tree),
         Err(fault) => Err(of_file(fault)),
     }
 }

@@ -74,7 +74,9 @@ fn launch_ending(fault: LaunchFault) -> &'static str
         LaunchFault::Yaml(_, kind) => kind_ending(kind),
         LaunchFault::Plan(PlanFault::UnknownTag(_)) => ": UnknownTag\n",
         LaunchFault::Plan(PlanFault::BadFd(_)) => ": BadFd\n",
-        LaunchFault::Plan(PlanFault::NotBuilt(_)) => ": NotBuilt\n",
+        LaunchFault::Plan(PlanFault::BadFile(_)) => ": BadFile\n",
+        LaunchFault::Plan(PlanFault::UnknownRight(_)) => ": UnknownRight\n",
+        LaunchFault::Plan(PlanFault::NoSuchPath(_)) => ": NoSuchPath\n",
         LaunchFault::Plan(PlanFault::TooMany) => "too many\n",
         LaunchFault::Plan(PlanFault::TooLarge) => "too large\n",
         LaunchFault::Plan(PlanFault::NoMemory) => "no memory\n",
@@ -92,8 +94,8 @@ pub enum Refusal<'a> {
     TooLong(&'a str),
     /// The program's file has this fault. It isn't `NoMemory`.
     Program(ElfFault),
-    /// The tree document is not empty, and none can be read yet.
-    Tree,
+    /// The first faulty record of the tree document begins at this byte.
+    Tree(u64),
     /// The launch text has this fault.
     LaunchText(LaunchFault),
     /// Memory is wanting.
@@ -109,7 +111,7 @@ impl<'a> Refusal<'a> {
             Refusal::Words => 2,
             Refusal::Input(_) | Refusal::TooLong(_) => 66,
             Refusal::Program(_) => 67,
-            Refusal::Tree => 68,
+            Refusal::Tree(_) => 68,
             Refusal::LaunchText(_) => 65,
             Refusal::Memory => 70,
         }
@@ -123,7 +125,7 @@ impl<'a> Refusal<'a> {
             Refusal::Words => "words: refused",
             Refusal::Input(_) | Refusal::TooLong(_) => "input: ",
             Refusal::Program(_) => "program: ",
-            Refusal::Tree => "tree: not built",
+            Refusal::Tree(_) => "tree: byte ",
             Refusal::LaunchText(fault) => launch_front(*fault),
             Refusal::Memory => "memory",
         }
@@ -148,6 +150,7 @@ impl<'a> Refusal<'a> {
             Refusal::Program(ElfFault::Segment(header) | ElfFault::Overlap(header)) => {
                 buffer.format(*header)
             }
+            Refusal::Tree(byte) => buffer.format(*byte),
             Refusal::LaunchText(fault) => match fault.line() {
                 Some(line) => buffer.format(line),
                 None => "",

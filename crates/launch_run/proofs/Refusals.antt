@@ -22,7 +22,7 @@ module _ (settings : Settings) (told : List ℕ → Told) (rose : Type 0) where
   of_text (Input name) h text = absurd text
   of_text (TooLong name) h text = h.1
   of_text (Program found) h text = h
-  of_text Tree h text = h
+  of_text (Tree byte) h text = h
   of_text (LaunchText fault) h text = h
   of_text Memory h text = absurd text
 
@@ -32,7 +32,7 @@ module _ (settings : Settings) (told : List ℕ → Told) (rose : Type 0) where
   of_input (Input name) h = h
   of_input (TooLong name) h = tt
   of_input (Program found) h = tt
-  of_input Tree h = tt
+  of_input (Tree byte) h = tt
   of_input (LaunchText fault) h = tt
   of_input Memory h = tt
 
@@ -41,7 +41,7 @@ module _ (settings : Settings) (told : List ℕ → Told) (rose : Type 0) where
   of_length (Input name) h = tt
   of_length (TooLong name) h = h.0
   of_length (Program found) h = tt
-  of_length Tree h = tt
+  of_length (Tree byte) h = tt
   of_length (LaunchText fault) h = tt
   of_length Memory h = tt
 

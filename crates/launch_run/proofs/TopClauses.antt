@@ -7,7 +7,7 @@ use Rattle.abi_types.specs.declared.status.Status.TheVariants.{Live, Exit, Kille
 use Rattle.run_types.specs.declared.history.Entry.{Entry}
 use Rattle.run_types.specs.declared.history.Record.{Record}
 use Rattle.run_types.specs.declared.launch.Launch.{Launch}
-use Rattle.abi_base.specs.Grants.{AreGrants}
+use Rattle.tree_model.specs.Grants.{MayBegin}
 use Rattle.run_model.proofs.Confinements.{legal_is_confined}
 use Rattle.authority_laws.proofs.Histories.{legal_is_recorded}
 use Rattle.launch_words.specs.Settings.{Settings}
@@ -23,9 +23,9 @@ use Rattle.launch_run.specs.TopCall.{Wrote, IsRecordOf, IsRunOf, IsTopEnd, IsTol
 
 -- a record of a run is as every record that is kept
 is_kept : (given : Option Settings) (spelled : Spelled) (launch : Launch) (r : Record) → IsRecordOf launch r → IsToldAs spelled (spells launch) →
-    IsBuiltBy given launch → AreGrants launch.grants → IsKept given spelled r
+    IsBuiltBy given launch → MayBegin launch.tree launch.grants → IsKept given spelled r
 is_kept given spelled launch r of told built grants =
-    let proper : AreGrants r.launch.grants = subst (λ (l : Launch). AreGrants l.grants) (sym of.0) grants in
+    let proper : MayBegin r.launch.tree r.launch.grants = subst (λ (l : Launch). MayBegin l.tree l.grants) (sym of.0) begins in
     record {
       legal = of.1;
       confined = legal_is_confined r.launch r.history of.1 proper;
@@ -45,7 +45,7 @@ memory_status Words is = absurd (cc)
 memory_status (Input name) is = absurd (cc)
 memory_status (TooLong name) is = absurd (cc)
 memory_status (Program found) is = absurd (cc)
-memory_status Tree is = absurd (cc)
+memory_status (Tree byte) is = absurd (cc)
 memory_status (LaunchText fault) is = absurd (cc)
 memory_status Memory is = refl
 
@@ -70,11 +70,11 @@ no_ended n more status is = not_01 n more (subst (λ (m : ℕ). (m ≡ 0) ⊎ (m
 module _ (given : Option Settings) (told : List ℕ → Told) (rose : Type 0) (before after : Option (List ℕ)) (sink_rose : Type 0) where
   run_kept : (end : RunEnd) → IsRunOf given told rose before after sink_rose end →
       IfSome (finished_run end).kept (IsKept given (words_spell given told))
-  run_kept (Reported r status) o = is_kept given _ o.launch r o.end_told.0 o.spelled o.built o.grants
-  run_kept (Unwritten r) o = is_kept given _ o.launch r o.end_told.0 o.spelled o.built o.grants
+  run_kept (Reported r status) o = is_kept given _ o.launch r o.end_told.0 o.spelled o.built o.begins
+  run_kept (Unwritten r) o = is_kept given _ o.launch r o.end_told.0 o.spelled o.built o.begins
   run_kept NotBegun o = tt
   run_kept (Lacking r) o =
-      where_kept (IsKept given (words_spell given told)) r (length r.history == 0) (is_kept given _ o.launch r o.end_told.0 o.spelled o.built o.grants)
+      where_kept (IsKept given (words_spell given told)) r (length r.history == 0) (is_kept given _ o.launch r o.end_told.0 o.spelled o.built o.begins)
 
   pub top_kept : (end : TopEnd) → IsTopEnd given told rose before after sink_rose end →
       IfSome (finished_of end).kept (IsKept given (words_spell given told))
@@ -87,7 +87,7 @@ module _ (given : Option Settings) (told : List ℕ → Told) (rose : Type 0) (b
   top_input (Refused (Input name)) o is = (name.now, o.0.input.0, inl (o.0.input.1, o.1))
   top_input (Refused (TooLong name)) o is = (name.now, o.0.too_long, inr (o.0.refused tt, o.1))
   top_input (Refused (Program found)) o is = absurd (omega arith)
-  top_input (Refused Tree) o is = absurd (omega arith)
+  top_input (Refused (Tree byte)) o is = absurd (omega arith)
   top_input (Refused (LaunchText fault)) o is = absurd (omega arith)
   top_input (Refused Memory) o is = absurd (omega arith)
   top_input (Ran (Reported r status)) o is = absurd (no_ended 66 (omega arith) status is)
@@ -101,7 +101,7 @@ module _ (given : Option Settings) (told : List ℕ → Told) (rose : Type 0) (b
   top_program (Refused (Input name)) o is = absurd (omega arith)
   top_program (Refused (TooLong name)) o is = absurd (omega arith)
   top_program (Refused (Program found)) o is = (found, o.0.refused tt, o.1)
-  top_program (Refused Tree) o is = absurd (omega arith)
+  top_program (Refused (Tree byte)) o is = absurd (omega arith)
   top_program (Refused (LaunchText fault)) o is = absurd (omega arith)
   top_program (Refused Memory) o is = absurd (omega arith)
   top_program (Ran (Reported r status)) o is = absurd (no_ended 67 (omega arith) status is)
@@ -115,7 +115,7 @@ module _ (given : Option Settings) (told : List ℕ → Told) (rose : Type 0) (b
   top_text (Refused (Input name)) o is = absurd (omega arith)
   top_text (Refused (TooLong name)) o is = absurd (omega arith)
   top_text (Refused (Program found)) o is = absurd (omega arith)
-  top_text (Refused Tree) o is = absurd (omega arith)
+  top_text (Refused (Tree byte)) o is = absurd (omega arith)
   top_text (Refused (LaunchText fault)) o is = (fault, o.0.refused tt, o.1)
   top_text (Refused Memory) o is = absurd (omega arith)
   top_text (Ran (Reported r status)) o is = absurd (no_ended 65 (omega arith) status is)
@@ -129,7 +129,7 @@ module _ (given : Option Settings) (told : List ℕ → Told) (rose : Type 0) (b
   top_tree (Refused (Input name)) o is = absurd (omega arith)
   top_tree (Refused (TooLong name)) o is = absurd (omega arith)
   top_tree (Refused (Program found)) o is = absurd (omega arith)
-  top_tree (Refused Tree) o is = (o.0.refused tt, o.1)
+  top_tree (Refused (Tree byte)) o is = (byte, o.0.refused tt, o.1)
   top_tree (Refused (LaunchText fault)) o is = absurd (omega arith)
   top_tree (Refused Memory) o is = absurd (omega arith)
   top_tree (Ran (Reported r status)) o is = absurd (no_ended 68 (omega arith) status is)
@@ -149,7 +149,7 @@ module _ (given : Option Settings) (told : List ℕ → Told) (rose : Type 0) (b
   top_words (Refused (Input name)) o is = absurd (omega arith)
   top_words (Refused (TooLong name)) o is = absurd (omega arith)
   top_words (Refused (Program found)) o is = absurd (omega arith)
-  top_words (Refused Tree) o is = absurd (omega arith)
+  top_words (Refused (Tree byte)) o is = absurd (omega arith)
   top_words (Refused (LaunchText fault)) o is = absurd (omega arith)
   top_words (Refused Memory) o is = absurd (omega arith)
   top_words (Ran (Reported r status)) o is = absurd (no_ended 2 (omega arith) status is)
@@ -181,7 +181,7 @@ module _ (given : Option Settings) (told : List ℕ → Told) (rose : Type 0) (b
   top_memory (Refused (Input name)) o is = absurd (omega arith)
   top_memory (Refused (TooLong name)) o is = absurd (omega arith)
   top_memory (Refused (Program found)) o is = absurd (omega arith)
-  top_memory (Refused Tree) o is = absurd (omega arith)
+  top_memory (Refused (Tree byte)) o is = absurd (omega arith)
   top_memory (Refused (LaunchText fault)) o is = absurd (omega arith)
   top_memory (Refused Memory) o is = (o.1, tt)
   top_memory (Ran (Reported r status)) o is = absurd (no_ended 70 (omega arith) status is)
@@ -197,7 +197,7 @@ module _ (given : Option Settings) (told : List ℕ → Told) (rose : Type 0) (b
   top_ended (Refused (Input name)) o is = absurd (not_01 66 (omega arith) is)
   top_ended (Refused (TooLong name)) o is = absurd (not_01 66 (omega arith) is)
   top_ended (Refused (Program found)) o is = absurd (not_01 67 (omega arith) is)
-  top_ended (Refused Tree) o is = absurd (not_01 68 (omega arith) is)
+  top_ended (Refused (Tree byte)) o is = absurd (not_01 68 (omega arith) is)
   top_ended (Refused (LaunchText fault)) o is = absurd (not_01 65 (omega arith) is)
   top_ended (Refused Memory) o is = absurd (not_01 70 (omega arith) is)
   top_ended (Ran (Reported r status)) o is =
@@ -212,7 +212,7 @@ module _ (given : Option Settings) (told : List ℕ → Told) (rose : Type 0) (b
   top_unwritten (Refused (Input name)) o is = absurd (omega arith)
   top_unwritten (Refused (TooLong name)) o is = absurd (omega arith)
   top_unwritten (Refused (Program found)) o is = absurd (omega arith)
-  top_unwritten (Refused Tree) o is = absurd (omega arith)
+  top_unwritten (Refused (Tree byte)) o is = absurd (omega arith)
   top_unwritten (Refused (LaunchText fault)) o is = absurd (omega arith)
   top_unwritten (Refused Memory) o is = absurd (omega arith)
   top_unwritten (Ran (Reported r status)) o is = absurd (no_ended 69 (omega arith) status is)

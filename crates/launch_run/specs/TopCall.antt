@@ -9,7 +9,7 @@ use Rattle.abi_types.specs.declared.status.Status.{Status}
 use Rattle.abi_types.specs.declared.status.Status.TheVariants.{Live, Exit, Killed}
 use Rattle.run_types.specs.declared.history.Record.{Record}
 use Rattle.run_types.specs.declared.launch.Launch.{Launch}
-use Rattle.abi_base.specs.Grants.{AreGrants}
+use Rattle.tree_model.specs.Grants.{MayBegin}
 use Rattle.kernel_model.specs.State.{State}
 use Rattle.run_model.specs.Confined.{IsConfined}
 use Rattle.run_model.specs.Ends.{Ended}
@@ -94,7 +94,7 @@ pub record IsRunOf (given : Option Settings) (told : List ℕ → Told) (rose : 
   pub launch : Launch
   pub spelled : IsToldAs (words_spell given told) (spells launch)
   pub built : IsBuiltBy given launch
-  pub grants : AreGrants launch.grants
+  pub begins : MayBegin launch.tree launch.grants
   pub complete : ¬ rose → AnswersSpelled (words_spell given told) (Ok launch)
   pub end_told : IsToldEnd launch (history_with given) before after sink_rose end
 
@@ -144,10 +144,10 @@ abbrev pub IsProgramRefused : Spelled → (List ℕ → Type 0) → Type 0
 IsProgramRefused spelled wrote =
     (found : ElfFault) × IsToldAs spelled (refuses 67 (program_line found)) × wrote (program_line found)
 
--- the tree document is refused, which is the first refusal that is spelled, where anything is told of it, and its line was
--- written
+-- the tree document is refused for a record that begins at a byte, which is the first refusal that is spelled, where anything is
+-- told of it, and its line was written
 abbrev pub IsTreeRefused : Spelled → (List ℕ → Type 0) → Type 0
-IsTreeRefused spelled wrote = IsToldAs spelled (refuses 68 tree_line) × wrote tree_line
+IsTreeRefused spelled wrote = (byte : ℕ) × IsToldAs spelled (refuses 68 (tree_line byte)) × wrote (tree_line byte)
 
 -- the launch text is refused for a fault, which is the first refusal that is spelled, where anything is told of it, and its
 -- line was written

@@ -1,23 +1,27 @@
 use Rattle.input_output.specs.Source.{Rose}
 use Rattle.launch_words.specs.Settings.{view}
 use Rattle.launch_reading.specs.Launch.{inputs_spell, settings_inputs}
-use Rattle.launch_reading.proofs.Bounds.{all_bounded, all_granted}
-use Rattle.launch_reading.proofs.LaunchParts.{answers, built, launch_told, refusal_told}
+use Rattle.launch_reading.proofs.Bounds.{all_begin, all_bounded}
+use Rattle.launch_reading.proofs.LaunchParts.{answers, built, launch_told, read_short, refusal_told}
 use Rattle.launch_reading.proofs.inputs.read_launch.Goals as goal
+
+-- what was read of the tree document is no longer than an input may be
+pub launch_from-requires : goal.launch_from-requires
+launch_from-requires g c = read_short (view c.args.settings.now).tree (g.S.Source.told c.args.source.now) c.in_ok-inputs.inputs.tree c.in_ok-inputs.ensures.ok.tree
 
 pub returns-clause-ok : goal.returns-clause-ok
 returns-clause-ok g c =
     launch_told (view c.args.settings.now) (g.S.Source.told c.args.source.now) c.in_ok-inputs.inputs c.launch_from.result c.in_ok-inputs.ensures.ok c.launch_from.ensures.ok
 
 pub returns-clause-built : goal.returns-clause-built
-returns-clause-built g c = built (view c.args.settings.now) c.in_ok-inputs.inputs c.launch_from.result c.launch_from.ensures.ok
+returns-clause-built g c = is_built g c
 
-pub returns-clause-grants : goal.returns-clause-grants
-returns-clause-grants g c = all_granted (view c.args.settings.now) c.launch_from.result (built _ c.in_ok-inputs.inputs c.launch_from.result c.launch_from.ensures.ok)
+pub returns-clause-begins : goal.returns-clause-begins
+returns-clause-begins g c = all_begin (view c.args.settings.now) c.launch_from.result (is_built g c)
 
 pub returns-clause-bounded : goal.returns-clause-bounded
 returns-clause-bounded g c =
-    all_bounded (view c.args.settings.now) c.launch_from.result c.requires.within (built _ c.in_ok-inputs.inputs c.launch_from.result c.launch_from.ensures.ok)
+    all_bounded (view c.args.settings.now) c.launch_from.result c.requires.within (is_built g c)
 
 pub returns-clause-err : goal.returns-clause-err
 returns-clause-err g c =

@@ -7,7 +7,7 @@ returns-in-Ok-clause-end g c = record {
   launch = c.in-Ok.launch;
   spelled = c.in-Ok.ensures.ok;
   built = c.in-Ok.ensures.built;
-  grants = c.in-Ok.ensures.grants;
+  begins = c.in-Ok.ensures.begins;
   complete = c.in-Ok.ensures.complete;
   end_told = c.run_told.ensures.end;
 }
