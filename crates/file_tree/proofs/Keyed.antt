@@ -10,7 +10,7 @@ use Rattle.slab.proofs.SlabLemmas.{Updates-with_value}
 use Rattle.number_map.specs.Closure.{get-changed, changed-empty}
 use Rattle.number_map.specs.Maps.{get-insert-same, get-insert-other, get-remove-same, get-remove-other, same_around, remove_absent}
 use Rattle.file_tree.specs.declared.slot.Slot.{Slot}
-use Rattle.file_tree.specs.Slots.{no_slot, slot_or, slots_of, IsKeyed}
+use Rattle.file_tree.specs.Slots.{slot_or, slots_of, IsKeyed}
 
 abbrev pub Keys : Type 0
 Keys = FinMap nat_cmp ℕ
@@ -64,7 +64,6 @@ module _ (slab : Slab Slot) (keys : Keys) (keyed : IsKeyed slab keys) where
         | None ↦ λ e. refl
         | Some key ↦ λ e. let there = keyed.there n key e in let same = slot_at n ∙ ap (found slab) e in absurd (cc)
       ] refl
-
   -- ---- changes
 
 -- what is found at each number, where the slots of the numbers other than n stay
