@@ -1,5 +1,5 @@
 -- Zeros behind bytes, and bytes put over others.
-use Rattle.std.proofs.Common.{◌≡◌, ℕ, ◌+◌, ◌-◌, ◌<◌, ◌≤◌, ◌⊎◌, ◌==◌, inl, inr, Bool, true, false, leb, List, [], ◌∷◌, ◌++◌, take, drop, length, replicate, max, min, refl, sym, ap, ◌∙◌, arith}
+use Rattle.std.proofs.Common.{◌≡◌, ℕ, ◌+◌, ◌-◌, ◌<◌, ◌≤◌, ◌⊎◌, ◌==◌, inl, inr, true, false, leb, List, [], ◌∷◌, ◌++◌, take, drop, length, replicate, max, min, refl, sym, ap, ◌∙◌, arith}
 use Rattle.std.proofs.lemmas.Bool.{leb-true, leb-false, eqb-true, false≢true}
 use Rattle.std.proofs.lemmas.List.{append-nil, length-append, length-replicate, take_all, drop_all, take-append-le, take-replicate}
 use Rattle.std.proofs.Math.Seq.{take-append-add}

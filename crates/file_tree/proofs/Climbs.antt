@@ -1,8 +1,8 @@
 -- Climbing from a directory, by what its slot tells.
-use Rattle.std.proofs.Common.{◌≡◌, ◌≢◌, ℕ, Bool, true, false, List, Option, Some, None, IfSome, IfNone, nat_lt, inl, inr, refl, sym, ap, ◌∙◌}
-use Rattle.std.proofs.lemmas.Bool.{false_from_ne_true, le-ltb}
+use Rattle.std.proofs.Common.{◌≡◌, ◌≢◌, ℕ, false, List, Option, Some, None, IfSome, IfNone, nat_lt, inl, inr, refl, sym, ap, ◌∙◌}
+use Rattle.std.proofs.lemmas.Bool.{false_from_ne_true}
 use Rattle.std.proofs.lemmas.Option.{none-some}
-use Rattle.std.specs.FinMap.{get, len, empty, len-empty}
+use Rattle.std.specs.FinMap.{get, len, len-empty}
 use Rattle.number_map.specs.Closure.{member}
 use Rattle.name_map.specs.Names as name_map
 use Rattle.tree_model.specs.Tree.{Tree, Names, HasName, below, entry_of, names_in}

@@ -1,22 +1,20 @@
 -- A slot whose node changes, but for being a directory: the tree that is seen, and what is kept.
-use Rattle.std.proofs.Common.{◌≡◌, ◌≢◌, ◌↔◌, ℕ, Bool, true, false, cond, List, [], Option, Some, None, IsSome, is_some, option_map, inl, inr, refl, sym, ap, ◌∙◌}
+use Rattle.std.proofs.Common.{◌≡◌, ℕ, true, false, cond, List, [], Option, Some, None, IsSome, option_map, refl, sym, ap, ◌∙◌}
 use Rattle.std.proofs.lemmas.Bool.{false≢true}
-use Rattle.std.proofs.lemmas.Bool.Decides.{eqb_tells}
-use Rattle.std.specs.Ordering.{nat_cmp}
-use Rattle.std.specs.FinMap.{FinMap, get, insert, remove}
+use Rattle.std.specs.FinMap.{get, insert}
 use Rattle.abi_types.specs.declared.node.Node.{Node}
 use Rattle.abi_types.specs.declared.node.NodeKind.{NodeKind}
 use Rattle.abi_types.specs.declared.node.NodeKind.TheVariants as kind
 use Rattle.abi_types.specs.declared.node.Times.{Times}
 use Rattle.number_map.specs.Closure.{changed-insert}
 use Rattle.number_map.specs.Maps.{get-insert-same, get-insert-other, insert_self, same_numbers}
-use Rattle.tree_model.specs.Tree.{Tree, Names, HasName, IsTree, entry_of, is_directory, is_directory_kind, names_in}
+use Rattle.tree_model.specs.Tree.{Tree, IsTree, entry_of, is_directory_kind, names_in}
 use Rattle.tree_model.specs.Changes.{put_node, with_bytes, with_bytes_in, with_times, with_times_in, bytes_of, bytes_in, bytes_of_kind, is_file, is_file_kind, is_file_node}
 use Rattle.tree_model.specs.Entries.{here_or_other}
 use Rattle.tree_model.specs.Keeps.{with_bytes-tree, with_times-tree}
 use Rattle.file_tree.specs.declared.slot.Slot.{Slot}
 use Rattle.file_tree.specs.SlotBytes.{with_file}
-use Rattle.file_tree.specs.Kept.{Slots, Numbers, nodes_of, names_of_slots, tree_of, is_directory_slot, parent_in, IsKept}
+use Rattle.file_tree.specs.Kept.{Slots, Numbers, names_of_slots, tree_of, is_directory_slot, parent_in, IsKept}
 use Rattle.file_tree.proofs.Views.{names_found, node_found, names_at, directory_found}
 use Rattle.file_tree.proofs.Stays.{parent_stays, listed_at, listed_all, is_nameless_slot, counts_as_before}
 

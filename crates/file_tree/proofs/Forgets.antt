@@ -1,11 +1,11 @@
 -- The least node without a name, and that a node without a name goes.
-use Rattle.std.proofs.Common.{◌≡◌, ◌≢◌, ◌↔◌, ℕ, Bool, true, false, ◌&&◌, cond, nat_le, List, Option, Some, None, is_some, option_map, inl, inr, refl, sym, ap, ◌∙◌}
+use Rattle.std.proofs.Common.{◌≡◌, ◌≢◌, ℕ, Bool, true, false, ◌&&◌, List, Option, Some, None, is_some, refl, sym, ap, ◌∙◌}
 use Rattle.std.proofs.lemmas.Bool.{false≢true}
-use Rattle.std.specs.FinMap.{FinMap, get, insert, remove}
+use Rattle.std.specs.FinMap.{get, remove}
 use Rattle.abi_types.specs.declared.node.Node.{Node}
 use Rattle.number_map.specs.Closure.{changed-remove}
 use Rattle.number_map.specs.Maps.{get-remove-same, get-remove-other, least_key, least_same, passes, same_numbers}
-use Rattle.tree_model.specs.Tree.{Tree, HasName, IsTree, entry_of, is_directory, links_of}
+use Rattle.tree_model.specs.Tree.{Tree, entry_of, is_directory, links_of}
 use Rattle.tree_model.specs.Changes.{forgotten, is_above, nameless_after}
 use Rattle.tree_model.specs.Entries.{here_or_other}
 use Rattle.tree_model.specs.Keeps.{forgotten-tree, forgotten_names}

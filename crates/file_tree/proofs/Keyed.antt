@@ -1,5 +1,5 @@
 -- How the slots by number change with the slab and the keys.
-use Rattle.std.proofs.Common.{◌≡◌, ◌≢◌, ℕ, inl, inr, Option, Some, None, IsSome, is_some, option_map, refl, sym, ap, ◌∙◌}
+use Rattle.std.proofs.Common.{◌≡◌, ◌≢◌, ℕ, Bool, inl, inr, Option, Some, None, IsSome, is_some, option_map, refl, sym, ap, ◌∙◌}
 use Rattle.std.proofs.lemmas.Bool.Decides.{eqb_tells}
 use Rattle.std.proofs.lemmas.Option.{same_Some}
 use Rattle.std.specs.Ordering.{nat_cmp}
@@ -8,9 +8,9 @@ use Rattle.std.specs.FinMap.{FinMap, get-empty}
 use Rattle.slab.specs.Slab.{Slab, get, with_value, Updates}
 use Rattle.slab.proofs.SlabLemmas.{Updates-with_value}
 use Rattle.number_map.specs.Closure.{get-changed, changed-empty}
-use Rattle.number_map.specs.Maps.{get-insert-same, get-insert-other, get-remove-same, get-remove-other, same_around, remove_absent}
+use Rattle.number_map.specs.Maps.{get-insert-same, get-insert-other, get-remove-same, get-remove-other, passes, least_key, least_same, same_around, remove_absent}
 use Rattle.file_tree.specs.declared.slot.Slot.{Slot}
-use Rattle.file_tree.specs.Slots.{no_slot, slot_or, slots_of, IsKeyed}
+use Rattle.file_tree.specs.Slots.{slot_or, slots_of, IsKeyed}
 
 abbrev pub Keys : Type 0
 Keys = FinMap nat_cmp ℕ
@@ -64,7 +64,6 @@ module _ (slab : Slab Slot) (keys : Keys) (keyed : IsKeyed slab keys) where
         | None ↦ λ e. refl
         | Some key ↦ λ e. let there = keyed.there n key e in let same = slot_at n ∙ ap (found slab) e in absurd (cc)
       ] refl
-
   -- ---- changes
 
 -- what is found at each number, where the slots of the numbers other than n stay
@@ -189,6 +188,19 @@ keyed_roomy slab roomy keys same keyed = record {
 
 pub slots_roomy : (slab roomy : Slab Slot) (keys : Keys) → roomy ≡ record slab { capacity = roomy.capacity } → slots_of roomy keys ≡ slots_of slab keys
 slots_roomy slab roomy keys same = λ i. slots_of (same i) keys
+
+-- the least number with a slot is the least one with a key
+
+passes_alike : {A B : Type 0} (test : ℕ → Bool) (f : A → B) (q : ℕ) (o : Option A) → passes (λ n _. test n) q o ≡ passes (λ n _. test n) q (option_map f o)
+passes_alike test f q None = refl
+passes_alike test f q (Some x) = refl
+
+pub seen_least : (slab : Slab Slot) (keys : Keys) (m : FinMap nat_cmp Slot) → slots_of slab keys ≡ m → (test : ℕ → Bool)
+    → least_key (λ n _. test n) keys ≡ least_key (λ n _. test n) m
+seen_least slab keys m view test =
+    least_same (λ n _. test n) (λ n _. test n) keys m (λ q.
+    passes_alike test (λ key. slot_or (get slab key)) q (map.get keys q)
+    ∙ ap (passes (λ n _. test n) q) (sym (get-changed (λ (_ : ℕ) (key : ℕ). slot_or (get slab key)) keys q) ∙ (λ i. map.get (view i) q)))
 
 -- ---- what contracts see, where they see the slots as m and the number as n
 

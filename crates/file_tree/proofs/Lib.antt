@@ -13,3 +13,4 @@ pub mod Links
 pub mod SlotChanges
 pub mod Unlinks
 pub mod Moves
+pub mod Copies

@@ -3,16 +3,15 @@
 --     with_parent-view, one_name_less-view, without_name-view, with_entry-view, without_entry-view      the tree after each change
 --     slot_of_name, links_of_name, not_the_root      the node of a name has a slot, counts a name, and is not the root
 --     lost_other, lost_parent, lost_listed      after a node lost a name
-use Rattle.std.proofs.Common.{◌≡◌, ◌≢◌, ℕ, ◌-◌, ◌≤◌, ◌==◌, ◌&&◌, not, Bool, true, false, cond, List, Option, Some, None, IsSome, IfSome, is_some, option_map, inl, inr, refl, sym, ap, ◌∙◌, arith}
+use Rattle.std.proofs.Common.{◌≡◌, ◌≢◌, ℕ, ◌-◌, ◌≤◌, ◌==◌, ◌&&◌, not, Bool, true, false, cond, List, Option, Some, None, IsSome, IfSome, is_some, option_map, inr, refl, sym, ap, ◌∙◌, arith}
 use Rattle.std.specs.Prelude.{if◌then◌else◌}
 use Rattle.std.proofs.lemmas.Bool.{false≢true, false_from_ne_true, eqb-true, eq-eqb}
 use Rattle.std.proofs.lemmas.Bool.Decides.{same_from_decides}
-use Rattle.std.specs.Ordering.{nat_cmp}
-use Rattle.std.specs.FinMap.{FinMap, get, insert, remove}
+use Rattle.std.specs.FinMap.{get, insert, remove}
 use Rattle.number_map.specs.Closure.{changed-insert}
 use Rattle.number_map.specs.Maps.{get-insert-same, get-insert-other, insert_self, same_numbers}
 use Rattle.tree_model.specs.declared.limits.TheConstants.{ROOT}
-use Rattle.tree_model.specs.Tree.{Tree, Names, HasName, IsTree, is_directory, is_directory_kind, links_in, links_of, names_in, names_of}
+use Rattle.tree_model.specs.Tree.{Tree, Names, HasName, IsTree, is_directory, is_directory_kind, links_in, names_in, names_of}
 use Rattle.tree_model.specs.Changes.{drop_name, one_less, one_less_in, put_name, with_count, without_old}
 use Rattle.tree_model.specs.Entries.{here_or_other}
 use Rattle.tree_model.specs.Climbing.{no_parent}

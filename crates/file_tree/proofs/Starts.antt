@@ -1,13 +1,12 @@
 -- The slots of a new tree: the root's alone.
-use Rattle.std.proofs.Common.{◌≡◌, ◌≢◌, ◌↔◌, ℕ, true, false, cond, List, Option, Some, None, is_some, refl, sym, ap, ◌∙◌}
-use Rattle.std.proofs.lemmas.Bool.{false≢true}
+use Rattle.std.proofs.Common.{◌≡◌, ◌≢◌, ℕ, false, Some, None, is_some, sym, ap, ◌∙◌}
 use Rattle.std.specs.Ordering.{nat_cmp}
 use Rattle.std.specs.FinMap.{FinMap, empty, get, insert, get-empty}
 use Rattle.abi_types.specs.declared.node.Times.{Times}
 use Rattle.number_map.specs.Closure.{changed-empty, changed-insert}
 use Rattle.number_map.specs.Maps.{get-insert-same, get-insert-other, same_numbers}
 use Rattle.tree_model.specs.declared.limits.TheConstants.{ROOT}
-use Rattle.tree_model.specs.Tree.{Tree, Names, HasName, entry_of, is_directory}
+use Rattle.tree_model.specs.Tree.{Names, entry_of}
 use Rattle.tree_model.specs.Start.{root_node, root_tree, root_tree-no_name, root_tree-tree}
 use Rattle.tree_model.specs.Entries.{here_or_other}
 use Rattle.file_tree.specs.declared.slot.Slot.{Slot}

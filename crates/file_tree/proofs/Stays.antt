@@ -1,14 +1,13 @@
 -- What is kept beside the slots: at a number whose slot or names change, and at all others, where it stays.
-use Rattle.std.proofs.Common.{◌≡◌, ◌≢◌, ◌↔◌, ℕ, ◌==◌, ◌&&◌, not, Bool, true, false, cond, List, Option, Some, None, is_some, option_map, inl, inr, refl, sym, ap, ◌∙◌}
+use Rattle.std.proofs.Common.{◌≡◌, ◌≢◌, ◌↔◌, ℕ, ◌==◌, ◌&&◌, not, Bool, false, List, Option, Some, None, is_some, option_map, inl, inr, refl, sym, ap, ◌∙◌}
 use Rattle.std.proofs.lemmas.Option.{same_Some, none-some}
 use Rattle.std.specs.FinMap.{get}
-use Rattle.abi_types.specs.declared.node.Node.{Node}
 use Rattle.number_map.specs.Maps.{passes}
 use Rattle.tree_model.specs.declared.limits.TheConstants.{ROOT}
 use Rattle.tree_model.specs.Tree.{Tree, HasName, entry_of}
 use Rattle.tree_model.specs.Entries.{IsElsewhere, same_place_or_not}
 use Rattle.file_tree.specs.declared.slot.Slot.{Slot}
-use Rattle.file_tree.specs.Kept.{Slots, Numbers, nodes_of, tree_of, parent_in, TellsParent, IsListed, is_nameless}
+use Rattle.file_tree.specs.Kept.{Slots, Numbers, nodes_of, TellsParent, IsListed, is_nameless}
 use Rattle.file_tree.proofs.Views.{node_found}
 
 -- ---- the directory above

@@ -2,7 +2,6 @@
 use Rattle.std.proofs.Common.{◌≡◌, ◌≢◌, ℕ, ◌≤◌, true, List, Option, Some, None, IsSome, is_some, refl, sym, ap, subst, ◌∙◌, arith}
 use Rattle.std.proofs.lemmas.Option.{same_Some, none-some}
 use Rattle.std.specs.FinMap.{get, remove}
-use Rattle.tree_model.specs.declared.limits.TheConstants.{ROOT}
 use Rattle.tree_model.specs.Tree.{Tree, HasName, IsTree, entry_of, is_directory}
 use Rattle.tree_model.specs.Changes.{drop_name, first_fault, unlink_faults, unlinked, without_old}
 use Rattle.tree_model.specs.Counts.{one_for-same}

@@ -1,13 +1,11 @@
 -- What is seen of the slots, and how it changes with them.
-use Rattle.std.proofs.Common.{◌≡◌, ◌≢◌, ℕ, ◌+◌, ◌-◌, Bool, true, false, cond, List, [], ◌∷◌, length, slice_get, Option, Some, None, IsSome, is_some, option_map, refl, sym, ap, ◌∙◌, inl, inr, arith}
-use Rattle.std.proofs.lemmas.Bool.Decides.{eqb_tells}
+use Rattle.std.proofs.Common.{◌≡◌, ℕ, cond, List, [], ◌∷◌, length, slice_get, Option, Some, None, option_map, refl, sym, ap, ◌∙◌, arith}
 use Rattle.std.specs.Ordering.{nat_cmp}
 use Rattle.std.specs.Cmp.Lexicographic.{slice_cmp}
-use Rattle.std.specs.FinMap.{FinMap, empty, get, insert, remove, retain_keys, entries, get-empty, len-empty, len-entries}
-use Rattle.abi_types.specs.declared.node.Node.{Node}
-use Rattle.number_map.specs.Closure.{changed, get-changed, changed-insert, changed-remove}
-use Rattle.number_map.specs.Maps.{get-insert-same, get-insert-other, get-remove-same, get-remove-other, get-retain, same_around, same_numbers, insert_self}
-use Rattle.tree_model.specs.Tree.{Names, Tree, names_in, names_of, entry_of, is_directory, is_directory_kind, is_directory_node}
+use Rattle.std.specs.FinMap.{empty, get, entries, get-empty, len-empty, len-entries}
+use Rattle.number_map.specs.Closure.{changed, get-changed}
+use Rattle.number_map.specs.Maps.{get-retain}
+use Rattle.tree_model.specs.Tree.{Names, Tree, names_in, is_directory, is_directory_node}
 use Rattle.file_tree.specs.declared.slot.Slot.{Slot}
 use Rattle.file_tree.specs.SlotNames.{names_in_slot}
 use Rattle.file_tree.specs.Kept.{Slots, nodes_of, names_of_slots, is_directory_slot, tree_of}

@@ -1,5 +1,5 @@
 -- What a check of a change says.
-use Rattle.std.specs.Prelude.{◌≡◌, ℕ, not, List, [], ◌∷◌, Option, None, Some, Result, Ok, Err}
+use Rattle.std.specs.Prelude.{◌≡◌, ℕ, not, [], ◌∷◌, None, Some, Result, Ok, Err}
 use Rattle.tree_model.specs.declared.fault.TreeFault.{TreeFault}
 use Rattle.tree_model.specs.declared.fault.TreeFault.TheVariants.{Absent, NotDirectory}
 use Rattle.tree_model.specs.Tree.{Tree, is_directory}

@@ -104,7 +104,13 @@ impl Tree {
     }
 
     // That a name may move to this place; its node.
-    pub(crate) fn check_rename(&self, from: ObjId, name: &[u8], to: ObjId, new: &[u8]) -> Result<ObjId, TreeFault>
+    pub(crate) fn check_rename(
+        &self,
+        from: ObjId,
+        name: &[u8],
+        to: ObjId,
+        new: &[u8],
+    ) -> Result<ObjId, TreeFault>
         ensures checks { Checks (rename_faults self.now from name.now to new.now) result }
         ensures node { IfOk result (λ node. entry_of self.now from name.now ≡ Some node) }
     {

@@ -70,7 +70,14 @@ pub fn drop_slot(slots: &mut Slots, id: ObjId)
 }
 
 /// A new node with its first name in a directory, which it is told as the one above.
-pub fn add_node(slots: &mut Slots, alloc: Global, dir: ObjId, name: &[u8], id: ObjId, node: Node) -> Result<(), AllocError>
+pub fn add_node(
+    slots: &mut Slots,
+    alloc: Global,
+    dir: ObjId,
+    name: &[u8],
+    id: ObjId,
+    node: Node,
+) -> Result<(), AllocError>
     requires dir { IsSome (map.get slots.old dir) }
     requires new { map.get slots.old id ≡ None }
     ensures ok { OnOk result (slots.new ≡ with_entry (map.insert slots.old id (first_slot dir node)) dir name.now id) }
@@ -114,7 +121,14 @@ fn is_last(slots: &Slots, id: ObjId) -> bool
 
 /// A name in a directory, where another node loses it if there is one. Memory may be wanting for one thing alone: for a new
 /// name, or to list a node that lost its last one.
-pub fn give_entry(slots: &mut Slots, nameless: &mut NumMap<()>, dir: ObjId, name: &[u8], id: ObjId, old: &Option<ObjId>) -> Result<(), AllocError>
+pub fn give_entry(
+    slots: &mut Slots,
+    nameless: &mut NumMap<()>,
+    dir: ObjId,
+    name: &[u8],
+    id: ObjId,
+    old: &Option<ObjId>,
+) -> Result<(), AllocError>
     requires dir { IsSome (map.get slots.old dir) }
     requires entry { old.now ≡ map.get (names_at slots.old dir) name.now }
     requires there { IfSome old.now (λ node. IsSome (map.get slots.old node)) }

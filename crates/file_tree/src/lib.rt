@@ -3,11 +3,13 @@
 
 mod changes;
 mod checks;
+mod copying;
 mod dirs;
 mod entries;
 mod file_bytes;
 mod files;
 mod nameless;
+mod numbers;
 mod renames;
 mod slot;
 mod slots;

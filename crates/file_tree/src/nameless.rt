@@ -1,13 +1,12 @@
 //! Nodes without a name: which there are, and that they go.
 ghost use Rattle.std.specs.Prelude.{◌≡◌};
 ghost use Rattle.tree_model.specs.Tree.{links_of};
-ghost use Rattle.tree_model.specs.Changes.{forgotten, is_above, nameless_after};
-ghost use Rattle.number_map.specs.Maps.{least_key};
+ghost use Rattle.tree_model.specs.Changes.{forgotten, nameless_after};
 
 use crate::entries::drop_slot;
+use crate::numbers::least;
 use crate::tree::Tree;
 use abi_types::ObjId;
-use number_map::NumMap;
 
 impl Tree {
     /// The least node above `after` that has no name, the root aside, and the least of all with no `after`. It takes no
@@ -25,15 +24,5 @@ impl Tree {
     {
         drop_slot(&mut self.slots, id);
         self.nameless.remove(id.0);
-    }
-}
-
-// The least of the numbers above `after`, and the least of all with no `after`.
-fn least(numbers: &NumMap<()>, after: Option<ObjId>) -> Option<u64>
-    ensures { result ≡ least_key (λ n _. is_above after n) numbers.now }
-{
-    match after {
-        Some(id) => numbers.first_after(id.0),
-        None => numbers.first_from(0),
     }
 }

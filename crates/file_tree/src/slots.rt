@@ -1,9 +1,12 @@
 //! Slots by the numbers of their nodes.
-ghost use Rattle.std.specs.Prelude.{◌≡◌, ◌<◌, ◌^◌, None, IsSome, OnOk, OnErr, is_some, option_copied};
+ghost use Rattle.std.specs.Prelude.{◌≡◌, ◌<◌, ◌^◌, None, IsSome, IfSome, OnOk, OnErr, is_some, option_copied};
 ghost use Rattle.std.specs.FinMap as map;
 ghost use Rattle.std.specs.Borrow.{sem};
+ghost use Rattle.number_map.specs.Maps.{least_key};
+ghost use Rattle.tree_model.specs.Changes.{is_above};
 ghost use Rattle.file_tree.specs.Lending.{LendsSlot};
 
+use crate::numbers::least;
 use crate::slot::Slot;
 use abi_types::ObjId;
 use number_map::NumMap;
@@ -71,6 +74,14 @@ impl Slots {
         ensures { result ≡ is_some (map.get self.now id) }
     {
         self.get(id).is_some()
+    }
+
+    /// The least number above `after` that has a slot, and the least of all with no `after`.
+    pub fn next_after(&self, after: Option<ObjId>) -> Option<ObjId>
+        ensures least { result ≡ least_key (λ n _. is_above after n) self.now }
+        ensures small { IfSome result (λ id. id < 2 ^ 64) }
+    {
+        Some(ObjId(least(&self.keys, after)?))
     }
 
     /// The slot of this number, to be changed in place.

@@ -24,7 +24,7 @@ use Rattle.launch_run.specs.TopCall.{Wrote, IsRecordOf, IsRunOf, IsTopEnd, IsTol
 -- a record of a run is as every record that is kept
 is_kept : (given : Option Settings) (spelled : Spelled) (launch : Launch) (r : Record) → IsRecordOf launch r → IsToldAs spelled (spells launch) →
     IsBuiltBy given launch → MayBegin launch.tree launch.grants → IsKept given spelled r
-is_kept given spelled launch r of told built grants =
+is_kept given spelled launch r of told built begins =
     let proper : MayBegin r.launch.tree r.launch.grants = subst (λ (l : Launch). MayBegin l.tree l.grants) (sym of.0) begins in
     record {
       legal = of.1;

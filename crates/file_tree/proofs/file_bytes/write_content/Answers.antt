@@ -1,4 +1,4 @@
-use Rattle.std.proofs.Common.{◌∙◌, ap, length, sym, arith}
+use Rattle.std.proofs.Common.{◌∙◌, ap, length, arith}
 use Rattle.file_tree.proofs.Bytes.{written_over}
 use Rattle.file_tree.proofs.file_bytes.write_content.Goals as goal
 

@@ -17,10 +17,11 @@ unwrap-requires c =
 
 pub returns : goal.returns
 returns c =
-    let there : Some c.unwrap-key.result.now ≡ map.get c.self.inside.keys c.id.inside.0 = ap option_copied (sym c.unwrap-key.ensures) ∙ c.get.ensures.value in
-    ((refl, seen_set c.self.inside.slab c.self.inside.keys c.self.invariant c.args.self.now c.self.view_is c.id.inside.0 c.args.id c.id.view_is c.unwrap-key.result.now there),
-    record {
-      writes_back = tt;
-      value = ap option_copied_mut (sym c.unwrap.ensures) ∙ c.get_mut.ensures.value
-          ∙ seen_some c.self.inside.slab c.self.inside.keys c.self.invariant c.args.self.now c.self.view_is c.id.inside.0 c.args.id c.id.view_is c.unwrap-key.result.now there;
-    })
+    let there : Some c.unwrap-key.result.now ≡ map.get c.self.inside.keys c.id.inside.0 = ap option_copied (sym c.unwrap-key.ensures) ∙ c.get.ensures.value in (
+      (refl, seen_set c.self.inside.slab c.self.inside.keys c.self.invariant c.args.self.now c.self.view_is c.id.inside.0 c.args.id c.id.view_is c.unwrap-key.result.now there),
+      record {
+        writes_back = tt;
+        value = ap option_copied_mut (sym c.unwrap.ensures) ∙ c.get_mut.ensures.value
+            ∙ seen_some c.self.inside.slab c.self.inside.keys c.self.invariant c.args.self.now c.self.view_is c.id.inside.0 c.args.id c.id.view_is c.unwrap-key.result.now there;
+      },
+    )

@@ -1,4 +1,4 @@
-use Rattle.std.proofs.Common.{◌≡◌, ◌∙◌, Some, None, refl, sym, ap}
+use Rattle.std.proofs.Common.{◌∙◌}
 use Rattle.file_tree.proofs.Keyed.{seen_none, seen_some, seen_keyed_gone, seen_gone, seen_keyed_same, seen_same}
 use Rattle.file_tree.proofs.slots.Slots.remove.Goals as goal
 

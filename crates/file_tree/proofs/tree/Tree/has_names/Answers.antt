@@ -1,4 +1,3 @@
-use Rattle.std.proofs.Common.{◌∙◌, sym}
 use Rattle.file_tree.proofs.Climbs.{no_names_there}
 use Rattle.file_tree.proofs.tree.Tree.has_names.Goals as goal
 

@@ -1,4 +1,4 @@
-use Rattle.std.proofs.Common.{◌≡◌, ◌≢◌, refl, sym, ap, ◌∙◌}
+use Rattle.std.proofs.Common.{refl, sym, ◌∙◌}
 use Rattle.tree_model.specs.Facts.{directory_of_name}
 use Rattle.tree_model.specs.Climbing.{climb_from_itself, climb, climb_shortens}
 use Rattle.file_tree.proofs.Climbs.{apart, not_below}
@@ -19,8 +19,7 @@ pub loop-at-preserved : goal.loop-at-preserved
 loop-at-preserved c =
     let t = c.args.self.now in
     let name = c.in-Some.ensures.some in
-    let other = apart c.at.view_is c.id.view_is c.loop-at-test.true in
-    (
+    let other = apart c.at.view_is c.id.view_is c.loop-at-test.true in (
       directory_of_name t c.in-Some.ensures.tree c.in-Some.parent name.0 c.loop-at.at name.1,
       sym (climb t c.in-Some.ensures.tree c.args.id c.in-Some.parent name.0 c.loop-at.at c.loop-at.invariant.0 name.1 other) ∙ c.loop-at.invariant.1,
     )

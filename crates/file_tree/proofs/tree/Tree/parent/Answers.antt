@@ -1,4 +1,4 @@
-use Rattle.std.proofs.Common.{Some, None, sym, ap, ◌∙◌}
+use Rattle.std.proofs.Common.{Some, None, ◌∙◌}
 use Rattle.tree_model.specs.Tree.{is_directory}
 use Rattle.file_tree.proofs.Climbs.{seen_parent, seen_no_parent}
 use Rattle.file_tree.proofs.tree.Tree.parent.Goals as goal

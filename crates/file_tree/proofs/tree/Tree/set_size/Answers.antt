@@ -1,8 +1,7 @@
-use Rattle.std.proofs.Common.{◌∙◌, ap, sym}
+use Rattle.std.proofs.Common.{◌∙◌, ap}
 use Rattle.std.specs.FinMap.{insert}
 use Rattle.tree_model.specs.Files.{resized}
-use Rattle.tree_model.specs.Changes.{bytes_of, with_bytes}
-use Rattle.file_tree.specs.SlotBytes.{with_file}
+use Rattle.tree_model.specs.Changes.{with_bytes}
 use Rattle.file_tree.specs.Kept.{tree_of}
 use Rattle.file_tree.proofs.Behind.{on_err}
 use Rattle.file_tree.proofs.Edits.{put_same, seen_file_there, seen_file, seen_bytes, seen_with_file, kept_with_file}

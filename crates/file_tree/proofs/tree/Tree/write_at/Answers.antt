@@ -2,7 +2,6 @@ use Rattle.std.proofs.Common.{◌∙◌, take, ap, sym}
 use Rattle.std.specs.FinMap.{insert}
 use Rattle.tree_model.specs.Files.{written}
 use Rattle.tree_model.specs.Changes.{bytes_of, with_bytes}
-use Rattle.file_tree.specs.SlotBytes.{with_file}
 use Rattle.file_tree.specs.Kept.{tree_of}
 use Rattle.file_tree.proofs.Behind.{on_err}
 use Rattle.file_tree.proofs.Bytes.{after_none, after_some}
