@@ -95,7 +95,7 @@ numbered_counts tree (grant ∷ grants) n m o e =
           ∙ ap number (get-from_entries nat_cmp_total _ m ∙ find_below (λ (_ : ℕ) (_ : Grant). 1) (m + 1) grants m (omega arith)) in
           omega (arith, rest, sums, one, here, before)
       | inr other ↦
-          let apart : launch_object (5 + n) ≢ o = other.1 in
+          let apart : first_open tree + n ≢ o = other.1 in
           let none : names_open o (granted_descriptor tree n grant) ≡ 0 = ap (λ b. cond b 1 0) other.0 in
           let here : number (get (insert counts m 1) o) ≡ number (get counts o) =
           ap number (get-insert-other counts m 1 o (λ same. apart (omega (arith, same, e)))) in
@@ -104,7 +104,7 @@ numbered_counts tree (grant ∷ grants) n m o e =
 
 pub start_counted : (tree : Tree) (grants : List Grant) (stdin : List ℕ) (o : ℕ) → number (get (granted_objects tree grants).counts o) ≡ holders (start_state tree grants stdin) o
 start_counted tree grants stdin o =
-    let counts = numbered_counts tree grants 0 (first_open tree) o refl in
+    let counts = numbered_counts tree grants 0 (first_open tree) o (omega arith) in
     let bare : total (count_in o) (empty {X = Table} {R = nat_cmp}) ≡ 0 = total-empty (count_in o) in
     let sums = total-insert_new (count_in o) empty 0 (granted_table tree grants) (get-empty nat_cmp 0) in
     omega (arith, counts, bare, sums)

@@ -29,7 +29,7 @@ use crate::table_change::TableChange;
 use crate::terminal::Terminal;
 use abi_types::{
     Answer, Bytes, Call, Constants, Denial, Descriptor, Errno, FdStat, Needed, OpenKind, Payload,
-    Pid, Reply, Status, Thread, Tid, Times, Who,
+    Pid, Reply, Status, Thread, Tid, TryClone, Who,
 };
 use fd_table::FdTable;
 use file_tree::Tree;

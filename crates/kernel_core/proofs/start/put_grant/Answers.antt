@@ -1,4 +1,5 @@
-use Rattle.std.proofs.Common.{ap, is_some, arith, ◌∙◌}
+use Rattle.std.proofs.Common.{◌≡◌, ◌+◌, ap, is_some, arith, ◌∙◌}
+use Rattle.kernel_model.specs.Start.{first_open}
 use Rattle.std.specs.FinMap.{insert}
 use Rattle.number_map.specs.Maps.{number}
 use Rattle.kernel_core.proofs.Starts.{new_count, held_once}
@@ -12,7 +13,9 @@ hold-requires-clause-few c = let none = ap number (new_count _ _ _ _ c.in_ok-add
 
 pub returns-clause-objects : goal.returns-clause-objects
 returns-clause-objects c =
-    let id = c.launch_object-id.ensures in
+    let nodes = c.len.ensures.nodes in
+    let number = c.launch_object-id.ensures in
+    let id : c.launch_object-id.result ≡ first_open c.args.tree.now + c.args.number = omega (arith, nodes, number) in
     let kind = c.open_of.ensures in
     held_once c.args.objects.now c.add.new.self c.hold.new.self c.launch_object-id.result c.open_of.result c.in_ok-add.ensures.ok c.hold.ensures
     ∙ (λ i. record { kinds = insert c.args.objects.now.kinds (id i) (kind i); counts = insert c.args.objects.now.counts (id i) 1 })
