@@ -2,9 +2,11 @@
 #![tactic(auto)]
 
 pub use fault::TreeDocFault;
+pub use laws::a_text_has_one_meaning;
 pub use reading::read_tree;
 
 mod building;
 mod fault;
+mod laws;
 mod reading;
 mod walking;
