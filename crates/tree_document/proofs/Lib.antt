@@ -1,0 +1,4 @@
+pub mod Walks
+pub mod Places
+pub mod Documents
+pub mod Meanings

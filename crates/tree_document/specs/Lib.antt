@@ -1,0 +1,4 @@
+-- Which texts are tree documents, and what tree each means.
+pub mod Building
+pub mod Documents
+pub mod Views
