@@ -1,10 +1,11 @@
 -- A text has one meaning, or one first fault.
-use Rattle.std.proofs.Common.{◌≡◌, ◌≢◌, ◌⊎◌, inl, inr, ℕ, ◌+◌, ◌<◌, List, [], ◌∷◌, ◌++◌, length, refl, sym, ap, subst, ◌∙◌, append_assoc, length-append, arith}
+use Rattle.std.proofs.Common.{◌≡◌, ◌⊎◌, inl, inr, ℕ, List, [], ◌∷◌, ◌++◌, length, refl, sym, ap, subst, ◌∙◌, append_assoc, arith}
 use Rattle.std.proofs.lemmas.List.{append-nil}
+use Rattle.abi_types.specs.declared.node.Times.{Times}
 use Rattle.tree_model.specs.Tree.{Tree}
-use Rattle.tree_records.specs.Records.{Record, IsRecord, spelled}
+use Rattle.tree_records.specs.Records.{Record, spelled}
 use Rattle.tree_records.proofs.RecordTexts.{one_record, spelled_some}
-use Rattle.tree_document.specs.Building.{IsAllowed, Making, start, with_record}
+use Rattle.tree_document.specs.Building.{Making, start, with_record}
 use Rattle.tree_document.specs.Documents.{AreAllowed, IsFaultyAt, IsNoRecord, Means, document, with_records}
 
 -- more records follow the first ones in a list, and their texts fill what is left of the first ones' text
@@ -45,30 +46,30 @@ empty_more (r ∷ more) rest e =
 same_records : (m : Making) (few many : List Record) (b : List ℕ) → Longer m few many [] b → many ≡ few
 same_records m few many b h = h.is ∙ ap (λ (rs : List Record). few ++ rs) (empty_more h.more b h.text).0 ∙ append-nil few
 
-pub one_tree : (bytes : List ℕ) (t u : Tree) → Means bytes t → Means bytes u → t ≡ u
-one_tree bytes t u h k =
+pub one_tree : (times : Times) (bytes : List ℕ) (t u : Tree) → Means times bytes t → Means times bytes u → t ≡ u
+one_tree times bytes t u h k =
     let texts = append-nil (document h.records) ∙ sym h.text ∙ k.text ∙ sym (append-nil (document k.records)) in
-    let same : h.records ≡ k.records = elim (one_begins start h.records k.records [] [] h.allowed k.allowed texts) [
-      | inl one ↦ sym (same_records start h.records k.records [] one)
-      | inr one ↦ same_records start k.records h.records [] one
+    let same : h.records ≡ k.records = elim (one_begins (start times) h.records k.records [] [] h.allowed k.allowed texts) [
+      | inl one ↦ sym (same_records (start times) h.records k.records [] one)
+      | inr one ↦ same_records (start times) k.records h.records [] one
     ] in
-    h.tree ∙ ap (λ (rs : List Record). (with_records start rs).tree) same ∙ sym k.tree
+    h.tree ∙ ap (λ (rs : List Record). (with_records (start times) rs).tree) same ∙ sym k.tree
 
-pub tree_or_fault : (bytes : List ℕ) (t : Tree) (byte : ℕ) → Means bytes t → IsFaultyAt bytes byte → ⊥
-tree_or_fault bytes t byte h k =
-    elim (one_begins start h.records k.before [] k.rest h.allowed k.allowed (append-nil (document h.records) ∙ sym h.text ∙ k.text)) [
+pub tree_or_fault : (times : Times) (bytes : List ℕ) (t : Tree) (byte : ℕ) → Means times bytes t → IsFaultyAt times bytes byte → ⊥
+tree_or_fault times bytes t byte h k =
+    elim (one_begins (start times) h.records k.before [] k.rest h.allowed k.allowed (append-nil (document h.records) ∙ sym h.text ∙ k.text)) [
       | inl one ↦ k.some (empty_more one.more k.rest one.text).1
-      | inr one ↦ k.some (none_more (with_records start k.before) one.more k.rest [] k.none one.allowed one.text).1
+      | inr one ↦ k.some (none_more (with_records (start times) k.before) one.more k.rest [] k.none one.allowed one.text).1
     ]
 
-no_longer : (few many : List Record) (a b : List ℕ) → IsNoRecord (with_records start few) a → Longer start few many a b → length (document few) ≡ length (document many)
-no_longer few many a b none h =
+no_longer : (times : Times) (few many : List Record) (a b : List ℕ) → IsNoRecord (with_records (start times) few) a → Longer (start times) few many a b → length (document few) ≡ length (document many)
+no_longer times few many a b none h =
     ap (λ (rs : List Record). length (document rs))
-    (sym (h.is ∙ ap (λ (rs : List Record). few ++ rs) (none_more (with_records start few) h.more a b none h.allowed h.text).0 ∙ append-nil few))
+    (sym (h.is ∙ ap (λ (rs : List Record). few ++ rs) (none_more (with_records (start times) few) h.more a b none h.allowed h.text).0 ∙ append-nil few))
 
-pub one_fault : (bytes : List ℕ) (a b : ℕ) → IsFaultyAt bytes a → IsFaultyAt bytes b → a ≡ b
-one_fault bytes a b h k =
-    elim (one_begins start h.before k.before h.rest k.rest h.allowed k.allowed (sym h.text ∙ k.text)) [
-      | inl one ↦ h.place ∙ no_longer h.before k.before h.rest k.rest h.none one ∙ sym k.place
-      | inr one ↦ h.place ∙ sym (no_longer k.before h.before k.rest h.rest k.none one) ∙ sym k.place
+pub one_fault : (times : Times) (bytes : List ℕ) (a b : ℕ) → IsFaultyAt times bytes a → IsFaultyAt times bytes b → a ≡ b
+one_fault times bytes a b h k =
+    elim (one_begins (start times) h.before k.before h.rest k.rest h.allowed k.allowed (sym h.text ∙ k.text)) [
+      | inl one ↦ h.place ∙ no_longer times h.before k.before h.rest k.rest h.none one ∙ sym k.place
+      | inr one ↦ h.place ∙ sym (no_longer times k.before h.before k.rest h.rest k.none one) ∙ sym k.place
     ]

@@ -1,5 +1,5 @@
 -- Where a record may stand, as changes of a tree tell it.
-use Rattle.std.proofs.Common.{◌≡◌, ℕ, ◌+◌, List, Option, Some, None, refl, sym, ap, subst, ◌∙◌}
+use Rattle.std.proofs.Common.{◌≡◌, ℕ, ◌+◌, List, Option, Some, None, sym, ap, subst, ◌∙◌}
 use Rattle.abi_types.specs.declared.node.NodeKind.{NodeKind}
 use Rattle.tree_model.specs.declared.fault.TreeFault.{TreeFault}
 use Rattle.tree_model.specs.declared.fault.TreeFault.TheVariants.{NoMemory}
@@ -26,9 +26,9 @@ module _ (m : Making) (p : Path) where
     pub place : first_fault (make_faults m.tree d name) ≡ None → IsPlace m.tree p
     place none = subst (IsPlaceIn m.tree (name_of p)) is (subst (λ (x : List ℕ). first_fault (make_faults m.tree d x) ≡ None) same none)
 
-    pub with_place : (kind : NodeKind) (t : Tree) → t ≡ made m.tree d name m.next (node_of kind) → record m { tree = t; next = m.next + 1 } ≡ with_node m p kind
+    pub with_place : (kind : NodeKind) (t : Tree) → t ≡ made m.tree d name m.next (node_of m.times kind) → record m { tree = t; next = m.next + 1 } ≡ with_node m p kind
     with_place kind t e =
-        ap (λ (x : Tree). record m { tree = x; next = m.next + 1 }) (e ∙ ap (λ (x : List ℕ). made m.tree d x m.next (node_of kind)) same)
+        ap (λ (x : Tree). record m { tree = x; next = m.next + 1 }) (e ∙ ap (λ (x : List ℕ). made m.tree d x m.next (node_of m.times kind)) same)
         ∙ ap (with_node_in m (name_of p) kind) is
 
     pub no_place : (fault : TreeFault) → IsRefusal (first_fault (make_faults m.tree d name)) fault → (fault ≡ NoMemory → ⊥) → IsPlace m.tree p → ⊥

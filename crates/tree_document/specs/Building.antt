@@ -1,6 +1,6 @@
 -- The tree that records make, one after another, and which record may stand next.
 --     node_at t d p      the node that a path leads to from a directory
---     Making, start      the tree so far, the number of its next node and the paths of the `file` records;  before the first record
+--     Making, start times      the tree so far, what the next node needs and the paths of the `file` records;  before the first record
 --     IsAllowed m r, with_record m r      a record that may stand next;  the tree with it
 use Rattle.std.specs.Prelude.{◌≡◌, ℕ, ◌+◌, ◌≤◌, true, List, [], ◌∷◌, Option, None, Some, IsSome}
 use Rattle.std.specs.FinMap.{empty, get, insert}
@@ -26,19 +26,17 @@ node_at t d (name ∷ more) = entry_of t d name >>= λ n. node_at t n more
 
 -- ---- what records make
 
--- the tree of the records so far, the number of the next node, and the paths of the `file` records as these spell them
+-- the tree of the records so far, the times of each node, the number of the next one, and the paths of the `file` records as
+-- these spell them
 pub record Making : Type 0 where
   pub tree : Tree
+  pub times : Times
   pub next : ℕ
   pub files : Names (Unit {0})
 
--- the times of the nodes of a document
-abbrev pub epoch : Times
-epoch = record { atim = 0; mtim = 0; ctim = 0 }
-
 -- before the first record: the root alone
-abbrev pub start : Making
-start = record { tree = root_tree epoch; next = ROOT + 1; files = empty }
+abbrev pub start : Times → Making
+start times = record { tree = root_tree times; times = times; next = ROOT + 1; files = empty }
 
 -- ---- a new node
 
@@ -51,12 +49,12 @@ IsPlaceIn t name (Some d) = first_fault (make_faults t d name) ≡ None
 abbrev pub IsPlace : Tree → Path → Type 0
 IsPlace t p = IsPlaceIn t (name_of p) (node_at t ROOT (parent p))
 
-abbrev pub node_of : NodeKind → Node
-node_of kind = record { kind = kind; times = epoch; links = 1 }
+abbrev pub node_of : Times → NodeKind → Node
+node_of times kind = record { kind = kind; times = times; links = 1 }
 
 abbrev pub with_node_in : Making → List ℕ → NodeKind → Option ℕ → Making
 with_node_in m name kind None = m
-with_node_in m name kind (Some d) = record m { tree = made m.tree d name m.next (node_of kind); next = m.next + 1 }
+with_node_in m name kind (Some d) = record m { tree = made m.tree d name m.next (node_of m.times kind); next = m.next + 1 }
 
 -- with a new node at the path
 abbrev pub with_node : Making → Path → NodeKind → Making

@@ -1,5 +1,6 @@
 -- What the program holds, as contracts speak of it.
 use Rattle.std.specs.Prelude.{ℕ, List, [], ◌∷◌}
+use Rattle.abi_types.specs.declared.node.Times.{Times}
 use Rattle.refusals.specs.declared.refusal.Refusal.{Refusal}
 use Rattle.refusals.specs.declared.refusal.Refusal.TheVariants.{At, Memory}
 use Rattle.tree_records.specs.Paths.{Path}
@@ -11,7 +12,7 @@ use Rattle.tree_document.specs.Documents.{IsFaultyAt}
 use Rattle.tree_document.specs.Building.{Making}
 
 abbrev pub making : Building → Making
-making b = record { tree = b.tree; next = b.next; files = b.files }
+making b = record { tree = b.tree; times = b.times; next = b.next; files = b.files }
 
 -- a refusal that isn't for want of memory
 abbrev pub IsAt : {F : Type 0} → Refusal F → Type 0
@@ -24,6 +25,6 @@ path_in [] = []
 path_in (b ∷ bs) = names_in (b ∷ bs)
 
 -- the byte of a fault is where the first faulty record begins
-abbrev pub IsFault : List ℕ → TreeDocFault → Type 0
-IsFault bytes (faults.At byte) = IsFaultyAt bytes byte
-IsFault bytes faults.NoMemory = Unit {0}
+abbrev pub IsFault : Times → List ℕ → TreeDocFault → Type 0
+IsFault times bytes (faults.At byte) = IsFaultyAt times bytes byte
+IsFault times bytes faults.NoMemory = Unit {0}

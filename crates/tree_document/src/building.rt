@@ -16,17 +16,11 @@ use std::alloc::{AllocError, Global};
 use tree_model::{ROOT, TreeFault};
 use tree_records::{Malformed, Path, Read, Record};
 
-// The times of the nodes of a document.
-const EPOCH: Times = Times {
-    atim: 0,
-    mtim: 0,
-    ctim: 0,
-};
-
-/// The tree of the records so far, the number of the next node, and the paths of the `file` records.
+/// The tree of the records so far, the times of each node, the number of the next one, and the paths of the `file` records.
 #[derive(Drop)]
 pub struct Building {
     pub tree: Tree,
+    pub times: Times,
     pub next: u64,
     pub files: NameMap<()>,
 }
@@ -42,12 +36,13 @@ fn refusal(fault: TreeFault) -> Refusal<Malformed>
 }
 
 impl Building {
-    /// Before the first record: the root alone.
-    pub fn new(alloc: Global) -> Result<Self, AllocError>
-        ensures { IfOk result (λ building. making building ≡ start) }
+    /// Before the first record: the root alone. Each node has these times.
+    pub fn new(alloc: Global, times: Times) -> Result<Self, AllocError>
+        ensures { IfOk result (λ building. making building ≡ start times) }
     {
         Ok(Building {
-            tree: Tree::new(alloc, EPOCH)?,
+            tree: Tree::new(alloc, times)?,
+            times,
             next: ROOT + 1,
             files: NameMap::new(alloc),
         })
@@ -66,7 +61,7 @@ impl Building {
         };
         let node = Node {
             kind,
-            times: EPOCH,
+            times: self.times,
             links: 1,
         };
         match self.tree.make(dir, path.name(), ObjId(self.next), node) {

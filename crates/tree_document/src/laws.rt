@@ -1,12 +1,13 @@
 //! Laws of tree documents.
 ghost use Rattle.std.specs.Prelude.{◌≡◌, ℕ, List};
+ghost use Rattle.abi_types.specs.declared.node.Times.{Times};
 ghost use Rattle.tree_model.specs.Tree.{Tree};
 ghost use Rattle.tree_document.specs.Documents.{IsFaultyAt, Means};
 
 /// A text means one tree, or is faulty at one byte, and never both. So what [`crate::read_tree`] returns is the only tree or
 /// fault that there is for the text, unless memory was wanting.
 pub fn a_text_has_one_meaning()
-    ensures tree { (bytes : List ℕ) (t u : Tree) → Means bytes t → Means bytes u → t ≡ u }
-    ensures fault { (bytes : List ℕ) (a b : ℕ) → IsFaultyAt bytes a → IsFaultyAt bytes b → a ≡ b }
-    ensures apart { (bytes : List ℕ) (t : Tree) (byte : ℕ) → Means bytes t → IsFaultyAt bytes byte → ⊥ }
+    ensures tree { (times : Times) (bytes : List ℕ) (t u : Tree) → Means times bytes t → Means times bytes u → t ≡ u }
+    ensures fault { (times : Times) (bytes : List ℕ) (a b : ℕ) → IsFaultyAt times bytes a → IsFaultyAt times bytes b → a ≡ b }
+    ensures apart { (times : Times) (bytes : List ℕ) (t : Tree) (byte : ℕ) → Means times bytes t → IsFaultyAt times bytes byte → ⊥ }
 {}

@@ -7,6 +7,7 @@ ghost use Rattle.tree_document.specs.Views.{IsAt, IsFault, making};
 
 use crate::building::Building;
 use crate::fault::TreeDocFault;
+use abi_types::Times;
 use file_tree::Tree;
 use refusals::Refusal;
 use std::alloc::{AllocError, Global};
@@ -25,18 +26,18 @@ fn add_next<'a>(alloc: Global, building: &mut Building, text: &'a [u8]) -> Read<
     Ok(rest)
 }
 
-/// The tree that a tree document means. Its nodes have the numbers behind the root's, in the order of their records, and all
-/// times are 0. It takes time by the length of the text, but for the steps that maps take to find a name.
+/// The tree that a tree document means. Its nodes have the numbers behind the root's, in the order of their records, and all of
+/// them, the root too, these times. It takes time by the length of the text, but for the steps that maps take to find a name.
 ///
 /// # Errors
 /// [`TreeDocFault::At`] exactly where the text is no tree document, with the byte at which the first record begins that is
 /// none or may not stand there. [`TreeDocFault::NoMemory`] where memory is wanting.
-pub fn read_tree(alloc: Global, bytes: &[u8]) -> Result<Tree, TreeDocFault>
+pub fn read_tree(alloc: Global, bytes: &[u8], times: Times) -> Result<Tree, TreeDocFault>
     requires { length bytes.now < 2 ^ 31 }
-    ensures tree { IfOk result (λ tree. Means bytes.now tree) }
-    ensures fault { IfErr result (λ fault. IsFault bytes.now fault) }
+    ensures tree { IfOk result (λ tree. Means times bytes.now tree) }
+    ensures fault { IfErr result (λ fault. IsFault times bytes.now fault) }
 {
-    let Ok(mut building) = Building::new(alloc) else {
+    let Ok(mut building) = Building::new(alloc, times) else {
         return Err(TreeDocFault::NoMemory);
     };
     let mut rest = bytes;
