@@ -1,8 +1,9 @@
 -- What the program holds, as contracts speak of it.
-use Rattle.std.specs.Prelude.{ℕ, List, [], ◌∷◌}
+use Rattle.std.specs.Prelude.{◌≡◌, ℕ, List, [], ◌∷◌, Result, Ok, Err}
 use Rattle.abi_types.specs.declared.node.Times.{Times}
 use Rattle.refusals.specs.declared.refusal.Refusal.{Refusal}
 use Rattle.refusals.specs.declared.refusal.Refusal.TheVariants.{At, Memory}
+use Rattle.tree_model.specs.Tree.{Tree}
 use Rattle.tree_records.specs.Paths.{Path}
 use Rattle.tree_records.specs.Reading.{names_in}
 use Rattle.tree_document.specs.declared.building.Building.{Building}
@@ -28,3 +29,12 @@ path_in (b ∷ bs) = names_in (b ∷ bs)
 abbrev pub IsFault : Times → List ℕ → TreeDocFault → Type 0
 IsFault times bytes (faults.At byte) = IsFaultyAt times bytes byte
 IsFault times bytes faults.NoMemory = Unit {0}
+
+-- what was read is what the text means, unless memory ran out
+abbrev pub IsFaultOf : TreeDocFault → Result Tree ℕ → Type 0
+IsFaultOf (faults.At byte) meant = meant ≡ Err byte
+IsFaultOf faults.NoMemory meant = Unit {0}
+
+abbrev pub Gives : Result Tree TreeDocFault → Result Tree ℕ → Type 0
+Gives (Ok t) meant = meant ≡ Ok t
+Gives (Err fault) meant = IsFaultOf fault meant

@@ -3,7 +3,8 @@ ghost use Rattle.std.specs.Prelude.{◌≡◌, ◌<◌, ◌+◌, ◌^◌, ◌++�
 ghost use Rattle.tree_records.specs.Records.{Record, IsRecord, spelled};
 ghost use Rattle.tree_document.specs.Building.{IsAllowed, IsFresh, with_record};
 ghost use Rattle.tree_document.specs.Documents.{IsFaultyAt, IsNoRecord, Means};
-ghost use Rattle.tree_document.specs.Views.{IsAt, IsFault, making};
+ghost use Rattle.tree_document.specs.Meaning.{meaning};
+ghost use Rattle.tree_document.specs.Views.{Gives, IsAt, IsFault, making};
 
 use crate::building::Building;
 use crate::fault::TreeDocFault;
@@ -36,6 +37,7 @@ pub fn read_tree(alloc: Global, bytes: &[u8], times: Times) -> Result<Tree, Tree
     requires { length bytes.now < 2 ^ 31 }
     ensures tree { IfOk result (λ tree. Means times bytes.now tree) }
     ensures fault { IfErr result (λ fault. IsFault times bytes.now fault) }
+    ensures exact { Gives result (meaning times bytes.now) }
 {
     let Ok(mut building) = Building::new(alloc, times) else {
         return Err(TreeDocFault::NoMemory);
