@@ -79,7 +79,7 @@ next_more m (file p bytes) = next_node m (name_of p) _ (node_at m.tree ROOT (par
 next_more m (link p text) = next_node m (name_of p) _ (node_at m.tree ROOT (parent p))
 next_more m (hard p target) = next_name m (name_of p) (node_at m.tree ROOT (parent p)) (node_at m.tree ROOT target)
 
-next_records : (m : Making) (rs : List Record) → (with_records m rs).next ≤ m.next + length (document rs)
+pub next_records : (m : Making) (rs : List Record) → (with_records m rs).next ≤ m.next + length (document rs)
 next_records m [] = omega arith
 next_records m (r ∷ rs) =
     let later = next_records (with_record m r) rs in

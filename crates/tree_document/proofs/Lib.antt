@@ -4,3 +4,4 @@ pub mod Documents
 pub mod Meanings
 pub mod Allowed
 pub mod Computed
+pub mod StartTrees

@@ -2,7 +2,7 @@
 #![tactic(auto)]
 
 pub use fault::TreeDocFault;
-pub use laws::{a_meaning_is_computed, a_text_has_one_meaning};
+pub use laws::{a_launch_may_begin_with_a_document, a_meaning_is_computed, a_text_has_one_meaning};
 pub use reading::read_tree;
 
 mod building;

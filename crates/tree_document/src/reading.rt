@@ -1,5 +1,6 @@
 //! The tree that a text means.
 ghost use Rattle.std.specs.Prelude.{◌≡◌, ◌<◌, ◌+◌, ◌^◌, ◌++◌, ℕ, List, IfOk, IfErr, length};
+ghost use Rattle.tree_model.specs.Grants.{IsStartTree};
 ghost use Rattle.tree_records.specs.Records.{Record, IsRecord, spelled};
 ghost use Rattle.tree_document.specs.Building.{IsAllowed, IsFresh, with_record};
 ghost use Rattle.tree_document.specs.Documents.{IsFaultyAt, IsNoRecord, Means};
@@ -37,6 +38,7 @@ pub fn read_tree(alloc: Global, bytes: &[u8], times: Times) -> Result<Tree, Tree
     requires { length bytes.now < 2 ^ 31 }
     ensures tree { IfOk result (λ tree. Means times bytes.now tree) }
     ensures fault { IfErr result (λ fault. IsFault times bytes.now fault) }
+    ensures start { IfOk result IsStartTree }
     ensures exact { Gives result (meaning times bytes.now) }
 {
     let Ok(mut building) = Building::new(alloc, times) else {

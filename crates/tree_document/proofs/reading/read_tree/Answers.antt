@@ -3,6 +3,7 @@ use Rattle.tree_records.proofs.Unescaping.{empty, nonempty}
 use Rattle.tree_document.specs.Views.{IsAt, making}
 use Rattle.tree_document.proofs.Computed.{meaning_at, meaning_of}
 use Rattle.tree_document.proofs.Documents.{behind_end, behind_fault, behind_fresh, behind_more, behind_room}
+use Rattle.tree_document.proofs.StartTrees.{means_start}
 use Rattle.tree_document.proofs.reading.read_tree.Goals as goal
 
 pub add_next-requires-clause-fresh : goal.add_next-requires-clause-fresh
@@ -33,3 +34,9 @@ returns-clause-exact c =
     meaning_of c.args.times c.args.bytes.now c.loop-rest.building.tree
     (behind_end c.args.times c.args.bytes.now c.loop-rest.rest.now (making c.loop-rest.building) c.loop-rest.invariant
     (empty c.loop-rest.rest.now c.is_empty.result c.is_empty.ensures c.loop-rest-test.false))
+
+pub returns-clause-start : goal.returns-clause-start
+returns-clause-start c =
+    means_start c.args.times c.args.bytes.now c.loop-rest.building.tree
+    (behind_end c.args.times c.args.bytes.now c.loop-rest.rest.now (making c.loop-rest.building) c.loop-rest.invariant
+    (empty c.loop-rest.rest.now c.is_empty.result c.is_empty.ensures c.loop-rest-test.false)) c.requires
