@@ -36,7 +36,8 @@ impl Path {
     /// The path of the directory that the last name is in: the other names with a `/` between two, so no bytes where that is
     /// the root.
     pub fn parent(&self) -> &[u8]
-        ensures { result.now ≡ path_bytes (parent self.now) }
+        ensures bytes { result.now ≡ path_bytes (parent self.now) }
+        ensures path { IsPath self.now }
     {
         let bytes = self.bytes.as_slice();
         &bytes[..name_start(bytes).saturating_sub(1)]

@@ -4,8 +4,8 @@ use Rattle.tree_records.specs.Reading.{names_in}
 use Rattle.tree_records.proofs.PathLaws.{front_names}
 use Rattle.tree_records.proofs.path.Path.parent.Goals as goal
 
-pub returns : goal.returns
-returns c =
+pub returns-clause-bytes : goal.returns-clause-bytes
+returns-clause-bytes c =
     let bytes = c.as_slice-bytes.result.now in
     ap (λ (n : ℕ). take n bytes) c.saturating_sub.ensures
     ∙ front_names bytes c.name_start.result (record { inside = c.name_start.ensures.inside; name = c.name_start.ensures.name; slash = c.name_start.ensures.slash })

@@ -1,0 +1,5 @@
+-- Which texts are tree documents, and what tree each means.
+pub mod Building
+pub mod Documents
+pub mod Meaning
+pub mod Views

@@ -1,0 +1,40 @@
+-- What the program holds, as contracts speak of it.
+use Rattle.std.specs.Prelude.{◌≡◌, ℕ, List, [], ◌∷◌, Result, Ok, Err}
+use Rattle.abi_types.specs.declared.node.Times.{Times}
+use Rattle.refusals.specs.declared.refusal.Refusal.{Refusal}
+use Rattle.refusals.specs.declared.refusal.Refusal.TheVariants.{At, Memory}
+use Rattle.tree_model.specs.Tree.{Tree}
+use Rattle.tree_records.specs.Paths.{Path}
+use Rattle.tree_records.specs.Reading.{names_in}
+use Rattle.tree_document.specs.declared.building.Building.{Building}
+use Rattle.tree_document.specs.declared.fault.TreeDocFault.{TreeDocFault}
+use Rattle.tree_document.specs.declared.fault.TreeDocFault.TheVariants as faults
+use Rattle.tree_document.specs.Documents.{IsFaultyAt}
+use Rattle.tree_document.specs.Building.{Making}
+
+abbrev pub making : Building → Making
+making b = record { tree = b.tree; times = b.times; next = b.next; files = b.files }
+
+-- a refusal that isn't for want of memory
+abbrev pub IsAt : {F : Type 0} → Refusal F → Type 0
+IsAt (At f) = Unit {0}
+IsAt Memory = ⊥
+
+-- the names with a `/` between two, and none of no bytes
+abbrev pub path_in : List ℕ → Path
+path_in [] = []
+path_in (b ∷ bs) = names_in (b ∷ bs)
+
+-- the byte of a fault is where the first faulty record begins
+abbrev pub IsFault : Times → List ℕ → TreeDocFault → Type 0
+IsFault times bytes (faults.At byte) = IsFaultyAt times bytes byte
+IsFault times bytes faults.NoMemory = Unit {0}
+
+-- what was read is what the text means, unless memory ran out
+abbrev pub IsFaultOf : TreeDocFault → Result Tree ℕ → Type 0
+IsFaultOf (faults.At byte) meant = meant ≡ Err byte
+IsFaultOf faults.NoMemory meant = Unit {0}
+
+abbrev pub Gives : Result Tree TreeDocFault → Result Tree ℕ → Type 0
+Gives (Ok t) meant = meant ≡ Ok t
+Gives (Err fault) meant = IsFaultOf fault meant

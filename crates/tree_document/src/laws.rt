@@ -1,0 +1,32 @@
+//! Laws of tree documents.
+ghost use Rattle.std.specs.Prelude.{◌≡◌, ◌<◌, ◌^◌, ◌↔◌, ℕ, List, [], length, Ok, Err};
+ghost use Rattle.abi_types.specs.declared.node.Times.{Times};
+ghost use Rattle.tree_model.specs.Grants.{IsStartTree};
+ghost use Rattle.tree_model.specs.Start.{root_tree};
+ghost use Rattle.tree_model.specs.Tree.{Tree};
+ghost use Rattle.tree_document.specs.Documents.{IsFaultyAt, Means};
+ghost use Rattle.tree_document.specs.Meaning.{meaning};
+
+/// A text means one tree, or is faulty at one byte, and never both. So what [`crate::read_tree`] returns is the only tree or
+/// fault that there is for the text, unless memory was wanting.
+pub fn a_text_has_one_meaning()
+    ensures tree { (times : Times) (bytes : List ℕ) (t u : Tree) → Means times bytes t → Means times bytes u → t ≡ u }
+    ensures fault { (times : Times) (bytes : List ℕ) (a b : ℕ) → IsFaultyAt times bytes a → IsFaultyAt times bytes b → a ≡ b }
+    ensures apart { (times : Times) (bytes : List ℕ) (t : Tree) (byte : ℕ) → Means times bytes t → IsFaultyAt times bytes byte → ⊥ }
+{}
+
+/// What a text means is computed record by record: the tree exactly where the text means one, and the byte exactly where the text
+/// is faulty.
+pub fn a_meaning_is_computed()
+    ensures tree { (times : Times) (bytes : List ℕ) (t : Tree) → (meaning times bytes ≡ Ok t) ↔ Means times bytes t }
+    ensures fault { (times : Times) (bytes : List ℕ) (byte : ℕ) → (meaning times bytes ≡ Err byte) ↔ IsFaultyAt times bytes byte }
+{}
+
+/// A launch may begin with the tree of a document that is shorter than 2^31 bytes. No text means the root alone, and a launch may
+/// begin with that.
+pub fn a_launch_may_begin_with_a_document()
+    ensures tree { (times : Times) (bytes : List ℕ) (t : Tree) → Means times bytes t → length bytes < 2 ^ 31 → IsStartTree t }
+    ensures computed { (times : Times) (bytes : List ℕ) (t : Tree) → meaning times bytes ≡ Ok t → length bytes < 2 ^ 31 → IsStartTree t }
+    ensures none { (times : Times) → meaning times [] ≡ Ok (root_tree times) }
+    ensures root { (times : Times) → IsStartTree (root_tree times) }
+{}

@@ -1,0 +1,12 @@
+//! Tree documents: texts that spell the nodes of a file tree, record by record. The crate tree_records has the records.
+#![tactic(auto)]
+
+pub use fault::TreeDocFault;
+pub use laws::{a_launch_may_begin_with_a_document, a_meaning_is_computed, a_text_has_one_meaning};
+pub use reading::read_tree;
+
+mod building;
+mod fault;
+mod laws;
+mod reading;
+mod walking;
