@@ -1,5 +1,5 @@
 -- Records that make a tree, one more at a time.
-use Rattle.std.proofs.Common.{◌≡◌, ◌≢◌, ℕ, ◌+◌, ◌-◌, ◌^◌, ◌<◌, ◌≤◌, true, List, [], ◌∷◌, ◌++◌, length, Option, None, Some, is_none, refl, sym, ap, subst, ◌∙◌, append_assoc, length-append, arith}
+use Rattle.std.proofs.Common.{◌≡◌, ℕ, ◌+◌, ◌-◌, ◌^◌, ◌<◌, ◌≤◌, true, List, [], ◌∷◌, ◌++◌, length, Option, None, Some, is_none, refl, sym, ap, subst, ◌∙◌, append_assoc, length-append, arith}
 use Rattle.std.specs.FinMap.{empty, get, get-empty}
 use Rattle.std.specs.Ordering.{nat_cmp}
 use Rattle.std.proofs.lemmas.Bool.{false≢true}
@@ -8,8 +8,7 @@ use Rattle.abi_types.specs.declared.node.Node.{Node}
 use Rattle.abi_types.specs.declared.node.NodeKind.{NodeKind}
 use Rattle.number_map.specs.Maps.{get-insert-other}
 use Rattle.tree_model.specs.declared.limits.TheConstants.{ROOT}
-use Rattle.tree_model.specs.Tree.{Tree}
-use Rattle.tree_model.specs.Changes.{is_absent, linked, made, one_more_in, with_count}
+use Rattle.tree_model.specs.Changes.{is_absent, one_more_in, with_count}
 use Rattle.tree_model.specs.Start.{root_node}
 use Rattle.tree_records.specs.Paths.{name_of, parent}
 use Rattle.tree_records.specs.Records.{Record, IsRecord, dir, file, link, hard, spelled}

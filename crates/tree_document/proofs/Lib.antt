@@ -2,3 +2,6 @@ pub mod Walks
 pub mod Places
 pub mod Documents
 pub mod Meanings
+pub mod Rows
+pub mod Texts
+pub mod Going

@@ -1,10 +1,10 @@
 -- A text has one meaning, or one first fault.
-use Rattle.std.proofs.Common.{◌≡◌, ◌≢◌, ◌⊎◌, inl, inr, ℕ, ◌+◌, ◌<◌, List, [], ◌∷◌, ◌++◌, length, refl, sym, ap, subst, ◌∙◌, append_assoc, length-append, arith}
+use Rattle.std.proofs.Common.{◌≡◌, ◌⊎◌, inl, inr, ℕ, List, [], ◌∷◌, ◌++◌, length, refl, sym, ap, subst, ◌∙◌, append_assoc, arith}
 use Rattle.std.proofs.lemmas.List.{append-nil}
 use Rattle.tree_model.specs.Tree.{Tree}
-use Rattle.tree_records.specs.Records.{Record, IsRecord, spelled}
+use Rattle.tree_records.specs.Records.{Record, spelled}
 use Rattle.tree_records.proofs.RecordTexts.{one_record, spelled_some}
-use Rattle.tree_document.specs.Building.{IsAllowed, Making, start, with_record}
+use Rattle.tree_document.specs.Building.{Making, start, with_record}
 use Rattle.tree_document.specs.Documents.{AreAllowed, IsFaultyAt, IsNoRecord, Means, document, with_records}
 
 -- more records follow the first ones in a list, and their texts fill what is left of the first ones' text

@@ -1,4 +1,6 @@
 -- Which texts are tree documents, and what tree each means.
 pub mod Building
 pub mod Documents
+pub mod Printing
+pub mod Left
 pub mod Views

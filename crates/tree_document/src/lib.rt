@@ -3,10 +3,13 @@
 
 pub use fault::TreeDocFault;
 pub use laws::a_text_has_one_meaning;
+pub use printing::tree_text;
 pub use reading::read_tree;
 
 mod building;
 mod fault;
 mod laws;
+mod printed;
+mod printing;
 mod reading;
 mod walking;

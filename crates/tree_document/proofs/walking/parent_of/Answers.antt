@@ -1,4 +1,4 @@
-use Rattle.std.proofs.Common.{List, ℕ, Option, Some, sym, ap, ◌∙◌}
+use Rattle.std.proofs.Common.{List, ℕ, Some, sym, ap, ◌∙◌}
 use Rattle.tree_model.specs.declared.limits.TheConstants.{ROOT}
 use Rattle.tree_records.proofs.Unescaping.{empty, nonempty}
 use Rattle.tree_document.specs.Building.{node_at}
