@@ -5,3 +5,4 @@ pub mod Meanings
 pub mod Rows
 pub mod Texts
 pub mod Going
+pub mod Printouts

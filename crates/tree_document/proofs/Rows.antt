@@ -54,7 +54,7 @@ all_got : (m : Names ℕ) (es : Entries) → AllByRecursion (λ e. find name_cmp
 all_got m [] h = tt
 all_got m (e ∷ es) h = (get-entries m e.0 ∙ h.0, all_got m es h.1)
 
-entries_got : (m : Names ℕ) → AllByRecursion (λ e. get m e.0 ≡ Some e.1) (entries m)
+pub entries_got : (m : Names ℕ) → AllByRecursion (λ e. get m e.0 ≡ Some e.1) (entries m)
 entries_got m = all_got m (entries m) (found_all (entries m) (holds _ (entries_sorted m)))
 
 -- ---- how deep a node is

@@ -3,4 +3,5 @@ pub mod Building
 pub mod Documents
 pub mod Printing
 pub mod Left
+pub mod Limits
 pub mod Views

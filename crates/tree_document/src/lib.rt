@@ -2,7 +2,7 @@
 #![tactic(auto)]
 
 pub use fault::TreeDocFault;
-pub use laws::a_text_has_one_meaning;
+pub use laws::{a_text_has_one_meaning, what_is_printed_are_records};
 pub use printing::tree_text;
 pub use reading::read_tree;
 
