@@ -5,3 +5,7 @@ pub mod Meanings
 pub mod Allowed
 pub mod Computed
 pub mod StartTrees
+pub mod Rows
+pub mod Texts
+pub mod Going
+pub mod Printouts

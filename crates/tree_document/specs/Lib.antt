@@ -2,4 +2,7 @@
 pub mod Building
 pub mod Documents
 pub mod Meaning
+pub mod Printing
+pub mod Left
+pub mod Limits
 pub mod Views

@@ -1,11 +1,16 @@
 //! Laws of tree documents.
-ghost use Rattle.std.specs.Prelude.{◌≡◌, ◌<◌, ◌^◌, ◌↔◌, ℕ, List, [], length, Ok, Err};
+ghost use Rattle.std.specs.Prelude.{◌≡◌, ◌<◌, ◌^◌, ◌↔◌, ℕ, List, [], length, map, Ok, Err};
+ghost use Rattle.std.specs.List.{AllByRecursion};
 ghost use Rattle.abi_types.specs.declared.node.Times.{Times};
 ghost use Rattle.tree_model.specs.Grants.{IsStartTree};
 ghost use Rattle.tree_model.specs.Start.{root_tree};
-ghost use Rattle.tree_model.specs.Tree.{Tree};
-ghost use Rattle.tree_document.specs.Documents.{IsFaultyAt, Means};
+ghost use Rattle.tree_model.specs.Tree.{IsTree, Tree};
+ghost use Rattle.tree_records.specs.Paths.{path_bytes};
+ghost use Rattle.tree_records.specs.Records.{IsRecord, Record, path_of};
+ghost use Rattle.tree_document.specs.Documents.{IsFaultyAt, Means, document};
+ghost use Rattle.tree_document.specs.Limits.{KeepsLimits};
 ghost use Rattle.tree_document.specs.Meaning.{meaning};
+ghost use Rattle.tree_document.specs.Printing.{listing, printed};
 
 /// A text means one tree, or is faulty at one byte, and never both. So what [`crate::read_tree`] returns is the only tree or
 /// fault that there is for the text, unless memory was wanting.
@@ -29,4 +34,10 @@ pub fn a_launch_may_begin_with_a_document()
     ensures computed { (times : Times) (bytes : List ℕ) (t : Tree) → meaning times bytes ≡ Ok t → length bytes < 2 ^ 31 → IsStartTree t }
     ensures none { (times : Times) → meaning times [] ≡ Ok (root_tree times) }
     ensures root { (times : Times) → IsStartTree (root_tree times) }
+{}
+
+/// What is printed of a tree that keeps the limits are records, one for each name, at the name's path.
+pub fn what_is_printed_are_records()
+    ensures { (t : Tree) → IsTree t → KeepsLimits t → (rs : List Record) × AllByRecursion IsRecord rs × (printed t ≡ document rs)
+        × (map (λ r. path_bytes (path_of r)) rs ≡ map (λ row. row.0) (listing t)) }
 {}

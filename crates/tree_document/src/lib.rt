@@ -2,11 +2,14 @@
 #![tactic(auto)]
 
 pub use fault::TreeDocFault;
-pub use laws::{a_launch_may_begin_with_a_document, a_meaning_is_computed, a_text_has_one_meaning};
+pub use laws::{a_launch_may_begin_with_a_document, a_meaning_is_computed, a_text_has_one_meaning, what_is_printed_are_records};
+pub use printing::tree_text;
 pub use reading::read_tree;
 
 mod building;
 mod fault;
 mod laws;
+mod printed;
+mod printing;
 mod reading;
 mod walking;

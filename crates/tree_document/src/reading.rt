@@ -29,7 +29,8 @@ fn add_next<'a>(alloc: Global, building: &mut Building, text: &'a [u8]) -> Read<
 }
 
 /// The tree that a tree document means. Its nodes have the numbers behind the root's, in the order of their records, and all of
-/// them, the root too, these times. It takes time by the length of the text, but for the steps that maps take to find a name.
+/// them, the root too, these times. The text has fewer than 2^31 bytes, so that there are numbers enough. It takes time by the
+/// length of the text, but for the steps that maps take to find a name.
 ///
 /// # Errors
 /// [`TreeDocFault::At`] exactly where the text is no tree document, with the byte at which the first record begins that is
