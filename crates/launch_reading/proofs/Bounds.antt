@@ -12,7 +12,7 @@ use Rattle.launch_yaml.specs.Document.{parse_at}
 use Rattle.launch_plan.specs.declared.fault.PlanFault.{PlanFault}
 use Rattle.launch_plan.specs.Plan.{plan_of}
 use Rattle.launch_plan.proofs.Plans.{IsPlan, plan_is}
-use Rattle.tree_document.specs.Meaning.{meaning_begins}
+use Rattle.tree_document.proofs.StartTrees.{meaning_start}
 use Rattle.launch_words.specs.Settings.{Settings, IsWithin}
 use Rattle.launch_reading.specs.Launch.{IsBuiltLaunch, times_of}
 use Rattle.launch_reading.specs.LaunchText.{with_plan, with_document, planned_text}
@@ -41,7 +41,7 @@ module _ (tree : Tree) where
 -- a launch that words and inputs spell begins with a tree, and grants what is there
 begins : (settings : Settings) (launch : Launch) → IsBuiltLaunch settings launch → MayBegin launch.tree launch.grants
 begins settings launch b = record {
-  tree = meaning_begins (times_of settings) b.document launch.tree (let short = b.short in omega arith) b.tree;
+  tree = meaning_start (times_of settings) b.document launch.tree b.tree (let short = b.short in omega arith);
   grants = (text_plan_is launch.tree b.text _ b.planned).1;
 }
 
