@@ -12,14 +12,15 @@ pub(crate) const WORDS: &[&str] = &["cloudabi-run", "p"];
 pub(crate) const REPORT: &str =
     "== stdout 6\nhello\n== stderr 0\n== status exit 0\n== run ended\n== denials 0\n== tree 0\n";
 
-// What a call is given: its words, the inputs `p` and `input`, standard input, and the numbers of the reads and the writes
-// that fail. There are the inputs `empty` and `tree` besides.
+// What a call is given: its words, the inputs `p`, `input` and `tree`, standard input, and the numbers of the reads and the
+// writes that fail. There are the inputs `empty` and `faulty` besides.
 #[derive(Drop)]
 pub(crate) struct Given<'a> {
     pub(crate) words: &'a [&'a str],
     pub(crate) program: &'a [u8],
     pub(crate) input: &'a [u8],
     pub(crate) text: &'a [u8],
+    pub(crate) tree: &'a [u8],
     pub(crate) failing_reads: &'a [u64],
     pub(crate) failing_writes: &'a [u64],
 }
@@ -32,6 +33,7 @@ impl<'a> Given<'a> {
             program,
             input: b"some input",
             text,
+            tree: b"file 3 a\nabc\n",
             failing_reads: &[],
             failing_writes: &[],
         }
@@ -54,7 +56,8 @@ fn source_of(alloc: Global, given: &Given<'_>) -> Result<MemSource, AllocError> 
         ("p", given.program),
         ("-", given.text),
         ("empty", b""),
-        ("tree", b"file 3 a\nabc\n"),
+        ("tree", given.tree),
+        ("faulty", b"dir a\ndir a\n"),
         ("input", given.input),
     ] {
         source.add(name, bytes)?;

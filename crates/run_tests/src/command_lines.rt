@@ -43,7 +43,7 @@ const COMMAND_LINES: &[(&[&str], u8, &str)] = &[
     (&["run", "--tree", "-x", "p"], 2, WORDS_LINE),
     (&["run", "--tree=-x", "p"], 66, "input: -x\n"),
     (&["run", "--tree", "empty", "p"], 0, REPORT),
-    (&["run", "--tree", "tree", "p"], 68, "tree: not built\n"),
+    (&["run", "--tree", "faulty", "p"], 68, "tree: byte 6\n"),
     (&["run", "--tree", "none", "p"], 66, "input: none\n"),
     (&["run", "--stdin=input", "p"], 0, REPORT),
     (&["run", "--stdin=none", "p"], 66, "input: none\n"),

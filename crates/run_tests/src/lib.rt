@@ -15,3 +15,5 @@ mod programs;
 mod refused_launches;
 #[cfg(test)]
 mod streams;
+#[cfg(test)]
+mod trees;

@@ -4,6 +4,8 @@
 #[cfg(test)]
 mod acts;
 #[cfg(test)]
+mod documents;
+#[cfg(test)]
 mod limits;
 #[cfg(test)]
 mod rows;
