@@ -5,7 +5,7 @@ ghost use Rattle.tree_model.specs.declared.fault.TreeFault.TheVariants.{NoMemory
 use std::alloc::AllocError;
 
 /// Why a change of the tree is refused. A refused change leaves the tree as it is.
-#[derive(Clone, Copy)]
+#[derive(Clone, Copy, Debug, PartialEq, Eq)]
 pub enum TreeFault {
     /// There is no such directory, name or node; or a name would be put into a directory that was removed.
     Absent,
