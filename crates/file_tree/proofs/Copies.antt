@@ -148,7 +148,8 @@ module _ {X : Type 0} where
       found = λ q. so_far.found q ∙ elim (same_or_not q e.0) [
         | inl same ↦
             ap (λ b. first_there (cond b (Some e.1) (find name_cmp q left)) (get made q)) (ap (eq_by_cmp name_cmp q) (sym same) ∙ tie_same q)
-            ∙ sym (ap (λ o. first_there o (get (insert made e.0 e.1) q)) (ap (λ x. find name_cmp x left) same ∙ none_below e.0 left (first_part _ _ so_far.sorted))
+            ∙ sym (ap (λ o. first_there o (get (insert made e.0 e.1) q)) (ap (λ x. find name_cmp x left) same
+            ∙ none_below e.0 left (first_part _ _ so_far.sorted))
             ∙ ap (get (insert made e.0 e.1)) same ∙ names.get-insert-same made e.0 e.1)
         | inr other ↦
             ap (λ b. first_there (cond b (Some e.1) (find name_cmp q left)) (get made q)) (tie_other q e.0 other)

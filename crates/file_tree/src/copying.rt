@@ -72,19 +72,14 @@ fn copy_names(alloc: Global, names: &NameMap<ObjId>) -> Result<NameMap<ObjId>, A
 fn copy_node(node: &Node) -> Result<Node, AllocError>
     ensures { IfOk result (λ made. made ≡ node.now) }
 {
+    let kind = match &node.kind {
+        NodeKind::File(bytes) => NodeKind::File(bytes.copy()?),
+        NodeKind::Directory => NodeKind::Directory,
+        NodeKind::Link(text) => NodeKind::Link(text.copy()?),
+    };
     Ok(Node {
-        kind: copy_kind(&node.kind)?,
+        kind,
         times: node.times,
         links: node.links,
     })
-}
-
-fn copy_kind(kind: &NodeKind) -> Result<NodeKind, AllocError>
-    ensures { IfOk result (λ made. made ≡ kind.now) }
-{
-    match kind {
-        NodeKind::File(bytes) => Ok(NodeKind::File(bytes.copy()?)),
-        NodeKind::Directory => Ok(NodeKind::Directory),
-        NodeKind::Link(text) => Ok(NodeKind::Link(text.copy()?)),
-    }
 }

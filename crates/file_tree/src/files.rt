@@ -72,7 +72,7 @@ impl Tree {
     pub fn set_times(&mut self, id: ObjId, times: Times)
         ensures { self.new ≡ with_times self.old id times }
     {
-        if self.slots.contains(id) {
+        if self.slots.get(id).is_some() {
             self.slots.get_mut(id).node.times = times;
         }
     }

@@ -1,5 +1,5 @@
 //! Slots by the numbers of their nodes.
-ghost use Rattle.std.specs.Prelude.{◌≡◌, ◌<◌, ◌^◌, None, IsSome, IfSome, OnOk, OnErr, is_some, option_copied};
+ghost use Rattle.std.specs.Prelude.{◌≡◌, ◌<◌, ◌^◌, None, IsSome, IfSome, OnOk, OnErr, option_copied};
 ghost use Rattle.std.specs.FinMap as map;
 ghost use Rattle.std.specs.Borrow.{sem};
 ghost use Rattle.number_map.specs.Maps.{least_key};
@@ -67,13 +67,6 @@ impl Slots {
             Some(key) => self.slab.get(*key),
             None => None,
         }
-    }
-
-    /// Whether there is a slot of this number.
-    pub fn contains(&self, id: ObjId) -> bool
-        ensures { result ≡ is_some (map.get self.now id) }
-    {
-        self.get(id).is_some()
     }
 
     /// The least number above `after` that has a slot, and the least of all with no `after`.

@@ -13,4 +13,5 @@ loop-name-preserved c =
 
 pub returns : goal.returns
 returns c =
-    copies_all_names c.args.names.now c.loop-name.made (subst (λ left. CopiesBut left c.args.names.now c.loop-name.made) c.in-None.ensures.steps.0 c.loop-name.invariant)
+    let so_far = subst (λ left. CopiesBut left c.args.names.now c.loop-name.made) c.in-None.ensures.steps.0 c.loop-name.invariant in
+    copies_all_names c.args.names.now c.loop-name.made so_far
