@@ -30,7 +30,8 @@ one_begins m (r ∷ rs) (s ∷ ss) a b h k e =
     (elim later [ inl one ↦ inl (longer_more m r rs ss a b one) | inr one ↦ inr (longer_more m r ss rs b a one) ])
 
 -- what begins with no record has no more records in front
-none_more : (m : Making) (more : List Record) (text rest : List ℕ) → IsNoRecord m text → AreAllowed m more → text ≡ document more ++ rest → (more ≡ []) × (text ≡ rest)
+none_more : (m : Making) (more : List Record) (text rest : List ℕ) → IsNoRecord m text → AreAllowed m more → text ≡ document more ++ rest
+    → (more ≡ []) × (text ≡ rest)
 none_more m [] text rest none h e = (refl, e)
 none_more m (r ∷ more) text rest none h e = absurd (none r (document more ++ rest) h.0 h.1 (e ∙ append_assoc (spelled r) (document more) rest))
 
@@ -61,7 +62,8 @@ tree_or_fault bytes t byte h k =
       | inr one ↦ k.some (none_more (with_records start k.before) one.more k.rest [] k.none one.allowed one.text).1
     ]
 
-no_longer : (few many : List Record) (a b : List ℕ) → IsNoRecord (with_records start few) a → Longer start few many a b → length (document few) ≡ length (document many)
+no_longer : (few many : List Record) (a b : List ℕ) → IsNoRecord (with_records start few) a → Longer start few many a b
+    → length (document few) ≡ length (document many)
 no_longer few many a b none h =
     ap (λ (rs : List Record). length (document rs))
     (sym (h.is ∙ ap (λ (rs : List Record). few ++ rs) (none_more (with_records start few) h.more a b none h.allowed h.text).0 ∙ append-nil few))

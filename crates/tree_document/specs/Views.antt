@@ -1,4 +1,8 @@
 -- What the program holds, as contracts speak of it.
+--     making b      what is built, as the definitions have it
+--     IsAt refusal      it isn't for want of memory
+--     path_in bytes      the names with a `/` between two, and none of no bytes
+--     IsFault bytes fault      the fault is the text's
 use Rattle.std.specs.Prelude.{ℕ, List, [], ◌∷◌}
 use Rattle.refusals.specs.declared.refusal.Refusal.{Refusal}
 use Rattle.refusals.specs.declared.refusal.Refusal.TheVariants.{At, Memory}

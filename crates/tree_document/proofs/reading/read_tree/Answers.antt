@@ -19,4 +19,5 @@ loop-rest-preserved c =
 pub returns-in-Err-At-clause-fault : goal.returns-in-Err-At-clause-fault
 returns-in-Err-At-clause-fault c =
     behind_fault c.args.bytes.now c.loop-rest.rest.now (making c.loop-rest.building) _ c.loop-rest.invariant
-    (nonempty c.loop-rest.rest.now c.is_empty.result c.is_empty.ensures c.loop-rest-test.true) refl (c.in-Err-At.ensures.err (subst IsAt (sym c.in-Err-At.field-0-is) tt))
+    (nonempty c.loop-rest.rest.now c.is_empty.result c.is_empty.ensures c.loop-rest-test.true) refl
+    (c.in-Err-At.ensures.err (subst IsAt (sym c.in-Err-At.field-0-is) tt))
