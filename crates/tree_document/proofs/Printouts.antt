@@ -1,5 +1,5 @@
 -- What is printed of a tree that keeps the limits are records, one for each name.
-use Rattle.std.proofs.Common.{◌≡◌, ℕ, zero, suc, eqb, if◌then◌else◌, true, false, List, [], ◌∷◌, ◌++◌, map, Option, None, Some, IsSome, is_some, refl, sym, ap, subst, ◌∙◌}
+use Rattle.std.proofs.Common.{◌≡◌, ℕ, zero, suc, eqb, if◌then◌else◌, true, false, List, [], ◌∷◌, ◌++◌, map, Option, None, Some, IsSome, refl, sym, ap, ◌∙◌}
 use Rattle.std.specs.Prelude.{IfSome}
 use Rattle.std.proofs.lemmas.Bool.{false≢true}
 use Rattle.std.specs.FinMap.{entries, get, len}
@@ -14,7 +14,7 @@ use Rattle.tree_records.specs.Records.{IsRecord, Record, dir, dir_text, file, fi
 use Rattle.tree_document.specs.Documents.{document}
 use Rattle.tree_document.specs.Left.{Entries}
 use Rattle.tree_document.specs.Limits.{IsKept, IsKeptNode, IsRowPath, KeepsLimits}
-use Rattle.tree_document.specs.Printing.{Row, below_path, first_in, kind_text, listed, listing, node_text, printed, row_text, rows_text}
+use Rattle.tree_document.specs.Printing.{Row, below_path, first_in, kind_text, listed, listing, node_text, printed, rows_text}
 use Rattle.tree_document.proofs.Rows.{entries_got}
 
 -- ---- each row has a node
@@ -31,10 +31,11 @@ module _ (t : Tree) (h : IsTree t) where
       → AllByRecursion (λ e. get (names_of t n) e.0 ≡ Some e.1) es
       → AllByRecursion (HasNode t) (flat_map (λ e. (below_path path e.0, e.1) ∷ listed f t (below_path path e.0) e.1) es)
   rows_there f path n [] below all = tt
-  rows_there f path n (e ∷ es) below all =
-      (h.led n e.0 e.1 all.0,
-      all_both (HasNode t) (listed f t (below_path path e.0) e.1) (flat_map (λ e. (below_path path e.0, e.1) ∷ listed f t (below_path path e.0) e.1) es)
-      (below (below_path path e.0) e.1) (rows_there f path n es below all.1))
+  rows_there f path n (e ∷ es) below all = (
+    h.led n e.0 e.1 all.0,
+    all_both (HasNode t) (listed f t (below_path path e.0) e.1) (flat_map (λ e. (below_path path e.0, e.1) ∷ listed f t (below_path path e.0) e.1) es)
+        (below (below_path path e.0) e.1) (rows_there f path n es below all.1),
+  )
 
   listed_there : (f : ℕ) (path : List ℕ) (n : ℕ) → AllByRecursion (HasNode t) (listed f t path n)
   listed_there zero path n = tt

@@ -28,7 +28,7 @@ returns-in_err-node c =
     c.loop-name.yielded _ c.loop-name.yielded_by _ _ c.in-Some.name c.in-Some.is c.next.ensures.steps in
     let e = step c.args.tree.now c.loop-name.node (names_in c.args.path.now) (length c.loop-name.yielded) c.in-Some.name.now c.entry.result t c.entry.ensures in
     c.from_residual.ensures ∙ sym (ap (λ (o : Option ℕ). o >>= λ m. node_at c.args.tree.now m
-        (drop (length c.loop-name.yielded + 1) (names_in c.args.path.now))) c.in_err-node.was) ∙ sym e ∙ c.loop-name.invariant
+    (drop (length c.loop-name.yielded + 1) (names_in c.args.path.now))) c.in_err-node.was) ∙ sym e ∙ c.loop-name.invariant
 
 pub loop-name-preserved : goal.loop-name-preserved
 loop-name-preserved c =
