@@ -45,7 +45,8 @@ fresh_node m name kind (Some d) h = λ k far. ap is_none (get-insert-other m.tre
 fresh_one_more : (m : Making) (n k : ℕ) (o : Option Node) → get m.tree.nodes n ≡ o → is_absent m.tree k ≡ true → is_absent (one_more_in m.tree n o) k ≡ true
 fresh_one_more m n k None here h = h
 fresh_one_more m n k (Some node) here h =
-    ap is_none (get-insert-other m.tree.nodes n (with_count node (node.links + 1)) k (λ e. false≢true (sym (ap is_none (ap (get m.tree.nodes) e ∙ here)) ∙ h))) ∙ h
+    ap is_none (get-insert-other m.tree.nodes n (with_count node (node.links + 1)) k
+    (λ e. false≢true (sym (ap is_none (ap (get m.tree.nodes) e ∙ here)) ∙ h))) ∙ h
 
 fresh_name : (m : Making) (name : List ℕ) (o p : Option ℕ) → IsFresh m → IsFresh (with_name_in m name o p)
 fresh_name m name None p h = h

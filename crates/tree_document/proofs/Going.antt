@@ -15,7 +15,8 @@ going_start t bytes known path none frames tree done here first rows = record {
   rows = [];
   printed = done;
   left = listing_rows t tree ∙ sym (reach_rows t tree [] ROOT) ∙ ap (λ (p : List ℕ). listed (reach t ROOT) t p ROOT) (sym here)
-      ∙ sym (append-nil (listed (reach t ROOT) t path ROOT)) ∙ ap (λ (fs : List Frame). listed (reach t ROOT) t path ROOT ++ rows_left t fs) (sym first) ∙ sym rows;
+      ∙ sym (append-nil (listed (reach t ROOT) t path ROOT)) ∙ ap (λ (fs : List Frame). listed (reach t ROOT) t path ROOT ++ rows_left t fs) (sym first)
+      ∙ sym rows;
 }
 
 -- all is printed
@@ -61,7 +62,8 @@ module _ (t : Tree) (frames : List Frame) (frame : Frame) where
         let same = length-append frames (record frame { names = rest } ∷ []) in
         omega arith
 
-    pub next_going : (bytes new : List ℕ) (known more : Firsts) → ((rows : List Row) → IsPrinted t bytes known rows → IsPrinted t new more (rows ++ (below, n) ∷ []))
+    pub next_going : (bytes new : List ℕ) (known more : Firsts)
+        → ((rows : List Row) → IsPrinted t bytes known rows → IsPrinted t new more (rows ++ (below, n) ∷ []))
         → IsGoing t bytes known (frames ++ frame ∷ []) → IsGoing t new more last
     next_going bytes new known more prints h = record {
       rows = h.rows ++ (below, n) ∷ [];

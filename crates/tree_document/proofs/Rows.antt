@@ -101,7 +101,8 @@ module _ (t : Tree) (h : IsTree t) where
 
   alike : (f n : ℕ) (path : List ℕ) (other : List ℕ → ℕ → List Row) (es : Entries) → AreDeeper n es
       → ((p : List ℕ) (m : ℕ) → depth t n < depth t m → listed f t p m ≡ other p m)
-      → flat_map (λ e. (below_path path e.0, e.1) ∷ listed f t (below_path path e.0) e.1) es ≡ flat_map (λ e. (below_path path e.0, e.1) ∷ other (below_path path e.0) e.1) es
+      → flat_map (λ e. (below_path path e.0, e.1) ∷ listed f t (below_path path e.0) e.1) es
+      ≡ flat_map (λ e. (below_path path e.0, e.1) ∷ other (below_path path e.0) e.1) es
   alike f n path other [] all same = refl
   alike f n path other (e ∷ es) all same =
       ap (λ (rows : List Row). (below_path path e.0, e.1) ∷ rows ++ flat_map (λ e. (below_path path e.0, e.1) ∷ listed f t (below_path path e.0) e.1) es)
@@ -150,7 +151,8 @@ none_says P (Some x) h = tt
 
 -- ---- directories one behind the other
 
-pub rows_left_push : (t : Tree) (frames : List Frame) (frame : Frame) → rows_left t (frames ++ frame ∷ []) ≡ rows_of t frame.path.items frame.names ++ rows_left t frames
+pub rows_left_push : (t : Tree) (frames : List Frame) (frame : Frame)
+    → rows_left t (frames ++ frame ∷ []) ≡ rows_of t frame.path.items frame.names ++ rows_left t frames
 rows_left_push t [] frame = sym (append-nil (rows_of t frame.path.items frame.names))
 rows_left_push t (first ∷ frames) frame =
     ap (λ (rows : List Row). rows ++ rows_of t first.path.items first.names) (rows_left_push t frames frame)

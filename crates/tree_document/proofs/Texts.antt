@@ -15,7 +15,8 @@ use Rattle.tree_model.specs.Changes.{is_file, is_file_kind, is_file_node}
 use Rattle.tree_document.specs.Printing.{Row, first_in, kind_text, node_text, row_text, rows_text}
 use Rattle.tree_document.specs.Left.{Firsts, IsPrinted, with_first, with_first_in}
 
-rows_text_push : (t : Tree) (before rows : List Row) (row : Row) → rows_text t before (rows ++ row ∷ []) ≡ rows_text t before rows ++ row_text t (before ++ rows) row
+rows_text_push : (t : Tree) (before rows : List Row) (row : Row)
+    → rows_text t before (rows ++ row ∷ []) ≡ rows_text t before rows ++ row_text t (before ++ rows) row
 rows_text_push t before [] row = append-nil (row_text t before row) ∙ ap (λ (bs : List Row). row_text t bs row) (sym (append-nil before))
 rows_text_push t before (first ∷ rows) row =
     ap (λ (text : List ℕ). row_text t before first ++ text)
@@ -71,7 +72,8 @@ module _ (t : Tree) (rows : List Row) (path : List ℕ) (n : ℕ) (old new : Lis
       → get (with_first_in known n path o) m ≡ first_in (rows ++ (path, n) ∷ []) m
   known_more (Some first) e file m other =
       elim (eqb_tells n m) [
-        | inl same ↦ ap (get known) (sym same.1) ∙ e ∙ sym (ap (first_in (rows ++ (path, n) ∷ [])) (sym same.1) ∙ first_stays rows ((path, n) ∷ []) n first (sym (h.firsts n file) ∙ e))
+        | inl same ↦ ap (get known) (sym same.1) ∙ e ∙ sym (ap (first_in (rows ++ (path, n) ∷ [])) (sym same.1)
+            ∙ first_stays rows ((path, n) ∷ []) n first (sym (h.firsts n file) ∙ e))
         | inr apart ↦ h.firsts m other ∙ sym (first_other rows path n m apart.1)
       ]
   known_more None e file m other =

@@ -34,7 +34,8 @@ pub parent_in : (p : Path) → IsPath p → path_in (path_bytes (parent p)) ≡ 
 parent_in p h = path_in-path_bytes (parent p) (parent_names p h.names)
 
 -- where names lead from the root
-pub path_leads : (t : Tree) (p : Path) (bytes : List ℕ) (o : Option ℕ) → IsPath p → bytes ≡ path_bytes p → o ≡ node_at t ROOT (names_in bytes) → o ≡ node_at t ROOT p
+pub path_leads : (t : Tree) (p : Path) (bytes : List ℕ) (o : Option ℕ) → IsPath p → bytes ≡ path_bytes p → o ≡ node_at t ROOT (names_in bytes)
+    → o ≡ node_at t ROOT p
 path_leads t p bytes o h same is = is ∙ ap (λ (bs : List ℕ). node_at t ROOT (names_in bs)) same ∙ ap (node_at t ROOT) (names_in-path p h)
 
 pub parent_leads : (t : Tree) (p : Path) (bytes : List ℕ) (o : Option ℕ) → IsPath p → bytes ≡ path_bytes (parent p) → o ≡ node_at t ROOT (path_in bytes)

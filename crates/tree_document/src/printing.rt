@@ -50,7 +50,8 @@ fn push_names<'a>(
     path: Vec<u8>,
     id: ObjId,
 ) -> Result<(), AllocError>
-    ensures rows { OnOk result (rows_left tree.now frames.new.items ≡ listed (reach tree.now id) tree.now path.items id ++ rows_left tree.now frames.old.items) }
+    ensures rows { OnOk result (rows_left tree.now frames.new.items
+        ≡ listed (reach tree.now id) tree.now path.items id ++ rows_left tree.now frames.old.items) }
     ensures few { OnOk result (length frames.new.items ≤ length frames.old.items + 1) }
     ensures tree { IsTree tree.now }
 {
@@ -68,7 +69,8 @@ fn print_next<'a>(
     frames: &mut Vec<Frame<'a>>,
     mut frame: Frame<'a>,
 ) -> Result<(), AllocError>
-    ensures going { IsGoing tree.now printed.old.text.items printed.old.firsts (frames.old.items ++ frame.entry ∷ []) → OnOk result (IsGoing tree.now printed.new.text.items printed.new.firsts frames.new.items) }
+    ensures going { IsGoing tree.now printed.old.text.items printed.old.firsts (frames.old.items ++ frame.entry ∷ [])
+        → OnOk result (IsGoing tree.now printed.new.text.items printed.new.firsts frames.new.items) }
     ensures fewer { OnOk result (steps_left tree.now frames.new.items < steps_left tree.now (frames.old.items ++ frame.entry ∷ [])) }
 {
     let Some((name, id)) = frame.names.next() else {

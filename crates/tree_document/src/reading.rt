@@ -19,7 +19,8 @@ use tree_records::{Read, read_record};
 fn add_next<'a>(alloc: Global, building: &mut Building, text: &'a [u8]) -> Read<&'a [u8]>
     requires fresh { IsFresh (making building.old) }
     requires room { building.old.next + 1 < 2 ^ 64 }
-    ensures ok { IfOk result (λ rest. (r : Record) × IsRecord r × IsAllowed (making building.old) r × (text.now ≡ spelled r ++ rest.now) × (making building.new ≡ with_record (making building.old) r)) }
+    ensures ok { IfOk result (λ rest. (r : Record) × IsRecord r × IsAllowed (making building.old) r × (text.now ≡ spelled r ++ rest.now)
+        × (making building.new ≡ with_record (making building.old) r)) }
     ensures err { IfErr result (λ refusal. IsAt refusal → IsNoRecord (making building.old) text.now) }
     ensures shorter { IfOk result (λ rest. length rest.now < length text.now) }
 {

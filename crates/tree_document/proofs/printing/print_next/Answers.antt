@@ -23,7 +23,8 @@ returns-clause-going c h =
     (c.in_ok-path.ensures ∙ ap (λ (path : List ℕ). below_path path c.in-Some.name.now) c.deref.ensures.value)
     c.push_names.new.frames.items (rows ∙ ap (λ (frames : List Frame). listed (reach t id) t below id ++ rows_left t frames) c.in_ok-push-2.ensures.items)
     c.args.printed.now.text.items c.push.new.self.text.items c.args.printed.now.firsts c.push.new.self.firsts
-    (λ done k. subst (λ (path : List ℕ). IsPrinted t c.push.new.self.text.items c.push.new.self.firsts (done ++ (path, id) ∷ [])) c.deref-2.ensures.value (c.in_ok-push.ensures done k))
+    (λ done k. subst (λ (path : List ℕ). IsPrinted t c.push.new.self.text.items c.push.new.self.firsts (done ++ (path, id) ∷ [])) c.deref-2.ensures.value
+    (c.in_ok-push.ensures done k))
     h)
     c.push_names.ensures.rows
 

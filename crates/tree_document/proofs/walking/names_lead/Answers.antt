@@ -27,7 +27,8 @@ returns-in_err-node c =
     (λ x r q k. search (rules, tests)))
     c.loop-name.yielded _ c.loop-name.yielded_by _ _ c.in-Some.name c.in-Some.is c.next.ensures.steps in
     let e = step c.args.tree.now c.loop-name.node (names_in c.args.path.now) (length c.loop-name.yielded) c.in-Some.name.now c.entry.result t c.entry.ensures in
-    c.from_residual.ensures ∙ sym (ap (λ (o : Option ℕ). o >>= λ m. node_at c.args.tree.now m (drop (length c.loop-name.yielded + 1) (names_in c.args.path.now))) c.in_err-node.was) ∙ sym e ∙ c.loop-name.invariant
+    c.from_residual.ensures ∙ sym (ap (λ (o : Option ℕ). o >>= λ m. node_at c.args.tree.now m
+    (drop (length c.loop-name.yielded + 1) (names_in c.args.path.now))) c.in_err-node.was) ∙ sym e ∙ c.loop-name.invariant
 
 pub loop-name-preserved : goal.loop-name-preserved
 loop-name-preserved c =
@@ -41,7 +42,8 @@ loop-name-preserved c =
     let e = step c.args.tree.now c.loop-name.node (names_in c.args.path.now) (length c.loop-name.yielded) c.in-Some.name.now c.entry.result t c.entry.ensures in
     let n = length_push c.loop-name.yielded c.in-Some.name in
     ap (λ (k : ℕ). node_at c.args.tree.now c.in_ok-node.node (drop k (names_in c.args.path.now))) n
-    ∙ sym (ap (λ (o : Option ℕ). o >>= λ m. node_at c.args.tree.now m (drop (length c.loop-name.yielded + 1) (names_in c.args.path.now))) c.in_ok-node.was) ∙ sym e ∙ c.loop-name.invariant
+    ∙ sym (ap (λ (o : Option ℕ). o >>= λ m. node_at c.args.tree.now m (drop (length c.loop-name.yielded + 1) (names_in c.args.path.now))) c.in_ok-node.was)
+    ∙ sym e ∙ c.loop-name.invariant
 
 pub returns : goal.returns
 returns c =
