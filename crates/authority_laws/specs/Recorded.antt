@@ -27,4 +27,4 @@ noted_all l (e ∷ es) = noted_all (noted l e) es
 
 -- the ledger of a launch and a history
 unfoldable pub ledger : Launch → List Entry → Ledger
-ledger launch history = noted_all (launch_ledger launch.grants) history
+ledger launch history = noted_all (launch_ledger launch.tree launch.grants) history
