@@ -1,44 +1,20 @@
 -- What is printed of a tree that keeps the limits are records, one for each name.
-use Rattle.std.proofs.Common.{◌≡◌, ℕ, zero, suc, eqb, if◌then◌else◌, true, false, List, [], ◌∷◌, ◌++◌, map, Option, None, Some, IsSome, is_some, refl, sym, ap, subst, ◌∙◌}
+use Rattle.std.proofs.Common.{◌≡◌, ℕ, eqb, if◌then◌else◌, true, false, List, [], ◌∷◌, ◌++◌, map, Option, None, Some, IsSome, refl, sym, ap, ◌∙◌}
 use Rattle.std.specs.Prelude.{IfSome}
 use Rattle.std.proofs.lemmas.Bool.{false≢true}
-use Rattle.std.specs.FinMap.{entries, get, len}
-use Rattle.std.specs.List.{AllByRecursion, flat_map}
+use Rattle.std.specs.FinMap.{get, len}
+use Rattle.std.specs.List.{AllByRecursion}
 use Rattle.abi_types.specs.declared.node.Node.{Node}
 use Rattle.abi_types.specs.declared.node.NodeKind.{NodeKind}
 use Rattle.abi_types.specs.declared.node.NodeKind.TheVariants as kind
 use Rattle.tree_model.specs.declared.limits.TheConstants.{ROOT}
-use Rattle.tree_model.specs.Tree.{IsTree, Tree, names_of}
+use Rattle.tree_model.specs.Tree.{IsTree, Tree}
 use Rattle.tree_records.specs.Paths.{path_bytes}
 use Rattle.tree_records.specs.Records.{IsRecord, Record, dir, dir_text, file, file_text, hard, hard_text, link, link_text, path_of, spelled}
 use Rattle.tree_document.specs.Documents.{document}
-use Rattle.tree_document.specs.Left.{Entries}
 use Rattle.tree_document.specs.Limits.{IsKept, IsKeptNode, IsRowPath, KeepsLimits}
-use Rattle.tree_document.specs.Printing.{Row, below_path, first_in, kind_text, listed, listing, node_text, printed, row_text, rows_text}
-use Rattle.tree_document.proofs.Rows.{entries_got}
-
--- ---- each row has a node
-
-abbrev HasNode : Tree → Row → Type 0
-HasNode t row = IsSome (get t.nodes row.1)
-
-all_both : (P : Row → Type 0) (rows more : List Row) → AllByRecursion P rows → AllByRecursion P more → AllByRecursion P (rows ++ more)
-all_both P [] more h k = k
-all_both P (row ∷ rows) more h k = (h.0, all_both P rows more h.1 k)
-
-module _ (t : Tree) (h : IsTree t) where
-  rows_there : (f : ℕ) (path : List ℕ) (n : ℕ) (es : Entries) → ((p : List ℕ) (m : ℕ) → AllByRecursion (HasNode t) (listed f t p m))
-      → AllByRecursion (λ e. get (names_of t n) e.0 ≡ Some e.1) es
-      → AllByRecursion (HasNode t) (flat_map (λ e. (below_path path e.0, e.1) ∷ listed f t (below_path path e.0) e.1) es)
-  rows_there f path n [] below all = tt
-  rows_there f path n (e ∷ es) below all =
-      (h.led n e.0 e.1 all.0,
-      all_both (HasNode t) (listed f t (below_path path e.0) e.1) (flat_map (λ e. (below_path path e.0, e.1) ∷ listed f t (below_path path e.0) e.1) es)
-      (below (below_path path e.0) e.1) (rows_there f path n es below all.1))
-
-  listed_there : (f : ℕ) (path : List ℕ) (n : ℕ) → AllByRecursion (HasNode t) (listed f t path n)
-  listed_there zero path n = tt
-  listed_there (suc f) path n = rows_there f path n (entries (names_of t n)) (listed_there f) (entries_got (names_of t n))
+use Rattle.tree_document.specs.Printing.{Row, first_in, kind_text, listing, node_text, printed, rows_text}
+use Rattle.tree_document.proofs.Nodes.{HasNode, all_both, listed_there}
 
 -- ---- a row's record
 

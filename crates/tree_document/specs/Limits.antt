@@ -11,7 +11,7 @@ use Rattle.tree_model.specs.declared.limits.TheConstants.{MOST_FILE_BYTES}
 use Rattle.tree_model.specs.Tree.{Tree}
 use Rattle.tree_records.specs.Paths.{IsPath, Path, path_bytes}
 use Rattle.tree_records.specs.Records.{IsLinkText}
-use Rattle.tree_document.specs.Printing.{Row, listing}
+use Rattle.tree_document.specs.Printing.{listing}
 
 -- names that may be a record's path spell it
 abbrev pub IsRowPath : List ℕ → Type 0
