@@ -13,7 +13,7 @@ ghost use Rattle.kernel_model.specs.Reply.{denied};
 ghost use Rattle.tree_model.specs.Grants.{MayBegin};
 ghost use Rattle.kernel_model.specs.Sight.{own_parts};
 ghost use Rattle.kernel_model.specs.Start.{start_state};
-ghost use Rattle.kernel_model.specs.State.{put_all, Table, Part, has_part, Agree, thread_of, written_to};
+ghost use Rattle.kernel_model.specs.State.{put_all, Table, Part, has_part, Agree, thread_of, tree_of, written_to};
 ghost use Rattle.kernel_model.specs.Step.{act, failed, MayLackMemory, IsStep, IsUntouched, end_unreleased, end_state};
 ghost use Rattle.kernel_model.specs.DescriptorCalls.{stat_get, stat_of, type_number, flags_of};
 ghost use Rattle.kernel_model.specs.StreamCalls.{read_from, read_term, write_term, write_to};
@@ -405,6 +405,13 @@ impl Kernel {
         ensures { result ≡ thread_of self.now pid tid }
     {
         self.own.get(u64::from(pid.0))?.thread(tid)
+    }
+
+    /// The file tree.
+    pub fn tree(&self) -> &Tree
+        ensures { result.now ≡ tree_of self.now }
+    {
+        &self.tree
     }
 
     /// What was written to stdout, 1, or to stderr, 2.

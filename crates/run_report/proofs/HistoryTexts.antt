@@ -5,7 +5,7 @@ use Rattle.std.specs.List.{flat_map}
 use Rattle.run_types.specs.declared.history.Entry.{Entry}
 use Rattle.run_report.specs.HistoryLines.{entry_text, history_text}
 
-regroup : (a b c d e : List ℕ) → (a ++ (b ++ (c ++ d))) ++ e ≡ a ++ (b ++ (c ++ (d ++ e)))
+pub regroup : (a b c d e : List ℕ) → (a ++ (b ++ (c ++ d))) ++ e ≡ a ++ (b ++ (c ++ (d ++ e)))
 regroup a b c d e = simp append_assoc
 
 -- the first line was put behind a text, and then the others

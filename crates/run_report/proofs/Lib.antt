@@ -1,4 +1,5 @@
 mod ReportTexts
 mod ReportLines
 mod HistoryTexts
+mod TreeTexts
 mod RunEnds

@@ -9,9 +9,9 @@ use Rattle.std.specs.Fmt.{decimal}
 use Rattle.std.specs.List.{before_first, position_or_len}
 use Rattle.std.specs.Str.Parse.{AllDigits}
 use Rattle.run_types.specs.declared.history.Entry.{Entry}
-use Rattle.kernel_model.specs.State.{State, written_to}
+use Rattle.kernel_model.specs.State.{State, tree_of, written_to}
 use Rattle.run_report.specs.Denials.{denials_text}
-use Rattle.run_report.specs.Report.{ending, stream_line, stream_text, end_text, asked_history, report_of}
+use Rattle.run_report.specs.Report.{ending, stream_line, stream_text, end_text, tree_text, asked_history, report_of}
 use Rattle.run_report.specs.ReportLaws.{ReportTellsStreams, StdoutIsCutOut}
 
 -- no line feed is in the text
@@ -77,15 +77,15 @@ stream_told name a b x y one small other e =
 
 -- what stands after the streams
 abbrev after_streams : State → List Entry → Bool → List ℕ
-after_streams S history lines = end_text S ++ (denials_text history ++ (codes "== tree 0" ++ (10 ∷ asked_history lines history)))
+after_streams S history lines = end_text S ++ (denials_text history ++ (tree_text (tree_of S) ++ asked_history lines history))
 
-regroup : (a b c d e f g : List ℕ) → a ++ b ++ c ++ d ++ e ++ f ++ g ≡ a ++ (b ++ (c ++ (d ++ (e ++ (f ++ g)))))
-regroup a b c d e f g = simp append_assoc
+regroup : (a b c d e f : List ℕ) → a ++ b ++ c ++ d ++ e ++ f ≡ a ++ (b ++ (c ++ (d ++ (e ++ f))))
+regroup a b c d e f = simp append_assoc
 
 report-streams : (S : State) (history : List Entry) (lines : Bool) → report_of S history lines
     ≡ stream_text (codes "stdout") (written_to 1 S) ++ (stream_text (codes "stderr") (written_to 2 S) ++ after_streams S history lines)
 report-streams S history lines =
-    regroup (stream_text (codes "stdout") (written_to 1 S)) (stream_text (codes "stderr") (written_to 2 S)) (end_text S) (denials_text history) (codes "== tree 0") (10 ∷ [])
+    regroup (stream_text (codes "stdout") (written_to 1 S)) (stream_text (codes "stderr") (written_to 2 S)) (end_text S) (denials_text history) (tree_text (tree_of S))
     (asked_history lines history)
 
 stdout_one : IsOneLine (codes "stdout")

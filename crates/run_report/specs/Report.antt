@@ -8,7 +8,9 @@ use Rattle.abi_types.specs.declared.status.Status.TheVariants.{Live, Exit, Kille
 use Rattle.abi_base.specs.Signal.{number_of, name_of}
 use Rattle.run_types.specs.declared.history.Entry.{Entry}
 use Rattle.kernel_core.specs.Kernel.{any_live}
-use Rattle.kernel_model.specs.State.{State, written_to}
+use Rattle.kernel_model.specs.State.{State, tree_of, written_to}
+use Rattle.tree_document.specs.Printing.{listing, printed}
+use Rattle.tree_model.specs.Tree.{Tree}
 use Rattle.run_report.specs.Denials.{denials_text}
 use Rattle.run_report.specs.HistoryLines.{history_text}
 
@@ -43,16 +45,20 @@ run_text S = if any_live S then codes "stalled" else codes "ended"
 abbrev pub end_text : State → List ℕ
 end_text S = codes "== status " ++ status_text (get S.statuses 0) ++ 10 ∷ [] ++ codes "== run " ++ run_text S ++ 10 ∷ []
 
+-- the records of a file tree, one for each name, under a line with their number
+unfoldable pub tree_text : Tree → List ℕ
+tree_text tree = codes "== tree " ++ (decimal (length (listing tree)) ++ (10 ∷ printed tree))
+
 -- the history's lines, where they are asked for
 abbrev pub asked_history : Bool → List Entry → List ℕ
 asked_history lines history = if lines then history_text history else []
 
--- the whole report; the file tree has no entry yet
+-- the whole report
 abbrev pub report_of : State → List Entry → Bool → List ℕ
 report_of S history lines =
     stream_text (codes "stdout") (written_to 1 S)
     ++ stream_text (codes "stderr") (written_to 2 S)
     ++ end_text S
     ++ denials_text history
-    ++ codes "== tree 0" ++ 10 ∷ []
+    ++ tree_text (tree_of S)
     ++ asked_history lines history

@@ -1,22 +1,24 @@
-//! The report of a run: what the program wrote, how it ended, and which calls were denied.
+//! The report of a run: what the program wrote, how it ended, which calls were denied, and what files it left.
 ghost use Rattle.std.specs.Prelude.{◌≡◌, ◌++◌, IfOk, OnOk, None, Some, codes};
 ghost use Rattle.std.specs.FinMap as map;
 ghost use Rattle.std.specs.String.{string_bytes};
-ghost use Rattle.run_report.specs.Report.{report_of, stream_text, status_text, signal_text, run_text, end_text, ending};
+ghost use Rattle.run_report.specs.Report.{report_of, stream_text, status_text, signal_text, run_text, end_text, ending, tree_text};
 
 use crate::denials::append_denials;
 use crate::history_lines::append_history;
 use abi_types::{Bytes, Pid, Signal, Status};
+use file_tree::Tree;
 use kernel_core::Kernel;
 use run_types::Entry;
 use std::alloc::{AllocError, Global};
+use tree_document::tree_text;
 
 /// The report of a run whose kernel stands so and whose history is this one, with a line for each entry of the history
 /// where `lines` is set.
 ///
 /// It has, in order: what was written to stdout and to stderr, each under a line with its length; how process 0
 /// stands; whether the run ended, or stalled with a process still live; the denied calls, in the history's order; the
-/// file tree, which has no entry yet; and the history's lines. `specs/Report.antt` has its text.
+/// records of the final file tree, under a line with their number; and the history's lines. `specs/Report.antt` has its text.
 pub fn report(
     alloc: Global,
     kernel: &Kernel,
@@ -30,7 +32,7 @@ pub fn report(
     append_stream(alloc, &mut text, "stderr", kernel.output(2))?;
     append_end(alloc, &mut text, kernel)?;
     append_denials(alloc, &mut text, history)?;
-    text.append(b"== tree 0\n")?;
+    append_tree(alloc, &mut text, kernel.tree())?;
     if lines {
         append_history(alloc, &mut text, history)?;
     }
@@ -73,6 +75,16 @@ fn append_end(alloc: Global, text: &mut Bytes, kernel: &Kernel) -> Result<(), Al
         "ended"
     };
     text.append(format!(in alloc; "== status {status}\n== run {run}\n")?.as_bytes())
+}
+
+// Puts the records of a file tree at the end, under a line with their number. `Err` may leave a part of it.
+fn append_tree(alloc: Global, text: &mut Bytes, tree: &Tree) -> Result<(), AllocError>
+    ensures { OnOk result (text.new ≡ text.old ++ tree_text tree.now) }
+{
+    let document = tree_text(alloc, tree)?;
+    let count = document.records;
+    text.append(format!(in alloc; "== tree {count}\n")?.as_bytes())?;
+    text.append(document.text.as_slice())
 }
 
 // How a process stands, in words.

@@ -4,25 +4,31 @@ use Rattle.tree_model.specs.declared.limits.TheConstants.{ROOT}
 use Rattle.tree_model.specs.Tree.{IsTree, Tree}
 use Rattle.tree_document.specs.declared.printing.Frame.{Frame}
 use Rattle.tree_document.specs.Left.{Entries, Firsts, IsGoing, IsPrinted, reach, rows_left, rows_of, steps_left}
-use Rattle.tree_document.specs.Printing.{Row, below_path, listed, printed, rows_text}
+use Rattle.tree_document.specs.Printing.{Row, below_path, listed, listing, printed, rows_text}
 use Rattle.std.proofs.lemmas.List.{append-nil}
+use Rattle.tree_document.proofs.Nodes.{HasNode, row_there}
 use Rattle.tree_document.proofs.Rows.{listing_rows, reach_rows, rows_left_push}
 
 -- nothing is printed, and all is left
-pub going_start : (t : Tree) (bytes : List ℕ) (known : Firsts) (path : List ℕ) (none frames : List Frame) → IsTree t → IsPrinted t bytes known []
-    → path ≡ [] → none ≡ [] → rows_left t frames ≡ listed (reach t ROOT) t path ROOT ++ rows_left t none → IsGoing t bytes known frames
-going_start t bytes known path none frames tree done here first rows = record {
+pub going_start : (t : Tree) (bytes : List ℕ) (number : ℕ) (known : Firsts) (path : List ℕ) (none frames : List Frame) → IsTree t → IsPrinted t bytes number known []
+    → path ≡ [] → none ≡ [] → rows_left t frames ≡ listed (reach t ROOT) t path ROOT ++ rows_left t none → IsGoing t bytes number known frames
+going_start t bytes number known path none frames tree done here first rows = record {
   rows = [];
   printed = done;
   left = listing_rows t tree ∙ sym (reach_rows t tree [] ROOT) ∙ ap (λ (p : List ℕ). listed (reach t ROOT) t p ROOT) (sym here)
-      ∙ sym (append-nil (listed (reach t ROOT) t path ROOT)) ∙ ap (λ (fs : List Frame). listed (reach t ROOT) t path ROOT ++ rows_left t fs) (sym first)
-      ∙ sym rows;
+      ∙ sym (append-nil (listed (reach t ROOT) t path ROOT)) ∙ ap (λ (fs : List Frame). listed (reach t ROOT) t path ROOT ++ rows_left t fs) (sym first) ∙ sym rows;
 }
 
 -- all is printed
-pub going_end : (t : Tree) (bytes : List ℕ) (known : Firsts) (frames : List Frame) → IsGoing t bytes known frames → frames ≡ [] → bytes ≡ printed t
-going_end t bytes known frames h none =
-    h.printed.text ∙ ap (rows_text t []) (sym (h.left ∙ ap (λ (fs : List Frame). h.rows ++ rows_left t fs) none ∙ append-nil h.rows))
+module _ (t : Tree) (bytes : List ℕ) (number : ℕ) (known : Firsts) (frames : List Frame) (h : IsGoing t bytes number known frames) (none : frames ≡ []) where
+  all_met : listing t ≡ h.rows
+  all_met = h.left ∙ ap (λ (fs : List Frame). h.rows ++ rows_left t fs) none ∙ append-nil h.rows
+
+  pub going_end : bytes ≡ printed t
+  going_end = h.printed.text ∙ ap (rows_text t []) (sym all_met)
+
+  pub counted_end : number ≡ length (listing t)
+  counted_end = h.printed.counted ∙ ap length (sym all_met)
 
 module _ (t : Tree) (frames : List Frame) (frame : Frame) where
   -- no names are left in the last directory
@@ -35,8 +41,9 @@ module _ (t : Tree) (frames : List Frame) (frame : Frame) where
       let size = length-append frames (frame ∷ []) in
       omega arith
 
-  pub none_going : (bytes : List ℕ) (known : Firsts) → frame.names ≡ [] → IsGoing t bytes known (frames ++ frame ∷ []) → IsGoing t bytes known frames
-  none_going bytes known none h = record {
+  pub none_going : (bytes : List ℕ) (number : ℕ) (known : Firsts) → frame.names ≡ [] → IsGoing t bytes number known (frames ++ frame ∷ [])
+      → IsGoing t bytes number known frames
+  none_going bytes number known none h = record {
     rows = h.rows;
     printed = h.printed;
     left = h.left ∙ ap (λ (rows : List Row). h.rows ++ rows) (none_left none);
@@ -62,11 +69,13 @@ module _ (t : Tree) (frames : List Frame) (frame : Frame) where
         let same = length-append frames (record frame { names = rest } ∷ []) in
         omega arith
 
-    pub next_going : (bytes new : List ℕ) (known more : Firsts)
-        → ((rows : List Row) → IsPrinted t bytes known rows → IsPrinted t new more (rows ++ (below, n) ∷ []))
-        → IsGoing t bytes known (frames ++ frame ∷ []) → IsGoing t new more last
-    next_going bytes new known more prints h = record {
-      rows = h.rows ++ (below, n) ∷ [];
-      printed = prints h.rows h.printed;
-      left = h.left ∙ ap (λ (rows : List Row). h.rows ++ rows) next_left ∙ sym (append_assoc h.rows ((below, n) ∷ []) (rows_left t last));
-    }
+    pub next_going : (bytes new : List ℕ) (number plus : ℕ) (known more : Firsts) → IsTree t
+        → ((rows : List Row) → HasNode t (below, n) → IsPrinted t bytes number known rows → IsPrinted t new plus more (rows ++ (below, n) ∷ []))
+        → IsGoing t bytes number known (frames ++ frame ∷ []) → IsGoing t new plus more last
+    next_going bytes new number plus known more tree prints h =
+        let left_now = h.left ∙ ap (λ (rows : List Row). h.rows ++ rows) next_left in
+        record {
+          rows = h.rows ++ (below, n) ∷ [];
+          printed = prints h.rows (row_there t tree h.rows (below, n) (rows_left t last) left_now) h.printed;
+          left = left_now ∙ sym (append_assoc h.rows ((below, n) ∷ []) (rows_left t last));
+        }

@@ -6,6 +6,7 @@ pub mod Allowed
 pub mod Computed
 pub mod StartTrees
 pub mod Rows
+pub mod Nodes
 pub mod Texts
 pub mod Going
 pub mod Printouts

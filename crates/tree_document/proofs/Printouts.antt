@@ -1,45 +1,20 @@
 -- What is printed of a tree that keeps the limits are records, one for each name.
-use Rattle.std.proofs.Common.{◌≡◌, ℕ, zero, suc, eqb, if◌then◌else◌, true, false, List, [], ◌∷◌, ◌++◌, map, Option, None, Some, IsSome, refl, sym, ap, ◌∙◌}
+use Rattle.std.proofs.Common.{◌≡◌, ℕ, eqb, if◌then◌else◌, true, false, List, [], ◌∷◌, ◌++◌, map, Option, None, Some, IsSome, refl, sym, ap, ◌∙◌}
 use Rattle.std.specs.Prelude.{IfSome}
 use Rattle.std.proofs.lemmas.Bool.{false≢true}
-use Rattle.std.specs.FinMap.{entries, get, len}
-use Rattle.std.specs.List.{AllByRecursion, flat_map}
+use Rattle.std.specs.FinMap.{get, len}
+use Rattle.std.specs.List.{AllByRecursion}
 use Rattle.abi_types.specs.declared.node.Node.{Node}
 use Rattle.abi_types.specs.declared.node.NodeKind.{NodeKind}
 use Rattle.abi_types.specs.declared.node.NodeKind.TheVariants as kind
 use Rattle.tree_model.specs.declared.limits.TheConstants.{ROOT}
-use Rattle.tree_model.specs.Tree.{IsTree, Tree, names_of}
+use Rattle.tree_model.specs.Tree.{IsTree, Tree}
 use Rattle.tree_records.specs.Paths.{path_bytes}
 use Rattle.tree_records.specs.Records.{IsRecord, Record, dir, dir_text, file, file_text, hard, hard_text, link, link_text, path_of, spelled}
 use Rattle.tree_document.specs.Documents.{document}
-use Rattle.tree_document.specs.Left.{Entries}
 use Rattle.tree_document.specs.Limits.{IsKept, IsKeptNode, IsRowPath, KeepsLimits}
-use Rattle.tree_document.specs.Printing.{Row, below_path, first_in, kind_text, listed, listing, node_text, printed, rows_text}
-use Rattle.tree_document.proofs.Rows.{entries_got}
-
--- ---- each row has a node
-
-abbrev HasNode : Tree → Row → Type 0
-HasNode t row = IsSome (get t.nodes row.1)
-
-all_both : (P : Row → Type 0) (rows more : List Row) → AllByRecursion P rows → AllByRecursion P more → AllByRecursion P (rows ++ more)
-all_both P [] more h k = k
-all_both P (row ∷ rows) more h k = (h.0, all_both P rows more h.1 k)
-
-module _ (t : Tree) (h : IsTree t) where
-  rows_there : (f : ℕ) (path : List ℕ) (n : ℕ) (es : Entries) → ((p : List ℕ) (m : ℕ) → AllByRecursion (HasNode t) (listed f t p m))
-      → AllByRecursion (λ e. get (names_of t n) e.0 ≡ Some e.1) es
-      → AllByRecursion (HasNode t) (flat_map (λ e. (below_path path e.0, e.1) ∷ listed f t (below_path path e.0) e.1) es)
-  rows_there f path n [] below all = tt
-  rows_there f path n (e ∷ es) below all = (
-    h.led n e.0 e.1 all.0,
-    all_both (HasNode t) (listed f t (below_path path e.0) e.1) (flat_map (λ e. (below_path path e.0, e.1) ∷ listed f t (below_path path e.0) e.1) es)
-        (below (below_path path e.0) e.1) (rows_there f path n es below all.1),
-  )
-
-  listed_there : (f : ℕ) (path : List ℕ) (n : ℕ) → AllByRecursion (HasNode t) (listed f t path n)
-  listed_there zero path n = tt
-  listed_there (suc f) path n = rows_there f path n (entries (names_of t n)) (listed_there f) (entries_got (names_of t n))
+use Rattle.tree_document.specs.Printing.{Row, first_in, kind_text, listing, node_text, printed, rows_text}
+use Rattle.tree_document.proofs.Nodes.{HasNode, all_both, listed_there}
 
 -- ---- a row's record
 
@@ -52,10 +27,8 @@ record Tells (bytes place : List ℕ) : Type 0 where
 
 kind_tells : (first : Option (List ℕ)) (path : List ℕ) (k : NodeKind) → IfSome first IsRowPath → IsRowPath path → IsKept k → Tells (kind_text first path k) path
 kind_tells first path kind.Directory earlier (p, good, is) fits = record { one = dir p; fits = good; text = ap dir_text is; path = sym is }
-kind_tells first path (kind.Link text) earlier (p, good, is) fits =
-    record { one = link p text; fits = (good, fits); text = ap (λ (x : List ℕ). link_text x text) is; path = sym is }
-kind_tells None path (kind.File bytes) earlier (p, good, is) fits =
-    record { one = file p bytes; fits = (good, fits); text = ap (λ (x : List ℕ). file_text x bytes) is; path = sym is }
+kind_tells first path (kind.Link text) earlier (p, good, is) fits = record { one = link p text; fits = (good, fits); text = ap (λ (x : List ℕ). link_text x text) is; path = sym is }
+kind_tells None path (kind.File bytes) earlier (p, good, is) fits = record { one = file p bytes; fits = (good, fits); text = ap (λ (x : List ℕ). file_text x bytes) is; path = sym is }
 kind_tells (Some first) path (kind.File bytes) (q, old, was) (p, good, is) fits = record {
   one = hard p q;
   fits = (good, old);
@@ -63,8 +36,7 @@ kind_tells (Some first) path (kind.File bytes) (q, old, was) (p, good, is) fits 
   path = sym is;
 }
 
-node_tells : (first : Option (List ℕ)) (path : List ℕ) (o : Option Node) → IfSome first IsRowPath → IsRowPath path → IsKeptNode o → IsSome o
-    → Tells (node_text first path o) path
+node_tells : (first : Option (List ℕ)) (path : List ℕ) (o : Option Node) → IfSome first IsRowPath → IsRowPath path → IsKeptNode o → IsSome o → Tells (node_text first path o) path
 node_tells first path None earlier good fits there = absurd (false≢true there)
 node_tells first path (Some node) earlier good fits there = kind_tells first path node.kind earlier good fits
 
@@ -74,8 +46,7 @@ module _ (t : Tree) where
 
   earlier_path : (rows : List Row) (n : ℕ) → AllByRecursion IsGood rows → IfSome (first_in rows n) IsRowPath
   earlier_path [] n h = tt
-  earlier_path (row ∷ rows) n h =
-      elim (eqb row.1 n) as (λ b. IfSome (if b then Some row.0 else first_in rows n) IsRowPath) [ true ↦ h.0.0 | false ↦ earlier_path rows n h.1 ]
+  earlier_path (row ∷ rows) n h = elim (eqb row.1 n) as (λ b. IfSome (if b then Some row.0 else first_in rows n) IsRowPath) [ true ↦ h.0.0 | false ↦ earlier_path rows n h.1 ]
 
   -- records of which each may be one, with this text, at the paths of these rows
   pub record TellAll (bytes : List ℕ) (rows : List Row) : Type 0 where
@@ -84,8 +55,7 @@ module _ (t : Tree) where
     pub text : bytes ≡ document all
     pub paths : map (λ r. path_bytes (path_of r)) all ≡ map (λ row. row.0) rows
 
-  rows_tell : (before rows : List Row) → AllByRecursion IsGood before → AllByRecursion IsGood rows → AllByRecursion (HasNode t) rows
-      → TellAll (rows_text t before rows) rows
+  rows_tell : (before rows : List Row) → AllByRecursion IsGood before → AllByRecursion IsGood rows → AllByRecursion (HasNode t) rows → TellAll (rows_text t before rows) rows
   rows_tell before [] old good there = record { all = []; fit = tt; text = refl; paths = refl }
   rows_tell before (row ∷ rows) old good there =
       let here = node_tells (first_in before row.1) row.0 (get t.nodes row.1) (earlier_path before row.1 old) good.0.0 good.0.1 there.0 in
@@ -94,9 +64,7 @@ module _ (t : Tree) where
         all = here.one ∷ later.all;
         fit = (here.fits, later.fit);
         text = ap (λ (text : List ℕ). text ++ rows_text t (before ++ row ∷ []) rows) here.text ∙ ap (λ (text : List ℕ). spelled here.one ++ text) later.text;
-        paths =
-            ap (λ (path : List ℕ). path ∷ map (λ r. path_bytes (path_of r)) later.all) here.path
-            ∙ ap (λ (paths : List (List ℕ)). row.0 ∷ paths) later.paths;
+        paths = ap (λ (path : List ℕ). path ∷ map (λ r. path_bytes (path_of r)) later.all) here.path ∙ ap (λ (paths : List (List ℕ)). row.0 ∷ paths) later.paths;
       }
 
 pub printout : (t : Tree) → IsTree t → KeepsLimits t

@@ -1,5 +1,5 @@
 -- What is printed, one name more at a time.
-use Rattle.std.proofs.Common.{◌≡◌, ◌≢◌, ℕ, true, false, eqb, if◌then◌else◌, List, [], ◌∷◌, ◌++◌, Option, None, Some, Result, Ok, Err, inl, inr, refl, sym, ap, ◌∙◌, append_assoc}
+use Rattle.std.proofs.Common.{◌≡◌, ◌≢◌, ℕ, ◌+◌, ◌≤◌, true, false, eqb, if◌then◌else◌, List, [], ◌∷◌, ◌++◌, length, Option, None, Some, Result, Ok, Err, inl, inr, refl, sym, ap, ◌∙◌, append_assoc, length-append, arith}
 use Rattle.std.specs.Prelude.{OnOk}
 use Rattle.std.specs.FinMap.{empty, get, get-empty, insert}
 use Rattle.std.specs.Ordering.{nat_cmp}
@@ -51,18 +51,37 @@ first_here rows path n h = first_behind rows ((path, n) ∷ []) n h ∙ ap (λ b
 
 -- ---- one name more
 
-pub printed_start : (t : Tree) (bytes : List ℕ) (known : Firsts) → bytes ≡ [] → known ≡ empty → IsPrinted t bytes known []
-printed_start t bytes known none no_firsts = record { text = none; firsts = λ n _. ap (λ (m : Firsts). get m n) no_firsts ∙ get-empty nat_cmp n }
+-- each record has a byte at least
+kind_text_some : (first : Option (List ℕ)) (path : List ℕ) (k : NodeKind) → 1 ≤ length (kind_text first path k)
+kind_text_some first path kind.Directory = omega arith
+kind_text_some first path (kind.Link text) = omega arith
+kind_text_some None path (kind.File bytes) = omega arith
+kind_text_some (Some first) path (kind.File bytes) = omega arith
 
-module _ (t : Tree) (rows : List Row) (path : List ℕ) (n : ℕ) (old new : List ℕ) (known : Firsts) (h : IsPrinted t old known rows) where
+pub printed_start : (t : Tree) (bytes : List ℕ) (number : ℕ) (known : Firsts) → bytes ≡ [] → number ≡ 0 → known ≡ empty → IsPrinted t bytes number known []
+printed_start t bytes number known none zero no_firsts = record { text = none; counted = zero; few = omega arith; firsts = λ n _. ap (λ (m : Firsts). get m n) no_firsts ∙ get-empty nat_cmp n }
+
+module _ (t : Tree) (rows : List Row) (path : List ℕ) (n : ℕ) (old new : List ℕ) (number : ℕ) (known : Firsts) (h : IsPrinted t old number known rows) where
   text_more : new ≡ old ++ row_text t rows (path, n) → new ≡ rows_text t [] (rows ++ (path, n) ∷ [])
   text_more e = e ∙ ap (λ (text : List ℕ). text ++ row_text t rows (path, n)) h.text ∙ sym (rows_text_push t [] rows (path, n))
 
+  counted_more : number + 1 ≡ length (rows ++ (path, n) ∷ [])
+  counted_more = let before = h.counted in let size = length-append rows ((path, n) ∷ []) in omega arith
+
+  few_more : (first : Option (List ℕ)) (k : NodeKind) → new ≡ old ++ kind_text first path k → number + 1 ≤ length new
+  few_more first k e =
+      let before = h.few in
+      let size = ap length e ∙ length-append old (kind_text first path k) in
+      let some = kind_text_some first path k in
+      omega arith
+
   -- a name of what is no file
-  pub printed_other : (o : Option Node) → o ≡ get t.nodes n → is_file_node o ≡ false → new ≡ old ++ node_text (first_in rows n) path o
-      → IsPrinted t new known (rows ++ (path, n) ∷ [])
-  printed_other o is other e = record {
+  pub printed_other : (node : Node) → Some node ≡ get t.nodes n → is_file_kind node.kind ≡ false → new ≡ old ++ kind_text (first_in rows n) path node.kind
+      → IsPrinted t new (number + 1) known (rows ++ (path, n) ∷ [])
+  printed_other node is other e = record {
     text = text_more (e ∙ ap (λ (x : Option Node). old ++ node_text (first_in rows n) path x) is);
+    counted = counted_more;
+    few = few_more (first_in rows n) node.kind e;
     firsts = λ m file.
         h.firsts m file ∙ sym (first_other rows path n m (λ same. false≢true (sym other ∙ ap is_file_node is ∙ ap (is_file t) same ∙ file)));
   }
@@ -83,16 +102,18 @@ module _ (t : Tree) (rows : List Row) (path : List ℕ) (n : ℕ) (old new : Lis
         | inr apart ↦ get-insert-other known n path m (λ same. apart.1 (sym same)) ∙ h.firsts m other ∙ sym (first_other rows path n m apart.1)
       ]
 
-  pub printed_file : (node : Node) (bytes : List ℕ) (more : Firsts) → Some node ≡ get t.nodes n → node.kind ≡ kind.File bytes
-      → new ≡ old ++ kind_text (get known n) path (kind.File bytes) → more ≡ with_first known n path
-      → IsPrinted t new more (rows ++ (path, n) ∷ [])
-  printed_file node bytes more is file e knows =
+  pub printed_file : (node : Node) (bytes : List ℕ) (plus : ℕ) (more : Firsts) → Some node ≡ get t.nodes n → node.kind ≡ kind.File bytes
+      → new ≡ old ++ kind_text (get known n) path (kind.File bytes) → plus ≡ number + 1 → more ≡ with_first known n path
+      → IsPrinted t new plus more (rows ++ (path, n) ∷ [])
+  printed_file node bytes plus more is file e one knows =
       let here : is_file t n ≡ true = ap is_file_node (sym is) ∙ ap is_file_kind file in
       record {
         text = text_more
             (e ∙ ap (λ (o : Option (List ℕ)). old ++ kind_text o path (kind.File bytes)) (h.firsts n here)
             ∙ ap (λ (k : NodeKind). old ++ kind_text (first_in rows n) path k) (sym file)
             ∙ ap (λ (x : Option Node). old ++ node_text (first_in rows n) path x) is);
+        counted = one ∙ counted_more;
+        few = let enough = few_more (get known n) (kind.File bytes) e in omega arith;
         firsts = λ m other. ap (λ (x : Firsts). get x m) knows ∙ known_more (get known n) refl here m other;
       }
 

@@ -2,9 +2,9 @@
 --     rows_of t path es      the rows of names in the directory of a path
 --     rows_left t frames      the rows of the names that are left of directories, the last one first
 --     steps_left t frames      how many steps they take at most
---     IsPrinted t bytes known rows      what was printed, and what is known of it, once these rows are
---     IsGoing t bytes known frames      what was printed, and what is left, are all rows
-use Rattle.std.specs.Prelude.{◌≡◌, ℕ, ◌+◌, ◌-◌, ◌*◌, length, true, List, [], ◌∷◌, ◌++◌, Option, None, Some}
+--     IsPrinted t bytes number known rows      what was printed, how many records, and what is known of it, once these rows are
+--     IsGoing t bytes number known frames      what was printed, and what is left, are all rows
+use Rattle.std.specs.Prelude.{◌≡◌, ℕ, ◌+◌, ◌-◌, ◌*◌, ◌≤◌, length, true, List, [], ◌∷◌, ◌++◌, Option, None, Some}
 use Rattle.std.specs.FinMap.{FinMap, get, insert, len}
 use Rattle.std.specs.List.{flat_map}
 use Rattle.std.specs.Ordering.{nat_cmp}
@@ -46,13 +46,15 @@ with_first_in firsts n path (Some first) = firsts
 abbrev pub with_first : Firsts → ℕ → List ℕ → Firsts
 with_first firsts n path = with_first_in firsts n path (get firsts n)
 
--- these rows are printed, and the first path of each file among them is known
-pub record IsPrinted (t : Tree) (bytes : List ℕ) (known : Firsts) (rows : List Row) : Type 0 where
+-- these rows are printed and counted, and the first path of each file among them is known; no row is printed as nothing
+pub record IsPrinted (t : Tree) (bytes : List ℕ) (number : ℕ) (known : Firsts) (rows : List Row) : Type 0 where
   pub text : bytes ≡ rows_text t [] rows
+  pub counted : number ≡ length rows
+  pub few : number ≤ length bytes
   pub firsts : (n : ℕ) → is_file t n ≡ true → get known n ≡ first_in rows n
 
 -- some rows are printed, and the others are left
-pub record IsGoing (t : Tree) (bytes : List ℕ) (known : Firsts) (frames : List Frame) : Type 0 where
+pub record IsGoing (t : Tree) (bytes : List ℕ) (number : ℕ) (known : Firsts) (frames : List Frame) : Type 0 where
   pub rows : List Row
-  pub printed : IsPrinted t bytes known rows
+  pub printed : IsPrinted t bytes number known rows
   pub left : listing t ≡ rows ++ rows_left t frames

@@ -5,8 +5,11 @@
 #![tactic(auto)]
 
 pub use fault::TreeDocFault;
-pub use laws::{a_launch_may_begin_with_a_document, a_meaning_is_computed, a_text_has_one_meaning, what_is_printed_are_records};
-pub use printing::tree_text;
+pub use laws::{
+    a_launch_may_begin_with_a_document, a_meaning_is_computed, a_text_has_one_meaning,
+    what_is_printed_are_records,
+};
+pub use printing::{TreeText, tree_text};
 pub use reading::read_tree;
 
 mod building;

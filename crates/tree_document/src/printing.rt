@@ -2,7 +2,7 @@
 ghost use Rattle.std.specs.Prelude.{◌≡◌, ◌<◌, ◌≤◌, ◌+◌, ◌++◌, ◌∷◌, IfNone, IfOk, IfSome, OnOk, [], length};
 ghost use Rattle.std.specs.FinMap as map;
 ghost use Rattle.tree_model.specs.Tree.{IsTree, names_of};
-ghost use Rattle.tree_document.specs.Printing.{below_path, listed, printed};
+ghost use Rattle.tree_document.specs.Printing.{below_path, listed, listing, printed};
 ghost use Rattle.tree_document.specs.Left.{IsGoing, reach, rows_left, steps_left};
 
 use crate::printed::Printed;
@@ -50,8 +50,7 @@ fn push_names<'a>(
     path: Vec<u8>,
     id: ObjId,
 ) -> Result<(), AllocError>
-    ensures rows { OnOk result (rows_left tree.now frames.new.items
-        ≡ listed (reach tree.now id) tree.now path.items id ++ rows_left tree.now frames.old.items) }
+    ensures rows { OnOk result (rows_left tree.now frames.new.items ≡ listed (reach tree.now id) tree.now path.items id ++ rows_left tree.now frames.old.items) }
     ensures few { OnOk result (length frames.new.items ≤ length frames.old.items + 1) }
     ensures tree { IsTree tree.now }
 {
@@ -69,8 +68,9 @@ fn print_next<'a>(
     frames: &mut Vec<Frame<'a>>,
     mut frame: Frame<'a>,
 ) -> Result<(), AllocError>
-    ensures going { IsGoing tree.now printed.old.text.items printed.old.firsts (frames.old.items ++ frame.entry ∷ [])
-        → OnOk result (IsGoing tree.now printed.new.text.items printed.new.firsts frames.new.items) }
+    requires { printed.old.records ≤ length printed.old.text.items }
+    ensures going { IsGoing tree.now printed.old.text.items printed.old.records printed.old.firsts (frames.old.items ++ frame.entry ∷ [])
+        → OnOk result (IsGoing tree.now printed.new.text.items printed.new.records printed.new.firsts frames.new.items) }
     ensures fewer { OnOk result (steps_left tree.now frames.new.items < steps_left tree.now (frames.old.items ++ frame.entry ∷ [])) }
 {
     let Some((name, id)) = frame.names.next() else {
@@ -82,14 +82,22 @@ fn print_next<'a>(
     push_names(frames, tree, path, *id)
 }
 
-/// The tree document of a tree: each directory's names in the order of their bytes, and what is in a directory behind its
-/// own record; the first name of a file is its `file` record. It takes time by the length of the text, but for the steps that
-/// maps take to find a node.
+/// A tree document, and the number of its records.
+#[derive(Drop)]
+pub struct TreeText {
+    pub text: Bytes,
+    pub records: u64,
+}
+
+/// The tree document of a tree, and the number of its records: each directory's names in the order of their bytes, and what
+/// is in a directory behind its own record; the first name of a file is its `file` record. It takes time by the length of the
+/// text, but for the steps that maps take to find a node.
 ///
 /// # Errors
 /// For want of memory alone.
-pub fn tree_text(alloc: Global, tree: &Tree) -> Result<Bytes, AllocError>
-    ensures { IfOk result (λ text. text ≡ printed tree.now) }
+pub fn tree_text(alloc: Global, tree: &Tree) -> Result<TreeText, AllocError>
+    ensures text { IfOk result (λ document. document.text ≡ printed tree.now) }
+    ensures records { IfOk result (λ document. document.records ≡ length (listing tree.now)) }
 {
     let mut printed = Printed::new(alloc);
     let mut frames = Vec::new(alloc);
@@ -97,5 +105,8 @@ pub fn tree_text(alloc: Global, tree: &Tree) -> Result<Bytes, AllocError>
     while let Some(frame) = frames.pop() {
         print_next(alloc, tree, &mut printed, &mut frames, frame)?;
     }
-    Ok(Bytes::from_vec(printed.text))
+    Ok(TreeText {
+        text: Bytes::from_vec(printed.text),
+        records: printed.records,
+    })
 }

@@ -8,7 +8,7 @@ use Rattle.tree_document.proofs.printing.print_next.Goals as goal
 
 pub returns-in_default-clause-going : goal.returns-in_default-clause-going
 returns-in_default-clause-going c =
-    none_going c.args.tree.now c.args.frames.now.items c.args.frame c.args.printed.now.text.items c.args.printed.now.firsts c.in_default.ensures.steps.0
+    none_going c.args.tree.now c.args.frames.now.items c.args.frame c.args.printed.now.text.items c.args.printed.now.records c.args.printed.now.firsts c.in_default.ensures.steps.0
 
 pub returns-in_default-clause-fewer : goal.returns-in_default-clause-fewer
 returns-in_default-clause-fewer c = none_fewer c.args.tree.now c.args.frames.now.items c.args.frame c.in_default.ensures.steps.0
@@ -22,9 +22,8 @@ returns-clause-going c h =
     next_going t c.args.frames.now.items c.args.frame c.in-Some.name.now id c.next.new.self c.in-Some.ensures.steps below
     (c.in_ok-path.ensures ∙ ap (λ (path : List ℕ). below_path path c.in-Some.name.now) c.deref.ensures.value)
     c.push_names.new.frames.items (rows ∙ ap (λ (frames : List Frame). listed (reach t id) t below id ++ rows_left t frames) c.in_ok-push-2.ensures.items)
-    c.args.printed.now.text.items c.push.new.self.text.items c.args.printed.now.firsts c.push.new.self.firsts
-    (λ done k. subst (λ (path : List ℕ). IsPrinted t c.push.new.self.text.items c.push.new.self.firsts (done ++ (path, id) ∷ [])) c.deref-2.ensures.value
-    (c.in_ok-push.ensures done k))
+    c.args.printed.now.text.items c.push.new.self.text.items c.args.printed.now.records c.push.new.self.records c.args.printed.now.firsts c.push.new.self.firsts c.push_names.ensures.tree
+    (λ done there k. subst (λ (path : List ℕ). IsPrinted t c.push.new.self.text.items c.push.new.self.records c.push.new.self.firsts (done ++ (path, id) ∷ [])) c.deref-2.ensures.value (c.in_ok-push.ensures done there k))
     h)
     c.push_names.ensures.rows
 
