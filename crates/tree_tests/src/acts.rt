@@ -61,11 +61,17 @@ fn id(number: u16) -> ObjId {
     ObjId(ROOT + u64::from(number))
 }
 
-fn of_change<T>(result: Result<T, TreeFault>) -> Answer {
-    match result {
-        Ok(_) => Answer::Done,
-        Err(TreeFault::NoMemory) => Answer::NoMemory,
-        Err(fault) => Answer::Refused(fault),
+fn refused(fault: TreeFault) -> Answer {
+    match fault {
+        TreeFault::NoMemory => Answer::NoMemory,
+        fault => Answer::Refused(fault),
+    }
+}
+
+fn of_change(done: Result<(), TreeFault>) -> Answer {
+    match done {
+        Ok(()) => Answer::Done,
+        Err(fault) => refused(fault),
     }
 }
 
@@ -106,14 +112,14 @@ fn symlink(tree: &mut Tree, alloc: Global, dir: u16, name: &[u8], made: u16, tex
 fn unlink(tree: &mut Tree, dir: u16, name: &[u8]) -> Answer {
     match tree.unlink(id(dir), name) {
         Ok(node) => number(node),
-        Err(fault) => of_change::<()>(Err(fault)),
+        Err(fault) => refused(fault),
     }
 }
 
 fn rename(tree: &mut Tree, from: u16, name: &[u8], to: u16, new: &[u8]) -> Answer {
     match tree.rename(id(from), name, id(to), new) {
         Ok(node) => of_node(node),
-        Err(fault) => of_change::<()>(Err(fault)),
+        Err(fault) => refused(fault),
     }
 }
 
@@ -145,7 +151,7 @@ fn write(tree: &mut Tree, node: u16, at: u64, bytes: &'static [u8]) -> Answer {
     }
     match tree.write_at(node, at, bytes) {
         Ok(count) => Answer::Is(u64::from(count)),
-        Err(fault) => of_change::<()>(Err(fault)),
+        Err(fault) => refused(fault),
     }
 }
 
@@ -205,7 +211,7 @@ fn asked(tree: &Tree, act: Act) -> Answer {
 }
 
 /// Does an act.
-pub fn answer(tree: &mut Tree, alloc: Global, act: Act) -> Answer {
+pub fn act_on(tree: &mut Tree, alloc: Global, act: Act) -> Answer {
     match act {
         Act::Directory(dir, name, made) => make(tree, dir, name, made, NodeKind::Directory),
         Act::File(dir, name, made) => make(tree, dir, name, made, NodeKind::File(Bytes::new(alloc))),
@@ -224,7 +230,7 @@ pub fn answer(tree: &mut Tree, alloc: Global, act: Act) -> Answer {
 pub fn first_other(alloc: Global, acts: &[(Act, Answer)]) -> Result<Option<usize>, AllocError> {
     let mut tree = Tree::new(alloc, TIMES)?;
     for (i, &(act, want)) in acts.iter().enumerate() {
-        if answer(&mut tree, alloc, act) != want {
+        if act_on(&mut tree, alloc, act) != want {
             return Ok(Some(i));
         }
     }

@@ -1,8 +1,8 @@
 //! Tree documents that were worked out by hand: what is printed of the tree that each means, or where it is faulty.
-use crate::acts::{Act, Answer, TIMES, answer};
+use crate::acts::{Act, Answer, TIMES, act_on};
 use file_tree::Tree;
 use std::alloc::{AllocError, Global};
-use std::test::{Fail, HostRuntime};
+use std::test::Fail;
 use std::vec::Vec;
 use tree_document::{TreeDocFault, read_tree, tree_text};
 
@@ -24,7 +24,7 @@ const DOCUMENTS: &[(&[u8], Want)] = &[
     (b"file 0 a\n\n", Want::Itself),
     (b"dir a\ndir a/b\nfile 1 a/b/c\nx\nlink 4 a/l\n../x\n", Want::Itself),
     // any bytes may stand in a file, and line feeds too
-    (b"file 6 a\n\x00\xff\n\ndir\ndir b\n", Want::Itself),
+    (b"file 7 a\n\x00\xff\n\ndir\ndir b\n", Want::Itself),
     // names in the order of their bytes, and below each what is in it
     (b"dir b\nfile 0 a\n\ndir b/c\ndir aa\n", Want::Printed(b"file 0 a\n\ndir aa\ndir b\ndir b/c\n")),
     (b"dir a\ndir \xc3\xa4\ndir B\n", Want::Printed(b"dir B\ndir a\ndir \xc3\xa4\n")),
@@ -244,8 +244,8 @@ fn fault_in_the_middle_is_found(rt: HostRuntime) -> Result<(), Fail> {
 // A symlink with two names is printed twice.
 fn symlink_of_two_names(alloc: Global) -> Result<bool, AllocError> {
     let mut tree = Tree::new(alloc, TIMES)?;
-    let made = answer(&mut tree, alloc, Act::Symlink(0, b"a", 1, b"x"));
-    let linked = answer(&mut tree, alloc, Act::Link(0, b"b", 1));
+    let made = act_on(&mut tree, alloc, Act::Symlink(0, b"a", 1, b"x"));
+    let linked = act_on(&mut tree, alloc, Act::Link(0, b"b", 1));
     if made != Answer::Done || linked != Answer::Done {
         return Ok(false);
     }

@@ -1,11 +1,11 @@
 //! How long paths and names may be, and how many names a file may have.
-use crate::acts::{Act, Answer, TIMES, answer, walked};
+use crate::acts::{Act, Answer, TIMES, act_on, walked};
 use abi_types::{Bytes, Node, NodeKind, ObjId};
 use file_tree::Tree;
 use path_lookup::WalkFault;
 use path_lookup::WalkMode::{self, Follow, NoFollow, Parent};
 use std::alloc::{AllocError, Global};
-use std::test::{Fail, HostRuntime};
+use std::test::Fail;
 use std::vec::Vec;
 use tree_model::{ROOT, TreeFault};
 
@@ -51,7 +51,7 @@ fn path_of(alloc: Global, row: &Path) -> Result<Vec<u8>, AllocError> {
 // The first path that is walked otherwise.
 fn first_path(alloc: Global) -> Result<Option<usize>, AllocError> {
     let mut tree = Tree::new(alloc, TIMES)?;
-    if answer(&mut tree, alloc, Act::File(0, b"bb", 1)) != Answer::Done {
+    if act_on(&mut tree, alloc, Act::File(0, b"bb", 1)) != Answer::Done {
         return Ok(Some(PATHS.len()));
     }
     for (i, row) in PATHS.iter().enumerate() {
@@ -144,8 +144,8 @@ fn named(tree: &mut Tree, alloc: Global, names: u32) -> Result<(), TreeFault>
 fn one_name_more(alloc: Global) -> Result<Answer, TreeFault> {
     let mut tree = Tree::new(alloc, TIMES)?;
     named(&mut tree, alloc, 65_535)?;
-    let refused = answer(&mut tree, alloc, Act::Link(0, b"more", 1));
-    if answer(&mut tree, alloc, Act::Links(1)) != Answer::Is(65_535) {
+    let refused = act_on(&mut tree, alloc, Act::Link(0, b"more", 1));
+    if act_on(&mut tree, alloc, Act::Links(1)) != Answer::Is(65_535) {
         return Ok(Answer::Other);
     }
     Ok(refused)

@@ -2,7 +2,7 @@
 use crate::acts::{Act, Answer, first_other};
 use path_lookup::WalkFault;
 use path_lookup::WalkMode::{Follow, NoFollow, Parent};
-use std::test::{Fail, HostRuntime};
+use std::test::Fail;
 use tree_model::TreeFault;
 
 // Acts one after another, and what each gives.
