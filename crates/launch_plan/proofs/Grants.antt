@@ -3,6 +3,7 @@ use Rattle.std.proofs.Common.{◌≡◌, ℕ, zero, suc, ◌+◌, ◌<◌, List,
 use Rattle.std.specs.Prelude.{IfOk}
 use Rattle.std.proofs.lemmas.List.{append-nil}
 use Rattle.abi_base.specs.declared.grant.Grant.{Grant}
+use Rattle.tree_model.specs.Tree.{Tree}
 use Rattle.yaml_values.specs.declared.node.Node.{Node}
 use Rattle.yaml_values.specs.Shape.{of_list, of_pairs}
 use Rattle.yaml_values.specs.Views.{shape_of, pair_of}
@@ -12,56 +13,58 @@ use Rattle.launch_plan.specs.Answers.{IsFault}
 use Rattle.refusals.specs.Results.{◌>>=◌}
 use Rattle.launch_plan.specs.Tagged.{Tagged, tagged, tagged_in_items, tagged_in_pairs, grant_of, grants_of, grants_behind}
 
-step : (before : List Grant) (ts us : List Tagged) (r : Result Grant PlanFault)
-    → ((g : Grant) → grants_behind (before ++ g ∷ []) (ts ++ us) ≡ (grants_behind (before ++ g ∷ []) ts >>= λ mid. grants_behind mid us))
-    → (r >>= λ g. grants_behind (before ++ g ∷ []) (ts ++ us)) ≡ ((r >>= λ g. grants_behind (before ++ g ∷ []) ts) >>= λ mid. grants_behind mid us)
-step before ts us (Ok g) h = h g
-step before ts us (Err e) h = refl
+step : (tree : Tree) (before : List Grant) (ts us : List Tagged) (r : Result Grant PlanFault)
+    → ((g : Grant) → grants_behind tree (before ++ g ∷ []) (ts ++ us) ≡ (grants_behind tree (before ++ g ∷ []) ts >>= λ mid. grants_behind tree mid us))
+    → (r >>= λ g. grants_behind tree (before ++ g ∷ []) (ts ++ us)) ≡ ((r >>= λ g. grants_behind tree (before ++ g ∷ []) ts) >>= λ mid. grants_behind tree mid us)
+step tree before ts us (Ok g) h = h g
+step tree before ts us (Err e) h = refl
 
-pub behind_both : (before : List Grant) (ts us : List Tagged) → grants_behind before (ts ++ us) ≡ (grants_behind before ts >>= λ mid. grants_behind mid us)
-behind_both before [] us = refl
-behind_both before (t ∷ ts) us = step before ts us (grant_of t) (λ g. behind_both (before ++ g ∷ []) ts us)
+pub behind_both : (tree : Tree) (before : List Grant) (ts us : List Tagged) → grants_behind tree before (ts ++ us) ≡ (grants_behind tree before ts >>= λ mid. grants_behind tree mid us)
+behind_both tree before [] us = refl
+behind_both tree before (t ∷ ts) us = step tree before ts us (grant_of tree t) (λ g. behind_both tree (before ++ g ∷ []) ts us)
 
 one_more : (before : List Grant) (g : Grant) (r : Result (List Grant) PlanFault)
     → (r >>= λ gs. Ok ((before ++ g ∷ []) ++ gs)) ≡ ((r >>= λ gs. Ok (g ∷ gs)) >>= λ gs. Ok (before ++ gs))
 one_more before g (Ok gs) = ap (λ (xs : List Grant). Ok xs) (append_assoc before (g ∷ []) gs)
 one_more before g (Err e) = refl
 
-more : (before : List Grant) (ts : List Tagged) (r : Result Grant PlanFault)
-    → ((g : Grant) → grants_behind (before ++ g ∷ []) ts ≡ (grants_of ts >>= λ gs. Ok ((before ++ g ∷ []) ++ gs)))
-    → (r >>= λ g. grants_behind (before ++ g ∷ []) ts) ≡ ((r >>= λ g. grants_of ts >>= λ gs. Ok (g ∷ gs)) >>= λ gs. Ok (before ++ gs))
-more before ts (Ok g) h = h g ∙ one_more before g (grants_of ts)
-more before ts (Err e) h = refl
+more : (tree : Tree) (before : List Grant) (ts : List Tagged) (r : Result Grant PlanFault)
+    → ((g : Grant) → grants_behind tree (before ++ g ∷ []) ts ≡ (grants_of tree ts >>= λ gs. Ok ((before ++ g ∷ []) ++ gs)))
+    → (r >>= λ g. grants_behind tree (before ++ g ∷ []) ts) ≡ ((r >>= λ g. grants_of tree ts >>= λ gs. Ok (g ∷ gs)) >>= λ gs. Ok (before ++ gs))
+more tree before ts (Ok g) h = h g ∙ one_more before g (grants_of tree ts)
+more tree before ts (Err e) h = refl
 
-from_behind : (before : List Grant) (ts : List Tagged) → grants_behind before ts ≡ (grants_of ts >>= λ gs. Ok (before ++ gs))
-from_behind before [] = ap (λ (xs : List Grant). Ok xs) (sym (append-nil before))
-from_behind before (t ∷ ts) = more before ts (grant_of t) (λ g. from_behind (before ++ g ∷ []) ts)
+from_behind : (tree : Tree) (before : List Grant) (ts : List Tagged) → grants_behind tree before ts ≡ (grants_of tree ts >>= λ gs. Ok (before ++ gs))
+from_behind tree before [] = ap (λ (xs : List Grant). Ok xs) (sym (append-nil before))
+from_behind tree before (t ∷ ts) = more tree before ts (grant_of tree t) (λ g. from_behind tree (before ++ g ∷ []) ts)
 
 same : (r : Result (List Grant) PlanFault) → (r >>= λ gs. Ok ([] ++ gs)) ≡ r
 same (Ok gs) = refl
 same (Err e) = refl
 
-pub behind_none : (ts : List Tagged) → grants_behind [] ts ≡ grants_of ts
-behind_none ts = from_behind [] ts ∙ same (grants_of ts)
+pub behind_none : (tree : Tree) (ts : List Tagged) → grants_behind tree [] ts ≡ grants_of tree ts
+behind_none tree ts = from_behind tree [] ts ∙ same (grants_of tree ts)
 
 -- ---- the steps of a loop
 
-pub goes_on : (before after : List Grant) (rest ts us : List Tagged) (whole : Result (List Grant) PlanFault)
-    → rest ≡ ts ++ us → grants_behind before rest ≡ whole → grants_behind before ts ≡ Ok after → grants_behind after us ≡ whole
-goes_on before after rest ts us whole split all here =
-    ap (λ (r : Result (List Grant) PlanFault). r >>= λ mid. grants_behind mid us) (sym here)
-    ∙ sym (behind_both before ts us) ∙ ap (grants_behind before) (sym split) ∙ all
+pub goes_on : (tree : Tree) (before after : List Grant) (rest ts us : List Tagged) (whole : Result (List Grant) PlanFault)
+    → rest ≡ ts ++ us → grants_behind tree before rest ≡ whole → grants_behind tree before ts ≡ Ok after → grants_behind tree after us ≡ whole
+goes_on tree before after rest ts us whole split all here =
+    ap (λ (r : Result (List Grant) PlanFault). r >>= λ mid. grants_behind tree mid us) (sym here)
+    ∙ sym (behind_both tree before ts us) ∙ ap (grants_behind tree before) (sym split) ∙ all
 
-pub fails : (before : List Grant) (rest ts us : List Tagged) (whole : Result (List Grant) PlanFault) (e : PlanFault)
-    → rest ≡ ts ++ us → grants_behind before rest ≡ whole → grants_behind before ts ≡ Err e → whole ≡ Err e
-fails before rest ts us whole e split all here =
-    sym all ∙ ap (grants_behind before) split ∙ behind_both before ts us
-    ∙ ap (λ (r : Result (List Grant) PlanFault). r >>= λ mid. grants_behind mid us) here
+pub fails : (tree : Tree) (before : List Grant) (rest ts us : List Tagged) (whole : Result (List Grant) PlanFault) (e : PlanFault)
+    → rest ≡ ts ++ us → grants_behind tree before rest ≡ whole → grants_behind tree before ts ≡ Err e → whole ≡ Err e
+fails tree before rest ts us whole e split all here =
+    sym all ∙ ap (grants_behind tree before) split ∙ behind_both tree before ts us
+    ∙ ap (λ (r : Result (List Grant) PlanFault). r >>= λ mid. grants_behind tree mid us) here
 
 pub refused : {X Y : Type 0} (e : PlanFault) (a : Result X PlanFault) (b : Result Y PlanFault) → (a ≡ Err e → b ≡ Err e) → IsFault e a → IsFault e b
 refused (faults.UnknownTag line) a b f h = f h
 refused (faults.BadFd line) a b f h = f h
-refused (faults.NotBuilt line) a b f h = f h
+refused (faults.BadFile line) a b f h = f h
+refused (faults.UnknownRight line) a b f h = f h
+refused (faults.NoSuchPath line) a b f h = f h
 refused faults.TooMany a b f h = f h
 refused faults.TooLarge a b f h = f h
 refused faults.NoMemory a b f h = h
@@ -108,9 +111,9 @@ sized_step ts (Err e) rest h = tt
 sized_step ts (Ok grant) (Err e) h = tt
 sized_step ts (Ok grant) (Ok grants) h = ap suc h
 
-sized : (ts : List Tagged) → IfOk (grants_of ts) (λ grants. length grants ≡ length ts)
-sized [] = refl
-sized (t ∷ ts) = sized_step ts (grant_of t) (grants_of ts) (sized ts)
+sized : (tree : Tree) (ts : List Tagged) → IfOk (grants_of tree ts) (λ grants. length grants ≡ length ts)
+sized tree [] = refl
+sized tree (t ∷ ts) = sized_step ts (grant_of tree t) (grants_of tree ts) (sized tree ts)
 
-pub all_there : (ts : List Tagged) (grants : List Grant) → grants_of ts ≡ Ok grants → length grants ≡ length ts
-all_there ts grants e = subst (λ (r : Result (List Grant) PlanFault). IfOk r (λ gs. length gs ≡ length ts)) e (sized ts)
+pub all_there : (tree : Tree) (ts : List Tagged) (grants : List Grant) → grants_of tree ts ≡ Ok grants → length grants ≡ length ts
+all_there tree ts grants e = subst (λ (r : Result (List Grant) PlanFault). IfOk r (λ gs. length gs ≡ length ts)) e (sized tree ts)

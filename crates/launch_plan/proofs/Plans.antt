@@ -2,8 +2,9 @@
 use Rattle.std.proofs.Common.{◌≡◌, ℕ, ◌<◌, ◌≤◌, Bool, true, false, List, length, nat_lt, if◌then◌else◌, Result, Ok, Err, refl, sym, ap, subst, ◌∙◌}
 use Rattle.std.proofs.lemmas.Bool.{lt-ltb, le-ltb, ltb-false}
 use Rattle.abi_base.specs.declared.grant.Grant.{Grant}
-use Rattle.abi_base.specs.Grants.{AreGrants}
 use Rattle.argdata_codec.specs.Writing.{spelling}
+use Rattle.tree_model.specs.Grants.{AreGrants}
+use Rattle.tree_model.specs.Tree.{Tree}
 use Rattle.yaml_values.specs.Shape.{Shape}
 use Rattle.launch_plan.specs.declared.fault.PlanFault.{PlanFault}
 use Rattle.launch_plan.specs.declared.fault.PlanFault.TheVariants as faults
@@ -11,39 +12,39 @@ use Rattle.refusals.specs.Results.{◌>>=◌}
 use Rattle.launch_plan.specs.Tagged.{tagged, grants_of}
 use Rattle.launch_plan.specs.Values.{value_of}
 use Rattle.launch_plan.specs.Plan.{plan_of, unless_large}
-use Rattle.launch_plan.proofs.Streams.{asked_are}
+use Rattle.launch_plan.proofs.Asked.{asked_are}
 
 abbrev plan_ok : List ℕ × List Grant → Result (List ℕ × List Grant) PlanFault
 plan_ok p = Ok p
 
-abbrev pub IsPlan : List ℕ × List Grant → Type 0
-IsPlan p = (length p.0 ≤ 65536) × AreGrants p.1
+abbrev pub IsPlan : Tree → List ℕ × List Grant → Type 0
+IsPlan tree p = (length p.0 ≤ 65536) × AreGrants tree p.1
 
-pub faulty : (x : Shape) (e : PlanFault) → grants_of (tagged x) ≡ Err e → plan_of x ≡ Err e
+pub faulty : (tree : Tree) (x : Shape) (e : PlanFault) → grants_of tree (tagged x) ≡ Err e → plan_of tree x ≡ Err e
 unfolding plan_of
-faulty x e h = ap (λ (r : Result (List Grant) PlanFault). r >>= λ grants. if nat_lt 1024 (length grants) then Err faults.TooMany else unless_large (spelling (value_of 0 x)) grants) h
+faulty tree x e h = ap (λ (r : Result (List Grant) PlanFault). r >>= λ grants. if nat_lt 1024 (length grants) then Err faults.TooMany else unless_large (spelling (value_of 0 x)) grants) h
 
-asked : (x : Shape) (grants : List Grant) → grants_of (tagged x) ≡ Ok grants
-    → plan_of x ≡ (if nat_lt 1024 (length grants) then Err faults.TooMany else unless_large (spelling (value_of 0 x)) grants)
+asked : (tree : Tree) (x : Shape) (grants : List Grant) → grants_of tree (tagged x) ≡ Ok grants
+    → plan_of tree x ≡ (if nat_lt 1024 (length grants) then Err faults.TooMany else unless_large (spelling (value_of 0 x)) grants)
 unfolding plan_of
-asked x grants h = ap (λ (r : Result (List Grant) PlanFault). r >>= λ gs. if nat_lt 1024 (length gs) then Err faults.TooMany else unless_large (spelling (value_of 0 x)) gs) h
+asked tree x grants h = ap (λ (r : Result (List Grant) PlanFault). r >>= λ gs. if nat_lt 1024 (length gs) then Err faults.TooMany else unless_large (spelling (value_of 0 x)) gs) h
 
-pub too_many : (x : Shape) (grants : List Grant) → grants_of (tagged x) ≡ Ok grants → 1024 < length grants → plan_of x ≡ Err faults.TooMany
-too_many x grants h many = asked x grants h ∙ ap (λ (b : Bool). if b then Err faults.TooMany else unless_large (spelling (value_of 0 x)) grants) (lt-ltb _ _ many)
+pub too_many : (tree : Tree) (x : Shape) (grants : List Grant) → grants_of tree (tagged x) ≡ Ok grants → 1024 < length grants → plan_of tree x ≡ Err faults.TooMany
+too_many tree x grants h many = asked tree x grants h ∙ ap (λ (b : Bool). if b then Err faults.TooMany else unless_large (spelling (value_of 0 x)) grants) (lt-ltb _ _ many)
 
-few : (x : Shape) (grants : List Grant) → grants_of (tagged x) ≡ Ok grants → length grants ≤ 1024 → plan_of x ≡ unless_large (spelling (value_of 0 x)) grants
-few x grants h le = asked x grants h ∙ ap (λ (b : Bool). if b then Err faults.TooMany else unless_large (spelling (value_of 0 x)) grants) (le-ltb _ _ le)
+few : (tree : Tree) (x : Shape) (grants : List Grant) → grants_of tree (tagged x) ≡ Ok grants → length grants ≤ 1024 → plan_of tree x ≡ unless_large (spelling (value_of 0 x)) grants
+few tree x grants h le = asked tree x grants h ∙ ap (λ (b : Bool). if b then Err faults.TooMany else unless_large (spelling (value_of 0 x)) grants) (le-ltb _ _ le)
 
-pub too_large : (x : Shape) (grants : List Grant) (bytes : List ℕ) → grants_of (tagged x) ≡ Ok grants → length grants ≤ 1024
-    → bytes ≡ spelling (value_of 0 x) → 65536 < length bytes → plan_of x ≡ Err faults.TooLarge
-too_large x grants bytes h le spelled many =
-    few x grants h le ∙ ap (λ (b : List ℕ). unless_large b grants) (sym spelled)
+pub too_large : (tree : Tree) (x : Shape) (grants : List Grant) (bytes : List ℕ) → grants_of tree (tagged x) ≡ Ok grants → length grants ≤ 1024
+    → bytes ≡ spelling (value_of 0 x) → 65536 < length bytes → plan_of tree x ≡ Err faults.TooLarge
+too_large tree x grants bytes h le spelled many =
+    few tree x grants h le ∙ ap (λ (b : List ℕ). unless_large b grants) (sym spelled)
     ∙ ap (λ (b : Bool). if b then Err faults.TooLarge else Ok (bytes, grants)) (lt-ltb _ _ many)
 
-pub planned : (x : Shape) (grants : List Grant) (bytes : List ℕ) → grants_of (tagged x) ≡ Ok grants → length grants ≤ 1024
-    → bytes ≡ spelling (value_of 0 x) → length bytes ≤ 65536 → plan_of x ≡ Ok (bytes, grants)
-planned x grants bytes h le spelled small =
-    few x grants h le ∙ ap (λ (b : List ℕ). unless_large b grants) (sym spelled)
+pub planned : (tree : Tree) (x : Shape) (grants : List Grant) (bytes : List ℕ) → grants_of tree (tagged x) ≡ Ok grants → length grants ≤ 1024
+    → bytes ≡ spelling (value_of 0 x) → length bytes ≤ 65536 → plan_of tree x ≡ Ok (bytes, grants)
+planned tree x grants bytes h le spelled small =
+    few tree x grants h le ∙ ap (λ (b : List ℕ). unless_large b grants) (sym spelled)
     ∙ ap (λ (b : Bool). if b then Err faults.TooLarge else Ok (bytes, grants)) (le-ltb _ _ small)
 
 -- ---- what a plan is
@@ -55,14 +56,14 @@ either x grants p true large e = absurd (cc)
 either x grants p false true e = absurd (cc)
 either x grants p false false e = (refl, refl, cc)
 
-of_asked : (x : Shape) (p : List ℕ × List Grant) (r : Result (List Grant) PlanFault) → grants_of (tagged x) ≡ r
-    → (r >>= λ grants. if nat_lt 1024 (length grants) then Err faults.TooMany else unless_large (spelling (value_of 0 x)) grants) ≡ Ok p → IsPlan p
-of_asked x p (Err e) is h = absurd (cc)
-of_asked x p (Ok grants) is h =
+of_asked : (tree : Tree) (x : Shape) (p : List ℕ × List Grant) (r : Result (List Grant) PlanFault) → grants_of tree (tagged x) ≡ r
+    → (r >>= λ grants. if nat_lt 1024 (length grants) then Err faults.TooMany else unless_large (spelling (value_of 0 x)) grants) ≡ Ok p → IsPlan tree p
+of_asked tree x p (Err e) is h = absurd (cc)
+of_asked tree x p (Ok grants) is h =
     let parts = either x grants p (nat_lt 1024 (length grants)) (nat_lt 65536 (length (spelling (value_of 0 x)))) h in
-    subst IsPlan parts.2 (ltb-false _ _ parts.1, (ltb-false _ _ parts.0, asked_are (tagged x) grants is))
+    subst (IsPlan tree) parts.2 (ltb-false _ _ parts.1, (ltb-false _ _ parts.0, asked_are tree (tagged x) grants is))
 
 -- a plan has at most 65,536 bytes of argument data, and at most 1024 descriptors, of what is there
-pub plan_is : (x : Shape) (p : List ℕ × List Grant) → plan_of x ≡ Ok p → IsPlan p
+pub plan_is : (tree : Tree) (x : Shape) (p : List ℕ × List Grant) → plan_of tree x ≡ Ok p → IsPlan tree p
 unfolding plan_of
-plan_is x p e = of_asked x p (grants_of (tagged x)) refl e
+plan_is tree x p e = of_asked tree x p (grants_of tree (tagged x)) refl e

@@ -1,6 +1,7 @@
 -- What `plan` answers.
 use Rattle.std.specs.Prelude.{◌≡◌, List, Result, Ok, Err}
 use Rattle.abi_base.specs.declared.grant.Grant.{Grant}
+use Rattle.tree_model.specs.Tree.{Tree}
 use Rattle.yaml_values.specs.Shape.{Shape}
 use Rattle.launch_plan.specs.declared.fault.PlanFault.{PlanFault}
 use Rattle.launch_plan.specs.declared.fault.PlanFault.TheVariants.{NoMemory}
@@ -14,11 +15,11 @@ IsFault NoMemory read = Unit {0}
 IsFault fault read = read ≡ Err fault
 
 -- the answer is the plan, or its first fault, unless memory ran out
-abbrev pub Plans : Result Planned PlanFault → Shape → Type 0
-Plans (Ok planned) document = plan_of document ≡ Ok (planned.argdata, planned.grants)
-Plans (Err fault) document = IsFault fault (plan_of document)
+abbrev pub Plans : Result Planned PlanFault → Tree → Shape → Type 0
+Plans (Ok planned) tree document = plan_of tree document ≡ Ok (planned.argdata, planned.grants)
+Plans (Err fault) tree document = IsFault fault (plan_of tree document)
 
 -- the descriptors that nodes ask for were put behind those before, or there is a fault of them, unless memory ran out
-abbrev pub Adds : Result (Unit {0}) PlanFault → List Grant → List Grant → List Tagged → Type 0
-Adds (Ok done) before after ts = grants_behind before ts ≡ Ok after
-Adds (Err fault) before after ts = IsFault fault (grants_behind before ts)
+abbrev pub Adds : Tree → Result (Unit {0}) PlanFault → List Grant → List Grant → List Tagged → Type 0
+Adds tree (Ok done) before after ts = grants_behind tree before ts ≡ Ok after
+Adds tree (Err fault) before after ts = IsFault fault (grants_behind tree before ts)

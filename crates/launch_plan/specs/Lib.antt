@@ -1,3 +1,4 @@
+pub mod Files
 pub mod Tagged
 pub mod Values
 pub mod Plan

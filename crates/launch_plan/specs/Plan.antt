@@ -1,8 +1,9 @@
--- The plan of a document.
+-- The plan of a document, where a launch begins with a file tree.
 use Rattle.std.specs.Prelude.{ℕ, if◌then◌else◌, nat_lt, List, length, Result, Ok, Err}
 use Rattle.abi_base.specs.declared.grant.Grant.{Grant}
 use Rattle.abi_base.specs.declared.limits.TheConstants.{MOST_ARGDATA, MOST_DESCRIPTORS}
 use Rattle.argdata_codec.specs.Writing.{spelling}
+use Rattle.tree_model.specs.Tree.{Tree}
 use Rattle.yaml_values.specs.Shape.{Shape}
 use Rattle.launch_plan.specs.declared.fault.PlanFault.{PlanFault}
 use Rattle.launch_plan.specs.declared.fault.PlanFault.TheVariants as faults
@@ -16,8 +17,8 @@ unless_large argdata grants = if nat_lt MOST_ARGDATA (length argdata) then Err f
 
 -- Argument data and descriptors, or the first fault: in document order, then too many descriptors, then too much
 -- argument data.
-unfoldable pub plan_of : Shape → Result (List ℕ × List Grant) PlanFault
-plan_of document =
-    grants_of (tagged document) >>= λ grants.
+unfoldable pub plan_of : Tree → Shape → Result (List ℕ × List Grant) PlanFault
+plan_of tree document =
+    grants_of tree (tagged document) >>= λ grants.
     if nat_lt MOST_DESCRIPTORS (length grants) then Err faults.TooMany
     else unless_large (spelling (value_of 0 document)) grants

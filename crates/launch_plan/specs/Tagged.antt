@@ -5,17 +5,19 @@ use Rattle.refusals.specs.Results.{◌>>=◌}
 use Rattle.abi_base.specs.declared.grant.Grant.{Grant}
 use Rattle.abi_base.specs.declared.grant.GrantTarget.TheVariants.{Terminal}
 use Rattle.abi_base.specs.Grants.{stream_rights}
+use Rattle.tree_model.specs.Tree.{Tree}
 use Rattle.yaml_values.specs.Shape.{Shape, Content, Shapes, Pairs, node, null, boolean, integer, text, binary, mapping, sequence, no_items, item, no_pairs, pair}
 use Rattle.launch_plan.specs.declared.fault.PlanFault.{PlanFault}
 use Rattle.launch_plan.specs.declared.fault.PlanFault.TheVariants as faults
+use Rattle.launch_plan.specs.Files.{file_grant}
 
 pub record Tagged : Type 0 where
   pub line : ℕ
   pub name : List ℕ
   pub value : Content
 
--- The nodes with a tag, in document order: a key before its value. What is inside such a node isn't looked at: the node asks
--- for a descriptor or is at fault.
+-- The nodes with a tag, in document order: a key before its value. What is inside such a node isn't among them: the node asks
+-- for one descriptor or is at fault.
 abbrev mutual
   pub tagged : Shape → List Tagged
   tagged (node line None value) = tagged_in value
@@ -59,18 +61,18 @@ stream_or_fault line None = Err (faults.BadFd line)
 stream_or_fault line (Some which) = Ok (stream_grant which)
 
 -- the descriptor that a node with a tag asks for, or what is wrong with it
-abbrev pub grant_of : Tagged → Result Grant PlanFault
-grant_of t =
+abbrev pub grant_of : Tree → Tagged → Result Grant PlanFault
+grant_of tree t =
     if pointwise nat_eq t.name (codes "fd") then stream_or_fault t.line (stream_of t.value)
-    else if pointwise nat_eq t.name (codes "file") then Err (faults.NotBuilt t.line)
+    else if pointwise nat_eq t.name (codes "file") then file_grant tree t.line t.value
     else Err (faults.UnknownTag t.line)
 
 -- the descriptors that nodes ask for, in their order, or the first fault
-abbrev pub grants_of : List Tagged → Result (List Grant) PlanFault
-grants_of [] = Ok []
-grants_of (t ∷ ts) = grant_of t >>= λ grant. grants_of ts >>= λ grants. Ok (grant ∷ grants)
+abbrev pub grants_of : Tree → List Tagged → Result (List Grant) PlanFault
+grants_of tree [] = Ok []
+grants_of tree (t ∷ ts) = grant_of tree t >>= λ grant. grants_of tree ts >>= λ grants. Ok (grant ∷ grants)
 
 -- the same, behind descriptors that were asked for before
-abbrev pub grants_behind : List Grant → List Tagged → Result (List Grant) PlanFault
-grants_behind before [] = Ok before
-grants_behind before (t ∷ ts) = grant_of t >>= λ grant. grants_behind (before ++ grant ∷ []) ts
+abbrev pub grants_behind : Tree → List Grant → List Tagged → Result (List Grant) PlanFault
+grants_behind tree before [] = Ok before
+grants_behind tree before (t ∷ ts) = grant_of tree t >>= λ grant. grants_behind tree (before ++ grant ∷ []) ts

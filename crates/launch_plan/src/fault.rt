@@ -11,9 +11,15 @@ pub enum PlanFault {
     /// A node on the line is tagged `!fd` and isn't `stdin`, `stdout` or `stderr`.
     #[error("line {0}: BadFd")]
     BadFd(u32),
-    /// A node on the line is tagged `!file`. There are no files yet.
-    #[error("line {0}: NotBuilt")]
-    NotBuilt(u32),
+    /// A node on the line is tagged `!file`, and is no map of a `path` and perhaps of lists `rights` and `inheriting`.
+    #[error("line {0}: BadFile")]
+    BadFile(u32),
+    /// An item on the line, of a list of `!file`, is no right's name.
+    #[error("line {0}: UnknownRight")]
+    UnknownRight(u32),
+    /// The path on the line leads to no file or directory.
+    #[error("line {0}: NoSuchPath")]
+    NoSuchPath(u32),
     /// There are more than 1024 descriptors.
     #[error("too many")]
     TooMany,

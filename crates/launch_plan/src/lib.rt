@@ -6,5 +6,6 @@ pub use planning::{Planned, plan};
 
 mod arguments;
 mod fault;
+mod files;
 mod planning;
 mod tagged_nodes;

@@ -1,9 +1,9 @@
 //! The plan of a launch.
 ghost use Rattle.std.specs.Prelude.{◌≡◌, ◌≤◌, ◌<◌, ◌^◌, IfOk, length};
 ghost use Rattle.argdata_codec.specs.Writing.{spelling};
-ghost use Rattle.abi_base.specs.Grants.{AreGrants};
 ghost use Rattle.yaml_values.specs.Documents.{IsDocument};
 ghost use Rattle.yaml_values.specs.Views.{shape_of};
+ghost use Rattle.tree_model.specs.Grants.{AreGrants};
 ghost use Rattle.launch_plan.specs.Tagged.{tagged};
 ghost use Rattle.launch_plan.specs.Values.{value_of};
 ghost use Rattle.launch_plan.specs.Answers.{Adds, Plans};
@@ -13,6 +13,7 @@ use crate::fault::PlanFault;
 use crate::tagged_nodes::push_grants;
 use abi_base::{GrantList, MOST_ARGDATA, MOST_DESCRIPTORS};
 use argdata_codec::encode;
+use file_tree::Tree;
 use launch_yaml::{Doc, Node};
 use lists::Bytes;
 use std::alloc::{AllocError, Global};
@@ -26,18 +27,18 @@ pub struct Planned {
     pub grants: GrantList,
 }
 
-/// The plan that a document is, or its first fault: in the order of the document, then too many descriptors, then too
-/// much argument data.
+/// The plan that a document is, where a launch begins with this file tree, or its first fault: in the order of the
+/// document, then too many descriptors, then too much argument data.
 #[tactic(auto, unfolding(crate::specs::Plan::plan_of))]
-pub fn plan(alloc: Global, doc: &Doc) -> Result<Planned, PlanFault>
+pub fn plan(alloc: Global, doc: &Doc, tree: &Tree) -> Result<Planned, PlanFault>
     requires { IsDocument (shape_of doc.now.root) }
-    ensures plan { Plans result (shape_of doc.now.root) }
+    ensures plan { Plans result tree.now (shape_of doc.now.root) }
     // What a launch may give.
-    ensures grants { IfOk result (λ planned. AreGrants planned.grants) }
+    ensures grants { IfOk result (λ planned. AreGrants tree.now planned.grants) }
     ensures small { IfOk result (λ planned. length planned.argdata ≤ MOST_ARGDATA) }
 {
     let mut grants = GrantList::new(alloc);
-    push_grants(&mut grants, &doc.root)?;
+    push_grants(&mut grants, tree, &doc.root)?;
     if grants.len() > MOST_DESCRIPTORS {
         return Err(PlanFault::TooMany);
     }

@@ -11,6 +11,8 @@ mod events;
 #[cfg(test)]
 mod long_text;
 #[cfg(test)]
+mod plan_tree;
+#[cfg(test)]
 mod plans;
 #[cfg(test)]
 mod structures;

@@ -2,50 +2,57 @@
 use Rattle.std.proofs.Common.{◌≡◌, List, [], Ok, ap, sym, ◌∙◌, arith}
 use Rattle.std.proofs.lemmas.Result.{err_from_is_err_and}
 use Rattle.abi_base.specs.declared.grant.Grant.{Grant}
+use Rattle.tree_model.specs.Tree.{Tree}
 use Rattle.yaml_values.specs.Shape.{Shape}
 use Rattle.yaml_values.specs.Views.{shape_of}
 use Rattle.launch_plan.specs.Tagged.{tagged, grants_of, grants_behind}
 use Rattle.launch_plan.proofs.Grants.{behind_none, all_there, refused}
 use Rattle.launch_plan.proofs.Plans.{faulty, too_many, too_large, planned}
-use Rattle.launch_plan.proofs.Streams.{asked_are}
+use Rattle.launch_plan.proofs.Asked.{asked_are}
 use Rattle.launch_plan.proofs.planning.plan.Goals as goal
 
 -- what was asked for behind no descriptors was asked for
-asked : (none : List Grant) (x : Shape) (grants : List Grant) → none ≡ [] → grants_behind none (tagged x) ≡ Ok grants → grants_of (tagged x) ≡ Ok grants
-asked none x grants empty h = sym (behind_none (tagged x)) ∙ sym (ap (λ before. grants_behind before (tagged x)) empty) ∙ h
+asked : (tree : Tree) (none : List Grant) (x : Shape) (grants : List Grant) → none ≡ [] → grants_behind tree none (tagged x) ≡ Ok grants → grants_of tree (tagged x) ≡ Ok grants
+asked tree none x grants empty h = sym (behind_none tree (tagged x)) ∙ sym (ap (λ before. grants_behind tree before (tagged x)) empty) ∙ h
 
 pub returns-in_err-push_grants-clause-plan : goal.returns-in_err-push_grants-clause-plan
 returns-in_err-push_grants-clause-plan c =
     let p = err_from_is_err_and c.from_residual.result c.from_residual.ensures.1 in
     let x = shape_of c.args.doc.now.root in
-    rw (p.1, p.2) (refused c.in_err-push_grants.field-0.0 (grants_behind _ (tagged x)) _
-    (λ e. faulty x _ (sym (behind_none (tagged x)) ∙ sym (ap (λ none. grants_behind none (tagged x)) c.new-grants.ensures) ∙ e)) c.in_err-push_grants.ensures)
+    let tree = c.args.tree.now in
+    rw (p.1, p.2) (refused c.in_err-push_grants.field-0.0 (grants_behind tree _ (tagged x)) _
+    (λ e. faulty tree x _ (sym (behind_none tree (tagged x)) ∙ sym (ap (λ none. grants_behind tree none (tagged x)) c.new-grants.ensures) ∙ e)) c.in_err-push_grants.ensures)
 
 pub returns-then-len-gt-MOST_DESCRIPTORS-clause-plan : goal.returns-then-len-gt-MOST_DESCRIPTORS-clause-plan
 returns-then-len-gt-MOST_DESCRIPTORS-clause-plan c =
     let x = shape_of c.args.doc.now.root in
-    too_many x c.push_grants.new.grants (asked _ x _ c.new-grants.ensures c.in_ok-push_grants.ensures) (omega (arith, c.len.ensures, c.if-len-gt-MOST_DESCRIPTORS.true))
+    let tree = c.args.tree.now in
+    too_many tree x c.push_grants.new.grants (asked tree _ x _ c.new-grants.ensures c.in_ok-push_grants.ensures) (omega (arith, c.len.ensures, c.if-len-gt-MOST_DESCRIPTORS.true))
 
 pub argdata-requires-clause-few : goal.argdata-requires-clause-few
 argdata-requires-clause-few c =
     let x = shape_of c.args.doc.now.root in
-    omega (arith, c.len.ensures, c.if-len-gt-MOST_DESCRIPTORS.false, all_there (tagged x) c.push_grants.new.grants (asked _ x _ c.new-grants.ensures c.in_ok-push_grants.ensures))
+    let tree = c.args.tree.now in
+    omega (arith, c.len.ensures, c.if-len-gt-MOST_DESCRIPTORS.false, all_there tree (tagged x) c.push_grants.new.grants (asked tree _ x _ c.new-grants.ensures c.in_ok-push_grants.ensures))
 
 pub returns-then-len-gt-MOST_ARGDATA-clause-plan : goal.returns-then-len-gt-MOST_ARGDATA-clause-plan
 returns-then-len-gt-MOST_ARGDATA-clause-plan c =
     let x = shape_of c.args.doc.now.root in
-    too_large x c.push_grants.new.grants c.in-Ok.argdata (asked _ x _ c.new-grants.ensures c.in_ok-push_grants.ensures) (omega (arith, c.len.ensures, c.if-len-gt-MOST_DESCRIPTORS.false))
+    let tree = c.args.tree.now in
+    too_large tree x c.push_grants.new.grants c.in-Ok.argdata (asked tree _ x _ c.new-grants.ensures c.in_ok-push_grants.ensures) (omega (arith, c.len.ensures, c.if-len-gt-MOST_DESCRIPTORS.false))
     c.in-Ok.ensures (omega (arith, c.len-2.ensures, c.if-len-gt-MOST_ARGDATA.true))
 
 pub returns-clause-plan : goal.returns-clause-plan
 returns-clause-plan c =
     let x = shape_of c.args.doc.now.root in
-    planned x c.push_grants.new.grants c.in-Ok.argdata (asked _ x _ c.new-grants.ensures c.in_ok-push_grants.ensures) (omega (arith, c.len.ensures, c.if-len-gt-MOST_DESCRIPTORS.false))
+    let tree = c.args.tree.now in
+    planned tree x c.push_grants.new.grants c.in-Ok.argdata (asked tree _ x _ c.new-grants.ensures c.in_ok-push_grants.ensures) (omega (arith, c.len.ensures, c.if-len-gt-MOST_DESCRIPTORS.false))
     c.in-Ok.ensures (omega (arith, c.len-2.ensures, c.if-len-gt-MOST_ARGDATA.false))
 
 pub returns-clause-grants : goal.returns-clause-grants
 returns-clause-grants c =
-    let x = shape_of c.args.doc.now.root in (
+    let x = shape_of c.args.doc.now.root in
+    let tree = c.args.tree.now in (
       omega (arith, c.len.ensures, c.if-len-gt-MOST_DESCRIPTORS.false),
-      asked_are (tagged x) c.push_grants.new.grants (asked _ x _ c.new-grants.ensures c.in_ok-push_grants.ensures),
+      asked_are tree (tagged x) c.push_grants.new.grants (asked tree _ x _ c.new-grants.ensures c.in_ok-push_grants.ensures),
     )

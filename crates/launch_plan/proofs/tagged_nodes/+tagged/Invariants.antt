@@ -7,11 +7,11 @@ use Rattle.launch_plan.proofs.tagged_nodes.+tagged.Given as goal
 
 abbrev pub invariant-push_of_items-loop-item : goal.invariant-push_of_items-loop-item
 invariant-push_of_items-loop-item l =
-    grants_behind l.grants (tagged_in_items (of_list (map shape_of (drop l.item-index l.items)))) ≡ grants_behind l.fn.grants (tagged_in_items (of_list (map shape_of l.items)))
+    grants_behind l.tree l.grants (tagged_in_items (of_list (map shape_of (drop l.item-index l.items)))) ≡ grants_behind l.fn.tree l.fn.grants (tagged_in_items (of_list (map shape_of l.items)))
 
 abbrev pub invariant-push_of_pairs-loop-key : goal.invariant-push_of_pairs-loop-key
 invariant-push_of_pairs-loop-key l =
-    grants_behind l.grants (tagged_in_pairs (of_pairs (map pair_of (drop l.key-index l.pairs)))) ≡ grants_behind l.fn.grants (tagged_in_pairs (of_pairs (map pair_of l.pairs)))
+    grants_behind l.tree l.grants (tagged_in_pairs (of_pairs (map pair_of (drop l.key-index l.pairs)))) ≡ grants_behind l.fn.tree l.fn.grants (tagged_in_pairs (of_pairs (map pair_of l.pairs)))
 
 abbrev pub decreases-push_grants : goal.decreases-push_grants
 decreases-push_grants l = 4 * depth_of (shape_of l.node.now) + 3
