@@ -52,7 +52,10 @@ fn open_of_node(tree: &Tree, id: ObjId) -> OpenKind
     ensures { result ≡ open_of_node id (map.get tree.now.nodes id) }
 {
     match tree.node(id) {
-        Some(node) if matches!(node.kind, NodeKind::Directory) => OpenKind::Directory { node: id, flags: 0 },
+        Some(node) if matches!(node.kind, NodeKind::Directory) => OpenKind::Directory {
+            node: id,
+            flags: 0,
+        },
         _ => OpenKind::File {
             node: id,
             offset: 0,
@@ -101,7 +104,11 @@ fn put_grant(
 }
 
 /// The table of the granted descriptors, and their opens, each held once.
-pub fn granted(alloc: Global, tree: &Tree, grants: &[Grant]) -> Result<(FdTable, Objects), AllocError>
+pub fn granted(
+    alloc: Global,
+    tree: &Tree,
+    grants: &[Grant],
+) -> Result<(FdTable, Objects), AllocError>
     requires nodes { map.len tree.now.nodes ≤ 2 ^ 31 }
     requires few { length grants.now ≤ MOST_DESCRIPTORS }
     ensures { IfOk result (λ made. (made.0 ≡ granted_table tree.now grants.now) × (made.1 ≡ granted_objects tree.now grants.now)) }
