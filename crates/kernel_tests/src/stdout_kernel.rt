@@ -1,15 +1,17 @@
 //! A kernel whose process has one descriptor, of stdout, and calls of its first thread.
-ghost use Rattle.std.specs.Prelude.{◌≡◌, IfOk, IsTrue};
-ghost use Rattle.abi_base.specs.Grants.{AreGrants};
+ghost use Rattle.std.specs.Prelude.{IfOk, IsTrue};
+ghost use Rattle.tree_model.specs.Grants.{AreGrants, MayBegin};
+ghost use Rattle.tree_model.specs.Tree.{Tree};
 ghost use Rattle.abi_base.specs.Rights.{has_all};
 
 use abi_types::{
     Answer, Bytes, Call, Constants, Errno, Grant, GrantList, GrantTarget, Pid, Rights, Signal,
-    Status, Thread, Tid, Who,
+    Status, Thread, Tid, Times, Who,
 };
 use elf_image::{Elf, SegmentList};
 use kernel_core::{Kernel, Launch};
 use std::alloc::{AllocError, Global};
+use tree_document::read_tree;
 
 pub const PID: Pid = Pid(0);
 
@@ -19,6 +21,13 @@ pub const TID: Tid = Tid(1);
 pub const CONSTANTS: Constants = Constants {
     key: [0; 32],
     epoch: 0,
+};
+
+// No call of these tests reads them.
+const TIMES: Times = Times {
+    atim: 0,
+    mtim: 0,
+    ctim: 0,
 };
 
 /// A call of the first thread.
@@ -45,7 +54,7 @@ fn stdout_rights(may_write: bool) -> Rights
 // The grant of stdout with these rights.
 fn stdout_grants(alloc: Global, base: Rights) -> Result<GrantList, AllocError>
     requires { IsTrue (has_all 0x10080048 base.0) }
-    ensures { IfOk result AreGrants }
+    ensures { IfOk result (λ grants. (t : Tree) → AreGrants t grants) }
 {
     let mut grants = GrantList::new(alloc);
     grants.push(Grant {
@@ -56,11 +65,15 @@ fn stdout_grants(alloc: Global, base: Rights) -> Result<GrantList, AllocError>
     Ok(grants)
 }
 
-// A launch of no program with these grants.
-fn launch_with(alloc: Global, grants: GrantList) -> Launch
-    ensures { result.grants ≡ grants }
+// A launch of no program with these grants, and with no files.
+fn launch_with(alloc: Global, grants: GrantList) -> Result<Launch, AllocError>
+    requires { (t : Tree) → AreGrants t grants }
+    ensures { IfOk result (λ launch. MayBegin launch.tree launch.grants) }
 {
-    Launch {
+    let Ok(tree) = read_tree(alloc, &[], TIMES) else {
+        return Err(AllocError);
+    };
+    Ok(Launch {
         elf: Elf {
             base: 0,
             entry: 0,
@@ -70,21 +83,22 @@ fn launch_with(alloc: Global, grants: GrantList) -> Launch
         },
         argdata: Bytes::new(alloc),
         grants,
+        tree,
         stdin: Bytes::new(alloc),
         constants: CONSTANTS,
         turns: 1,
-    }
+    })
 }
 
 /// A kernel whose process has a descriptor of stdout, and may write to it or not.
 pub fn stdout_kernel(alloc: Global, may_write: bool) -> Result<Kernel, AllocError> {
     let grants = stdout_grants(alloc, stdout_rights(may_write))?;
-    Kernel::start(alloc, &launch_with(alloc, grants))
+    Kernel::start(alloc, &launch_with(alloc, grants)?)
 }
 
 /// A kernel whose process has no descriptor.
 pub fn bare_kernel(alloc: Global) -> Result<Kernel, AllocError> {
-    Kernel::start(alloc, &launch_with(alloc, GrantList::new(alloc)))
+    Kernel::start(alloc, &launch_with(alloc, GrantList::new(alloc))?)
 }
 
 /// The call of a deed.

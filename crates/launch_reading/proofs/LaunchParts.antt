@@ -12,7 +12,7 @@ use Rattle.launch_words.specs.Settings.{Settings}
 use Rattle.launch_reading.specs.Inputs.{AreRead, IsReadAs, IsUnread, IsUnreadOf, IsNoLaunch, IsNoLaunchOf}
 use Rattle.launch_reading.specs.Launch.{Spelled, untold, refuses, spells, input_limit, standard_input, launch_with, times_of, spelled_text, spelled_tree, spelled_at, spelled_by, spelled_with, spelled_optional, inputs_spell, settings_inputs, IsToldAs, IsBuiltLaunch, AnswersSpelled}
 use Rattle.launch_reading.specs.LaunchText.{TextPlan, planned_text}
-use Rattle.tree_model.specs.Tree.{Tree}
+use Rattle.tree_model.specs.Tree.{Tree as FileTree}
 use Rattle.tree_document.specs.Meaning.{meaning}
 use Rattle.launch_reading.specs.Lines.{too_long_line}
 use Rattle.launch_reading.specs.declared.inputs.Inputs.{Inputs}
@@ -160,7 +160,7 @@ refusal_is_told names settings told inputs rose Words read e = absurd e
 refusal_is_told names settings told inputs rose (Input n) read e = absurd e
 refusal_is_told names settings told inputs rose (TooLong n) read e = absurd e
 refusal_is_told names settings told inputs rose (Program found) read e = all_read settings told inputs _ read e
-refusal_is_told names settings told inputs rose Tree read e = all_read settings told inputs _ read e
+refusal_is_told names settings told inputs rose (Tree byte) read e = all_read settings told inputs _ read e
 refusal_is_told names settings told inputs rose (LaunchText fault) read e = all_read settings told inputs _ read e
 refusal_is_told names settings told inputs rose Memory read e = tt
 
@@ -171,7 +171,7 @@ refusal_told settings told inputs rose (Err refusal) read e = refusal_is_told (s
 
 -- what spells a launch spells one of a tree document and a launch text without fault
 module _ (settings : Settings) (inputs : Inputs) (short : length inputs.tree ≤ input_limit) where
-  built_with : (tree : Tree) (planned : TextPlan) (launch : Launch) → fault_of inputs.program ≡ None → meaning (times_of settings) inputs.tree ≡ Ok tree →
+  built_with : (tree : FileTree) (planned : TextPlan) (launch : Launch) → fault_of inputs.program ≡ None → meaning (times_of settings) inputs.tree ≡ Ok tree →
       planned_text tree inputs.text ≡ planned → spelled_text settings inputs tree planned ≡ spells launch → IsBuiltLaunch settings launch
   built_with tree (Err fault) launch sound means is e = cc
   built_with tree (Ok planned) launch sound means is e =
@@ -190,7 +190,7 @@ module _ (settings : Settings) (inputs : Inputs) (short : length inputs.tree ≤
         turns = refl;
       })
 
-  built_tree : (read : Result Tree ℕ) (launch : Launch) → fault_of inputs.program ≡ None → meaning (times_of settings) inputs.tree ≡ read →
+  built_tree : (read : Result FileTree ℕ) (launch : Launch) → fault_of inputs.program ≡ None → meaning (times_of settings) inputs.tree ≡ read →
       spelled_tree settings inputs read ≡ spells launch → IsBuiltLaunch settings launch
   built_tree (Ok tree) launch sound means e = built_with tree (planned_text tree inputs.text) launch sound means refl e
   built_tree (Err byte) launch sound means e = cc

@@ -1,6 +1,6 @@
 -- A line written in four parts.
 use Rattle.std.proofs.Common.{◌≡◌, ◌∙◌, ◌≤◌, ℕ, List, [], ◌∷◌, ◌++◌, length, min, ap, sym, refl, subst, arith, append_assoc}
-use Rattle.std.specs.Prelude.{Option, codes}
+use Rattle.std.specs.Prelude.{Option, codes, decimal}
 use Rattle.std.proofs.lemmas.List.{take-append-le, take_min}
 use Rattle.input_output.specs.Sink.{grown, GrewByPrefix}
 use Rattle.input_output.proofs.OutsideLaws.{grown_twice, grew_later}
@@ -16,7 +16,7 @@ line_parts (TooLong name) =
     sym (ap (λ (xs : List ℕ). xs ++ 10 ∷ []) (refl {a = codes "input: " ++ (name.now ++ codes " too long")}) ∙ append_assoc (codes "input: ") (name.now ++ codes " too long") (10 ∷ []) ∙ ap (λ (xs : List ℕ). codes "input: " ++ xs) (append_assoc name.now (codes " too long") (10 ∷ [])))
 line_parts (Program found) =
     sym (append_assoc (codes "program: ") (fault_name found ++ fault_number found) (10 ∷ []) ∙ ap (λ (xs : List ℕ). codes "program: " ++ xs) (append_assoc (fault_name found) (fault_number found) (10 ∷ [])))
-line_parts Tree = refl
+line_parts (Tree byte) = sym (append_assoc (codes "tree: byte ") (decimal byte) (10 ∷ []))
 line_parts (LaunchText fault) = refl
 line_parts Memory = refl
 

@@ -1,5 +1,5 @@
 -- What words and inputs spell: a launch, or the first refusal.
-use Rattle.std.specs.Prelude.{◌≡◌, ◌==◌, ◌++◌, ℕ, ◌⊎◌, ⊤, Bool, false, List, [], ◌∷◌, cond, length, nat_lt, Option, None, Some, Result, Ok, Err}
+use Rattle.std.specs.Prelude.{◌≡◌, ◌≤◌, ◌++◌, ℕ, ◌⊎◌, ⊤, Bool, false, List, [], ◌∷◌, cond, length, nat_lt, Option, None, Some, Result, Ok, Err}
 use Rattle.std.specs.Option.{option_to_list}
 use Rattle.input_output.specs.Source.{Told, Untold, Lacking, Content}
 use Rattle.input_output.specs.declared.whole.TheConstants.{INPUT_LIMIT}

@@ -14,14 +14,18 @@ returns-clause-ok g c =
     launch_told (view c.args.settings.now) (g.S.Source.told c.args.source.now) c.in_ok-inputs.inputs c.launch_from.result c.in_ok-inputs.ensures.ok c.launch_from.ensures.ok
 
 pub returns-clause-built : goal.returns-clause-built
-returns-clause-built g c = is_built g c
+returns-clause-built g c =
+    built (view c.args.settings.now) c.in_ok-inputs.inputs
+    (read_short (view c.args.settings.now).tree (g.S.Source.told c.args.source.now) c.in_ok-inputs.inputs.tree c.in_ok-inputs.ensures.ok.tree) c.launch_from.result c.launch_from.ensures.ok
 
 pub returns-clause-begins : goal.returns-clause-begins
-returns-clause-begins g c = all_begin (view c.args.settings.now) c.launch_from.result (is_built g c)
+returns-clause-begins g c = all_begin (view c.args.settings.now) c.launch_from.result (built (view c.args.settings.now) c.in_ok-inputs.inputs
+    (read_short (view c.args.settings.now).tree (g.S.Source.told c.args.source.now) c.in_ok-inputs.inputs.tree c.in_ok-inputs.ensures.ok.tree) c.launch_from.result c.launch_from.ensures.ok)
 
 pub returns-clause-bounded : goal.returns-clause-bounded
 returns-clause-bounded g c =
-    all_bounded (view c.args.settings.now) c.launch_from.result c.requires.within (is_built g c)
+    all_bounded (view c.args.settings.now) c.launch_from.result c.requires.within (built (view c.args.settings.now) c.in_ok-inputs.inputs
+    (read_short (view c.args.settings.now).tree (g.S.Source.told c.args.source.now) c.in_ok-inputs.inputs.tree c.in_ok-inputs.ensures.ok.tree) c.launch_from.result c.launch_from.ensures.ok)
 
 pub returns-clause-err : goal.returns-clause-err
 returns-clause-err g c =
