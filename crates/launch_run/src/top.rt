@@ -76,9 +76,9 @@ fn run_launched<K: Sink>(alloc: Global, launch: Launch, lines: bool, sink: &mut 
     let Ok(mut run) = Run::new(alloc, launch) else {
         return RunEnd::NotBegun;
     };
-    if run.go_on(alloc).is_err() {
+    let Ok(()) = run.go_on(alloc) else {
         return RunEnd::Lacking(run.into_record());
-    }
+    };
     match report(alloc, &run.kernel, run.history.as_slice(), lines) {
         Ok(text) => write_report(run, lines, text.as_slice(), sink),
         Err(_) => RunEnd::Lacking(run.into_record()),
