@@ -1,8 +1,8 @@
 -- A change of a process's descriptors, and of the opens that they name, is what the model's updates are.
-use Rattle.std.proofs.Common.{◌≡◌, ℕ, zero, suc, ◌+◌, ◌^◌, ◌<◌, ◌≤◌, ◌==◌, not, Bool, true, false, cond, List, [], ◌∷◌, ◌++◌, Option, None, Some, IsSome, is_some, inl, inr, refl, sym, ap, subst, ◌∙◌, arith}
+use Rattle.std.proofs.Common.{◌≡◌, ℕ, zero, suc, ◌+◌, ◌<◌, ◌==◌, Bool, true, false, cond, List, [], ◌∷◌, ◌++◌, Option, None, Some, IsSome, is_some, refl, sym, ap, subst, ◌∙◌, arith}
 use Rattle.std.specs.Ordering.{nat_cmp}
 use Rattle.std.specs.Prelude.{bit_and}
-use Rattle.std.specs.FinMap.{FinMap, contains_key, empty, get, insert, remove, retain_keys}
+use Rattle.std.specs.FinMap.{FinMap, contains_key, get, insert}
 use Rattle.abi_base.specs.declared.limits.TheConstants.{MOST_DESCRIPTORS}
 use Rattle.abi_structures.specs.declared.structures.FdStat.{FdStat}
 use Rattle.abi_types.specs.declared.descriptor.Descriptor.{Descriptor}
@@ -10,7 +10,7 @@ use Rattle.abi_types.specs.declared.open_kind.OpenKind.{OpenKind}
 use Rattle.number_map.specs.Maps.{number, weight, total, insert-again, insert_self, get-insert-same, total-insert}
 use Rattle.fd_table.specs.Sizes.{below-insert, below-insert_again, below-remove}
 use Rattle.fd_table.specs.Table.{IsTable}
-use Rattle.kernel_model.specs.DescriptorCalls.{dup_at, dup_of, free_from, lowest_free, lowered_to, replaced_by, stat_put, stat_set, with_flags, with_table}
+use Rattle.kernel_model.specs.DescriptorCalls.{dup_at, dup_of, free_from, lowest_free, lowered_to, replaced_by, stat_put, stat_set, with_flags}
 use Rattle.kernel_model.specs.Outcome.{Outcome}
 use Rattle.kernel_model.specs.Release.{count_in}
 use Rattle.kernel_model.specs.State.{State, Table, Update, set_table, set_own, set_status, set_open, set_node, set_names, set_term, put_all}

@@ -1,14 +1,14 @@
 -- What the code keeps of tables and processes, and that the holders of an open stay far from what a count can have.
-use Rattle.std.proofs.Common.{◌≡◌, ◌≢◌, ℕ, zero, suc, ◌+◌, ◌*◌, ◌^◌, ◌<◌, ◌≤◌, ◌==◌, Bool, true, false, cond, [], ◌∷◌, Option, None, Some, IsSome, inl, inr, refl, sym, ap, subst, ◌∙◌, arith}
+use Rattle.std.proofs.Common.{◌≡◌, ℕ, ◌+◌, ◌*◌, ◌^◌, ◌<◌, ◌≤◌, cond, Some, inl, inr, sym, ap, subst, ◌∙◌, arith}
 use Rattle.std.proofs.lemmas.Bool.Decides.{eqb_tells}
 use Rattle.std.proofs.Math.Nat.{mul-suc}
 use Rattle.std.proofs.Math.Numerals.{suc-eq-add-one}
 use Rattle.std.specs.Ordering.{nat_cmp}
-use Rattle.std.specs.FinMap.{FinMap, empty, get, get-empty, insert, len, remove}
+use Rattle.std.specs.FinMap.{FinMap, empty, get, insert, len}
 use Rattle.abi_base.specs.declared.limits.TheConstants.{MOST_DESCRIPTORS}
 use Rattle.abi_types.specs.declared.descriptor.Descriptor.{Descriptor}
 use Rattle.number_map.specs.Maps.{get-insert-same, get-insert-other, len-insert_new, map_induction, total, total-empty, total-insert_new}
-use Rattle.fd_table.specs.Sizes.{KeysBelow, below-empty, below-insert_again, len_at_most}
+use Rattle.fd_table.specs.Sizes.{KeysBelow, below-empty, len_at_most}
 use Rattle.fd_table.specs.Table.{IsTable}
 use Rattle.kernel_model.specs.Release.{count_in, holders, names_open}
 use Rattle.kernel_model.specs.State.{State, Table}

@@ -1,5 +1,5 @@
 -- What fd_stat_put comes to.
-use Rattle.std.proofs.Common.{◌≡◌, ℕ, ◌==◌, ◌&&◌, Bool, true, false, cond, [], ◌∷◌, ◌++◌, Option, Some, inl, inr, refl, sym, ap, ◌∙◌}
+use Rattle.std.proofs.Common.{◌≡◌, ℕ, ◌==◌, ◌&&◌, Bool, true, false, cond, [], ◌∷◌, ◌++◌, Option, Some, inl, inr, refl, ap, ◌∙◌}
 use Rattle.std.proofs.lemmas.Bool.Decides.{eqb_tells}
 use Rattle.std.specs.Ordering.{nat_cmp}
 use Rattle.std.specs.Prelude.{bit_and, IsTrue}
@@ -14,7 +14,7 @@ use Rattle.kernel_model.specs.DescriptorCalls.{lowered_to, stat_set, with_flags}
 use Rattle.kernel_model.specs.Outcome.{Outcome}
 use Rattle.kernel_model.specs.State.{Table, set_open, set_table}
 use Rattle.kernel_model.proofs.DescriptorCalls.{lowered_within}
-use Rattle.kernel_core.specs.Changes.{opens_after, stat_put_at, table_after}
+use Rattle.kernel_core.specs.Changes.{stat_put_at, table_after}
 
 -- where descriptor and open are there
 pub stat_is : (p : ℕ) (opens : FinMap nat_cmp OpenKind) (table : Table) (fd : ℕ) (stat : FdStat) (flags : ℕ) (d : Descriptor) (kind : OpenKind)

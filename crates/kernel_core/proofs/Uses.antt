@@ -1,6 +1,6 @@
 -- A change of descriptors leaves each node as much used as it was: an open that becomes another stays of its node.
-use Rattle.std.proofs.Common.{◌≡◌, ℕ, ◌==◌, List, [], ◌∷◌, Option, Some, None, refl}
-use Rattle.std.specs.Prelude.{bit_and, Bool}
+use Rattle.std.proofs.Common.{◌≡◌, ℕ, ◌==◌, List, Option, Some, None, refl}
+use Rattle.std.specs.Prelude.{bit_and}
 use Rattle.std.specs.Ordering.{nat_cmp}
 use Rattle.std.specs.FinMap.{FinMap, get, insert}
 use Rattle.abi_structures.specs.declared.structures.FdStat.{FdStat}

@@ -11,7 +11,7 @@ use Rattle.kernel_model.specs.DescriptorCalls.{dup_of, replaced_by, stat_set, wi
 use Rattle.kernel_model.specs.Outcome.{Outcome, replies}
 use Rattle.kernel_model.specs.Release.{count_in}
 use Rattle.kernel_model.specs.Reply.{refused}
-use Rattle.kernel_model.specs.State.{Table, Update, set_table, set_own, set_status, set_open, set_node, set_names, set_term}
+use Rattle.kernel_model.specs.State.{Table, Update, set_table, set_open}
 use Rattle.kernel_core.specs.declared.table_change.TableChange.{TableChange}
 use Rattle.kernel_core.specs.declared.table_change.TableChange.TheVariants.{Close, Dup, Replace, StatPut}
 

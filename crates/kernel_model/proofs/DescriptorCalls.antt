@@ -1,5 +1,5 @@
 -- The meanings of the calls on descriptors themselves are proper.
-use Rattle.std.proofs.Common.{◌≡◌, ◌≢◌, ◌⊎◌, inl, inr, ℕ, zero, suc, ◌+◌, ◌==◌, ◌||◌, Bool, true, false, cond, List, [], ◌∷◌, ◌++◌, map, Option, Some, None, refl, sym, ap, subst, ◌∙◌}
+use Rattle.std.proofs.Common.{◌≡◌, ◌≢◌, ◌⊎◌, inl, inr, ℕ, ◌==◌, ◌||◌, Bool, true, false, cond, List, [], ◌∷◌, ◌++◌, map, Option, Some, None, refl, sym, ap, subst, ◌∙◌}
 use Rattle.std.proofs.lemmas.Bool.{eq-eqb}
 use Rattle.std.proofs.lemmas.Bool.Decides.{eqb_tells}
 use Rattle.std.proofs.lemmas.Nat.{and_assoc}
@@ -9,15 +9,13 @@ use Rattle.std.specs.FinMap.{get, insert, remove}
 use Rattle.std.specs.List.{AllByRecursion}
 use Rattle.abi_base.specs.declared.errno.Errno.{Errno}
 use Rattle.abi_base.specs.declared.errno.Errno.TheVariants.{Badf, Mfile, Nomem}
-use Rattle.abi_base.specs.declared.limits.TheConstants.{MOST_DESCRIPTORS}
 use Rattle.abi_base.specs.Rights.{has_all, meet_of}
 use Rattle.abi_structures.specs.declared.structures.FdStat.{FdStat}
 use Rattle.abi_types.specs.declared.descriptor.Descriptor.{Descriptor}
 use Rattle.abi_types.specs.declared.open_kind.OpenKind.{OpenKind}
 use Rattle.abi_types.specs.declared.open_kind.OpenKind.TheVariants.{File, Directory, End, Terminal, Process}
 use Rattle.number_map.specs.Maps.{get-insert-same, get-insert-other, get-remove-same, get-remove-other}
-use Rattle.kernel_model.specs.DescriptorCalls.{with_table, fd_close, lowest_free, dup_at, dup_of, fd_dup, replaced_by, fd_replace, stat_open, stat_get, fd_stat_get, stat_put_row, with_flags, lowered_to, update_where, stat_set, stat_put, open_part, fd_stat_put}
-use Rattle.kernel_model.specs.Meaning.{Meaning}
+use Rattle.kernel_model.specs.DescriptorCalls.{with_table, fd_close, lowest_free, dup_at, dup_of, fd_dup, replaced_by, fd_replace, stat_open, stat_get, fd_stat_get, stat_put_row, with_flags, lowered_to, stat_set, stat_put, open_part, fd_stat_put}
 use Rattle.kernel_model.specs.Outcome.{Outcome, replies}
 use Rattle.kernel_model.specs.Proper.{IsIn, IsUnset, IsPlain, IsProper}
 use Rattle.kernel_model.specs.Reply.{refused}
@@ -28,7 +26,7 @@ use Rattle.kernel_model.specs.Valid.{IsNearlyValid}
 use Rattle.kernel_model.specs.View.{View, restrict, whole}
 use Rattle.kernel_model.proofs.Parts.{KeepsThreads, outside_cons, has_of_both, beyond_own, number_apart}
 use Rattle.kernel_model.proofs.Sights.{first_seen}
-use Rattle.kernel_model.proofs.Tests.{not_true, none_is_no, or_false, or_true, same_some}
+use Rattle.kernel_model.proofs.Tests.{not_true, none_is_no, or_false, same_some}
 use Rattle.kernel_model.proofs.Valids.{IsWithin, ComesFromTable, IsSameBehind, set_open_nearly_valid, set_table_nearly_valid}
 
 -- ---- where descriptors come from

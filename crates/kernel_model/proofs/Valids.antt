@@ -1,7 +1,7 @@
 -- What keeps a state valid, or nearly so: one part set, the end of a process, and the release.
 use Rattle.std.proofs.Common.{◌≡◌, ◌≢◌, inl, inr, ℕ, ◌+◌, ◌<◌, ◌≤◌, ◌==◌, Bool, true, false, not, cond, ◌||◌, T, Option, Some, None, IsSome, is_some, refl, sym, ap, subst, ◌∙◌, arith}
 use Rattle.std.proofs.lemmas.Bool.Decides.{eqb_tells}
-use Rattle.std.proofs.lemmas.Bool.{eq-eqb, eqb-true, lt-ltb}
+use Rattle.std.proofs.lemmas.Bool.{eq-eqb, eqb-true}
 use Rattle.std.proofs.lemmas.Nat.{and_assoc}
 use Rattle.std.specs.Prelude.{bit_and, nat_lt, IsTrue}
 use Rattle.abi_base.specs.Rights.{has_all}
@@ -30,7 +30,7 @@ use Rattle.kernel_model.specs.State.{State, Table, Own, tree_of, put_one, put_al
 use Rattle.kernel_model.specs.Step.{tick}
 use Rattle.kernel_model.specs.Valid.{object_of, fits, fits_inheriting, IsNamed, HasBehind, IsNearlyValid, IsValid}
 use Rattle.kernel_model.proofs.Ends.{ends_closed, ends_unheld}
-use Rattle.kernel_model.proofs.Tests.{not_true, none_is_no, or_true, same_some}
+use Rattle.kernel_model.proofs.Tests.{not_true, none_is_no, same_some}
 
 -- ---- what holds an open
 

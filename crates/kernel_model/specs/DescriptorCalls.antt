@@ -17,7 +17,7 @@ use Rattle.kernel_model.specs.Meaning.{Meaning, answering, unbuilt_row}
 use Rattle.kernel_model.specs.Outcome.{Outcome, replies}
 use Rattle.kernel_model.specs.Reply.{refused, success}
 use Rattle.kernel_model.specs.Rows.{asking_row, base_row, both, either_row, where_set}
-use Rattle.kernel_model.specs.State.{State, Table, Part, Update, at_open, set_open, set_table}
+use Rattle.kernel_model.specs.State.{Table, Part, Update, at_open, set_open, set_table}
 use Rattle.kernel_model.specs.View.{View}
 
 -- a call that is done with this result, and leaves its process this table

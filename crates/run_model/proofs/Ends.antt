@@ -1,11 +1,8 @@
 -- Where a run is ended or stalled no entry fits, and which processes live.
-use Rattle.std.proofs.Common.{◌≡◌, ◌≢◌, ◌⊎◌, inl, inr, ℕ, ◌+◌, ◌-◌, ◌<◌, ◌≤◌, List, [], ◌∷◌, length, Some, refl, sym, ap, subst, ◌∙◌, arith}
+use Rattle.std.proofs.Common.{◌≡◌, ◌≢◌, inl, inr, ℕ, List, [], ◌∷◌, Some, refl, sym, ap, ◌∙◌}
 use Rattle.std.proofs.lemmas.Bool.Decides.{eqb_tells}
 use Rattle.std.specs.Ordering.{nat_cmp}
 use Rattle.std.specs.FinMap.{empty, get, get-empty}
-use Rattle.abi_types.specs.declared.reply.Answer.{Answer}
-use Rattle.abi_types.specs.declared.reply.Answer.TheVariants as answer
-use Rattle.abi_types.specs.declared.call.Call.{Call}
 use Rattle.abi_types.specs.declared.constants.Constants.{Constants}
 use Rattle.abi_base.specs.declared.signal.Signal.{Signal}
 use Rattle.abi_base.specs.declared.signal.Signal.TheVariants.{Xcpu}
@@ -17,19 +14,14 @@ use Rattle.run_types.specs.declared.history.Act.{Act}
 use Rattle.run_types.specs.declared.history.Act.TheVariants as act
 use Rattle.run_types.specs.declared.history.Entry.{Entry}
 use Rattle.run_types.specs.declared.launch.Launch.{Launch}
-use Rattle.kernel_model.specs.Ends.{NoneLive}
 use Rattle.kernel_model.specs.State.{State}
-use Rattle.kernel_model.specs.Step.{end_state}
 use Rattle.kernel_model.proofs.Steps.{step_moves_only, end_ends_only}
 use Rattle.kernel_model.proofs.Tests.{none_is_no}
-use Rattle.number_map.specs.Maps.{get-insert-same, get-insert-other}
-use Rattle.rv_interp.specs.declared.turns.TurnEnd.{TurnEnd}
-use Rattle.rv_interp.specs.declared.turns.TurnEnd.TheVariants.{Ecall, Trap}
+use Rattle.number_map.specs.Maps.{get-insert-other}
 use Rattle.run_model.specs.Ends.{Ended, IsParked, Stalled}
-use Rattle.run_model.specs.Legal.{IsRunnable, LastEnds, FitsAct, Fits, FollowsFrom, Legal}
-use Rattle.run_model.specs.World.{World, Guest, start_world, guest_of, or_no_guest, called_guest, called_state, turned_guest, turned_guest_by, turned, acted, who_of, apply, apply_all, world}
-use Rattle.run_model.proofs.Calls.{ended_by}
-use Rattle.run_model.proofs.Histories.{apply_is, guest_turned, turned_more, first_guest_is}
+use Rattle.run_model.specs.Legal.{IsRunnable, FitsAct, Fits, FollowsFrom, Legal}
+use Rattle.run_model.specs.World.{World, Guest, start_world, guest_of, called_state, turned, acted, who_of, apply, apply_all, world}
+use Rattle.run_model.proofs.Histories.{apply_is}
 
 -- ---- the run is ended or stalled
 

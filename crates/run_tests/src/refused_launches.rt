@@ -165,6 +165,7 @@ fn meets_faults_of_the_outside(rt: HostRuntime) -> Result<(), Fail> {
             program: &HELLO_FILE,
             input: b"",
             text: b"!fd stdout\n",
+            tree: b"",
             failing_reads,
             failing_writes,
         };

@@ -110,7 +110,11 @@ const ROWS: &[Row] = &[
 
 // The report of a row.
 fn report_of(alloc: Global, row: &Row) -> Result<Vec<u8>, Fail> {
-    let head = format!(in alloc; "== stdout 0\n== stderr 0\n== status exit {}\n== run ended\n== denials {}\n", row.exit, row.denials.len())?;
+    let head = format!(in alloc;
+        "== stdout 0\n== stderr 0\n== status exit {}\n== run ended\n== denials {}\n",
+        row.exit,
+        row.denials.len()
+    )?;
     let mut report = head.into_bytes();
     for denial in row.denials {
         report.extend_from_slice(denial.as_bytes())?;

@@ -12,7 +12,7 @@ use std::env;
 use std::process::ExitCode;
 use std::rt::Env;
 use tree_model::TreeFault;
-use trees::{deep, large, list, overwrite, wide, walk_down};
+use trees::{deep, large, list, overwrite, walk_down, wide};
 
 // Why a thing was not done.
 #[derive(Debug, Drop)]

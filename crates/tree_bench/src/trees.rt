@@ -13,10 +13,17 @@ const TIMES: Times = Times {
 
 // A size, and where a file's last piece of 4 KiB begins.
 const PIECE: usize = 4096;
+
 const PIECES: u32 = 16_384;
 
 // A new node of this number in a directory, unless the number is taken.
-fn make(tree: &mut Tree, dir: ObjId, name: &[u8], id: ObjId, kind: NodeKind) -> Result<(), TreeFault> {
+fn make(
+    tree: &mut Tree,
+    dir: ObjId,
+    name: &[u8],
+    id: ObjId,
+    kind: NodeKind,
+) -> Result<(), TreeFault> {
     if tree.node(id).is_some() {
         return Err(TreeFault::Taken);
     }
@@ -37,7 +44,13 @@ pub fn deep(alloc: Global) -> Result<Tree, TreeFault> {
         make(&mut tree, dir, b"directory", id, NodeKind::Directory)?;
         dir = id;
     }
-    make(&mut tree, dir, b"file", ObjId(ROOT + 8), NodeKind::File(Bytes::new(alloc)))?;
+    make(
+        &mut tree,
+        dir,
+        b"file",
+        ObjId(ROOT + 8),
+        NodeKind::File(Bytes::new(alloc)),
+    )?;
     Ok(tree)
 }
 
@@ -53,7 +66,13 @@ pub fn walk_down(tree: &Tree) -> bool {
 /// A file of 64 MiB, its number the one behind the root's.
 pub fn large(alloc: Global) -> Result<Tree, TreeFault> {
     let mut tree = Tree::new(alloc, TIMES)?;
-    make(&mut tree, ObjId(ROOT), b"file", ObjId(ROOT + 1), NodeKind::File(Bytes::new(alloc)))?;
+    make(
+        &mut tree,
+        ObjId(ROOT),
+        b"file",
+        ObjId(ROOT + 1),
+        NodeKind::File(Bytes::new(alloc)),
+    )?;
     if is_file(&tree) {
         tree.set_size(ObjId(ROOT + 1), 67_108_864)?;
     }
@@ -81,7 +100,11 @@ pub fn overwrite(tree: &mut Tree, turn: u32) -> Result<(), TreeFault> {
 fn name_of(number: u32) -> [u8; 3]
     requires { number < 16_777_216 }
 {
-    [(number / 65_536) as u8, (number / 256 % 256) as u8, (number % 256) as u8]
+    [
+        (number / 65_536) as u8,
+        (number / 256 % 256) as u8,
+        (number % 256) as u8,
+    ]
 }
 
 /// A root with 10,000 names, of a file each.
@@ -89,7 +112,13 @@ pub fn wide(alloc: Global) -> Result<Tree, TreeFault> {
     let mut tree = Tree::new(alloc, TIMES)?;
     for i in 1..10_001 {
         let id = ObjId(ROOT + u64::from(i));
-        make(&mut tree, ObjId(ROOT), &name_of(i), id, NodeKind::File(Bytes::new(alloc)))?;
+        make(
+            &mut tree,
+            ObjId(ROOT),
+            &name_of(i),
+            id,
+            NodeKind::File(Bytes::new(alloc)),
+        )?;
     }
     Ok(tree)
 }

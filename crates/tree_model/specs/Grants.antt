@@ -2,7 +2,7 @@
 --     IsStartTree t      a launch may begin with the tree
 --     AreGrants t grants      it may grant these descriptors of what is there
 --     MayBegin t grants      both
-use Rattle.std.specs.Prelude.{◌≡◌, ℕ, ◌+◌, ◌^◌, ◌<◌, ◌≤◌, List, length, Option, None, Some, IsSome, IsTrue}
+use Rattle.std.specs.Prelude.{ℕ, ◌+◌, ◌^◌, ◌<◌, ◌≤◌, List, length, Option, None, Some, IsSome, IsTrue}
 use Rattle.std.specs.List.{AllByRecursion}
 use Rattle.std.specs.FinMap.{get, len}
 use Rattle.abi_base.specs.declared.grant.Grant.{Grant}

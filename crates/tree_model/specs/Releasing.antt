@@ -4,16 +4,15 @@
 --     releasing_other, releasing_kept, releasing_gone      an open ends that is of no node;  of one that stays;  of one that goes
 --     releasing_next      all three, by what becomes of the tree;  used-set      another open of the same node changes nothing
 --     releasing_end      in the end the nodes are left that are used
-use Rattle.std.proofs.Common.{◌≡◌, ◌≢◌, ℕ, ◌+◌, ◌≤◌, ◌==◌, ◌||◌, Bool, true, false, not, cond, inl, inr, Option, None, Some, IsSome, is_some, refl, sym, ap, subst, ◌∙◌, arith}
-use Rattle.std.proofs.lemmas.Bool.{false≢true, lt-ltb, ltb-true, eqb-true, true_from_ne_false}
+use Rattle.std.proofs.Common.{◌≡◌, ◌≢◌, ℕ, ◌+◌, ◌≤◌, ◌==◌, ◌||◌, Bool, true, false, cond, inl, inr, Option, None, Some, IsSome, is_some, refl, sym, ap, subst, ◌∙◌, arith}
+use Rattle.std.proofs.lemmas.Bool.{false≢true, lt-ltb, ltb-true}
 use Rattle.std.proofs.lemmas.Bool.Decides.{eqb_tells}
 use Rattle.std.specs.Prelude.{nat_lt}
 use Rattle.std.specs.Ordering.{nat_cmp}
 use Rattle.std.specs.FinMap.{FinMap, get, insert, remove, retain_keys}
-use Rattle.abi_types.specs.declared.node.Node.{Node}
 use Rattle.abi_types.specs.declared.open_kind.OpenKind.{OpenKind}
 use Rattle.number_map.specs.Closure.{total_below}
-use Rattle.number_map.specs.Maps.{get-remove-same, get-remove-other, get-retain, same_numbers, total, total-insert, total-remove, weight}
+use Rattle.number_map.specs.Maps.{get-remove-same, get-remove-other, get-retain, same_numbers, total-insert, total-remove, weight}
 use Rattle.tree_model.specs.declared.limits.TheConstants.{ROOT}
 use Rattle.tree_model.specs.Changes.{forgotten}
 use Rattle.tree_model.specs.Facts.{directory_there}
@@ -101,9 +100,9 @@ used_more few many t u n links opens used =
       | true ↦ λ _. refl
       | false ↦ λ h. ap (λ k. nat_lt 0 k || nat_lt 0 (opens_of_node many n)) links ∙ by_links (nat_lt 0 (links_of t n)) h
     ] used where
-  by_links : (b : Bool) → (b || nat_lt 0 (opens_of_node few n)) ≡ true → (b || nat_lt 0 (opens_of_node many n)) ≡ true
-  by_links true h = refl
-  by_links false h = (let some = ltb-true 0 (opens_of_node few n) h in lt-ltb 0 (opens_of_node many n) (omega (arith, some, opens)))
+      by_links : (b : Bool) → (b || nat_lt 0 (opens_of_node few n)) ≡ true → (b || nat_lt 0 (opens_of_node many n)) ≡ true
+      by_links true h = refl
+      by_links false h = (let some = ltb-true 0 (opens_of_node few n) h in lt-ltb 0 (opens_of_node many n) (omega (arith, some, opens)))
 
 false_unless : (b : Bool) → (b ≡ true → ⊥) → b ≡ false
 false_unless true h = absurd (h refl)
@@ -174,6 +173,7 @@ module _ (final : FinMap nat_cmp OpenKind) (old : Tree) (kinds : FinMap nat_cmp 
   } where
     no_more : (m : ℕ) → m ≡ n → IsSome (get (remove t.nodes n) m) → ⊥
     no_more m is some = false≢true (sym (ap (λ k. is_some (get (remove t.nodes n) k)) is ∙ ap is_some (get-remove-same t.nodes n)) ∙ some)
+
     unused : is_used final old n ≡ false
     unused =
         false_unless (is_used final old n) (λ used.
@@ -197,14 +197,14 @@ releasing_next final old kinds t new o n kind there others within used absent un
       | true ↦ λ e. subst (IsReleasing final old (remove kinds o)) (sym (used e)) (releasing_kept final old kinds t o kind n there others within e r)
       | false ↦ λ e. elim (get t.nodes n) as (λ x. get t.nodes n ≡ x → IsReleasing final old (remove kinds o) new) [
         | None ↦ λ none. subst (IsReleasing final old (remove kinds o)) (sym (absent none)) (record {
-            within = within;
-            before = r.before;
-            same = r.same;
-            used = λ m some. elim (eqb_tells m n) [
-              | inl is ↦ absurd (false≢true (sym (ap (λ k. is_some (get t.nodes k)) is.1 ∙ ap is_some none) ∙ some))
-              | inr other ↦ other_used final old kinds t o kind there t m (others m other.1) refl (r.used m some)
-            ];
-          })
+          within = within;
+          before = r.before;
+          same = r.same;
+          used = λ m some. elim (eqb_tells m n) [
+            | inl is ↦ absurd (false≢true (sym (ap (λ k. is_some (get t.nodes k)) is.1 ∙ ap is_some none) ∙ some))
+            | inr other ↦ other_used final old kinds t o kind there t m (others m other.1) refl (r.used m some)
+          ];
+        })
         | Some node ↦ λ here.
             (let some : IsSome (get t.nodes n) = ap is_some here in
             subst (IsReleasing final old (remove kinds o)) (sym (unused e some)) (releasing_gone final old kinds t o kind n there others within e some r))

@@ -102,7 +102,14 @@ fn make(tree: &mut Tree, dir: u16, name: &[u8], made: u16, kind: NodeKind) -> An
     of_change(tree.make(id(dir), name, id(made), node))
 }
 
-fn symlink(tree: &mut Tree, alloc: Global, dir: u16, name: &[u8], made: u16, text: &[u8]) -> Answer {
+fn symlink(
+    tree: &mut Tree,
+    alloc: Global,
+    dir: u16,
+    name: &[u8],
+    made: u16,
+    text: &[u8],
+) -> Answer {
     match Bytes::of(alloc, text) {
         Ok(text) => make(tree, dir, name, made, NodeKind::Link(text)),
         Err(_) => Answer::NoMemory,
@@ -214,7 +221,13 @@ fn asked(tree: &Tree, act: Act) -> Answer {
 pub fn act_on(tree: &mut Tree, alloc: Global, act: Act) -> Answer {
     match act {
         Act::Directory(dir, name, made) => make(tree, dir, name, made, NodeKind::Directory),
-        Act::File(dir, name, made) => make(tree, dir, name, made, NodeKind::File(Bytes::new(alloc))),
+        Act::File(dir, name, made) => make(
+            tree,
+            dir,
+            name,
+            made,
+            NodeKind::File(Bytes::new(alloc)),
+        ),
         Act::Symlink(dir, name, made, text) => symlink(tree, alloc, dir, name, made, text),
         Act::Link(dir, name, node) => of_change(tree.link(id(dir), name, id(node))),
         Act::Unlink(dir, name) => unlink(tree, dir, name),

@@ -22,16 +22,31 @@ const DOCUMENTS: &[(&[u8], Want)] = &[
     (b"dir a\n", Want::Itself),
     (b"file 3 a\nabc\n", Want::Itself),
     (b"file 0 a\n\n", Want::Itself),
-    (b"dir a\ndir a/b\nfile 1 a/b/c\nx\nlink 4 a/l\n../x\n", Want::Itself),
+    (
+        b"dir a\ndir a/b\nfile 1 a/b/c\nx\nlink 4 a/l\n../x\n",
+        Want::Itself,
+    ),
     // any bytes may stand in a file, and line feeds too
     (b"file 7 a\n\x00\xff\n\ndir\ndir b\n", Want::Itself),
     // names in the order of their bytes, and below each what is in it
-    (b"dir b\nfile 0 a\n\ndir b/c\ndir aa\n", Want::Printed(b"file 0 a\n\ndir aa\ndir b\ndir b/c\n")),
-    (b"dir a\ndir \xc3\xa4\ndir B\n", Want::Printed(b"dir B\ndir a\ndir \xc3\xa4\n")),
+    (
+        b"dir b\nfile 0 a\n\ndir b/c\ndir aa\n",
+        Want::Printed(b"file 0 a\n\ndir aa\ndir b\ndir b/c\n"),
+    ),
+    (
+        b"dir a\ndir \xc3\xa4\ndir B\n",
+        Want::Printed(b"dir B\ndir a\ndir \xc3\xa4\n"),
+    ),
     // the first name of a file is its record
     (b"file 1 a\nx\nhard 1 b\na\n", Want::Itself),
-    (b"file 1 b\nx\nhard 1 a\nb\n", Want::Printed(b"file 1 a\nx\nhard 1 b\na\n")),
-    (b"dir d\nfile 1 d/a\nx\nhard 3 b\nd/a\n", Want::Printed(b"file 1 b\nx\ndir d\nhard 1 d/a\nb\n")),
+    (
+        b"file 1 b\nx\nhard 1 a\nb\n",
+        Want::Printed(b"file 1 a\nx\nhard 1 b\na\n"),
+    ),
+    (
+        b"dir d\nfile 1 d/a\nx\nhard 3 b\nd/a\n",
+        Want::Printed(b"file 1 b\nx\ndir d\nhard 1 d/a\nb\n"),
+    ),
     (b"file 1 a%25\nx\nhard 4 b\na%25\n", Want::Itself),
     // a `hard` record is of a `file` record alone
     (b"file 1 a\nx\nhard 1 b\na\nhard 1 c\nb\n", Want::At(22)),
@@ -135,13 +150,49 @@ struct Long {
 
 // In a tree with directories `d` and `d/d` and so on, each name one byte, 500 deep.
 const LONG: &[Long] = &[
-    Long { front: b"dir ", piece: b"n", times: 255, end: b"\n", want: Want::Itself },
-    Long { front: b"dir ", piece: b"n", times: 256, end: b"\n", want: Want::At(0) },
+    Long {
+        front: b"dir ",
+        piece: b"n",
+        times: 255,
+        end: b"\n",
+        want: Want::Itself,
+    },
+    Long {
+        front: b"dir ",
+        piece: b"n",
+        times: 256,
+        end: b"\n",
+        want: Want::At(0),
+    },
     // 255 escapes are a name of 255 bytes
-    Long { front: b"dir ", piece: b"%25", times: 255, end: b"\n", want: Want::Itself },
-    Long { front: b"dir ", piece: b"%25", times: 256, end: b"\n", want: Want::At(0) },
-    Long { front: b"link 1024 l\n", piece: b"x", times: 1024, end: b"\n", want: Want::Itself },
-    Long { front: b"link 1025 l\n", piece: b"x", times: 1025, end: b"\n", want: Want::At(0) },
+    Long {
+        front: b"dir ",
+        piece: b"%25",
+        times: 255,
+        end: b"\n",
+        want: Want::Itself,
+    },
+    Long {
+        front: b"dir ",
+        piece: b"%25",
+        times: 256,
+        end: b"\n",
+        want: Want::At(0),
+    },
+    Long {
+        front: b"link 1024 l\n",
+        piece: b"x",
+        times: 1024,
+        end: b"\n",
+        want: Want::Itself,
+    },
+    Long {
+        front: b"link 1025 l\n",
+        piece: b"x",
+        times: 1025,
+        end: b"\n",
+        want: Want::At(0),
+    },
 ];
 
 fn long_document(alloc: Global, row: &Long) -> Result<Vec<u8>, AllocError> {
@@ -249,7 +300,12 @@ fn symlink_of_two_names(alloc: Global) -> Result<bool, AllocError> {
     if made != Answer::Done || linked != Answer::Done {
         return Ok(false);
     }
-    prints(alloc, &tree, b"", Want::Printed(b"link 1 a\nx\nlink 1 b\nx\n"))
+    prints(
+        alloc,
+        &tree,
+        b"",
+        Want::Printed(b"link 1 a\nx\nlink 1 b\nx\n"),
+    )
 }
 
 #[test]

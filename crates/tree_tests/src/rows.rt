@@ -19,21 +19,54 @@ const PATHS_STAY_BELOW: Acts = &[
     (Act::Symlink(1, b"l", 4, b"../.."), DONE),
     (Act::Symlink(2, b"l", 5, b"/b"), DONE),
     (Act::File(0, b"x", 6), DONE),
-    (Act::Walk(1, b"a/../../x", Follow), Answer::Lost(WalkFault::Outside(2))),
-    (Act::Walk(1, b"/etc", Follow), Answer::Lost(WalkFault::Outside(0))),
-    (Act::Walk(1, b"/", Parent), Answer::Lost(WalkFault::Outside(0))),
-    (Act::Walk(1, b"//", NoFollow), Answer::Lost(WalkFault::Outside(0))),
-    (Act::Walk(1, b"l", Follow), Answer::Lost(WalkFault::Outside(0))),
-    (Act::Walk(1, b"a/../l/x", NoFollow), Answer::Lost(WalkFault::Outside(2))),
+    (
+        Act::Walk(1, b"a/../../x", Follow),
+        Answer::Lost(WalkFault::Outside(2)),
+    ),
+    (
+        Act::Walk(1, b"/etc", Follow),
+        Answer::Lost(WalkFault::Outside(0)),
+    ),
+    (
+        Act::Walk(1, b"/", Parent),
+        Answer::Lost(WalkFault::Outside(0)),
+    ),
+    (
+        Act::Walk(1, b"//", NoFollow),
+        Answer::Lost(WalkFault::Outside(0)),
+    ),
+    (
+        Act::Walk(1, b"l", Follow),
+        Answer::Lost(WalkFault::Outside(0)),
+    ),
+    (
+        Act::Walk(1, b"a/../l/x", NoFollow),
+        Answer::Lost(WalkFault::Outside(2)),
+    ),
     (Act::Walk(1, b"l", NoFollow), Answer::Is(4)),
-    (Act::Walk(1, b"a/l", Follow), Answer::Lost(WalkFault::Outside(1))),
+    (
+        Act::Walk(1, b"a/l", Follow),
+        Answer::Lost(WalkFault::Outside(1)),
+    ),
     (Act::Walk(1, b"a/l", NoFollow), Answer::Is(5)),
     (Act::Walk(1, b"a/../b", Follow), Answer::Is(3)),
-    (Act::Walk(1, b"..", Follow), Answer::Lost(WalkFault::Outside(0))),
-    (Act::Walk(1, b"../d/b", Parent), Answer::Lost(WalkFault::Outside(0))),
+    (
+        Act::Walk(1, b"..", Follow),
+        Answer::Lost(WalkFault::Outside(0)),
+    ),
+    (
+        Act::Walk(1, b"../d/b", Parent),
+        Answer::Lost(WalkFault::Outside(0)),
+    ),
     (Act::Walk(0, b"d/../x", Follow), Answer::Is(6)),
-    (Act::Walk(1, b"q/..", Follow), Answer::Lost(WalkFault::NoEntry)),
-    (Act::Walk(1, b"b/..", Follow), Answer::Lost(WalkFault::NotDir)),
+    (
+        Act::Walk(1, b"q/..", Follow),
+        Answer::Lost(WalkFault::NoEntry),
+    ),
+    (
+        Act::Walk(1, b"b/..", Follow),
+        Answer::Lost(WalkFault::NotDir),
+    ),
     (Act::Walk(1, b"b/", Follow), Answer::Lost(WalkFault::NotDir)),
     (Act::Walk(1, b"", Follow), Answer::Lost(WalkFault::NoEntry)),
 ];
@@ -57,16 +90,31 @@ const PATHS_ARE_WALKED: Acts = &[
     (Act::Walk(0, b"s/", NoFollow), Answer::Is(2)),
     (Act::Walk(0, b"s/f", NoFollow), Answer::Is(3)),
     (Act::Walk(0, b"t", Follow), Answer::Is(3)),
-    (Act::Walk(0, b"t/x", Follow), Answer::Lost(WalkFault::NotDir)),
+    (
+        Act::Walk(0, b"t/x", Follow),
+        Answer::Lost(WalkFault::NotDir),
+    ),
     (Act::Walk(0, b"s/up", Follow), Answer::Is(3)),
     (Act::Walk(0, b"s/../b/f", Follow), Answer::Is(3)),
-    (Act::Walk(1, b"b/up", Follow), Answer::Lost(WalkFault::Outside(1))),
+    (
+        Act::Walk(1, b"b/up", Follow),
+        Answer::Lost(WalkFault::Outside(1)),
+    ),
     (Act::Walk(0, b"a/new", Follow), Answer::Absent(1, 2, 3)),
     (Act::Walk(0, b"a//new", Follow), Answer::Absent(1, 3, 3)),
     (Act::Walk(0, b"s/new", NoFollow), Answer::Absent(2, 2, 3)),
-    (Act::Walk(0, b"a/new/", Follow), Answer::Lost(WalkFault::NoEntry)),
-    (Act::Walk(0, b"new/x", Follow), Answer::Lost(WalkFault::NoEntry)),
-    (Act::Walk(0, b"gone", Follow), Answer::Lost(WalkFault::NoEntry)),
+    (
+        Act::Walk(0, b"a/new/", Follow),
+        Answer::Lost(WalkFault::NoEntry),
+    ),
+    (
+        Act::Walk(0, b"new/x", Follow),
+        Answer::Lost(WalkFault::NoEntry),
+    ),
+    (
+        Act::Walk(0, b"gone", Follow),
+        Answer::Lost(WalkFault::NoEntry),
+    ),
     (Act::Walk(0, b"gone", NoFollow), Answer::Is(7)),
     (Act::Walk(0, b"a/b/f", Parent), Answer::Last(2, 4, 1)),
     (Act::Walk(0, b"a/b/new", Parent), Answer::Last(2, 4, 3)),
@@ -74,7 +122,10 @@ const PATHS_ARE_WALKED: Acts = &[
     (Act::Walk(0, b"s", Parent), Answer::Last(0, 0, 1)),
     (Act::Walk(0, b"a/b/", Parent), Answer::Last(2, 4, 0)),
     (Act::Walk(0, b"a/..", Parent), Answer::Last(1, 2, 2)),
-    (Act::Walk(0, b"t/x", Parent), Answer::Lost(WalkFault::NotDir)),
+    (
+        Act::Walk(0, b"t/x", Parent),
+        Answer::Lost(WalkFault::NotDir),
+    ),
 ];
 
 // Symlinks that lead to each other.
@@ -84,7 +135,10 @@ const LINKS_END: Acts = &[
     (Act::Symlink(0, b"self", 3, b"self/x"), DONE),
     (Act::Walk(0, b"p", Follow), Answer::Lost(WalkFault::Loop)),
     (Act::Walk(0, b"p", NoFollow), Answer::Is(1)),
-    (Act::Walk(0, b"p/x", NoFollow), Answer::Lost(WalkFault::Loop)),
+    (
+        Act::Walk(0, b"p/x", NoFollow),
+        Answer::Lost(WalkFault::Loop),
+    ),
     (Act::Walk(0, b"self", Follow), Answer::Lost(WalkFault::Loop)),
 ];
 
@@ -98,9 +152,15 @@ const NAMES_ARE_COUNTED: Acts = &[
     (Act::Link(1, b"g", 2), DONE),
     (Act::Links(2), Answer::Is(2)),
     (Act::Link(1, b"g", 2), Answer::Refused(TreeFault::Taken)),
-    (Act::Link(1, b"h", 1), Answer::Refused(TreeFault::IsDirectory)),
+    (
+        Act::Link(1, b"h", 1),
+        Answer::Refused(TreeFault::IsDirectory),
+    ),
     (Act::Link(1, b"h", 9), Answer::Refused(TreeFault::Absent)),
-    (Act::Link(2, b"h", 2), Answer::Refused(TreeFault::NotDirectory)),
+    (
+        Act::Link(2, b"h", 2),
+        Answer::Refused(TreeFault::NotDirectory),
+    ),
     (Act::Link(9, b"h", 2), Answer::Refused(TreeFault::Absent)),
     (Act::File(1, b"g", 3), Answer::Refused(TreeFault::Taken)),
     (Act::Links(3), Answer::Nothing),
@@ -133,15 +193,36 @@ const NAMES_ARE_MOVED: Acts = &[
     (Act::Directory(0, b"e", 3), DONE),
     (Act::File(0, b"f", 4), DONE),
     (Act::File(0, b"g", 5), DONE),
-    (Act::Rename(0, b"a", 2, b"c"), Answer::Refused(TreeFault::Below)),
-    (Act::Rename(0, b"a", 1, b"c"), Answer::Refused(TreeFault::Below)),
+    (
+        Act::Rename(0, b"a", 2, b"c"),
+        Answer::Refused(TreeFault::Below),
+    ),
+    (
+        Act::Rename(0, b"a", 1, b"c"),
+        Answer::Refused(TreeFault::Below),
+    ),
     (Act::Unlink(0, b"a"), Answer::Refused(TreeFault::NotEmpty)),
     (Act::Entry(0, b"a"), Answer::Is(1)),
-    (Act::Rename(0, b"none", 1, b"c"), Answer::Refused(TreeFault::Absent)),
-    (Act::Rename(0, b"f", 4, b"c"), Answer::Refused(TreeFault::NotDirectory)),
-    (Act::Rename(0, b"e", 0, b"f"), Answer::Refused(TreeFault::NotDirectory)),
-    (Act::Rename(0, b"f", 0, b"e"), Answer::Refused(TreeFault::IsDirectory)),
-    (Act::Rename(0, b"e", 0, b"a"), Answer::Refused(TreeFault::NotEmpty)),
+    (
+        Act::Rename(0, b"none", 1, b"c"),
+        Answer::Refused(TreeFault::Absent),
+    ),
+    (
+        Act::Rename(0, b"f", 4, b"c"),
+        Answer::Refused(TreeFault::NotDirectory),
+    ),
+    (
+        Act::Rename(0, b"e", 0, b"f"),
+        Answer::Refused(TreeFault::NotDirectory),
+    ),
+    (
+        Act::Rename(0, b"f", 0, b"e"),
+        Answer::Refused(TreeFault::IsDirectory),
+    ),
+    (
+        Act::Rename(0, b"e", 0, b"a"),
+        Answer::Refused(TreeFault::NotEmpty),
+    ),
     (Act::Rename(0, b"f", 0, b"g"), Answer::Is(5)),
     (Act::Entry(0, b"f"), Answer::Nothing),
     (Act::Entry(0, b"g"), Answer::Is(4)),
@@ -154,15 +235,24 @@ const NAMES_ARE_MOVED: Acts = &[
     (Act::Links(4), Answer::Is(2)),
     (Act::Rename(1, b"b", 3, b"b"), Answer::Nothing),
     (Act::Walk(0, b"e/b/..", Follow), Answer::Is(3)),
-    (Act::Rename(0, b"e", 2, b"x"), Answer::Refused(TreeFault::Below)),
+    (
+        Act::Rename(0, b"e", 2, b"x"),
+        Answer::Refused(TreeFault::Below),
+    ),
     (Act::Rename(0, b"a", 2, b"x"), Answer::Nothing),
     (Act::Walk(0, b"e/b/x/h", Follow), Answer::Is(4)),
-    (Act::Rename(0, b"e", 1, b"y"), Answer::Refused(TreeFault::Below)),
+    (
+        Act::Rename(0, b"e", 1, b"y"),
+        Answer::Refused(TreeFault::Below),
+    ),
     (Act::Directory(0, b"z", 6), DONE),
     (Act::Directory(0, b"w", 7), DONE),
     (Act::Rename(0, b"w", 0, b"z"), Answer::Is(6)),
     (Act::Links(6), Answer::Is(0)),
-    (Act::Rename(0, b"z", 6, b"n"), Answer::Refused(TreeFault::Absent)),
+    (
+        Act::Rename(0, b"z", 6, b"n"),
+        Answer::Refused(TreeFault::Absent),
+    ),
 ];
 
 // Names stand in the order of their bytes.
@@ -197,8 +287,14 @@ const BYTES_ARE_KEPT: Acts = &[
     (Act::Read(1, 0, 100, b"aX\0\0"), DONE),
     (Act::Write(1, 1000, b""), Answer::Is(0)),
     (Act::Read(1, 0, 100, b"aX\0\0"), DONE),
-    (Act::Size(1, 67_108_865), Answer::Refused(TreeFault::TooLarge)),
-    (Act::Write(1, 67_108_864, b"x"), Answer::Refused(TreeFault::TooLarge)),
+    (
+        Act::Size(1, 67_108_865),
+        Answer::Refused(TreeFault::TooLarge),
+    ),
+    (
+        Act::Write(1, 67_108_864, b"x"),
+        Answer::Refused(TreeFault::TooLarge),
+    ),
     (Act::Write(1, 67_108_864, b""), Answer::Is(0)),
     (Act::Write(1, 67_108_862, b"xyz"), Answer::Is(2)),
     (Act::Read(1, 67_108_861, 100, b"\0xy"), DONE),

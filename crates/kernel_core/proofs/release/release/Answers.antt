@@ -1,4 +1,4 @@
-use Rattle.std.proofs.Common.{◌≡◌, ap, refl, sym, subst, ◌∙◌}
+use Rattle.std.proofs.Common.{◌≡◌, ap, refl, ◌∙◌}
 use Rattle.std.specs.Option.{is_some}
 use Rattle.object_store.proofs.Unheld.{none_popped}
 use Rattle.object_store.specs.Objects.{unheld_removed}

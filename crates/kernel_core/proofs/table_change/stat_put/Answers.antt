@@ -1,11 +1,9 @@
-use Rattle.std.proofs.Common.{◌≡◌, ℕ, ◌+◌, ◌==◌, cond, Some, sym, ap, ◌∙◌}
-use Rattle.std.specs.Prelude.{bit_and}
+use Rattle.std.proofs.Common.{◌≡◌, ℕ, ◌+◌, cond, Some, sym, ap, ◌∙◌}
 use Rattle.std.specs.FinMap.{get, insert}
 use Rattle.number_map.specs.Maps.{number}
 use Rattle.object_store.specs.Objects.{Held}
 use Rattle.kernel_model.specs.DescriptorCalls.{lowered_to}
 use Rattle.kernel_model.specs.Release.{count_in}
-use Rattle.kernel_model.specs.State.{Table}
 use Rattle.kernel_core.proofs.Counts.{same_counted}
 use Rattle.kernel_core.proofs.StatPuts.{is_zero, lowered_is, not_zero, stat_table}
 use Rattle.kernel_core.proofs.table_change.stat_put.Goals as goal

@@ -1,8 +1,7 @@
-use Rattle.std.proofs.Common.{◌≡◌, ℕ, ◌^◌, ◌<◌, ◌==◌, not, List, Some, is_some, refl, sym, ap, subst, ◌∙◌}
+use Rattle.std.proofs.Common.{◌≡◌, ℕ, ◌^◌, ◌<◌, ◌==◌, not, List, Some, is_some, sym, ap, subst, ◌∙◌}
 use Rattle.std.specs.Ordering.{nat_cmp}
-use Rattle.std.specs.FinMap.{FinMap, empty, get, insert, retain_keys}
+use Rattle.std.specs.FinMap.{FinMap, get, insert, retain_keys}
 use Rattle.abi_types.specs.declared.open_kind.OpenKind.{OpenKind}
-use Rattle.abi_types.specs.declared.reply.Answer.TheVariants as answer
 use Rattle.number_map.specs.Maps.{number, total, insert_self}
 use Rattle.fd_table.specs.Sizes.{below-insert_again}
 use Rattle.fd_table.specs.Table.{IsTable}
