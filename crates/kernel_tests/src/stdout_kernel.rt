@@ -1,5 +1,5 @@
 //! A kernel whose process has one descriptor, of stdout, and calls of its first thread.
-ghost use Rattle.std.specs.Prelude.{IfOk, IsTrue};
+ghost use Rattle.std.specs.Prelude.{◌≡◌, IfOk, IsTrue};
 ghost use Rattle.tree_model.specs.Grants.{AreGrants, MayBegin};
 ghost use Rattle.tree_model.specs.Tree.{Tree};
 ghost use Rattle.abi_base.specs.Rights.{has_all};

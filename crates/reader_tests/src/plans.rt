@@ -7,6 +7,7 @@ use file_tree::Tree;
 use launch_plan::{PlanFault, Planned, plan};
 use launch_yaml::parse;
 use std::alloc::Global;
+use std::test::Fail;
 
 // What a descriptor is of: a standard stream, or a node by its number.
 #[derive(Clone, Copy, Debug, PartialEq, Eq)]
@@ -286,8 +287,8 @@ fn sizes(alloc: Global, tree: &Tree, text: &str) -> Option<Result<(usize, usize)
 }
 
 #[test]
-fn plans(rt: HostRuntime) {
-    let tree = plan_tree(rt.alloc()).unwrap();
+fn plans(rt: HostRuntime) -> Result<(), Fail> {
+    let tree = plan_tree(rt.alloc())?;
     for (text, argdata, grants) in PLANS {
         assert!(rt; gives(rt.alloc(), &tree, text, argdata, grants), "{text:?}");
     }
@@ -298,6 +299,7 @@ fn plans(rt: HostRuntime) {
             "{text:?}"
         );
     }
+    Ok(())
 }
 
 // The plan of a `!file` node with this value.
@@ -323,8 +325,8 @@ fn file_grant(alloc: Global, tree: &Tree, value: &str) -> Option<Result<Given, P
 }
 
 #[test]
-fn files(rt: HostRuntime) {
-    let tree = plan_tree(rt.alloc()).unwrap();
+fn files(rt: HostRuntime) -> Result<(), Fail> {
+    let tree = plan_tree(rt.alloc())?;
     for (value, node, base, inheriting) in FILES {
         let want = Given {
             source: Source::Node(id(*node).0),
@@ -344,6 +346,7 @@ fn files(rt: HostRuntime) {
             "{value:?}"
         );
     }
+    Ok(())
 }
 
 // The sizes of a long launch text.
@@ -359,8 +362,8 @@ fn sizes_of(
 }
 
 #[test]
-fn limits(rt: HostRuntime) {
-    let tree = plan_tree(rt.alloc()).unwrap();
+fn limits(rt: HostRuntime) -> Result<(), Fail> {
+    let tree = plan_tree(rt.alloc())?;
     for (row, (parts, want)) in LIMITS.iter().enumerate() {
         assert_eq!(rt;
             sizes_of(rt.alloc(), &tree, parts),
@@ -368,4 +371,5 @@ fn limits(rt: HostRuntime) {
             "row {row}"
         );
     }
+    Ok(())
 }

@@ -108,6 +108,8 @@ const ROWS: &[Row] = &[
     },
 ];
 
+const WITH_TREE: &[&str] = &["run", "--tree=tree", "p"];
+
 // The report of a row.
 fn report_of(alloc: Global, row: &Row) -> Result<Vec<u8>, Fail> {
     let head = format!(in alloc;
@@ -128,7 +130,7 @@ fn report_of(alloc: Global, row: &Row) -> Result<Vec<u8>, Fail> {
 
 fn check_row(rt: &impl Abort, alloc: Global, row: &Row) -> Result<(), Fail> {
     let program = program_of(alloc, row.guest)?;
-    let mut given = Given::new(&["run", "--tree=tree", "p"], &program, row.text.as_bytes());
+    let mut given = Given::new(WITH_TREE, &program, row.text.as_bytes());
     given.tree = row.tree;
     let status = if row.exit == 0 { 0 } else { 1 };
     let report = report_of(alloc, row)?;

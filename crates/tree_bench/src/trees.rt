@@ -1,4 +1,7 @@
 //! Trees, and what is done with them.
+ghost use Rattle.std.specs.Prelude.{◌≡◌, ◌<◌};
+ghost use Rattle.tree_model.specs.Changes.{is_file};
+
 use abi_types::{Bytes, Node, NodeKind, ObjId, Times};
 use file_tree::Tree;
 use path_lookup::{End, WalkMode, walk};
@@ -58,29 +61,39 @@ pub fn deep(alloc: Global) -> Result<Tree, TreeFault> {
 pub fn walk_down(tree: &Tree) -> bool {
     let path = b"directory/directory/directory/directory/directory/directory/directory/file";
     match walk(tree, ObjId(ROOT), path, WalkMode::Follow) {
-        Ok(End::Found(id)) => id.0 == ROOT + 8,
-        _ => false,
+        Ok(end) => is_last_file(&end),
+        Err(_) => false,
+    }
+}
+
+fn is_last_file(end: &End) -> bool {
+    match end {
+        End::Found(id) => id.0 == ROOT + 8,
+        End::Absent { .. } | End::Last { .. } => false,
     }
 }
 
 /// A file of 64 MiB, its number the one behind the root's.
 pub fn large(alloc: Global) -> Result<Tree, TreeFault> {
     let mut tree = Tree::new(alloc, TIMES)?;
+    let id = ObjId(ROOT + 1);
     make(
         &mut tree,
         ObjId(ROOT),
         b"file",
-        ObjId(ROOT + 1),
+        id,
         NodeKind::File(Bytes::new(alloc)),
     )?;
-    if is_file(&tree) {
-        tree.set_size(ObjId(ROOT + 1), 67_108_864)?;
+    if is_file(&tree, id) {
+        tree.set_size(id, 67_108_864)?;
     }
     Ok(tree)
 }
 
-fn is_file(tree: &Tree) -> bool {
-    match tree.node(ObjId(ROOT + 1)) {
+fn is_file(tree: &Tree, id: ObjId) -> bool
+    ensures { result ≡ is_file tree.now id }
+{
+    match tree.node(id) {
         Some(node) => matches!(node.kind, NodeKind::File(_)),
         None => false,
     }
@@ -88,11 +101,12 @@ fn is_file(tree: &Tree) -> bool {
 
 /// Writes 4 KiB over a piece of the file.
 pub fn overwrite(tree: &mut Tree, turn: u32) -> Result<(), TreeFault> {
-    if !is_file(tree) {
+    let id = ObjId(ROOT + 1);
+    if !is_file(tree, id) {
         return Err(TreeFault::Absent);
     }
     let at = u64::from(turn % PIECES) * PIECE as u64;
-    tree.write_at(ObjId(ROOT + 1), at, &[7; PIECE])?;
+    tree.write_at(id, at, &[7; PIECE])?;
     Ok(())
 }
 

@@ -1,4 +1,8 @@
 //! What is done with a tree, and what it answers.
+ghost use Rattle.std.specs.Prelude.{◌≡◌, IsTrue};
+ghost use Rattle.tree_model.specs.Changes.{is_file};
+ghost use Rattle.tree_model.specs.Tree.{links_of};
+
 use abi_types::{Bytes, Node, NodeKind, ObjId, Times};
 use file_tree::Tree;
 use path_lookup::{End, WalkFault, WalkMode, walk};
@@ -91,7 +95,8 @@ fn of_node(node: Option<ObjId>) -> Answer {
 }
 
 fn make(tree: &mut Tree, dir: u16, name: &[u8], made: u16, kind: NodeKind) -> Answer {
-    if tree.node(id(made)).is_some() {
+    let made = id(made);
+    if tree.node(made).is_some() {
         return Answer::Other;
     }
     let node = Node {
@@ -99,7 +104,7 @@ fn make(tree: &mut Tree, dir: u16, name: &[u8], made: u16, kind: NodeKind) -> An
         times: TIMES,
         links: 7,
     };
-    of_change(tree.make(id(dir), name, id(made), node))
+    of_change(tree.make(id(dir), name, made, node))
 }
 
 fn symlink(
@@ -144,7 +149,9 @@ fn name_at(tree: &Tree, dir: u16, place: u64) -> Answer {
     }
 }
 
-fn is_file(tree: &Tree, node: ObjId) -> bool {
+fn is_file(tree: &Tree, node: ObjId) -> bool
+    ensures { result ≡ is_file tree.now node }
+{
     match tree.node(node) {
         Some(node) => matches!(node.kind, NodeKind::File(_)),
         None => false,
@@ -178,21 +185,38 @@ fn read(tree: &Tree, node: u16, at: u64, most: u32, want: &[u8]) -> Answer {
     }
 }
 
+// Whether there is the node, and it has no name.
+fn has_no_name(tree: &Tree, node: ObjId) -> bool
+    ensures { IsTrue result → links_of tree.now node ≡ 0 }
+{
+    match tree.node(node) {
+        Some(node) => node.links == 0,
+        None => false,
+    }
+}
+
 fn forget(tree: &mut Tree, node: u16) -> Answer {
-    if links(tree, node) != Answer::Is(0) {
+    let node = id(node);
+    if !has_no_name(tree, node) {
         return Answer::Other;
     }
-    tree.forget(id(node));
+    tree.forget(node);
     Answer::Done
 }
 
 /// Where a walk ends.
 pub fn walked(tree: &Tree, start: u16, path: &[u8], mode: WalkMode) -> Answer {
     match walk(tree, id(start), path, mode) {
-        Ok(End::Found(node)) => number(node),
-        Ok(End::Absent { dir, from, len }) => place(dir, from, len, false),
-        Ok(End::Last { dir, from, len }) => place(dir, from, len, true),
+        Ok(end) => of_end(&end),
         Err(fault) => Answer::Lost(fault),
+    }
+}
+
+fn of_end(end: &End) -> Answer {
+    match end {
+        End::Found(node) => number(*node),
+        End::Absent { dir, from, len } => place(*dir, *from, *len, false),
+        End::Last { dir, from, len } => place(*dir, *from, *len, true),
     }
 }
 

@@ -1,4 +1,6 @@
 //! How long paths and names may be, and how many names a file may have.
+ghost use Rattle.std.specs.Prelude.{◌<◌};
+
 use crate::acts::{Act, Answer, TIMES, act_on, walked};
 use abi_types::{Bytes, Node, NodeKind, ObjId};
 use file_tree::Tree;
