@@ -36,6 +36,7 @@ const CLOSE: &str = "
 
 // What a run is given, and what it comes to: the guest, a launch text, a tree document, the exit code, the denials and the final
 // tree with its number of records.
+#[derive(Clone, Copy)]
 struct Row {
     guest: &'static str,
     text: &'static str,
@@ -111,7 +112,7 @@ const ROWS: &[Row] = &[
 const WITH_TREE: &[&str] = &["run", "--tree=tree", "p"];
 
 // The report of a row.
-fn report_of(alloc: Global, row: &Row) -> Result<Vec<u8>, Fail> {
+fn report_of(alloc: Global, row: Row) -> Result<Vec<u8>, Fail> {
     let head = format!(in alloc;
         "== stdout 0\n== stderr 0\n== status exit {}\n== run ended\n== denials {}\n",
         row.exit,
@@ -128,7 +129,7 @@ fn report_of(alloc: Global, row: &Row) -> Result<Vec<u8>, Fail> {
     Ok(report)
 }
 
-fn check_row(rt: &impl Abort, alloc: Global, row: &Row) -> Result<(), Fail> {
+fn check_row(rt: &impl Abort, alloc: Global, row: Row) -> Result<(), Fail> {
     let program = program_of(alloc, row.guest)?;
     let mut given = Given::new(WITH_TREE, &program, row.text.as_bytes());
     given.tree = row.tree;
@@ -140,7 +141,7 @@ fn check_row(rt: &impl Abort, alloc: Global, row: &Row) -> Result<(), Fail> {
 
 #[test]
 fn gives_files_and_prints_the_tree(rt: HostRuntime) -> Result<(), Fail> {
-    for row in ROWS {
+    for &row in ROWS {
         check_row(&rt, rt.alloc(), row)?;
     }
     Ok(())
