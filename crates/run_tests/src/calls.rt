@@ -26,14 +26,24 @@ pub(crate) struct Given<'a> {
 }
 
 impl<'a> Given<'a> {
-    // No read and no write fails, and `input` has ten bytes.
+    // No read and no write fails, `input` has ten bytes, and `tree` has a file.
     pub(crate) fn new(words: &'a [&'a str], program: &'a [u8], text: &'a [u8]) -> Given<'a> {
+        Given::over(words, program, text, b"file 3 a\nabc\n")
+    }
+
+    // The same with another tree document.
+    pub(crate) fn over(
+        words: &'a [&'a str],
+        program: &'a [u8],
+        text: &'a [u8],
+        tree: &'a [u8],
+    ) -> Given<'a> {
         Given {
             words,
             program,
             input: b"some input",
             text,
-            tree: b"file 3 a\nabc\n",
+            tree,
             failing_reads: &[],
             failing_writes: &[],
         }

@@ -92,8 +92,7 @@ const WITH_TREE: &[&str] = &["run", "--tree=tree", "p"];
 fn gives_files_and_prints_the_tree(rt: HostRuntime) -> Result<(), Fail> {
     for &(guest, text, tree, status, report) in RUNS {
         let program = program_of(rt.alloc(), guest)?;
-        let mut given = Given::new(WITH_TREE, &program, text.as_bytes());
-        given.tree = tree;
+        let given = Given::over(WITH_TREE, &program, text.as_bytes(), tree);
         check(&rt, rt.alloc(), &given, status, report)?;
     }
     Ok(())
