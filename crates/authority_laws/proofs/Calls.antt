@@ -21,12 +21,18 @@ use Rattle.abi_types.specs.declared.who.Who.{Who}
 use Rattle.number_map.specs.Maps.{get-insert-same}
 use Rattle.kernel_model.specs.Calls.{meaning_of, refusal_of}
 use Rattle.kernel_model.specs.DescriptorCalls.{with_table, lowest_free, dup_at, dup_of, replaced_by, stat_open, stat_get, with_flags, lowered_to, stat_set, stat_put}
+use Rattle.kernel_model.specs.ClockCalls.{real_time}
+use Rattle.kernel_model.specs.FileCalls.{file_meaning, opened_fd}
+use Rattle.kernel_model.specs.FileMeaning.{on_open, open_of}
+use Rattle.kernel_model.specs.Meaning.{Meaning}
 use Rattle.kernel_model.specs.Outcome.{Outcome, replies}
 use Rattle.kernel_model.specs.Reply.{refused, success}
 use Rattle.kernel_model.specs.State.{State, Table, put_all, set_open, set_table}
 use Rattle.kernel_model.specs.StreamCalls.{write_term, write_open, write_to, read_term, read_open, read_from}
 use Rattle.kernel_model.specs.MemoryCalls.{map_file, map_zeros, mem_map}
 use Rattle.kernel_model.specs.View.{View}
+use Rattle.kernel_model.proofs.FileCalls.{on_open_of}
+use Rattle.kernel_model.proofs.FileMeanings.{tree_tables}
 use Rattle.kernel_model.proofs.Refusals.{refusal_is_other}
 use Rattle.authority_laws.specs.Ledger.{Row, with_held, lowered_row, granted_row, by_success, answered_row}
 use Rattle.authority_laws.proofs.Rows.{row_in, row_of, row_emptied, row_inserted, row_removed, by_error, by_either}
@@ -123,6 +129,15 @@ mem_map_told : (place : Place) (length prot flags fd offset : ℕ) → IsTold (M
 mem_map_told place length prot flags fd offset constants S v who table there =
     kept S who.pid (MemMap place length prot flags fd offset) ((mem_map place prot flags fd).does constants v who table) (λ row reply. refl)
     (map_kept S constants v who table (bit_and flags 1 == 1) place fd prot)
+
+-- a call that works on the open of a descriptor: it changes the file tree alone
+file_told : (called : Call) (fd : ℕ) → GrantsNothing called → opened_fd called ≡ Some fd → IsTold called
+file_told called fd nothing is constants S v who table there =
+    let on = on_open_of called fd is in
+    let o : Outcome = (on_open on.row (file_meaning called)).does constants v who table in
+    subst (λ (m : Meaning). LeavesRow S who.pid called (m.does constants v who table)) (sym on.means)
+    (kept S who.pid called o nothing
+    (tree_tables o.updates S (on.well.tree (real_time constants v.clock) v.branch (open_of v (get table on.row.fd)))))
 
 -- a call that answers this error, and nothing else
 decided_told : (call : Call) (errno : Errno) (S : State) (p : ℕ) → GrantsNothing call → LeavesRow S p call (replies (refused errno))
@@ -235,18 +250,18 @@ told (call.FdStatGet fd) = fd_stat_get_told fd
 told (call.FdStatPut fd stat flags) = fd_stat_put_told fd stat flags
 told (call.FdSync fd) = nothing_told (call.FdSync fd) (λ row reply. refl) (λ constants v who table. refl)
 told (call.FdWrite fd bytes) = fd_write_told fd bytes
-told (call.FileAdvise fd offset length advice) = unbuilt_told (call.FileAdvise fd offset length advice) (λ row reply. refl) (λ constants v who table. refl)
-told (call.FileAllocate fd offset length) = unbuilt_told (call.FileAllocate fd offset length) (λ row reply. refl) (λ constants v who table. refl)
+told (call.FileAdvise fd offset length advice) = nothing_told (call.FileAdvise fd offset length advice) (λ row reply. refl) (λ constants v who table. refl)
+told (call.FileAllocate fd offset length) = file_told (call.FileAllocate fd offset length) fd (λ row reply. refl) refl
 told (call.FileCreate fd path kind) = unbuilt_told (call.FileCreate fd path kind) (λ row reply. refl) (λ constants v who table. refl)
 told (call.FileLink lookup path new_fd new_path) = unbuilt_told (call.FileLink lookup path new_fd new_path) (λ row reply. refl) (λ constants v who table. refl)
 told (call.FileOpen lookup path oflags stat) = unbuilt_told (call.FileOpen lookup path oflags stat) (λ row reply. refl) (λ constants v who table. refl)
-told (call.FileReaddir fd length cookie) = unbuilt_told (call.FileReaddir fd length cookie) (λ row reply. refl) (λ constants v who table. refl)
-told (call.FileReadlink fd path length) = unbuilt_told (call.FileReadlink fd path length) (λ row reply. refl) (λ constants v who table. refl)
+told (call.FileReaddir fd length cookie) = file_told (call.FileReaddir fd length cookie) fd (λ row reply. refl) refl
+told (call.FileReadlink fd path length) = file_told (call.FileReadlink fd path length) fd (λ row reply. refl) refl
 told (call.FileRename fd path new_fd new_path) = unbuilt_told (call.FileRename fd path new_fd new_path) (λ row reply. refl) (λ constants v who table. refl)
-told (call.FileStatFget fd) = unbuilt_told (call.FileStatFget fd) (λ row reply. refl) (λ constants v who table. refl)
-told (call.FileStatFput fd stat flags) = unbuilt_told (call.FileStatFput fd stat flags) (λ row reply. refl) (λ constants v who table. refl)
-told (call.FileStatGet lookup path) = unbuilt_told (call.FileStatGet lookup path) (λ row reply. refl) (λ constants v who table. refl)
-told (call.FileStatPut lookup path stat flags) = unbuilt_told (call.FileStatPut lookup path stat flags) (λ row reply. refl) (λ constants v who table. refl)
+told (call.FileStatFget fd) = file_told (call.FileStatFget fd) fd (λ row reply. refl) refl
+told (call.FileStatFput fd stat flags) = file_told (call.FileStatFput fd stat flags) fd (λ row reply. refl) refl
+told (call.FileStatGet lookup path) = file_told (call.FileStatGet lookup path) lookup.fd (λ row reply. refl) refl
+told (call.FileStatPut lookup path stat flags) = file_told (call.FileStatPut lookup path stat flags) lookup.fd (λ row reply. refl) refl
 told (call.FileSymlink text fd path) = unbuilt_told (call.FileSymlink text fd path) (λ row reply. refl) (λ constants v who table. refl)
 told (call.FileUnlink fd path flags) = unbuilt_told (call.FileUnlink fd path flags) (λ row reply. refl) (λ constants v who table. refl)
 told (call.LockUnlock lock word scope) = unbuilt_told (call.LockUnlock lock word scope) (λ row reply. refl) (λ constants v who table. refl)

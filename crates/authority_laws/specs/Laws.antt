@@ -124,7 +124,7 @@ pub record IsReachedByHeld (S : State) (l : Ledger) (tree : Tree) (grants : List
   pub held : l.held p row.fd ≡ Some d
   pub has : has_needed d row ≡ true
   pub granted : ComesFromGrant tree grants d
-  pub reached : has_part (at_open d.id ∷ behind (get S.opens d.id)) part ≡ true
+  pub reached : has_part (at_open d.id ∷ behind S (get S.opens d.id)) part ≡ true
 
 -- the call needs no right at all, and the part is the open of a descriptor that it names, which the ledger says that process p
 -- holds, and which is no more than one of the grants; or it stands behind that open
@@ -135,7 +135,7 @@ pub record IsReachedByNamed (S : State) (l : Ledger) (tree : Tree) (grants : Lis
   pub d : Descriptor
   pub held : l.held p fd ≡ Some d
   pub granted : ComesFromGrant tree grants d
-  pub reached : has_part (at_open d.id ∷ behind (get S.opens d.id)) part ≡ true
+  pub reached : has_part (at_open d.id ∷ behind S (get S.opens d.id)) part ≡ true
 
 -- what a call sees is the clock, its process's own and its status, or it is reached by what the ledger says that its process
 -- holds: with the rights needed, or by name alone where the call needs none

@@ -103,6 +103,17 @@ impl Tree {
         }
     }
 
+    /// How many names there are in a directory, and 0 where there is no such directory.
+    pub fn names_len(&self, dir: ObjId) -> u64
+        ensures names { result ≡ map.len (names_of self.now dir) }
+        ensures small { result < 2 ^ 63 }
+    {
+        match self.names(dir) {
+            Some(names) => names.len() as u64,
+            None => 0,
+        }
+    }
+
     /// The node of a name in a directory, where the directory has that name.
     pub fn entry(&self, dir: ObjId, name: &[u8]) -> Option<ObjId>
         ensures { result ≡ entry_of self.now dir name.now }

@@ -1,8 +1,11 @@
 -- Calls that do no more than answer.
-use Rattle.std.proofs.Common.{◌≢◌, ℕ, List, refl}
+use Rattle.std.proofs.Common.{◌≡◌, ◌≢◌, ℕ, List, None, sym, refl}
 use Rattle.abi_structures.specs.declared.structures.FdStat.{FdStat}
 use Rattle.abi_types.specs.declared.call.Call.{Call}
 use Rattle.abi_types.specs.declared.call.Call.TheVariants.{FdClose, FdDup, FdRead, FdReplace, FdStatGet, FdStatPut, FdWrite, ProcExit}
+use Rattle.abi_types.specs.declared.call.Call.TheVariants.{FileAllocate, FileReaddir, FileReadlink, FileStatFget, FileStatFput, FileStatGet, FileStatPut}
+use Rattle.kernel_model.specs.FileCalls.{opened_fd}
+use Rattle.kernel_model.proofs.Tests.{none_is_no}
 use Rattle.kernel_core.specs.Answering.{DoesMore}
 
 -- the call is none of those that do more
@@ -14,6 +17,7 @@ pub record IsOther (call : Call) : Type 0 where
   pub stat_get : (fd : ℕ) → call ≢ FdStatGet fd
   pub stat_put : (fd : ℕ) (stat : FdStat) (flags : ℕ) → call ≢ FdStatPut fd stat flags
   pub write : (fd : ℕ) (bytes : List ℕ) → call ≢ FdWrite fd bytes
+  pub file : opened_fd call ≡ None
   pub exit : (code : ℕ) → call ≢ ProcExit code
 
 pub no_more : (call : Call) → IsOther call → ¬ DoesMore call
@@ -24,5 +28,12 @@ no_more (FdReplace from to) other h = other.replace from to refl
 no_more (FdStatGet fd) other h = other.stat_get fd refl
 no_more (FdStatPut fd stat flags) other h = other.stat_put fd stat flags refl
 no_more (FdWrite fd bytes) other h = other.write fd bytes refl
+no_more (FileAllocate fd offset length) other h = none_is_no fd (sym other.file)
+no_more (FileReaddir fd length cookie) other h = none_is_no fd (sym other.file)
+no_more (FileReadlink fd path length) other h = none_is_no fd (sym other.file)
+no_more (FileStatFget fd) other h = none_is_no fd (sym other.file)
+no_more (FileStatFput fd stat flags) other h = none_is_no fd (sym other.file)
+no_more (FileStatGet lookup path) other h = none_is_no lookup.fd (sym other.file)
+no_more (FileStatPut lookup path stat flags) other h = none_is_no lookup.fd (sym other.file)
 no_more (ProcExit code) other h = other.exit code refl
 no_more _ other h = h

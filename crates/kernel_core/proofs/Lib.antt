@@ -13,3 +13,4 @@ pub mod Starts
 pub mod Steps
 pub mod Uses
 pub mod Releases
+pub mod FileCalls

@@ -2,3 +2,4 @@ pub mod Kernel
 pub mod Start
 pub mod Answering
 pub mod Changes
+pub mod Files

@@ -44,7 +44,7 @@ pub fn answer_of(call: &Call) -> Reply
     match call {
         Call::MemMap { place, flags, .. } => mapped(*place, *flags),
         Call::Memory { errno, .. } | Call::Refused { errno, .. } => refused(*errno),
-        Call::FdDatasync { .. } | Call::FdSync { .. } => success(0, 0),
+        Call::FdDatasync { .. } | Call::FdSync { .. } | Call::FileAdvise { .. } => success(0, 0),
         Call::FdClose { .. }
         | Call::FdDup { .. }
         | Call::FdRead { .. }
@@ -52,6 +52,13 @@ pub fn answer_of(call: &Call) -> Reply
         | Call::FdStatGet { .. }
         | Call::FdStatPut { .. }
         | Call::FdWrite { .. }
+        | Call::FileAllocate { .. }
+        | Call::FileReaddir { .. }
+        | Call::FileReadlink { .. }
+        | Call::FileStatFget { .. }
+        | Call::FileStatFput { .. }
+        | Call::FileStatGet { .. }
+        | Call::FileStatPut { .. }
         | Call::ProcExit { .. } => unreachable!(),
         Call::ClockResGet { .. }
         | Call::ClockTimeGet { .. }
@@ -61,18 +68,10 @@ pub fn answer_of(call: &Call) -> Reply
         | Call::FdPread { .. }
         | Call::FdPwrite { .. }
         | Call::FdSeek { .. }
-        | Call::FileAdvise { .. }
-        | Call::FileAllocate { .. }
         | Call::FileCreate { .. }
         | Call::FileLink { .. }
         | Call::FileOpen { .. }
-        | Call::FileReaddir { .. }
-        | Call::FileReadlink { .. }
         | Call::FileRename { .. }
-        | Call::FileStatFget { .. }
-        | Call::FileStatFput { .. }
-        | Call::FileStatGet { .. }
-        | Call::FileStatPut { .. }
         | Call::FileSymlink { .. }
         | Call::FileUnlink { .. }
         | Call::LockUnlock { .. }

@@ -1,21 +1,25 @@
 //! The kernel's state, and its steps.
-ghost use Rattle.std.specs.Prelude.{◌≡◌, ◌≢◌, ◌∷◌, ◌^◌, ◌<◌, ◌≤◌, ◌↔◌, ℕ, [], Some, None, IsSome, IfOk, OnErr, IsTrue, false, length, unwrap_or};
+ghost use Rattle.std.specs.Prelude.{◌≡◌, ◌≢◌, ◌⊎◌, ◌∷◌, ◌+◌, ◌^◌, ◌<◌, ◌≤◌, ◌↔◌, ℕ, [], Some, None, IsSome, IfOk, OnErr, IsTrue, false, true, length, unwrap_or};
 ghost use Rattle.std.specs.FinMap as map;
+ghost use Rattle.abi_types.specs.declared.descriptor.Denial.TheVariants as denial;
 ghost use Rattle.abi_types.specs.declared.reply.Answer.TheVariants as answer;
 ghost use Rattle.kernel_core.specs.Changes.{change_outcome, HasReplaced, IsDup};
+ghost use Rattle.kernel_core.specs.Files.{file_outcome};
 ghost use Rattle.kernel_core.specs.Kernel.{terms_after, is_live, any_live};
-ghost use Rattle.kernel_model.specs.Calls.{named, need};
-ghost use Rattle.kernel_model.specs.Laws.{HasAll, IsFirstLack, IsOfFirstLack};
+ghost use Rattle.kernel_model.specs.Calls.{named, need, takes_memory};
+ghost use Rattle.kernel_model.specs.FileCalls as files;
+ghost use Rattle.kernel_model.specs.Laws.{HasAll, IsFirstLack, IsOfFirstLack, IsOfPath};
 ghost use Rattle.kernel_model.specs.Need.{missing};
 ghost use Rattle.kernel_model.specs.ProcessCalls.{end_updates};
 ghost use Rattle.kernel_model.specs.Release.{release, is_released};
+ghost use Rattle.kernel_model.specs.Reply as lacks;
 ghost use Rattle.kernel_model.specs.Reply.{denied};
 ghost use Rattle.tree_model.specs.Grants.{MayBegin};
 ghost use Rattle.kernel_model.specs.Sight.{own_parts};
 ghost use Rattle.kernel_model.specs.Start.{start_state};
 ghost use Rattle.kernel_model.specs.State.{put_all, Table, Part, has_part, Agree, thread_of, tree_of, written_to};
-ghost use Rattle.kernel_model.specs.Step.{act, failed, MayLackMemory, IsStep, IsUntouched, end_unreleased, end_state};
-ghost use Rattle.kernel_model.specs.DescriptorCalls.{stat_get, stat_of, type_number, flags_of};
+ghost use Rattle.kernel_model.specs.Step.{act, failed, outside, MayLackMemory, IsStep, IsUntouched, end_unreleased, end_state};
+ghost use Rattle.kernel_model.specs.DescriptorCalls.{stat_get, stat_of, flags_of};
 ghost use Rattle.kernel_model.specs.StreamCalls.{read_from, read_term, write_term, write_to};
 ghost use Rattle.kernel_model.specs.Valid.{IsValid};
 ghost use Rattle.kernel_model.specs.View.{whole};
@@ -32,6 +36,7 @@ use abi_types::{
     Pid, Reply, Status, Thread, Tid, TryClone, Who,
 };
 use fd_table::FdTable;
+use file_calls::{on_open, opened_fd, type_number};
 use file_tree::Tree;
 use number_map::NumMap;
 use object_store::Objects;
@@ -109,24 +114,6 @@ fn read_term(
             Ok(Answer::Reply(success_with(count, Payload::Content(bytes))))
         }
         Err(error) => Err(error),
-    }
-}
-
-// The number of an open's type.
-fn type_number(kind: &OpenKind) -> u8
-    ensures { result ≡ type_number kind.now }
-{
-    match kind {
-        OpenKind::File { .. } => 96,
-        OpenKind::Directory { .. } => 32,
-        OpenKind::End {
-            reads: Some(_),
-            writes: Some(_),
-            ..
-        } => 130,
-        OpenKind::End { .. } => 48,
-        OpenKind::Terminal { .. } => 17,
-        OpenKind::Process(_) => 80,
     }
 }
 
@@ -279,9 +266,40 @@ impl Kernel {
         Ok(Answer::Reply(reply))
     }
 
+    // Does a call on the open of a descriptor. `Err` changes nothing.
+    fn file_call(
+        &mut self,
+        constants: &Constants,
+        pid: Pid,
+        fd: u32,
+        call: &Call,
+    ) -> Result<Answer, AllocError>
+        requires on { files.opened_fd call.now ≡ Some fd }
+        requires early { self.old.clock + constants.now.epoch < 2 ^ 64 }
+        ensures ok { IfOk result (λ given. (table : Table) → map.get self.old.tables pid ≡ Some table →
+            (given ≡ (file_outcome constants.now self.old table fd call.now).answer)
+            × (self.new ≡ release (put_all (file_outcome constants.now self.old table fd call.now).updates self.old))) }
+        ensures only { OnErr result (takes_memory call.now ≡ true) }
+        ensures err { OnErr result (self.new ≡ self.old) }
+    {
+        let Some(table) = self.tables.get(u64::from(pid.0)) else {
+            return Ok(Answer::Reply(refused(Errno::Badf)));
+        };
+        let Some(descriptor) = table.get(fd) else {
+            return Ok(Answer::Reply(refused(Errno::Badf)));
+        };
+        let Some(kind) = self.objects.get(descriptor.id) else {
+            return Ok(Answer::Reply(refused(Errno::Badf)));
+        };
+        let now = self.clock + constants.epoch;
+        let reply = on_open(self.alloc, &mut self.tree, kind, now, call)?;
+        Ok(Answer::Reply(reply))
+    }
+
     // Does a call, but for the clock. `Err` changes nothing.
     fn act(&mut self, constants: &Constants, who: &Who, call: &Call) -> Result<Answer, AllocError>
-        requires { IsSome (map.get self.old.statuses who.now.pid) }
+        requires there { IsSome (map.get self.old.statuses who.now.pid) }
+        requires early { self.old.clock + constants.now.epoch < 2 ^ 64 }
         ensures ok { IfOk result (λ given. (given ≡ (act constants.now (whole self.old) who.now call.now).answer)
             × (self.new ≡ release (put_all (act constants.now (whole self.old) who.now call.now).updates self.old))) }
         ensures err { OnErr result (MayLackMemory self.old who.now call.now × (self.new ≡ self.old)) }
@@ -291,6 +309,9 @@ impl Kernel {
         };
         if let Some(reply) = refusal(table, call) {
             return Ok(Answer::Reply(reply));
+        }
+        if let Some(fd) = opened_fd(call) {
+            return self.file_call(constants, who.pid, fd, call);
         }
         match call {
             Call::FdClose { fd } => self.change_descriptors(who.pid, &TableChange::Close(*fd)),
@@ -325,6 +346,7 @@ impl Kernel {
     fn run(&mut self, constants: &Constants, who: &Who, call: &Call) -> Answer
         requires live { map.get self.old.statuses who.now.pid ≡ Some Status.Live }
         requires early { self.old.clock < 2 ^ 63 }
+        requires epoch { constants.now.epoch ≤ 2 ^ 62 }
         ensures step { IsStep constants.now self.old who.now call.now result self.new }
         ensures valid { IsValid self.old }
     {
@@ -338,11 +360,12 @@ impl Kernel {
     /// A call of a live process's runnable thread in a run with these constants: the answer, and the state after it. Each
     /// call takes 1000 nanoseconds. `Errno::Nomem` comes only where memory is wanting, and then only the clock has moved. A
     /// call that answers any other error moves only the clock too. `Errno::Notcapable` comes with exactly the rights that
-    /// are missing.
+    /// are missing, or with the component at which a path leads outside.
     pub fn step(&mut self, constants: &Constants, who: &Who, call: &Call) -> Answer
         requires live { map.get self.old.statuses who.now.pid ≡ Some Status.Live }
         requires runnable { thread_of self.old who.now.pid who.now.tid ≡ Some Thread.Runnable }
         requires early { self.old.clock < 2 ^ 63 }
+        requires epoch { constants.now.epoch ≤ 2 ^ 62 }
         ensures step { IsStep constants.now self.old who.now call.now result self.new }
         ensures valid { IsValid self.new }
         ensures others { (q : Part) → IsUntouched constants.now self.old who.now call.now q → Agree self.new self.old q }
@@ -350,7 +373,9 @@ impl Kernel {
             → HasAll table (named call.now) → IsFirstLack table (need call.now) row d
             → result ≡ Answer.Reply (denied (missing d row)) }
         ensures only { (reply : Reply) (denial : Denial) → result ≡ Answer.Reply reply → reply.denial ≡ Some denial
-            → IsOfFirstLack self.old who.now call.now denial }
+            → IsOfFirstLack self.old who.now call.now denial ⊎ IsOfPath self.old who.now call.now denial }
+        ensures outside { (component : ℕ) → outside self.old who.now call.now ≡ Some component
+            → result ≢ Answer.Reply (lacks.refused Errno.Nomem) → result ≡ Answer.Reply (denied (denial.Outside component)) }
         ensures refused { (reply : Reply) → result ≡ Answer.Reply reply → reply.errno ≢ Errno.Success → self.new ≡ failed self.old who.now }
     {
         self.run(constants, who, call)

@@ -30,6 +30,7 @@ replying_is_proper named need seen errors reply names sees plain listed = record
   names = names;
   sees = all_weaker (NeedsOf need) _ (λ fd needs. inl needs) seen sees;
   reads = λ constants S who table. refl;
+  walks = λ S who table. refl;
   sets = λ constants S who table part h. refl;
   changes = λ S table part h. absurd (not_true h);
   plain = λ constants v who table. (plain, elim listed [ inl done ↦ inl done | inr here ↦ inr (refl, here) ]);

@@ -9,6 +9,8 @@ use Rattle.kernel_model.proofs.Answering.{each_row_is_proper, listing_is_proper,
 use Rattle.kernel_model.proofs.MemoryCalls.{decided_is_proper, mem_map_is_proper}
 use Rattle.kernel_model.proofs.ProcessCalls.{proc_exit_is_proper}
 use Rattle.kernel_model.proofs.DescriptorCalls.{fd_close_is_proper, fd_dup_is_proper, fd_replace_is_proper, fd_stat_get_is_proper, fd_stat_put_is_proper}
+use Rattle.kernel_model.proofs.FileChanges.{file_allocate_is_proper, file_stat_fput_is_proper, file_stat_put_is_proper}
+use Rattle.kernel_model.proofs.FileLooks.{file_advise_is_proper, file_readdir_is_proper, file_readlink_is_proper, file_stat_fget_is_proper, file_stat_get_is_proper}
 use Rattle.kernel_model.proofs.StreamCalls.{fd_read_is_proper, fd_write_is_proper}
 
 pub proper : (call : Call) → IsProper (meaning_of call)
@@ -29,18 +31,18 @@ proper (call.FdStatGet fd) = fd_stat_get_is_proper fd
 proper (call.FdStatPut fd stat flags) = fd_stat_put_is_proper fd stat flags
 proper (call.FdSync fd) = needing_is_proper fd _
 proper (call.FdWrite fd bytes) = fd_write_is_proper fd bytes
-proper (call.FileAdvise fd offset length advice) = row_is_proper _
-proper (call.FileAllocate fd offset length) = row_is_proper _
+proper (call.FileAdvise fd offset length advice) = file_advise_is_proper fd
+proper (call.FileAllocate fd offset length) = file_allocate_is_proper fd offset length
 proper (call.FileCreate fd path kind) = row_is_proper _
 proper (call.FileLink lookup path new_fd new_path) = rows_are_proper _ _
 proper (call.FileOpen lookup path oflags stat) = row_is_proper _
-proper (call.FileReaddir fd length cookie) = row_is_proper _
-proper (call.FileReadlink fd path length) = row_is_proper _
+proper (call.FileReaddir fd length cookie) = file_readdir_is_proper fd length cookie
+proper (call.FileReadlink fd path length) = file_readlink_is_proper fd path length
 proper (call.FileRename fd path new_fd new_path) = rows_are_proper _ _
-proper (call.FileStatFget fd) = row_is_proper _
-proper (call.FileStatFput fd stat flags) = row_is_proper _
-proper (call.FileStatGet lookup path) = row_is_proper _
-proper (call.FileStatPut lookup path stat flags) = row_is_proper _
+proper (call.FileStatFget fd) = file_stat_fget_is_proper fd
+proper (call.FileStatFput fd stat flags) = file_stat_fput_is_proper fd stat flags
+proper (call.FileStatGet lookup path) = file_stat_get_is_proper lookup path
+proper (call.FileStatPut lookup path stat flags) = file_stat_put_is_proper lookup path stat flags
 proper (call.FileSymlink text fd path) = row_is_proper _
 proper (call.FileUnlink fd path flags) = row_is_proper _
 proper (call.LockUnlock lock word scope) = naming_is_proper []

@@ -25,7 +25,7 @@ use Rattle.kernel_model.specs.Step.{tick}
 use Rattle.kernel_model.specs.Valid.{IsNearlyValid}
 use Rattle.kernel_model.specs.View.{View, restrict, whole}
 use Rattle.kernel_model.proofs.Parts.{KeepsThreads, outside_cons, has_of_both, beyond_own, number_apart}
-use Rattle.kernel_model.proofs.Sights.{first_seen}
+use Rattle.kernel_model.proofs.Sights.{open_seen}
 use Rattle.kernel_model.proofs.Tests.{not_true, none_is_no, or_false, same_some}
 use Rattle.kernel_model.proofs.Valids.{IsWithin, ComesFromTable, IsSameBehind, set_open_nearly_valid, set_table_nearly_valid}
 
@@ -99,6 +99,7 @@ setting_is_proper : (named : List ℕ) (errors : List Errno) (takes : Bool) (f :
       need = [];
       seen = [];
       does = λ constants v who table. f who.pid table;
+      outside = λ v table. None;
       changes = λ S table. [];
       errors = errors;
       takes_memory = takes;
@@ -107,6 +108,7 @@ setting_is_proper named errors takes f is lacks = record {
   names = tt;
   sees = tt;
   reads = λ constants S who table. refl;
+  walks = λ S who table. refl;
   sets = λ constants S who table part h.
       of_table (λ o. IsUnset o part) errors who.pid table (f who.pid table) (is who.pid table) (λ errno _. refl)
       (λ result new _. own_table who.pid part (beyond_own who.pid [] part h).0);
@@ -172,11 +174,6 @@ stat_holds : (P : Outcome → Type 0) (v : View) (o : Option Descriptor) → P (
 stat_holds P v None absent done = absent
 stat_holds P v (Some d) absent done = open_stat P d (v.opened d.id) absent (done d)
 
--- an open that is seen
-open_seen : (S : State) (p : ℕ) (d : Descriptor)
-    → (restrict S (own_parts p ++ (reached_by S (Some d) ++ []))).opened d.id ≡ get S.opens d.id
-open_seen S p d = first_seen d.id (has_part (behind (get S.opens d.id) ++ []) (at_open d.id)) (get S.opens d.id)
-
 stat_reads : (S : State) (p : ℕ) (o : Option Descriptor) → stat_get (restrict S (own_parts p ++ (reached_by S o ++ []))) o ≡ stat_get (whole S) o
 stat_reads S p None = refl
 stat_reads S p (Some d) = ap (stat_open d) (open_seen S p d)
@@ -186,6 +183,7 @@ fd_stat_get_is_proper fd = record {
   names = tt;
   sees = (inr (refl, ([], [], refl)), tt);
   reads = λ constants S who table. stat_reads S who.pid (get table fd);
+  walks = λ S who table. refl;
   sets = λ constants S who table part h. stat_holds (λ o. IsUnset o part) (whole (tick S)) (get table fd) refl (λ d kind. refl);
   changes = λ S table part h. absurd (not_true h);
   plain = λ constants v who table. stat_holds (IsPlain (Badf ∷ [])) v (get table fd) (refl, inr (refl, ([], [], refl))) (λ d kind. (refl, inl refl));
@@ -250,7 +248,7 @@ open_reached : (S : State) (o : Option Descriptor) (q : Part) → has_part (open
 open_reached S None q h = h
 open_reached S (Some d) q h =
     has_of_both (reached_by S (Some d)) [] q ∙ or_false (has_part (reached_by S (Some d)) q)
-    ∙ ap (λ b. b || has_part (behind (get S.opens d.id)) q) (sym (or_false (same_part (at_open d.id) q)) ∙ h)
+    ∙ ap (λ b. b || has_part (behind S (get S.opens d.id)) q) (sym (or_false (same_part (at_open d.id) q)) ∙ h)
 
 put_others : (v : View) (p : ℕ) (table : Table) (fd : ℕ) (stat : FdStat) (flags : ℕ) (o : Option Descriptor) (q : ℕ) → q ≢ p
     → IsUnset (stat_put v p table fd stat flags o) (at_proc q) × IsUnset (stat_put v p table fd stat flags o) (at_status q)
@@ -283,6 +281,7 @@ fd_stat_put_is_proper fd stat flags = record {
   names = (([], [], refl), tt);
   sees = (inl (stat_put_row fd stat flags, ([], [], refl), refl), tt);
   reads = λ constants S who table. put_reads S who.pid table fd stat flags (get table fd);
+  walks = λ S who table. refl;
   sets = λ constants S who table part h. put_unset S who.pid table fd stat flags (get table fd) part h;
   changes = λ S table part h. open_reached S (get table fd) part h;
   plain = λ constants v who table.

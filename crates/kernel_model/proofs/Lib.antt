@@ -7,6 +7,15 @@ pub mod Sights
 pub mod Answering
 pub mod DescriptorCalls
 pub mod StreamCalls
+pub mod Branches
+pub mod FileMeanings
+pub mod FilePaths
+pub mod Listings
+pub mod FileLooks
+pub mod Dirents
+pub mod Reworks
+pub mod FileChanges
+pub mod FileCalls
 pub mod MemoryCalls
 pub mod ProcessCalls
 pub mod Calls
@@ -14,6 +23,7 @@ pub mod Outcomes
 pub mod Touches
 pub mod Steps
 pub mod Decisions
+pub mod Lacks
 pub mod Refusals
 pub mod Reaches
 pub mod Starts

@@ -43,6 +43,7 @@ proc_exit_is_proper code = record {
   names = tt;
   sees = tt;
   reads = λ constants S who table. ap (λ own. exit_of who.pid own code) (first_seen who.pid (has_part (at_status who.pid ∷ []) (at_proc who.pid)) (get S.own who.pid));
+  walks = λ S who table. refl;
   sets = λ constants S who table part h. end_unset who.pid (get S.own who.pid) (Exit code) part (beyond_own who.pid [] part h).0;
   changes = λ S table part h. absurd (not_true h);
   plain = λ constants v who table. (refl, inl refl);

@@ -19,9 +19,9 @@ use Rattle.kernel_model.specs.Sight.{own_parts, reached_by, reached}
 use Rattle.kernel_model.specs.State.{State, Table, Part, has_part}
 use Rattle.kernel_model.specs.Step.{unless_refused, reach, sight, changed, touch}
 use Rattle.kernel_model.proofs.Calls.{proper}
+use Rattle.kernel_model.proofs.Lacks.{all_present, HasRows, rows_there}
 use Rattle.kernel_model.proofs.Lists.{in_all}
 use Rattle.kernel_model.proofs.Parts.{has_of_both}
-use Rattle.kernel_model.proofs.Refusals.{all_present, HasRows, rows_there}
 use Rattle.kernel_model.proofs.Tests.{not_true, none_is_no, either_true}
 
 -- ---- a call that is not refused has its needs met

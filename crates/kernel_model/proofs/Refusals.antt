@@ -1,121 +1,37 @@
 -- Why a call is refused: the denial of the first descriptor that lacks a right, that want of memory stands in place of no
 -- refusal, and that an error changes nothing.
-use Rattle.std.proofs.Common.{◌≡◌, ◌≢◌, ◌⊎◌, ℕ, ◌||◌, not, Bool, true, false, cond, T, List, [], ◌∷◌, ◌++◌, Option, Some, None, IsSome, is_some, inl, inr, refl, sym, ap, subst, ◌∙◌}
+use Rattle.std.proofs.Common.{◌≡◌, ◌≢◌, ◌⊎◌, ℕ, Bool, true, false, cond, T, List, [], Option, Some, None, IsSome, is_some, inl, inr, refl, sym, ap, subst, ◌∙◌}
 use Rattle.std.specs.List.{AllByRecursion}
-use Rattle.std.specs.FinMap.{get, contains_key}
+use Rattle.std.specs.FinMap.{get}
 use Rattle.abi_types.specs.declared.reply.Answer.{Answer}
 use Rattle.abi_types.specs.declared.reply.Answer.TheVariants as answer
 use Rattle.abi_types.specs.declared.call.Call.{Call}
 use Rattle.abi_types.specs.declared.reply.Reply.{Reply}
 use Rattle.abi_types.specs.declared.constants.Constants.{Constants}
 use Rattle.abi_types.specs.declared.descriptor.Denial.{Denial}
+use Rattle.abi_types.specs.declared.descriptor.Denial.TheVariants.{Outside}
 use Rattle.abi_types.specs.declared.descriptor.Descriptor.{Descriptor}
 use Rattle.abi_base.specs.declared.errno.Errno.{Errno}
 use Rattle.abi_base.specs.declared.errno.Errno.TheVariants.{Success, Badf, Nomem, Notcapable}
 use Rattle.abi_types.specs.declared.needed.Needed.{Needed}
 use Rattle.abi_types.specs.declared.who.Who.{Who}
 use Rattle.kernel_model.specs.Calls.{meaning_of, named, need, errors_of, takes_memory, refusal, refusal_of}
-use Rattle.kernel_model.specs.Laws.{HasAll, IsMet, IsFirstLack, IsOfFirstLack, IsNotDeniedEarly, IsListed}
-use Rattle.kernel_model.specs.Need.{has_needed, missing, some_absent, lack_at, either_lack, first_lack, denied_by}
-use Rattle.kernel_model.specs.Outcome.{Outcome, OnReply}
-use Rattle.kernel_model.specs.Proper.{IsIn}
+use Rattle.kernel_model.specs.Laws.{HasAll, IsFirstLack, IsOfFirstLack, IsOfPath, IsNotDeniedEarly, IsListed}
+use Rattle.kernel_model.specs.Need.{missing, some_absent, first_lack, denied_by}
+use Rattle.kernel_model.specs.Outcome.{Outcome, OnReply, replies}
+use Rattle.kernel_model.specs.Proper.{IsIn, IsDeniedOutside}
 use Rattle.kernel_model.specs.Release.{release}
 use Rattle.kernel_model.specs.Reply.{refused, denied}
 use Rattle.kernel_model.specs.State.{State, Table, put_all}
-use Rattle.kernel_model.specs.Step.{tick, unless, outcome, step_answer, step_state, failed, MayLackMemory, IsStep}
+use Rattle.kernel_model.specs.Step.{tick, unless, component_unless, outside_on, outside, outcome, step_answer, step_state, failed, MayLackMemory, IsStep}
 use Rattle.kernel_model.specs.Valid.{IsValid}
 use Rattle.kernel_model.specs.View.{whole}
 use Rattle.kernel_model.proofs.Calls.{proper}
-use Rattle.kernel_model.proofs.Lists.{in_all, all_weaker}
-use Rattle.kernel_model.proofs.Outcomes.{outcome_of_table, outcome_holds}
+use Rattle.kernel_model.proofs.Lacks.{present_all, all_present, absent_one, rows_there, first_lack_is, lack_is_first}
+use Rattle.kernel_model.proofs.Lists.{in_all}
+use Rattle.kernel_model.proofs.Outcomes.{outcome_of_table, outcome_by, outside_reads, outside_of_table}
 use Rattle.kernel_model.proofs.Valids.{release_valid, tick_valid}
-use Rattle.kernel_model.proofs.Tests.{either_false, none_is_no, not_false, or_true, same_some}
-
--- ---- absent descriptors
-
-present_all : (table : Table) (fds : List ℕ) → HasAll table fds → some_absent table fds ≡ false
-present_all table [] h = refl
-present_all table (fd ∷ fds) h = ap (λ b. not b || some_absent table fds) h.0 ∙ present_all table fds h.1
-
-pub all_present : (table : Table) (fds : List ℕ) → some_absent table fds ≡ false → HasAll table fds
-all_present table [] h = tt
-all_present table (fd ∷ fds) h =
-    let both = either_false (not (contains_key table fd)) (some_absent table fds) h in
-    (not_false (contains_key table fd) both.0, all_present table fds both.1)
-
--- a descriptor that is not there
-absent_one : (table : Table) (fd : ℕ) (before after : List ℕ) → get table fd ≡ None → some_absent table (before ++ fd ∷ after) ≡ true
-absent_one table fd [] after h = ap (λ o. not (is_some o) || some_absent table after) h
-absent_one table fd (first ∷ before) after h =
-    ap (λ b. not (contains_key table first) || b) (absent_one table fd before after h) ∙ or_true (not (contains_key table first))
-
--- each row's descriptor is there
-abbrev pub HasRows : Table → List Needed → Type 0
-HasRows table rows = AllByRecursion (λ row. IsSome (get table row.fd)) rows
-
--- where all that a call names are there, those of its rows are
-pub rows_there : (call : Call) (table : Table) → HasAll table (named call) → HasRows table (need call)
-rows_there call table all =
-    all_weaker (λ (row : Needed). IsIn row.fd (named call)) (λ row. IsSome (get table row.fd))
-    (λ row here. in_all (λ fd. IsSome (get table fd)) row.fd (named call) all here) (need call) (proper call).names
-
--- ---- the first that lacks a right
-
-lack_named : (table : Table) (row : Needed) (d : Descriptor) (before after : List Needed) → AllByRecursion (IsMet table) before
-    → get table row.fd ≡ Some d → has_needed d row ≡ false → first_lack table (before ++ row ∷ after) ≡ Some (missing d row)
-lack_named table row d [] after met there lacks =
-    ap (λ o. either_lack (lack_at o row) (first_lack table after)) there
-    ∙ ap (λ b. either_lack (cond b None (Some (missing d row))) (first_lack table after)) lacks
-lack_named table row d (first ∷ before) after met there lacks =
-    ap (λ o. either_lack (lack_at o first) (first_lack table (before ++ row ∷ after))) met.0.1
-    ∙ ap (λ b. either_lack (cond b None (Some (missing met.0.0 first))) (first_lack table (before ++ row ∷ after))) met.0.2
-    ∙ lack_named table row d before after met.1 there lacks
-
-pub first_lack_is : (table : Table) (rows : List Needed) (row : Needed) (d : Descriptor) → IsFirstLack table rows row d
-    → first_lack table rows ≡ Some (missing d row)
-first_lack_is table rows row d first =
-    ap (first_lack table) first.splits ∙ lack_named table row d first.before first.after first.met first.there first.lacks
-
--- the first that lacks a right, and what it lacks
-abbrev HasFirstLack : Table → List Needed → Denial → Type 0
-HasFirstLack table rows denial = (row : Needed) × (d : Descriptor) × IsFirstLack table rows row d × (denial ≡ missing d row)
-
--- a row that is met comes before the first lack
-after_met : (table : Table) (first : Needed) (rows : List Needed) (denial : Denial) → IsMet table first → HasFirstLack table rows denial
-    → HasFirstLack table (first ∷ rows) denial
-after_met table first rows denial met h = (
-  h.0,
-  h.1,
-  record {
-    before = first ∷ h.2.before;
-    after = h.2.after;
-    splits = ap (λ more. first ∷ more) h.2.splits;
-    met = (met, h.2.met);
-    there = h.2.there;
-    lacks = h.2.lacks;
-  },
-  h.3,
-)
-
--- the first row itself, or one after it
-lack_among : (table : Table) (row : Needed) (rows : List Needed) (denial : Denial) (d : Descriptor) (b : Bool) → get table row.fd ≡ Some d → has_needed d row ≡ b
-    → (first_lack table rows ≡ Some denial → HasFirstLack table rows denial)
-    → either_lack (cond b None (Some (missing d row))) (first_lack table rows) ≡ Some denial → HasFirstLack table (row ∷ rows) denial
-lack_among table row rows denial d true there met rest e = after_met table row rows denial (d, there, met) (rest e)
-lack_among table row rows denial d false there lacks rest e =
-    (row, d, record { before = []; after = rows; splits = refl; met = tt; there = there; lacks = lacks }, same_some denial (missing d row) (sym e))
-
-lack_at_some : (table : Table) (row : Needed) (rows : List Needed) (denial : Denial) (o : Option Descriptor) → get table row.fd ≡ o → IsSome o
-    → (first_lack table rows ≡ Some denial → HasFirstLack table rows denial)
-    → either_lack (lack_at o row) (first_lack table rows) ≡ Some denial → HasFirstLack table (row ∷ rows) denial
-lack_at_some table row rows denial None there some rest e = absurd (subst T (sym some) tt)
-lack_at_some table row rows denial (Some d) there some rest e = lack_among table row rows denial d (has_needed d row) there refl rest e
-
-pub lack_is_first : (table : Table) (rows : List Needed) (denial : Denial) → HasRows table rows → first_lack table rows ≡ Some denial
-    → HasFirstLack table rows denial
-lack_is_first table [] denial all e = absurd (none_is_no denial e)
-lack_is_first table (row ∷ rows) denial all e =
-    lack_at_some table row rows denial (get table row.fd) refl all.0 (lack_is_first table rows denial all.1) e
+use Rattle.kernel_model.proofs.Tests.{none_is_no, same_some}
 
 -- ---- denied calls
 
@@ -149,29 +65,68 @@ same_reply a b e = cc
 pub on_reply : (P : Reply → Type 0) (given : Answer) (reply : Reply) → OnReply P given → given ≡ answer.Reply reply → P reply
 on_reply P (answer.Reply r) reply h e = subst P (same_reply r reply e) h
 
--- the reply is the refusal, or the call's own: it denies nothing, and it is a success, or one of its errors with nothing set
+-- the reply is the denial of a path that leads outside
+abbrev IsPathDenial : State → Who → Call → Reply → Type 0
+IsPathDenial S who call reply = (component : ℕ) × (outside S who call ≡ Some component) × (reply ≡ denied (Outside component))
+
+-- the reply denies nothing, and is a success, or one of the call's errors with nothing set
+abbrev IsPlainReply : Call → Outcome → Reply → Type 0
+IsPlainReply call o reply = (reply.denial ≡ None) × ((reply.errno ≡ Success) ⊎ ((o.updates ≡ []) × IsIn reply.errno (errors_of call)))
+
+-- the reply is the refusal, the denial of a path, or plain
 abbrev IsFrom : State → Who → Call → Outcome → Reply → Type 0
 IsFrom S who call o reply =
     ((refusal_of call (get S.tables who.pid) ≡ Some reply) × (o.updates ≡ []))
-    ⊎ ((reply.denial ≡ None) × ((reply.errno ≡ Success) ⊎ ((o.updates ≡ []) × IsIn reply.errno (errors_of call))))
+    ⊎ (IsPathDenial S who call reply × (o.updates ≡ [])) ⊎ IsPlainReply call o reply
 
-from_own : (S : State) (who : Who) (call : Call) (o : Outcome) (a : Answer)
-    → OnReply (λ (reply : Reply). (reply.denial ≡ None) × ((reply.errno ≡ Success) ⊎ ((o.updates ≡ []) × IsIn reply.errno (errors_of call)))) a
-    → OnReply (IsFrom S who call o) a
-from_own S who call o (answer.Reply reply) h = inr h
+plain_from : (S : State) (who : Who) (call : Call) (o : Outcome) (a : Answer) → OnReply (IsPlainReply call o) a → OnReply (IsFrom S who call o) a
+plain_from S who call o (answer.Reply reply) h = inr (inr h)
+
+own_from : (S : State) (who : Who) (call : Call) (o : Outcome) (component : Option ℕ) → outside S who call ≡ component
+    → IsDeniedOutside (errors_of call) component o → OnReply (IsFrom S who call o) o.answer
+own_from S who call o None leads plain = plain_from S who call o o.answer plain
+own_from S who call o (Some component) leads denies =
+    subst (λ (x : Outcome). OnReply (IsFrom S who call x) x.answer) (sym denies) (inr (inl ((component, leads, refl), refl)))
 
 outcome_from : (constants : Constants) (S : State) (who : Who) (call : Call)
     → OnReply (IsFrom S who call (outcome constants S who call)) (step_answer constants S who call)
 outcome_from constants S who call =
-    outcome_holds (λ (o : Outcome). OnReply (IsFrom S who call o) o.answer) constants S who call (λ reply refuses. inl (refuses, refl))
-    (λ table _. (
-    let o : Outcome = (meaning_of call).does constants (whole (tick S)) who table in
-    from_own S who call o o.answer ((proper call).plain constants (whole (tick S)) who table)))
+    outcome_by (λ (o : Outcome). OnReply (IsFrom S who call o) o.answer) constants S who call (λ reply refuses. inl (refuses, refl))
+    (λ table own unrefused.
+    own_from S who call ((meaning_of call).does constants (whole (tick S)) who table) ((meaning_of call).outside (whole (tick S)) table)
+    (outside_of_table S who call table own unrefused) ((proper call).plain constants (whole (tick S)) who table))
 
 reply_from : (constants : Constants) (S : State) (who : Who) (call : Call) (reply : Reply) → step_answer constants S who call ≡ answer.Reply reply
     → IsFrom S who call (outcome constants S who call) reply
 reply_from constants S who call reply is =
     on_reply (IsFrom S who call (outcome constants S who call)) (step_answer constants S who call) reply (outcome_from constants S who call) is
+
+-- ---- a path that leads outside is denied
+
+unrefused_path : (call : Call) (table : Table) (component : ℕ) (own : Option ℕ) (r : Option Reply) → component_unless r own ≡ Some component
+    → (r ≡ None) × (own ≡ Some component)
+unrefused_path call table component own None leads = (refl, leads)
+unrefused_path call table component own (Some reply) leads = absurd (none_is_no component leads)
+
+denied_outside : (errors : List Errno) (component : ℕ) (leads : Option ℕ) (o : Outcome) → leads ≡ Some component → IsDeniedOutside errors leads o
+    → o ≡ replies (denied (Outside component))
+denied_outside errors component leads o is h = subst (λ c. IsDeniedOutside errors c o) is h
+
+path_denied_on : (constants : Constants) (S : State) (who : Who) (call : Call) (component : ℕ) (t : Option Table) → get S.tables who.pid ≡ t
+    → outside_on (whole (tick S)) call t ≡ Some component → step_answer constants S who call ≡ answer.Reply (denied (Outside component))
+path_denied_on constants S who call component None own leads = absurd (none_is_no component leads)
+path_denied_on constants S who call component (Some table) own leads =
+    let m = meaning_of call in
+    let both = unrefused_path call table component (m.outside (whole (tick S)) table) (refusal table call) leads in
+    ap (λ (o : Outcome). o.answer)
+    (outcome_of_table constants S who call table own ∙ ap (λ r. unless r (m.does constants (whole (tick S)) who table)) both.0
+    ∙ denied_outside m.errors component (m.outside (whole (tick S)) table) (m.does constants (whole (tick S)) who table) both.1
+    ((proper call).plain constants (whole (tick S)) who table))
+
+pub outside_is_denied : (constants : Constants) (S : State) (who : Who) (call : Call) (component : ℕ) → outside S who call ≡ Some component
+    → step_answer constants S who call ≡ answer.Reply (denied (Outside component))
+outside_is_denied constants S who call component leads =
+    path_denied_on constants S who call component (get S.tables who.pid) refl (sym (outside_reads S who call) ∙ leads)
 
 -- ---- a denial is of the first lack
 
@@ -193,17 +148,24 @@ denial_on S who call reply denial (Some table) own is denies =
     let first = lack_is_first table (need call) denial (rows_there call table all) found.1 in
     record { table = table; row = first.0; d = first.1; own = own; all = all; first = first.2; names = first.3 }
 
+path_denial : (S : State) (who : Who) (call : Call) (reply : Reply) (denial : Denial) → IsPathDenial S who call reply → reply.denial ≡ Some denial
+    → IsOfPath S who call denial
+path_denial S who call reply denial path denies =
+    (path.0, path.1, same_some denial (Outside path.0) (sym denies ∙ ap (λ (r : Reply). r.denial) path.2))
+
 pub denial_is_of_first_lack : (constants : Constants) (S : State) (who : Who) (call : Call) (reply : Reply) (denial : Denial)
-    → step_answer constants S who call ≡ answer.Reply reply → reply.denial ≡ Some denial → IsOfFirstLack S who call denial
+    → step_answer constants S who call ≡ answer.Reply reply → reply.denial ≡ Some denial → IsOfFirstLack S who call denial ⊎ IsOfPath S who call denial
 denial_is_of_first_lack constants S who call reply denial is denies =
     elim (reply_from constants S who call reply is) [
-      | inl refuses ↦ denial_on S who call reply denial (get S.tables who.pid) refl refuses.0 denies
-      | inr own ↦ absurd (none_is_no denial (sym own.0 ∙ denies))
+      | inl refuses ↦ inl (denial_on S who call reply denial (get S.tables who.pid) refl refuses.0 denies)
+      | inr (inl path) ↦ inr (path_denial S who call reply denial path.0 denies)
+      | inr (inr plain) ↦ absurd (none_is_no denial (sym plain.0 ∙ denies))
     ]
 
--- a step's answer has a denial only of the first lack
+-- a step's answer has a denial only of the first lack, or of a path
 pub step_denial : (constants : Constants) (S : State) (who : Who) (call : Call) (given : Answer) (T : State) (reply : Reply) (denial : Denial)
-    → IsStep constants S who call given T → given ≡ answer.Reply reply → reply.denial ≡ Some denial → IsOfFirstLack S who call denial
+    → IsStep constants S who call given T → given ≡ answer.Reply reply → reply.denial ≡ Some denial
+    → IsOfFirstLack S who call denial ⊎ IsOfPath S who call denial
 step_denial constants S who call given T reply denial (inl done) is denies =
     denial_is_of_first_lack constants S who call reply denial (sym done.0 ∙ is) denies
 step_denial constants S who call given T reply denial (inr lacking) is denies =
@@ -252,10 +214,11 @@ pub replies_are_listed : (constants : Constants) (S : State) (who : Who) (call :
 replies_are_listed constants S who call reply T (inl done) =
     elim (reply_from constants S who call reply (sym done.0)) [
       | inl refuses ↦ inr (inl refuses.0)
-      | inr own ↦ elim own.1 [ inl success ↦ inl success | inr error ↦ inr (inr (inl error.1)) ]
+      | inr (inl path) ↦ inr (inr (inl path.0))
+      | inr (inr plain) ↦ elim plain.1 [ inl success ↦ inl success | inr error ↦ inr (inr (inr (inl error.1))) ]
     ]
 replies_are_listed constants S who call reply T (inr lacking) =
-    inr (inr (inr (lacking.0.0, lacking.0.1, same_reply reply (refused Nomem) lacking.1)))
+    inr (inr (inr (inr (lacking.0.0, lacking.0.1, same_reply reply (refused Nomem) lacking.1))))
 
 -- ---- what a refusal is
 
@@ -302,7 +265,8 @@ pub notcapable_is_denied : (constants : Constants) (S : State) (who : Who) (call
 notcapable_is_denied constants S who call reply early is errno =
     elim (reply_from constants S who call reply is) [
       | inl refuses ↦ notcapable_on call (get S.tables who.pid) reply refuses.0 errno
-      | inr own ↦ elim own.1 [
+      | inr (inl path) ↦ ap (λ (r : Reply). is_some r.denial) path.0.2
+      | inr (inr plain) ↦ elim plain.1 [
         | inl success ↦ absurd (success_is_other (sym success ∙ errno))
         | inr error ↦ absurd (in_all (λ e. e ≢ Notcapable) reply.errno (errors_of call) early error.1 errno)
       ]
@@ -313,6 +277,9 @@ notcapable_is_denied constants S who call reply early is errno =
 success_is_no_lack : Success ≢ Nomem
 success_is_no_lack e = cc
 
+notcapable_is_no_lack : Notcapable ≢ Nomem
+notcapable_is_no_lack e = cc
+
 -- none of the errors that the call answers of its own is want of memory
 abbrev pub IsNoLackOf : Call → Type 0
 IsNoLackOf call = AllByRecursion (λ errno. errno ≢ Nomem) (errors_of call)
@@ -322,7 +289,8 @@ pub reply_no_lack : (constants : Constants) (S : State) (who : Who) (call : Call
 reply_no_lack constants S who call reply none is errno =
     elim (reply_from constants S who call reply is) [
       | inl refuses ↦ refusal_is_other Nomem (λ e. cc) (λ e. cc) call (get S.tables who.pid) reply refuses.0 errno
-      | inr own ↦ elim own.1 [
+      | inr (inl path) ↦ notcapable_is_no_lack (sym (ap (λ (r : Reply). r.errno) path.0.2) ∙ errno)
+      | inr (inr plain) ↦ elim plain.1 [
         | inl success ↦ success_is_no_lack (sym success ∙ errno)
         | inr error ↦ in_all (λ e. e ≢ Nomem) reply.errno (errors_of call) none error.1 errno
       ]
@@ -335,7 +303,8 @@ sets_nothing_at_error : (constants : Constants) (S : State) (who : Who) (call : 
 sets_nothing_at_error constants S who call reply is other =
     elim (reply_from constants S who call reply is) [
       | inl refuses ↦ refuses.1
-      | inr own ↦ elim own.1 [ inl success ↦ absurd (other success) | inr error ↦ error.0 ]
+      | inr (inl path) ↦ path.1
+      | inr (inr plain) ↦ elim plain.1 [ inl success ↦ absurd (other success) | inr error ↦ error.0 ]
     ]
 
 failed_step : (constants : Constants) (S : State) (who : Who) (call : Call) (reply : Reply) → IsValid S → step_answer constants S who call ≡ answer.Reply reply

@@ -188,7 +188,7 @@ node_behind S n grant (Some node) is has =
 
 behind_there : (tree : Tree) (grants : List Grant) (stdin : List ℕ) (grant : Grant) (t : GrantTarget) → IsGrantOf tree grant t
     → HasBehind (start_state tree grants stdin) (open_of tree t)
-behind_there tree grants stdin grant (target.Terminal which) has = stream_there tree grants stdin which has.0
+behind_there tree grants stdin grant (target.Terminal which) has = (stream_there tree grants stdin which has.0, has.0)
 behind_there tree grants stdin grant (target.Node n) has = node_behind (start_state tree grants stdin) n grant (get tree.nodes n) refl has
 
 -- ---- the state

@@ -54,7 +54,7 @@ write_holds P v bytes (Some d) absent done = open_holds P v bytes (v.opened d.id
 -- ---- what a write reads
 
 open_reads : (S : State) (p o : ℕ) (bytes : List ℕ) (k : Option OpenKind)
-    → write_open (restrict S (own_parts p ++ at_open o ∷ (behind k ++ []))) bytes k ≡ write_open (whole S) bytes k
+    → write_open (restrict S (own_parts p ++ at_open o ∷ (behind S k ++ []))) bytes k ≡ write_open (whole S) bytes k
 open_reads S p o bytes None = refl
 open_reads S p o bytes (Some (Terminal which flags)) = ap (write_term bytes which) (first_seen which false (get S.terms which))
 open_reads S p o bytes (Some (File node offset flags)) = refl
@@ -66,8 +66,8 @@ write_reads : (S : State) (p : ℕ) (bytes : List ℕ) (d : Option Descriptor)
     → write_to (restrict S (own_parts p ++ (reached_by S d ++ []))) bytes d ≡ write_to (whole S) bytes d
 write_reads S p bytes None = refl
 write_reads S p bytes (Some d) =
-    ap (write_open (restrict S (own_parts p ++ at_open d.id ∷ (behind (get S.opens d.id) ++ []))) bytes)
-    (first_seen d.id (has_part (behind (get S.opens d.id) ++ []) (at_open d.id)) (get S.opens d.id))
+    ap (write_open (restrict S (own_parts p ++ at_open d.id ∷ (behind S (get S.opens d.id) ++ []))) bytes)
+    (first_seen d.id (has_part (behind S (get S.opens d.id) ++ []) (at_open d.id)) (get S.opens d.id))
     ∙ open_reads S p d.id bytes (get S.opens d.id)
 
 -- ---- what a write sets
@@ -76,19 +76,19 @@ term_unset : (bytes : List ℕ) (which : ℕ) (stream : Option Stream) (q : Part
 term_unset bytes which None q h = refl
 term_unset bytes which (Some stream) q h = ap (λ b. b || false) h
 
-open_unset : (v : View) (bytes : List ℕ) (kind : Option OpenKind) (q : Part) → has_part (behind kind) q ≡ false → IsUnset (write_open v bytes kind) q
-open_unset v bytes None q h = refl
-open_unset v bytes (Some (Terminal which flags)) q h = term_unset bytes which (v.term which) q (outside_cons (at_term which) [] q h).0
-open_unset v bytes (Some (File node offset flags)) q h = refl
-open_unset v bytes (Some (Directory node flags)) q h = refl
-open_unset v bytes (Some (End reads writes flags)) q h = refl
-open_unset v bytes (Some (Process p)) q h = refl
+open_unset : (S : State) (v : View) (bytes : List ℕ) (kind : Option OpenKind) (q : Part) → has_part (behind S kind) q ≡ false → IsUnset (write_open v bytes kind) q
+open_unset S v bytes None q h = refl
+open_unset S v bytes (Some (Terminal which flags)) q h = term_unset bytes which (v.term which) q (outside_cons (at_term which) [] q h).0
+open_unset S v bytes (Some (File node offset flags)) q h = refl
+open_unset S v bytes (Some (Directory node flags)) q h = refl
+open_unset S v bytes (Some (End reads writes flags)) q h = refl
+open_unset S v bytes (Some (Process p)) q h = refl
 
 write_unset : (S : State) (bytes : List ℕ) (d : Option Descriptor) (q : Part) → has_part (reached_by S d) q ≡ false
     → IsUnset (write_to (whole (tick S)) bytes d) q
 write_unset S bytes None q h = refl
 write_unset S bytes (Some d) q h =
-    open_unset (whole (tick S)) bytes (get S.opens d.id) q (outside_cons (at_open d.id) (behind (get S.opens d.id)) q h).1
+    open_unset S (whole (tick S)) bytes (get S.opens d.id) q (outside_cons (at_open d.id) (behind S (get S.opens d.id)) q h).1
 
 one_reached : (S : State) (d : Option Descriptor) (q : Part) → has_part (reached_by S d) q ≡ true → has_part (reached_by S d ++ []) q ≡ true
 one_reached S d q h = has_of_both (reached_by S d) [] q ∙ or_false (has_part (reached_by S d) q) ∙ h
@@ -103,6 +103,7 @@ fd_write_is_proper fd bytes = record {
   names = (([], [], refl), tt);
   sees = (inl (base_row fd FD_WRITE, ([], [], refl), refl), tt);
   reads = λ constants S who table. write_reads S who.pid bytes (get table fd);
+  walks = λ S who table. refl;
   sets = λ constants S who table part h. write_unset S bytes (get table fd) part (beyond_own who.pid (reached_by S (get table fd)) part h).1;
   changes = λ S table part h. one_reached S (get table fd) part h;
   plain = λ constants v who table.
@@ -144,7 +145,7 @@ read_holds P v n None absent done = absent
 read_holds P v n (Some d) absent done = read_open_holds P v n (v.opened d.id) absent done
 
 read_open_reads : (S : State) (p o n : ℕ) (k : Option OpenKind)
-    → read_open (restrict S (own_parts p ++ at_open o ∷ (behind k ++ []))) n k ≡ read_open (whole S) n k
+    → read_open (restrict S (own_parts p ++ at_open o ∷ (behind S k ++ []))) n k ≡ read_open (whole S) n k
 read_open_reads S p o n None = refl
 read_open_reads S p o n (Some (Terminal which flags)) = ap (read_term n which) (first_seen which false (get S.terms which))
 read_open_reads S p o n (Some (File node offset flags)) = refl
@@ -155,32 +156,33 @@ read_open_reads S p o n (Some (Process q)) = refl
 read_reads : (S : State) (p n : ℕ) (d : Option Descriptor) → read_from (restrict S (own_parts p ++ (reached_by S d ++ []))) n d ≡ read_from (whole S) n d
 read_reads S p n None = refl
 read_reads S p n (Some d) =
-    ap (read_open (restrict S (own_parts p ++ at_open d.id ∷ (behind (get S.opens d.id) ++ []))) n)
-    (first_seen d.id (has_part (behind (get S.opens d.id) ++ []) (at_open d.id)) (get S.opens d.id))
+    ap (read_open (restrict S (own_parts p ++ at_open d.id ∷ (behind S (get S.opens d.id) ++ []))) n)
+    (first_seen d.id (has_part (behind S (get S.opens d.id) ++ []) (at_open d.id)) (get S.opens d.id))
     ∙ read_open_reads S p d.id n (get S.opens d.id)
 
 read_term_unset : (n which : ℕ) (stream : Option Stream) (q : Part) → same_part (at_term which) q ≡ false → IsUnset (read_term n which stream) q
 read_term_unset n which None q h = refl
 read_term_unset n which (Some stream) q h = ap (λ b. b || false) h
 
-read_open_unset : (v : View) (n : ℕ) (kind : Option OpenKind) (q : Part) → has_part (behind kind) q ≡ false → IsUnset (read_open v n kind) q
-read_open_unset v n None q h = refl
-read_open_unset v n (Some (Terminal which flags)) q h = read_term_unset n which (v.term which) q (outside_cons (at_term which) [] q h).0
-read_open_unset v n (Some (File node offset flags)) q h = refl
-read_open_unset v n (Some (Directory node flags)) q h = refl
-read_open_unset v n (Some (End reads writes flags)) q h = refl
-read_open_unset v n (Some (Process p)) q h = refl
+read_open_unset : (S : State) (v : View) (n : ℕ) (kind : Option OpenKind) (q : Part) → has_part (behind S kind) q ≡ false → IsUnset (read_open v n kind) q
+read_open_unset S v n None q h = refl
+read_open_unset S v n (Some (Terminal which flags)) q h = read_term_unset n which (v.term which) q (outside_cons (at_term which) [] q h).0
+read_open_unset S v n (Some (File node offset flags)) q h = refl
+read_open_unset S v n (Some (Directory node flags)) q h = refl
+read_open_unset S v n (Some (End reads writes flags)) q h = refl
+read_open_unset S v n (Some (Process p)) q h = refl
 
 read_unset : (S : State) (n : ℕ) (d : Option Descriptor) (q : Part) → has_part (reached_by S d) q ≡ false → IsUnset (read_from (whole (tick S)) n d) q
 read_unset S n None q h = refl
 read_unset S n (Some d) q h =
-    read_open_unset (whole (tick S)) n (get S.opens d.id) q (outside_cons (at_open d.id) (behind (get S.opens d.id)) q h).1
+    read_open_unset S (whole (tick S)) n (get S.opens d.id) q (outside_cons (at_open d.id) (behind S (get S.opens d.id)) q h).1
 
 pub fd_read_is_proper : (fd n : ℕ) → IsProper (fd_read fd n)
 fd_read_is_proper fd n = record {
   names = (([], [], refl), tt);
   sees = (inl (base_row fd FD_READ, ([], [], refl), refl), tt);
   reads = λ constants S who table. read_reads S who.pid n (get table fd);
+  walks = λ S who table. refl;
   sets = λ constants S who table part h. read_unset S n (get table fd) part (beyond_own who.pid (reached_by S (get table fd)) part h).1;
   changes = λ S table part h. one_reached S (get table fd) part h;
   plain = λ constants v who table. read_holds (IsPlain (Badf ∷ [])) v n (get table fd) (refl, inr (refl, ([], [], refl))) (λ which stream. (refl, inl refl));

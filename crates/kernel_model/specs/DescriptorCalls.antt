@@ -13,6 +13,7 @@ use Rattle.abi_types.specs.declared.open_kind.OpenKind.{OpenKind}
 use Rattle.abi_types.specs.declared.open_kind.OpenKind.TheVariants.{File, Directory, End, Terminal, Process}
 use Rattle.abi_types.specs.declared.reply.Answer.TheVariants as answer
 use Rattle.abi_types.specs.declared.reply.Payload.TheVariants as payload
+use Rattle.kernel_model.specs.FileTypes.{character_device, directory, fifo, process, regular_file, stream_socket}
 use Rattle.kernel_model.specs.Meaning.{Meaning, answering, unbuilt_row}
 use Rattle.kernel_model.specs.Outcome.{Outcome, replies}
 use Rattle.kernel_model.specs.Reply.{refused, success}
@@ -32,6 +33,7 @@ fd_close fd = record {
   need = [];
   seen = [];
   does = λ constants v who table. with_table who.pid 0 (remove table fd);
+  outside = λ v table. None;
   changes = λ S table. [];
   errors = [];
   takes_memory = false;
@@ -75,6 +77,7 @@ fd_dup fd = record {
   need = [];
   seen = [];
   does = λ constants v who table. dup_of who.pid table (get table fd);
+  outside = λ v table. None;
   changes = λ S table. [];
   errors = Badf ∷ Mfile ∷ [];
   takes_memory = true;
@@ -93,6 +96,7 @@ fd_replace from to = record {
   need = [];
   seen = [];
   does = λ constants v who table. replaced_by who.pid table to (get table from);
+  outside = λ v table. None;
   changes = λ S table. [];
   errors = Badf ∷ [];
   takes_memory = false;
@@ -111,12 +115,12 @@ fd_seek fd offset whence = unbuilt_row (seek_row fd offset whence)
 
 -- the number of an open's type
 abbrev pub type_number : OpenKind → ℕ
-type_number (File node offset flags) = 96
-type_number (Directory node flags) = 32
-type_number (End (Some reads) (Some writes) flags) = 130
-type_number (End reads writes flags) = 48
-type_number (Terminal which flags) = 17
-type_number (Process p) = 80
+type_number (File node offset flags) = regular_file
+type_number (Directory node flags) = directory
+type_number (End (Some reads) (Some writes) flags) = stream_socket
+type_number (End reads writes flags) = fifo
+type_number (Terminal which flags) = character_device
+type_number (Process p) = process
 
 -- an open's flags; a process has none
 abbrev pub flags_of : OpenKind → ℕ
@@ -144,6 +148,7 @@ fd_stat_get fd = record {
   need = [];
   seen = fd ∷ [];
   does = λ constants v who table. stat_get v (get table fd);
+  outside = λ v table. None;
   changes = λ S table. [];
   errors = Badf ∷ [];
   takes_memory = false;
@@ -200,6 +205,7 @@ fd_stat_put fd stat flags = record {
   need = stat_put_row fd stat flags ∷ [];
   seen = fd ∷ [];
   does = λ constants v who table. stat_put v who.pid table fd stat flags (get table fd);
+  outside = λ v table. None;
   changes = λ S table. open_part (get table fd);
   errors = Badf ∷ [];
   takes_memory = false;

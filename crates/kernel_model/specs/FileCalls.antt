@@ -1,58 +1,34 @@
--- Calls on files and on paths.
-use Rattle.std.specs.Prelude.{ℕ}
-use Rattle.abi_base.specs.declared.rights.TheConstants.Rights.{FILE_ADVISE, FILE_ALLOCATE, FILE_CREATE_DIRECTORY, FILE_CREATE_FILE, FILE_LINK_SOURCE, FILE_LINK_TARGET, FILE_OPEN}
-use Rattle.abi_base.specs.declared.rights.TheConstants.Rights.{FILE_READDIR, FILE_READLINK, FILE_RENAME_SOURCE, FILE_RENAME_TARGET, FILE_STAT_FGET, FILE_STAT_FPUT_SIZE, FILE_STAT_FPUT_TIMES}
-use Rattle.abi_base.specs.declared.rights.TheConstants.Rights.{FILE_STAT_GET, FILE_STAT_PUT_TIMES, FILE_SYMLINK, FILE_UNLINK}
-use Rattle.abi_structures.specs.declared.structures.FdStat.{FdStat}
-use Rattle.abi_types.specs.declared.call.Lookup.{Lookup}
-use Rattle.kernel_model.specs.Meaning.{Meaning, unbuilt_row, unbuilt_rows}
-use Rattle.kernel_model.specs.Rows.{asking_row, base_row, both, where_set}
+-- The calls on files that work on the open of one descriptor: each by its meaning there.
+use Rattle.std.specs.Prelude.{ℕ, ◌+◌, Option, None, Some}
+use Rattle.abi_base.specs.declared.errno.Errno.TheVariants.{Nosys}
+use Rattle.abi_types.specs.declared.call.Call.{Call}
+use Rattle.abi_types.specs.declared.call.Call.TheVariants as call
+use Rattle.path_lookup.specs.declared.ends.WalkMode.TheVariants.{NoFollow}
+use Rattle.kernel_model.specs.FileChanges.{allocate, changing, put_by_path, put_open}
+use Rattle.kernel_model.specs.FileLooks.{list_open, looking, read_link_in, tell_in, tell_open}
+use Rattle.kernel_model.specs.FileMeaning.{FileMeaning}
+use Rattle.kernel_model.specs.FilePaths.{by_path, lookup_mode}
+use Rattle.kernel_model.specs.Outcome.{replies}
+use Rattle.kernel_model.specs.Reply.{refused}
 
-abbrev pub file_advise : ℕ → Meaning
-file_advise fd = unbuilt_row (base_row fd FILE_ADVISE)
+-- the number of that descriptor, where the call is such a one
+abbrev pub opened_fd : Call → Option ℕ
+opened_fd (call.FileAllocate fd offset length) = Some fd
+opened_fd (call.FileReaddir fd length cookie) = Some fd
+opened_fd (call.FileReadlink fd path length) = Some fd
+opened_fd (call.FileStatFget fd) = Some fd
+opened_fd (call.FileStatFput fd stat flags) = Some fd
+opened_fd (call.FileStatGet lookup path) = Some lookup.fd
+opened_fd (call.FileStatPut lookup path stat flags) = Some lookup.fd
+opened_fd _ = None
 
-abbrev pub file_allocate : ℕ → Meaning
-file_allocate fd = unbuilt_row (base_row fd FILE_ALLOCATE)
-
-abbrev pub file_create : ℕ → Meaning
-file_create fd = unbuilt_row (base_row fd FILE_CREATE_DIRECTORY)
-
--- the directory of the file, and that of its new name
-abbrev pub file_link : Lookup → ℕ → Meaning
-file_link lookup new_fd = unbuilt_rows (base_row lookup.fd FILE_LINK_SOURCE) (base_row new_fd FILE_LINK_TARGET)
-
--- FILE_OPEN, and with CREAT (1) FILE_CREATE_FILE; of the inheriting rights those asked, and with TRUNC (8) FILE_STAT_FPUT_SIZE
-abbrev pub file_open : Lookup → ℕ → FdStat → Meaning
-file_open lookup oflags stat =
-    unbuilt_row
-    (asking_row lookup.fd (both FILE_OPEN (where_set oflags 1 FILE_CREATE_FILE))
-    (both (both stat.base stat.inheriting) (where_set oflags 8 FILE_STAT_FPUT_SIZE)))
-
-abbrev pub file_readdir : ℕ → Meaning
-file_readdir fd = unbuilt_row (base_row fd FILE_READDIR)
-
-abbrev pub file_readlink : ℕ → Meaning
-file_readlink fd = unbuilt_row (base_row fd FILE_READLINK)
-
--- the directory of the name, and that of the new one
-abbrev pub file_rename : ℕ → ℕ → Meaning
-file_rename fd new_fd = unbuilt_rows (base_row fd FILE_RENAME_SOURCE) (base_row new_fd FILE_RENAME_TARGET)
-
-abbrev pub file_stat_fget : ℕ → Meaning
-file_stat_fget fd = unbuilt_row (base_row fd FILE_STAT_FGET)
-
--- the size (16) is set by FILE_STAT_FPUT_SIZE, a time (1, 2, 4 or 8) by FILE_STAT_FPUT_TIMES
-abbrev pub file_stat_fput : ℕ → ℕ → Meaning
-file_stat_fput fd flags = unbuilt_row (base_row fd (both (where_set flags 16 FILE_STAT_FPUT_SIZE) (where_set flags 15 FILE_STAT_FPUT_TIMES)))
-
-abbrev pub file_stat_get : Lookup → Meaning
-file_stat_get lookup = unbuilt_row (base_row lookup.fd FILE_STAT_GET)
-
-abbrev pub file_stat_put : Lookup → Meaning
-file_stat_put lookup = unbuilt_row (base_row lookup.fd FILE_STAT_PUT_TIMES)
-
-abbrev pub file_symlink : ℕ → Meaning
-file_symlink fd = unbuilt_row (base_row fd FILE_SYMLINK)
-
-abbrev pub file_unlink : ℕ → Meaning
-file_unlink fd = unbuilt_row (base_row fd FILE_UNLINK)
+-- what the call means by the open; any other call has no meaning there
+abbrev pub file_meaning : Call → FileMeaning
+file_meaning (call.FileAllocate fd offset length) = changing (allocate (offset + length))
+file_meaning (call.FileReaddir fd length cookie) = looking (list_open length cookie)
+file_meaning (call.FileReadlink fd path length) = by_path NoFollow path (λ now. read_link_in length)
+file_meaning (call.FileStatFget fd) = looking tell_open
+file_meaning (call.FileStatFput fd stat flags) = changing (put_open flags stat)
+file_meaning (call.FileStatGet lookup path) = by_path (lookup_mode lookup.flags) path (λ now. tell_in)
+file_meaning (call.FileStatPut lookup path stat flags) = put_by_path (lookup_mode lookup.flags) path flags stat
+file_meaning _ = looking (λ t kind. replies (refused Nosys))

@@ -8,6 +8,7 @@ use Rattle.abi_types.specs.declared.call.Call.{Call}
 use Rattle.abi_types.specs.declared.reply.Reply.{Reply}
 use Rattle.abi_types.specs.declared.constants.Constants.{Constants}
 use Rattle.abi_types.specs.declared.descriptor.Denial.{Denial}
+use Rattle.abi_types.specs.declared.descriptor.Denial.TheVariants.{Outside}
 use Rattle.abi_types.specs.declared.descriptor.Descriptor.{Descriptor}
 use Rattle.abi_base.specs.declared.errno.Errno.TheVariants.{Success, Badf, Nomem, Notcapable}
 use Rattle.abi_base.specs.declared.grant.Grant.{Grant}
@@ -24,7 +25,7 @@ use Rattle.kernel_model.specs.Sight.{own_parts, behind}
 use Rattle.tree_model.specs.Grants.{MayBegin}
 use Rattle.kernel_model.specs.Start.{start_state}
 use Rattle.kernel_model.specs.State.{State, Tree, Table, Part, at_open, has_part, Agree, AgreeOn, threads_of}
-use Rattle.kernel_model.specs.Step.{tick, sight, touch, act, outcome, unreleased, step_answer, step_state, failed, IsStep, IsUntouched, end_unreleased, end_state}
+use Rattle.kernel_model.specs.Step.{tick, sight, touch, act, outcome, outside, outside_by, unreleased, step_answer, step_state, failed, IsStep, IsUntouched, end_unreleased, end_state}
 use Rattle.kernel_model.specs.Valid.{IsValid}
 use Rattle.kernel_model.specs.View.{whole}
 
@@ -39,6 +40,10 @@ MeaningsAreProper = (call : Call) → IsProper (meaning_of call)
 -- A call's outcome, which sees only what is in its sight, is what it would be if it saw the whole state.
 abbrev pub ReadsSight : Type 0
 ReadsSight = (constants : Constants) (S : State) (who : Who) (call : Call) → outcome constants S who call ≡ act constants (whole (tick S)) who call
+
+-- Where its path leads outside, by its sight, is where it does by the whole state.
+abbrev pub OutsideReadsSight : Type 0
+OutsideReadsSight = (S : State) (who : Who) (call : Call) → outside S who call ≡ outside_by (whole (tick S)) who call
 
 -- the call sees the same parts in both states, with the same values
 abbrev pub HasSameSight : State → State → Who → Call → Type 0
@@ -75,7 +80,7 @@ pub record IsReached (S : State) (table : Table) (rows : List Needed) (q : Part)
   pub d : Descriptor
   pub there : get table row.fd ≡ Some d
   pub has : has_needed d row ≡ true
-  pub part : has_part (at_open d.id ∷ behind (get S.opens d.id)) q ≡ true
+  pub part : has_part (at_open d.id ∷ behind S (get S.opens d.id)) q ≡ true
 
 -- the call needs no right at all, and the part is the open of a descriptor that it names, or stands behind it
 pub record IsReachedByName (S : State) (table : Table) (call : Call) (q : Part) : Type 0 where
@@ -84,7 +89,7 @@ pub record IsReachedByName (S : State) (table : Table) (call : Call) (q : Part) 
   pub asked : IsIn fd (named call)
   pub d : Descriptor
   pub there : get table fd ≡ Some d
-  pub part : has_part (at_open d.id ∷ behind (get S.opens d.id)) q ≡ true
+  pub part : has_part (at_open d.id ∷ behind S (get S.opens d.id)) q ≡ true
 
 -- each row of the call's needs is met by its process's table, and the part is reached so, or by name where there is no row
 abbrev pub IsReachedBy : State → Who → Call → Part → Type 0
@@ -183,17 +188,27 @@ pub record IsOfFirstLack (S : State) (who : Who) (call : Call) (denial : Denial)
   pub first : IsFirstLack table (need call) row d
   pub names : denial ≡ missing d row
 
--- A call is denied in no other case.
+-- Where no descriptor is absent, no right is missing and a path of the call leads outside, the call is denied for that.
+abbrev pub OutsideIsDenied : Type 0
+OutsideIsDenied =
+    (constants : Constants) (S : State) (who : Who) (call : Call) (component : ℕ) → outside S who call ≡ Some component
+    → step_answer constants S who call ≡ answer.Reply (denied (Outside component))
+
+-- the denial names the component at which a path of the call leads outside
+abbrev pub IsOfPath : State → Who → Call → Denial → Type 0
+IsOfPath S who call denial = (component : ℕ) × (outside S who call ≡ Some component) × (denial ≡ Outside component)
+
+-- A call is denied in no other case: the denial is of the first lack, or of a path that leads outside.
 abbrev pub DenialIsOfFirstLack : Type 0
 DenialIsOfFirstLack =
     (constants : Constants) (S : State) (who : Who) (call : Call) (reply : Reply) (denial : Denial) → step_answer constants S who call ≡ answer.Reply reply
-    → reply.denial ≡ Some denial → IsOfFirstLack S who call denial
+    → reply.denial ≡ Some denial → IsOfFirstLack S who call denial ⊎ IsOfPath S who call denial
 
--- none of the errors that the call answers of its own is NOTCAPABLE, an error that only missing rights have
+-- none of the errors that the call answers of its own is NOTCAPABLE, an error that only denials have
 abbrev pub IsNotDeniedEarly : Call → Type 0
 IsNotDeniedEarly call = AllByRecursion (λ errno. errno ≢ Notcapable) (errors_of call)
 
--- A call that answers NOTCAPABLE says what is missing.
+-- A call that answers NOTCAPABLE says what is missing, or where its path leads outside.
 abbrev pub NotcapableIsDenied : Type 0
 NotcapableIsDenied =
     (constants : Constants) (S : State) (who : Who) (call : Call) (reply : Reply) → IsNotDeniedEarly call
@@ -201,11 +216,12 @@ NotcapableIsDenied =
 
 -- ---- which errors a call answers, and where memory is wanting
 
--- A reply is a success, the refusal for want of a descriptor or of rights, one of the call's own errors, or want of memory,
--- and that only of a call that takes memory and isn't refused.
+-- A reply is a success, the refusal for want of a descriptor or of rights, the denial of a path that leads outside, one of the
+-- call's own errors, or want of memory, and that only of a call that takes memory and isn't refused.
 abbrev pub IsListed : State → Who → Call → Reply → Type 0
 IsListed S who call reply =
-    (reply.errno ≡ Success) ⊎ (refusal_of call (get S.tables who.pid) ≡ Some reply) ⊎ IsIn reply.errno (errors_of call)
+    (reply.errno ≡ Success) ⊎ (refusal_of call (get S.tables who.pid) ≡ Some reply)
+    ⊎ ((component : ℕ) × (outside S who call ≡ Some component) × (reply ≡ denied (Outside component))) ⊎ IsIn reply.errno (errors_of call)
     ⊎ ((takes_memory call ≡ true) × (refusal_of call (get S.tables who.pid) ≡ None) × (reply ≡ refused Nomem))
 
 abbrev pub RepliesAreListed : Type 0

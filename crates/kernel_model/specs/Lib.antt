@@ -9,8 +9,14 @@ pub mod Sight
 pub mod Rows
 pub mod Meaning
 pub mod ClockCalls
+pub mod FileTypes
 pub mod DescriptorCalls
+pub mod FileMeaning
+pub mod FilePaths
+pub mod FileLooks
+pub mod FileChanges
 pub mod FileCalls
+pub mod NameCalls
 pub mod SocketCalls
 pub mod WaitCalls
 pub mod StreamCalls

@@ -1,5 +1,5 @@
 -- What a call means. Each call has one value of this record (`Calls.antt`), and all that is said of calls is read from it.
-use Rattle.std.specs.Prelude.{ℕ, Bool, false, List, [], ◌∷◌}
+use Rattle.std.specs.Prelude.{ℕ, Bool, false, List, [], ◌∷◌, Option, None}
 use Rattle.abi_base.specs.declared.errno.Errno.{Errno}
 use Rattle.abi_base.specs.declared.errno.Errno.TheVariants.{Nosys}
 use Rattle.abi_types.specs.declared.reply.Reply.{Reply}
@@ -21,6 +21,9 @@ pub record Meaning : Type 0 where
   -- what it does once no descriptor and no right is missing, by what it sees, and by its process's table. It is total: where
   -- a valid state has a part, it answers BADF for want of it.
   pub does : Constants → View → Who → Table → Outcome
+  -- The component at which a path of the call leads outside the directory where it begins, if it does, by the same. The path
+  -- says it alone: the call is then denied for it, whatever it does else.
+  pub outside : View → Table → Option ℕ
   -- what it may change beside the clock, what is the process's own, and the process's status
   pub changes : State → Table → List Part
   -- the errors that it answers of its own, with nothing changed
@@ -35,6 +38,7 @@ answering errors reply = record {
   need = [];
   seen = [];
   does = λ constants v who table. replies reply;
+  outside = λ v table. None;
   changes = λ S table. [];
   errors = errors;
   takes_memory = false;

@@ -1,17 +1,19 @@
 -- What the meaning of each call keeps to. The laws of all steps follow from it (`Laws.antt`), so a call that is added is
 -- shown to keep to this, and nothing else is shown anew.
-use Rattle.std.specs.Prelude.{◌≡◌, ◌≢◌, ◌⊎◌, ℕ, true, false, List, [], ◌∷◌, ◌++◌, map, None, Some}
+use Rattle.std.specs.Prelude.{◌≡◌, ◌≢◌, ◌⊎◌, ℕ, true, false, List, [], ◌∷◌, ◌++◌, map, Option, None, Some}
 use Rattle.std.specs.List.{AllByRecursion}
 use Rattle.std.specs.FinMap.{get}
 use Rattle.abi_base.specs.declared.errno.Errno.{Errno}
 use Rattle.abi_base.specs.declared.errno.Errno.TheVariants.{Success, Nomem}
 use Rattle.abi_types.specs.declared.reply.Reply.{Reply}
 use Rattle.abi_types.specs.declared.constants.Constants.{Constants}
+use Rattle.abi_types.specs.declared.descriptor.Denial.TheVariants.{Outside}
 use Rattle.abi_types.specs.declared.needed.Needed.{Needed}
 use Rattle.abi_types.specs.declared.status.Status.TheVariants.{Live}
 use Rattle.abi_types.specs.declared.who.Who.{Who}
 use Rattle.kernel_model.specs.Meaning.{Meaning}
-use Rattle.kernel_model.specs.Outcome.{Outcome, OnReply}
+use Rattle.kernel_model.specs.Outcome.{Outcome, OnReply, replies}
+use Rattle.kernel_model.specs.Reply.{denied}
 use Rattle.kernel_model.specs.Sight.{own_parts, reached}
 use Rattle.kernel_model.specs.State.{State, Table, Part, at_proc, at_status, has_part, part_of, put_all, threads_of}
 use Rattle.kernel_model.specs.Step.{tick}
@@ -31,6 +33,11 @@ abbrev pub IsPlain : List Errno → Outcome → Type 0
 IsPlain errors o =
     OnReply (λ (reply : Reply). (reply.denial ≡ None) × ((reply.errno ≡ Success) ⊎ ((o.updates ≡ []) × IsIn reply.errno errors))) o.answer
 
+-- where a path leads outside the call is denied for it with nothing set, and else its reply is plain
+abbrev pub IsDeniedOutside : List Errno → Option ℕ → Outcome → Type 0
+IsDeniedOutside errors None o = IsPlain errors o
+IsDeniedOutside errors (Some component) o = o ≡ replies (denied (Outside component))
+
 -- the call needs a right of this descriptor
 abbrev pub NeedsOf : List Needed → ℕ → Type 0
 NeedsOf rows fd = (row : Needed) × IsIn row rows × (row.fd ≡ fd)
@@ -46,12 +53,17 @@ pub record IsProper (m : Meaning) : Type 0 where
   -- by what it sees it does what it does by the whole state
   pub reads : (constants : Constants) (S : State) (who : Who) (table : Table)
       → m.does constants (restrict S (own_parts who.pid ++ reached S table m.seen)) who table ≡ m.does constants (whole S) who table
+  -- and by what it sees its path leads outside where it does by the whole state
+  pub walks : (S : State) (who : Who) (table : Table)
+      → m.outside (restrict S (own_parts who.pid ++ reached S table m.seen)) table ≡ m.outside (whole S) table
   -- it sets no part beside its process's own and what it says that it changes, and it sees what it changes
   pub sets : (constants : Constants) (S : State) (who : Who) (table : Table) (part : Part)
       → has_part (own_parts who.pid ++ m.changes S table) part ≡ false → IsUnset (m.does constants (whole (tick S)) who table) part
   pub changes : (S : State) (table : Table) (part : Part) → has_part (m.changes S table) part ≡ true → has_part (reached S table m.seen) part ≡ true
-  -- its reply is a success, or one of its errors with nothing set; and of these none is want of memory where that may be
-  pub plain : (constants : Constants) (v : View) (who : Who) (table : Table) → IsPlain m.errors (m.does constants v who table)
+  -- where its path leads outside it is denied for that alone; else its reply is a success, or one of its errors with nothing
+  -- set; and of these none is want of memory where that may be
+  pub plain : (constants : Constants) (v : View) (who : Who) (table : Table)
+      → IsDeniedOutside m.errors (m.outside v table) (m.does constants v who table)
   pub lacks : m.takes_memory ≡ true → AllByRecursion (λ errno. errno ≢ Nomem) m.errors
   -- it sets nothing that another process has of its own
   pub others : (constants : Constants) (v : View) (who : Who) (table : Table) (q : ℕ) → q ≢ who.pid

@@ -4,26 +4,32 @@ use Rattle.std.specs.FinMap.{get}
 use Rattle.abi_types.specs.declared.descriptor.Descriptor.{Descriptor}
 use Rattle.abi_types.specs.declared.open_kind.OpenKind.{OpenKind}
 use Rattle.abi_types.specs.declared.open_kind.OpenKind.TheVariants.{File, Directory, End, Terminal, Process}
-use Rattle.kernel_model.specs.State.{State, Table, Part, at_clock, at_proc, at_status, at_open, at_node, at_names, at_term}
+use Rattle.tree_model.specs.Tree.{below}
+use Rattle.kernel_model.specs.State.{State, Table, tree_of, Part, at_clock, at_proc, at_status, at_open, at_node, at_names, at_term}
 
 -- the clock, what is the process's own, and its status
 abbrev pub own_parts : ℕ → List Part
 own_parts p = at_clock ∷ at_proc p ∷ at_status p ∷ []
 
--- The parts that stand behind an open. Of a valid state each open is a standard stream: what is below a directory comes with
--- the file tree, and an end's channels come with the calls that make them.
-abbrev pub behind : Option OpenKind → List Part
-behind None = []
-behind (Some (File node offset flags)) = at_node node ∷ []
-behind (Some (Directory node flags)) = at_node node ∷ at_names node ∷ []
-behind (Some (End reads writes flags)) = []
-behind (Some (Terminal which flags)) = at_term which ∷ []
-behind (Some (Process p)) = at_status p ∷ []
+-- each of these nodes, and the names in it
+abbrev pub node_parts : List ℕ → List Part
+node_parts [] = []
+node_parts (n ∷ ns) = at_node n ∷ at_names n ∷ node_parts ns
+
+-- The parts that stand behind an open: behind a directory all that is below it. An end's channels come with the calls that
+-- make them.
+abbrev pub behind : State → Option OpenKind → List Part
+behind S None = []
+behind S (Some (File node offset flags)) = at_node node ∷ []
+behind S (Some (Directory node flags)) = node_parts (below (tree_of S) node)
+behind S (Some (End reads writes flags)) = []
+behind S (Some (Terminal which flags)) = at_term which ∷ []
+behind S (Some (Process p)) = at_status p ∷ []
 
 -- a descriptor's open and what stands behind it
 abbrev pub reached_by : State → Option Descriptor → List Part
 reached_by S None = []
-reached_by S (Some d) = at_open d.id ∷ behind (get S.opens d.id)
+reached_by S (Some d) = at_open d.id ∷ behind S (get S.opens d.id)
 
 -- the same of each of these descriptors
 abbrev pub reached : State → Table → List ℕ → List Part

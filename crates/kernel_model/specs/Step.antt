@@ -66,6 +66,28 @@ act constants v who call = act_on constants v who call (v.table who.pid)
 unfoldable pub outcome : Constants → State → Who → Call → Outcome
 outcome constants S who call = act constants (restrict (tick S) (sight S who call)) who call
 
+-- ---- where a path of a call leads outside
+
+-- the component, unless the call is refused
+abbrev pub component_unless : Option Reply → Option ℕ → Option ℕ
+component_unless None component = component
+component_unless (Some reply) component = None
+
+abbrev pub outside_on : View → Call → Option Table → Option ℕ
+outside_on v call None = None
+outside_on v call (Some table) = component_unless (refusal table call) ((meaning_of call).outside v table)
+
+-- The component at which a path of a call leads outside the directory where it begins, by a view of the state: none where a
+-- descriptor is absent or a right is missing.
+abbrev pub outside_by : View → Who → Call → Option ℕ
+outside_by v who call = outside_on v call (v.table who.pid)
+
+-- the same by what is in the call's sight
+unfoldable pub outside : State → Who → Call → Option ℕ
+outside S who call = outside_by (restrict (tick S) (sight S who call)) who call
+
+-- ---- the step
+
 -- the state that a call leaves before anything is released
 abbrev pub unreleased : Constants → State → Who → Call → State
 unreleased constants S who call = put_all (outcome constants S who call).updates (tick S)

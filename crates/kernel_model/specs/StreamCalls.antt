@@ -2,7 +2,6 @@
 use Rattle.std.specs.Prelude.{ℕ, true, List, [], ◌∷◌, ◌++◌, length, take, drop, Option, None, Some}
 use Rattle.std.specs.FinMap.{get}
 use Rattle.abi_types.specs.declared.reply.Answer.TheVariants as answer
-use Rattle.abi_types.specs.declared.reply.Payload.TheVariants as payload
 use Rattle.abi_types.specs.declared.descriptor.Descriptor.{Descriptor}
 use Rattle.abi_base.specs.declared.errno.Errno.TheVariants.{Badf}
 use Rattle.abi_types.specs.declared.open_kind.OpenKind.{OpenKind}
@@ -11,7 +10,7 @@ use Rattle.abi_types.specs.declared.stream.Stream.{Stream}
 use Rattle.abi_base.specs.declared.rights.TheConstants.Rights.{FD_READ, FD_SEEK, FD_WRITE}
 use Rattle.kernel_model.specs.Meaning.{Meaning, unbuilt_row}
 use Rattle.kernel_model.specs.Outcome.{Outcome, replies}
-use Rattle.kernel_model.specs.Reply.{success, refused}
+use Rattle.kernel_model.specs.Reply.{content, refused, success}
 use Rattle.kernel_model.specs.Rows.{base_row, both}
 use Rattle.kernel_model.specs.Sight.{reached_by}
 use Rattle.kernel_model.specs.State.{set_term}
@@ -42,6 +41,7 @@ fd_write fd bytes = record {
   need = base_row fd FD_WRITE ∷ [];
   seen = fd ∷ [];
   does = λ constants v who table. write_to v bytes (get table fd);
+  outside = λ v table. None;
   changes = λ S table. reached_by S (get table fd);
   errors = Badf ∷ [];
   takes_memory = true;
@@ -53,7 +53,7 @@ fd_write fd bytes = record {
 abbrev pub read_term : ℕ → ℕ → Option Stream → Outcome
 read_term n which None = replies (refused Badf)
 read_term n which (Some stream) = record {
-  answer = answer.Reply (record (success (length (take n stream.left)) 0) { payload = payload.Content (take n stream.left) });
+  answer = answer.Reply (content (take n stream.left));
   updates = set_term which (record stream { left = drop n stream.left }) ∷ [];
 }
 
@@ -74,6 +74,7 @@ fd_read fd n = record {
   need = base_row fd FD_READ ∷ [];
   seen = fd ∷ [];
   does = λ constants v who table. read_from v n (get table fd);
+  outside = λ v table. None;
   changes = λ S table. reached_by S (get table fd);
   errors = Badf ∷ [];
   takes_memory = true;

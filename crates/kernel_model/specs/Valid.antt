@@ -43,12 +43,12 @@ abbrev pub IsNamed : Option OpenKind → Descriptor → Type 0
 IsNamed None d = ⊥
 IsNamed (Some kind) d = HasRightsOf d kind
 
--- What stands behind the open is there. Ends come with channels and opens of processes with forks, so none of these is there
--- yet.
+-- What stands behind the open is there, and a standard stream is one of the three. Ends come with channels and opens of
+-- processes with forks, so none of these is there yet.
 abbrev pub HasBehind : State → OpenKind → Type 0
 HasBehind S (kind.File node offset flags) = is_file (tree_of S) node ≡ true
 HasBehind S (kind.Directory node flags) = is_directory (tree_of S) node ≡ true
-HasBehind S (kind.Terminal which flags) = IsSome (get S.terms which)
+HasBehind S (kind.Terminal which flags) = IsSome (get S.terms which) × (which < 3)
 HasBehind S _ = ⊥
 
 -- the object that a process numbers so

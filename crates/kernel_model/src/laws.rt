@@ -1,7 +1,8 @@
 //! Laws of the kernel's steps. The statements are in `specs/Laws.antt`, and each holds of every state, process and call.
 ghost use Rattle.kernel_model.specs.Laws.{MeaningsAreProper, ReadsSight, SightDecides, StepDecided, SightIsReached, TouchIsSeen};
 ghost use Rattle.kernel_model.specs.Laws.{OthersStay, EndKeeps, ErrorKeeps, StepMovesOnly, EndStateEndsOnly, EndsAreLeast};
-ghost use Rattle.kernel_model.specs.Laws.{FirstLackIsNamed, DenialIsOfFirstLack, NotcapableIsDenied, RepliesAreListed, NoMemoryIsExact, AbsentIsBadf, LackIsDenied};
+ghost use Rattle.kernel_model.specs.Laws.{FirstLackIsNamed, DenialIsOfFirstLack, NotcapableIsDenied, OutsideIsDenied, OutsideReadsSight};
+ghost use Rattle.kernel_model.specs.Laws.{RepliesAreListed, NoMemoryIsExact, AbsentIsBadf, LackIsDenied};
 ghost use Rattle.kernel_model.specs.Laws.{StepKeepsValid, EndKeepsValid, StartIsValid};
 
 /// Each call's meaning keeps to what the laws stand on (`specs/Proper.antt`).
@@ -9,9 +10,11 @@ pub fn meanings_are_proper()
     ensures { MeaningsAreProper }
 {}
 
-/// A call's outcome, which sees only what is in its sight, is what it would be if it saw the whole state.
+/// A call's outcome, which sees only what is in its sight, is what it would be if it saw the whole state. So is the
+/// component at which a path of the call leads outside the directory where it begins.
 pub fn reads_sight()
-    ensures { ReadsSight }
+    ensures outcome { ReadsSight }
+    ensures path { OutsideReadsSight }
 {}
 
 /// A call that sees the same in two states answers the same in both, and sets the same parts to the same values.
@@ -62,16 +65,19 @@ pub fn error_keeps()
 {}
 
 /// Where each needed descriptor is there and some lacks a right, the call is denied, with exactly the rights that the
-/// first of these lacks. A call is denied in no other case. A call that answers `Notcapable` says what is missing, but
-/// for one that is refused with that error before the kernel looks at it.
+/// first of these lacks. Where none is absent, no right is missing and a path leads outside the directory where it
+/// begins, the call is denied for that, with the component. A call is denied in no other case. A call that answers
+/// `Notcapable` says which of both it is, but for one that is refused with that error before the kernel looks at it.
 pub fn refusal_names_lack()
     ensures named { FirstLackIsNamed }
+    ensures outside { OutsideIsDenied }
     ensures only { DenialIsOfFirstLack }
     ensures denied { NotcapableIsDenied }
 {}
 
-/// A reply is a success, the refusal for want of a descriptor or of rights, one of the errors that the call answers of its
-/// own, or want of memory, and that only of a call that takes memory and is not refused.
+/// A reply is a success, the refusal for want of a descriptor or of rights, the denial of a path that leads outside, one of
+/// the errors that the call answers of its own, or want of memory, and that only of a call that takes memory and is not
+/// refused.
 pub fn replies_are_listed()
     ensures { RepliesAreListed }
 {}

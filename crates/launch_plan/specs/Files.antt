@@ -4,7 +4,8 @@
 --     parts_of pairs      what the pairs of the map say: the path and the two lists
 --     asked_of t parts      what they ask for together, or the first fault of them
 --     file_grant t line value      the descriptor that the node asks for, or what is wrong with it
-use Rattle.std.specs.Prelude.{ℕ, ◌&&◌, ◌||◌, ◌==◌, if◌then◌else◌, nat_eq, Bool, true, false, List, [], ◌∷◌, codes, map, Option, Some, None, is_some, option_map, Result, Ok, Err}
+use Rattle.std.specs.Prelude.{ℕ, ◌&&◌, ◌||◌, ◌==◌, if◌then◌else◌, nat_eq, Bool, true, false, List, [], ◌∷◌, codes, map}
+use Rattle.std.specs.Prelude.{Option, Some, None, is_some, option_map, Result, Ok, Err}
 use Rattle.std.specs.Option.{option_and_then}
 use Rattle.std.specs.FinMap.{get}
 use Rattle.std.specs.Int.RustNames.{bit_or}
@@ -17,7 +18,8 @@ use Rattle.abi_base.specs.declared.rights.Rights.{Rights}
 use Rattle.abi_base.specs.Rights.{meet_of, names}
 use Rattle.abi_types.specs.declared.open_type.OpenType.{OpenType}
 use Rattle.abi_types.specs.OpenTypes.{rights_of, inheriting_of}
-use Rattle.yaml_values.specs.Shape.{Shape, Content, Shapes, Pairs, node, null, boolean, integer, text, binary, mapping, sequence, no_items, item, no_pairs, pair, of_list}
+use Rattle.yaml_values.specs.Shape.{Shape, Content, Shapes, Pairs, node, null, boolean, integer, text, binary, mapping, sequence}
+use Rattle.yaml_values.specs.Shape.{no_items, item, no_pairs, pair, of_list}
 use Rattle.yaml_values.specs.Views.{shape_of}
 use Rattle.path_lookup.specs.Split.{slash}
 use Rattle.path_lookup.specs.Walk.{WalkEnd, walk_of}

@@ -51,6 +51,7 @@ bounded settings launch within b =
     record {
       begins = begins settings launch b;
       start = record { sound = image; short = omega (arith, (text_plan_is launch.tree b.text _ b.planned).0); whole = refl };
+      epoch = omega (arith, b.epoch, within.epoch);
       turns = omega (arith, b.turns, within.turns.1);
     }
 

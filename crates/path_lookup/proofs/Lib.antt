@@ -5,3 +5,4 @@ pub mod Names
 pub mod Left
 pub mod Turns
 pub mod Places
+pub mod Outside

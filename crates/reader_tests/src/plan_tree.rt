@@ -1,8 +1,8 @@
 //! The file tree of plans.
 use abi_types::{Bytes, Node, NodeKind, ObjId, Times};
 use file_tree::Tree;
-use std::alloc::Global;
-use tree_model::{ROOT, TreeFault};
+use std::alloc::{AllocError, Global};
+use tree_model::ROOT;
 
 const TIMES: Times = Times {
     atim: 1,
@@ -36,7 +36,7 @@ pub(crate) fn id(number: u16) -> ObjId {
     ObjId(ROOT + u64::from(number))
 }
 
-fn node(alloc: Global, kind: &Kind) -> Result<Node, TreeFault> {
+fn node(alloc: Global, kind: &Kind) -> Result<Node, AllocError> {
     Ok(Node {
         kind: match kind {
             Kind::Directory => NodeKind::Directory,
@@ -48,15 +48,15 @@ fn node(alloc: Global, kind: &Kind) -> Result<Node, TreeFault> {
     })
 }
 
-/// The tree of these nodes.
-pub(crate) fn plan_tree(alloc: Global) -> Result<Tree, TreeFault> {
+/// The tree of these nodes. They are made in an order in which no change is refused but for want of memory.
+pub(crate) fn plan_tree(alloc: Global) -> Result<Tree, AllocError> {
     let mut tree = Tree::new(alloc, TIMES)?;
     for (dir, name, number, kind) in NODES {
         let made = id(*number);
-        if tree.node(made).is_some() {
-            return Err(TreeFault::Taken);
+        let node = node(alloc, kind)?;
+        if tree.node(made).is_some() || tree.make(id(*dir), name, made, node).is_err() {
+            return Err(AllocError);
         }
-        tree.make(id(*dir), name, made, node(alloc, kind)?)?;
     }
     Ok(tree)
 }

@@ -1,5 +1,5 @@
 -- What an entry may read and change of the kernel's state, and when it is denied.
-use Rattle.std.specs.Prelude.{◌≡◌, ◌≢◌, ℕ, false, List, ◌∷◌, ◌++◌, Some, IsSome}
+use Rattle.std.specs.Prelude.{◌≡◌, ◌≢◌, ◌⊎◌, ℕ, false, List, ◌∷◌, ◌++◌, Some, IsSome}
 use Rattle.std.specs.FinMap.{get}
 use Rattle.abi_types.specs.declared.reply.Answer.{Answer}
 use Rattle.abi_types.specs.declared.reply.Answer.TheVariants as answer
@@ -19,7 +19,7 @@ use Rattle.run_types.specs.declared.history.Entry.{Entry}
 use Rattle.run_types.specs.declared.launch.Launch.{Launch}
 use Rattle.abi_types.specs.declared.who.Who.{Who}
 use Rattle.kernel_model.specs.Calls.{named, need}
-use Rattle.kernel_model.specs.Laws.{HasSameSight, EndsAlike, HasAll, IsFirstLack, IsOfFirstLack, IsListed}
+use Rattle.kernel_model.specs.Laws.{HasSameSight, EndsAlike, HasAll, IsFirstLack, IsOfFirstLack, IsOfPath, IsListed}
 use Rattle.kernel_model.specs.Need.{missing}
 use Rattle.kernel_model.specs.Release.{is_released}
 use Rattle.kernel_model.specs.Reply.{denied}
@@ -36,9 +36,9 @@ MayAnswer constants S who call given = (T : State) × IsStep constants S who cal
 -- sees the same, it may be answered so, and it answers and sets the same; and where the release after such an answer ends
 -- the same of the opens that it sees, each part that it sees has the same value after both. Each part that it does not
 -- touch and that the release after it does not end has the value it had. Where each descriptor that it names is there and
--- some lacks a right, it is denied with exactly what the first of these lacks. It is denied in no other case, and an answer
--- of NOTCAPABLE says what is missing. It answers no error but those that are listed for it. An answer with an error
--- changes only the clock.
+-- some lacks a right, it is denied with exactly what the first of these lacks. Beside that it is denied only where a path of
+-- it leads outside, and an answer of NOTCAPABLE says what is missing or where. It answers no error but those that are listed
+-- for it. An answer with an error changes only the clock.
 pub record CallIsConfined (constants : Constants) (S : State) (who : Who) (call : Call) (given : Answer) (T : State) : Type 0 where
   pub answers : (U : State) → HasSameSight S U who call → MayAnswer constants U who call given
   pub sets : (U : State) → HasSameSight S U who call → outcome constants S who call ≡ outcome constants U who call
@@ -48,7 +48,8 @@ pub record CallIsConfined (constants : Constants) (S : State) (who : Who) (call 
   pub changes : (part : Part) → IsUntouched constants S who call part → Agree T S part
   pub lacking : (table : Table) (row : Needed) (d : Descriptor) → get S.tables who.pid ≡ Some table → HasAll table (named call)
       → IsFirstLack table (need call) row d → given ≡ answer.Reply (denied (missing d row))
-  pub only : (reply : Reply) (denial : Denial) → given ≡ answer.Reply reply → reply.denial ≡ Some denial → IsOfFirstLack S who call denial
+  pub only : (reply : Reply) (denial : Denial) → given ≡ answer.Reply reply → reply.denial ≡ Some denial
+      → IsOfFirstLack S who call denial ⊎ IsOfPath S who call denial
   pub told : (reply : Reply) → given ≡ answer.Reply reply → reply.errno ≡ Notcapable → IsSome reply.denial
   pub listed : (reply : Reply) → given ≡ answer.Reply reply → IsListed S who call reply
   pub error : (reply : Reply) → given ≡ answer.Reply reply → reply.errno ≢ Success → T ≡ failed S who

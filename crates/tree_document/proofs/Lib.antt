@@ -9,4 +9,13 @@ pub mod Rows
 pub mod Nodes
 pub mod Texts
 pub mod Going
-pub mod Printouts
+pub mod BackPaths
+pub mod BackNames
+pub mod BackRows
+pub mod BackCounts
+pub mod BackCopies
+pub mod BackMade
+pub mod BackLinked
+pub mod BackRecords
+pub mod BackDocuments
+pub mod DocumentLimits

@@ -24,12 +24,12 @@ use Rattle.tree_document.specs.Printing.{Row, below_path, listed, listing}
 
 -- ---- a map's entries are what it answers
 
-holds : (b : Bool) → T b → b ≡ true
+pub holds : (b : Bool) → T b → b ≡ true
 holds true h = refl
 holds false h = absurd h
 
 -- a name below all others is none of them
-not_below : (x : List ℕ) (es : Entries) → below_all name_cmp x es ≡ true → AllByRecursion (λ e. e.0 ≢ x) es
+pub not_below : (x : List ℕ) (es : Entries) → below_all name_cmp x es ≡ true → AllByRecursion (λ e. e.0 ≢ x) es
 not_below x [] h = tt
 not_below x (e ∷ es) h =
     let both = and_parts (is_lt (name_cmp x e.0)) (below_all name_cmp x es) h in
@@ -64,7 +64,7 @@ kept_weight true o = omega arith
 kept_weight false o = omega arith
 
 -- a node is below no more nodes than there are
-depth_least : (t : Tree) (n : ℕ) → depth t n ≤ len t.nodes
+pub depth_least : (t : Tree) (n : ℕ) → depth t n ≤ len t.nodes
 unfolding depth
 depth_least t n =
     let kept = retain_keys t.nodes (λ a. member n (below t a)) in

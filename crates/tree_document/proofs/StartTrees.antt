@@ -36,7 +36,7 @@ pub record IsFilled (t : Tree) (next : ℕ) : Type 0 where
   pub counted : next ≡ ROOT + len t.nodes
 
 -- the numbers from the next one on are no nodes'
-filled_absent : (t : Tree) (next n : ℕ) → IsFilled t next → next ≤ n → is_absent t n ≡ true
+pub filled_absent : (t : Tree) (next n : ℕ) → IsFilled t next → next ≤ n → is_absent t n ≡ true
 filled_absent t next n h far =
     elim (get t.nodes n) as (λ o. get t.nodes n ≡ o → is_none o ≡ true) [
       | None ↦ λ _. refl
@@ -46,14 +46,14 @@ filled_absent t next n h far =
 -- ---- the root alone
 
 module _ (times : Times) where
-  root_only : (n : ℕ) → IsSome (get (root_tree times).nodes n) → n ≡ ROOT
+  pub root_only : (n : ℕ) → IsSome (get (root_tree times).nodes n) → n ≡ ROOT
   root_only n there =
       elim (eqb_tells n ROOT) [
         | inl is ↦ is.1
         | inr is ↦ absurd (false≢true (sym (ap is_some (get-insert-other empty ROOT (root_node times) n is.1 ∙ get-empty nat_cmp n)) ∙ there))
       ]
 
-  root_filled : IsFilled (root_tree times) (ROOT + 1)
+  pub root_filled : IsFilled (root_tree times) (ROOT + 1)
   root_filled = record {
     tree = root_tree-tree times;
     named = λ n there.
@@ -87,7 +87,7 @@ module _ (t : Tree) (d : ℕ) (name : List ℕ) (next : ℕ) (node : Node) (h : 
       (λ _. let size = h.counted in (omega arith, omega arith))
       (λ other there. let within = h.numbered n (made_there n other there) in (within.0, omega (arith, within.1)))
 
-  made_filled : first_fault (make_faults t d name) ≡ None → IsFilled (made t d name next node) (next + 1)
+  pub made_filled : first_fault (make_faults t d name) ≡ None → IsFilled (made t d name next node) (next + 1)
   made_filled free =
       let new = filled_absent t next next h (omega arith) in
       record {
@@ -102,7 +102,7 @@ module _ (t : Tree) (d : ℕ) (name : List ℕ) (next : ℕ) (node : Node) (h : 
 
 -- ---- one more name
 
-linked_filled : (t : Tree) (d : ℕ) (name : List ℕ) (n next : ℕ) → IsFilled t next → first_fault (link_faults t d name n) ≡ None
+pub linked_filled : (t : Tree) (d : ℕ) (name : List ℕ) (n next : ℕ) → IsFilled t next → first_fault (link_faults t d name n) ≡ None
     → IsFilled (linked t d name n) next
 linked_filled t d name n next h free =
     let keeps = KeepsNodes-one_more t n in
@@ -118,7 +118,7 @@ linked_filled t d name n next h free =
 
 -- ---- records
 
-abbrev Filled : Making → Type 0
+abbrev pub Filled : Making → Type 0
 Filled m = IsFilled m.tree m.next
 
 node_filled : (m : Making) (name : List ℕ) (kind : NodeKind) (o : Option ℕ) → IsPlaceIn m.tree name o → Filled m → Filled (with_node_in m name kind o)
@@ -130,13 +130,13 @@ name_filled m name None p here h = absurd here
 name_filled m name (Some d) None here h = absurd here
 name_filled m name (Some d) (Some n) here h = linked_filled m.tree d name n m.next h here
 
-more_filled : (m : Making) (r : Record) → IsAllowed m r → Filled m → Filled (with_record m r)
+pub more_filled : (m : Making) (r : Record) → IsAllowed m r → Filled m → Filled (with_record m r)
 more_filled m (dir p) here h = node_filled m (name_of p) _ (node_at m.tree ROOT (parent p)) here h
 more_filled m (file p bytes) here h = node_filled m (name_of p) _ (node_at m.tree ROOT (parent p)) here h
 more_filled m (link p text) here h = node_filled m (name_of p) _ (node_at m.tree ROOT (parent p)) here h
 more_filled m (hard p target) here h = name_filled m (name_of p) (node_at m.tree ROOT (parent p)) (node_at m.tree ROOT target) here.1 h
 
-records_filled : (m : Making) (rs : List Record) → AreAllowed m rs → Filled m → Filled (with_records m rs)
+pub records_filled : (m : Making) (rs : List Record) → AreAllowed m rs → Filled m → Filled (with_records m rs)
 records_filled m [] here h = h
 records_filled m (r ∷ rs) here h = records_filled (with_record m r) rs here.2 (more_filled m r here.1 h)
 

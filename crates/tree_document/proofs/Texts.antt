@@ -34,7 +34,7 @@ first_behind (row ∷ rows) more n h =
       | false ↦ λ e. first_behind rows more n e
     ] h
 
-first_stays : (rows more : List Row) (n : ℕ) (path : List ℕ) → first_in rows n ≡ Some path → first_in (rows ++ more) n ≡ Some path
+pub first_stays : (rows more : List Row) (n : ℕ) (path : List ℕ) → first_in rows n ≡ Some path → first_in (rows ++ more) n ≡ Some path
 first_stays [] more n path h = absurd cc
 first_stays (row ∷ rows) more n path h =
     elim (eqb row.1 n) as (λ b. (if b then Some row.0 else first_in rows n) ≡ Some path → (if b then Some row.0 else first_in (rows ++ more) n) ≡ Some path) [
@@ -42,11 +42,11 @@ first_stays (row ∷ rows) more n path h =
       | false ↦ λ e. first_stays rows more n path e
     ] h
 
-first_other : (rows : List Row) (path : List ℕ) (m n : ℕ) → m ≢ n → first_in (rows ++ (path, m) ∷ []) n ≡ first_in rows n
+pub first_other : (rows : List Row) (path : List ℕ) (m n : ℕ) → m ≢ n → first_in (rows ++ (path, m) ∷ []) n ≡ first_in rows n
 first_other [] path m n other = ap (λ b. if b then Some path else None) (ne_eqb m n other)
 first_other (row ∷ rows) path m n other = ap (λ (o : Option (List ℕ)). if eqb row.1 n then Some row.0 else o) (first_other rows path m n other)
 
-first_here : (rows : List Row) (path : List ℕ) (n : ℕ) → first_in rows n ≡ None → first_in (rows ++ (path, n) ∷ []) n ≡ Some path
+pub first_here : (rows : List Row) (path : List ℕ) (n : ℕ) → first_in rows n ≡ None → first_in (rows ++ (path, n) ∷ []) n ≡ Some path
 first_here rows path n h = first_behind rows ((path, n) ∷ []) n h ∙ ap (λ b. if b then Some path else None) (eq-eqb n n refl)
 
 -- ---- one name more

@@ -18,7 +18,7 @@ pub some_bytes : (bytes : List ℕ) → 0 < length bytes → path_in bytes ≡ n
 some_bytes [] h = absurd (omega arith)
 some_bytes (b ∷ bs) h = refl
 
-named_bytes : (name : List ℕ) (more : Path) → 0 < length name → 0 < length (path_bytes (name ∷ more))
+pub named_bytes : (name : List ℕ) (more : Path) → 0 < length name → 0 < length (path_bytes (name ∷ more))
 named_bytes [] more h = absurd (omega arith)
 named_bytes (b ∷ bs) [] h = omega arith
 named_bytes (b ∷ bs) (next ∷ more) h = omega arith

@@ -5,4 +5,5 @@ pub mod Meaning
 pub mod Printing
 pub mod Left
 pub mod Limits
+pub mod SameTrees
 pub mod Views

@@ -1,16 +1,19 @@
 //! Laws of tree documents.
-ghost use Rattle.std.specs.Prelude.{◌≡◌, ◌<◌, ◌^◌, ◌↔◌, ℕ, List, [], length, map, Ok, Err};
-ghost use Rattle.std.specs.List.{AllByRecursion};
+ghost use Rattle.std.specs.Prelude.{◌≡◌, ◌<◌, ◌^◌, ◌↔◌, ℕ, List, [], length, map, Result, Ok, Err};
 ghost use Rattle.abi_types.specs.declared.node.Times.{Times};
 ghost use Rattle.tree_model.specs.Grants.{IsStartTree};
 ghost use Rattle.tree_model.specs.Start.{root_tree};
 ghost use Rattle.tree_model.specs.Tree.{IsTree, Tree};
 ghost use Rattle.tree_records.specs.Paths.{path_bytes};
-ghost use Rattle.tree_records.specs.Records.{IsRecord, Record, path_of};
-ghost use Rattle.tree_document.specs.Documents.{IsFaultyAt, Means, document};
+ghost use Rattle.tree_records.specs.Records.{Record, path_of};
+ghost use Rattle.tree_document.specs.Building.{start};
+ghost use Rattle.tree_document.specs.Documents.{AreAllowed, IsFaultyAt, Means, document};
 ghost use Rattle.tree_document.specs.Limits.{KeepsLimits};
 ghost use Rattle.tree_document.specs.Meaning.{meaning};
 ghost use Rattle.tree_document.specs.Printing.{listing, printed};
+ghost use Rattle.tree_document.specs.SameTrees.{IsSameOrLacking, IsSameTree};
+ghost use Rattle.tree_document.specs.Views.{Gives};
+ghost use Rattle.tree_document.specs.declared.fault.TreeDocFault.{TreeDocFault};
 
 /// A text means one tree, or is faulty at one byte, and never both. So what [`crate::read_tree`] returns is the only tree or
 /// fault that there is for the text, unless memory was wanting.
@@ -36,8 +39,23 @@ pub fn a_launch_may_begin_with_a_document()
     ensures root { (times : Times) → IsStartTree (root_tree times) }
 {}
 
-/// What is printed of a tree that keeps the limits are records, one for each name, at the name's path.
-pub fn what_is_printed_are_records()
-    ensures { (t : Tree) → IsTree t → KeepsLimits t → (rs : List Record) × AllByRecursion IsRecord rs × (printed t ≡ document rs)
+/// What is printed of a tree that keeps the limits is a document: one record for each name, at the name's path, each of which may
+/// stand where it stands.
+pub fn what_is_printed_is_a_document()
+    ensures { (times : Times) (t : Tree) → IsTree t → KeepsLimits t → (rs : List Record) × AreAllowed (start times) rs × (printed t ≡ document rs)
         × (map (λ r. path_bytes (path_of r)) rs ≡ map (λ row. row.0) (listing t)) }
+{}
+
+/// What is printed of a tree that keeps the limits means the same tree: the same names, bytes and texts, and the same shared names
+/// of files. Numbers and times of nodes may differ. So [`crate::read_tree`] of what [`crate::tree_text`] printed, which is as
+/// computed, is the same tree, or memory was wanting.
+pub fn what_is_printed_reads_back()
+    ensures means { (times : Times) (t : Tree) → IsTree t → KeepsLimits t → (u : Tree) × Means times (printed t) u × IsSameTree t u }
+    ensures read { (times : Times) (t : Tree) (read : Result Tree TreeDocFault) → IsTree t → KeepsLimits t → Gives read (meaning times (printed t))
+        → IsSameOrLacking t read }
+{}
+
+/// The tree of a document keeps the limits. So it can be printed and read again.
+pub fn a_document_keeps_the_limits()
+    ensures { (times : Times) (bytes : List ℕ) (t : Tree) → Means times bytes t → KeepsLimits t }
 {}

@@ -6,8 +6,8 @@
 
 pub use fault::TreeDocFault;
 pub use laws::{
-    a_launch_may_begin_with_a_document, a_meaning_is_computed, a_text_has_one_meaning,
-    what_is_printed_are_records,
+    a_document_keeps_the_limits, a_launch_may_begin_with_a_document, a_meaning_is_computed,
+    a_text_has_one_meaning, what_is_printed_is_a_document, what_is_printed_reads_back,
 };
 pub use printing::{TreeText, tree_text};
 pub use reading::read_tree;

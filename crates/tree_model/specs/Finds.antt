@@ -3,6 +3,7 @@
 --     HasSameBelow t u a      u has the nodes and names of t below a, and no node that t lacks
 --     finds_closed      what a name is in a directory below a is below a
 --     finds_agree      two trees with the same below a find the same there
+--     named_alike      and the node of each name is the same
 use Rattle.std.proofs.Common.{◌≡◌, ℕ, true, List, Option, None, Some, is_some, refl, sym, ap, ◌∙◌}
 use Rattle.std.specs.FinMap.{get}
 use Rattle.abi_types.specs.declared.node.Node.{Node}
@@ -69,9 +70,13 @@ module _ (t u : Tree) (a : ℕ) (same : HasSameBelow t u a) where
   node_alike d name n None under has there = there ∙ sym (same.fewer n there)
   node_alike d name n (Some node) under has there = same.nodes n (below_closed t a d name n under has (ap is_some there))
 
+  -- the node of a name in a directory below a is the same, or is there in neither
+  pub named_alike : (d : ℕ) (name : List ℕ) (n : ℕ) → member d (below t a) ≡ true → HasName t d name n → get t.nodes n ≡ get u.nodes n
+  named_alike d name n under has = node_alike d name n (get t.nodes n) under has refl
+
   entry_alike : (d : ℕ) (name : List ℕ) (o : Option ℕ) → member d (below t a) ≡ true → entry_of t d name ≡ o → finding_of t o ≡ finding_of u o
   entry_alike d name None under is = refl
-  entry_alike d name (Some n) under is = ap (finding_of_node n) (node_alike d name n (get t.nodes n) under is refl)
+  entry_alike d name (Some n) under is = ap (finding_of_node n) (named_alike d name n under is)
 
   -- two trees that have the same below a find the same there
   pub finds_agree : Agree (finds t) (finds u) (λ n. member n (below t a))

@@ -7,6 +7,7 @@ pub mod Counts
 pub mod Faults
 pub mod Facts
 pub mod Below
+pub mod Finds
 pub mod Heights
 pub mod Climbing
 pub mod Keeps
@@ -16,5 +17,4 @@ pub mod Outcomes
 pub mod Start
 pub mod Opens
 pub mod Releasing
-pub mod Finds
 pub mod Grants

@@ -120,6 +120,7 @@ answer_of-requires c =
       stat_get = c.in_default-call.not-FdStatGet;
       stat_put = c.in_default-call.not-FdStatPut;
       write = c.in_default-call.not-FdWrite;
+      file = sym c.opened_fd.ensures ∙ c.in_default-opened_fd.is;
       exit = c.in_default-call.not-ProcExit;
     })
 

@@ -1,7 +1,7 @@
 use Rattle.kernel_model.proofs.Refusals.{lack_is_denied, step_denial}
 use Rattle.kernel_model.proofs.Touches.{others_stay}
 use Rattle.kernel_model.proofs.Steps.{step_keeps_valid}
-use Rattle.kernel_core.proofs.Steps.{step_refused}
+use Rattle.kernel_core.proofs.Steps.{denied_outside, step_refused}
 use Rattle.kernel_core.proofs.kernel.Kernel.step.Goals as goal
 
 pub returns-clause-valid : goal.returns-clause-valid
@@ -15,6 +15,9 @@ returns-clause-denied c = λ table row d there all first. lack_is_denied _ _ _ _
 
 pub returns-clause-only : goal.returns-clause-only
 returns-clause-only c = λ reply denial is denies. step_denial _ _ _ _ _ _ reply denial c.run.ensures.step is denies
+
+pub returns-clause-outside : goal.returns-clause-outside
+returns-clause-outside c = λ component leads memory. denied_outside _ _ _ _ _ _ component leads memory c.run.ensures.step
 
 pub returns-clause-refused : goal.returns-clause-refused
 returns-clause-refused c = λ reply is fails. step_refused _ _ _ _ _ _ reply c.run.ensures.valid c.run.ensures.step is fails

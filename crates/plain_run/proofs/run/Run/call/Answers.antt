@@ -33,6 +33,9 @@ returns-in_err-answer-clause-left c =
 pub step-answer-requires-clause-early : goal.step-answer-requires-clause-early
 step-answer-requires-clause-early c = early c.args.self.now c.args.who.now.pid c.requires.at
 
+pub step-answer-requires-clause-epoch : goal.step-answer-requires-clause-epoch
+step-answer-requires-clause-epoch c = c.requires.at.bounded.epoch
+
 -- the process's guest before the call
 found : (c : After-enter) → c.get_mut-guest.result.now ≡ guest_now c.args.self.now c.args.who.now.pid
 found c = guest_found c.args.self.now c.args.who.now.pid c.key_of.result _ (c.key_of.ensures) c.get_mut-guest.ensures.value

@@ -1,0 +1,125 @@
+-- A call that has changed one node leaves the tree that its outcome says.
+--     Still t u n      the trees both have a node of this number, with as many names in both, or both have none
+--     nodes_stay      so it is of each number after a call that changes one node
+--     becomes_is      a tree with another node is what setting that node makes of it
+--     unless_done, not_large      calls that might be refused
+use Rattle.std.proofs.Common.{◌≡◌, ◌<◌, ◌≤◌, ℕ, ◌==◌, Bool, true, false, cond, List, length, Option, Some, None, refl, sym, ap, ◌∙◌, arith}
+use Rattle.std.proofs.lemmas.Bool.{false_from_ne_true, ltb-true}
+use Rattle.std.specs.Prelude.{bit_and, max, nat_lt}
+use Rattle.std.specs.FinMap.{empty, get}
+use Rattle.std.specs.Option.{option_map}
+use Rattle.abi_structures.specs.declared.structures.FileStat.{FileStat}
+use Rattle.abi_types.specs.declared.node.Node.{Node}
+use Rattle.abi_types.specs.declared.node.NodeKind.TheVariants as kind
+use Rattle.abi_types.specs.declared.node.Times.{Times}
+use Rattle.abi_types.specs.declared.reply.Answer.TheVariants as answer
+use Rattle.abi_types.specs.declared.reply.Reply.{Reply}
+use Rattle.number_map.specs.Maps.{same_numbers}
+use Rattle.tree_model.specs.Changes.{bytes_of, with_bytes, with_times}
+use Rattle.tree_model.specs.Entries.{here_or_other, with_bytes-changes, with_times-changes}
+use Rattle.tree_model.specs.Files.{resized}
+use Rattle.tree_model.specs.Tree.{Tree}
+use Rattle.tree_model.specs.declared.limits.TheConstants.{MOST_FILE_BYTES}
+use Rattle.kernel_model.specs.FileChanges.{allocated, becomes, becomes_in, has_size, modified, put_size, put_stat, put_times, retimed, retimed_in, sized, times_put}
+use Rattle.kernel_model.specs.Outcome.{Outcome}
+use Rattle.kernel_model.specs.State.{State}
+use Rattle.kernel_model.proofs.Reworks.{Reworks, put_tree}
+use Rattle.file_calls.specs.Done.{HasSameNodes, IsDone, names_at, tree_after}
+
+-- ---- a node that is there stays there, with its names
+
+abbrev pub Still : Tree → Tree → ℕ → Type 0
+Still t u n = names_at u n ≡ names_at t n
+
+-- how many names a node counts
+abbrev count : Option Node → Option ℕ
+count o = option_map (λ (node : Node). node.links) o
+
+mapped_still : (f : Node → Node) → ((node : Node) → (f node).links ≡ node.links) → (o : Option Node) → count (option_map f o) ≡ count o
+mapped_still f same None = refl
+mapped_still f same (Some node) = ap Some (same node)
+
+with_times_still : (t : Tree) (n : ℕ) (times : Times) → Still t (with_times t n times) n
+with_times_still t n times =
+    ap count (with_times-changes t n times).node ∙ mapped_still (λ (node : Node). record node { times = times }) (λ node. refl) (get t.nodes n)
+
+with_bytes_still : (t : Tree) (n : ℕ) (bytes : List ℕ) → Still t (with_bytes t n bytes) n
+with_bytes_still t n bytes =
+    ap count (with_bytes-changes t n bytes).node ∙ mapped_still (λ (node : Node). record node { kind = kind.File bytes }) (λ node. refl) (get t.nodes n)
+
+retimed_in_still : (t : Tree) (n : ℕ) (new : Times → Times) (o : Option Node) → Still t (retimed_in t n new o) n
+retimed_in_still t n new None = refl
+retimed_in_still t n new (Some node) = with_times_still t n (new node.times)
+
+retimed_still : (t : Tree) (n : ℕ) (new : Times → Times) → Still t (retimed t n new) n
+retimed_still t n new = retimed_in_still t n new (get t.nodes n)
+
+either_still : (b : Bool) (t u w : Tree) (n : ℕ) → Still t u n → Still t w n → Still t (cond b u w) n
+either_still true t u w n first second = first
+either_still false t u w n first second = second
+
+sized_still : (t : Tree) (n now size : ℕ) → Still t (sized t n now size) n
+sized_still t n now size =
+    let other : Tree = with_bytes t n (resized (bytes_of t n) size) in
+    either_still (length (bytes_of t n) == size) t t (retimed other n (modified now)) n refl
+    (retimed_still other n (modified now) ∙ with_bytes_still t n (resized (bytes_of t n) size))
+
+pub allocated_still : (t : Tree) (n now size : ℕ) → Still t (allocated t n now size) n
+allocated_still t n now size = sized_still t n now (max (length (bytes_of t n)) size)
+
+module _ (flags : ℕ) (stat : FileStat) (now : ℕ) where
+  pub put_times_still : (t : Tree) (n : ℕ) → Still t (put_times flags stat now t n) n
+  put_times_still t n =
+      either_still (bit_and flags 15 == 0) t t (retimed t n (times_put flags stat now)) n refl (retimed_still t n (times_put flags stat now))
+
+  put_size_still : (t : Tree) (n : ℕ) → Still t (put_size flags stat now t n) n
+  put_size_still t n = either_still (has_size flags) t (sized t n now stat.size) t n (sized_still t n now stat.size) refl
+
+  pub put_stat_still : (t : Tree) (n : ℕ) → Still t (put_stat flags stat now t n) n
+  put_stat_still t n = put_times_still (put_size flags stat now t n) n ∙ put_size_still t n
+
+-- ---- the tree of an outcome
+
+-- a state with this tree
+abbrev bare : Tree → State
+bare t =
+    record { clock = 0; tables = empty; own = empty; statuses = empty; opens = empty; nodes = t.nodes; names = t.names; terms = empty }
+
+counts_none : (o : Option Node) → count o ≡ None → o ≡ None
+counts_none None is = refl
+counts_none (Some node) is = cc
+
+module _ (t u : Tree) (n : ℕ) (works : Reworks t u n) (still : Still t u n) where
+  none_done : get u.nodes n ≡ None → u ≡ t
+  none_done none =
+      let before : get t.nodes n ≡ None = counts_none (get t.nodes n) (sym still ∙ ap count none) in
+      let nodes = same_numbers u.nodes t.nodes (λ q. here_or_other (λ k. get u.nodes k ≡ get t.nodes k) n q (none ∙ sym before) (works.others q)) in
+      λ i. record { nodes = nodes i; names = works.names i }
+
+  done_by : (o : Option Node) → get u.nodes n ≡ o → u ≡ tree_after (becomes n o).updates t
+  done_by None is = none_done is
+  done_by (Some node) is = sym (put_tree (bare t) n node u works is)
+
+  -- each node is there as before, with as many names
+  same_nodes : HasSameNodes t u
+  same_nodes q = here_or_other (λ k. names_at u k ≡ names_at t k) n q still (λ other. ap count (works.others q other))
+
+  pub becomes_done : u ≡ tree_after (becomes_in n u).updates t
+  becomes_done = done_by (get u.nodes n) refl
+
+-- ---- calls
+
+pub nodes_stay : (t w u : Tree) (n : ℕ) → Reworks t w n → Still t w n → u ≡ w → HasSameNodes t u
+nodes_stay t w u n works still is = λ q. ap (λ (x : Tree). names_at x q) is ∙ same_nodes t w n works still q
+
+pub becomes_is : (t w u : Tree) (n : ℕ) (reply : Reply) → Reworks t w n → Still t w n → u ≡ w → answer.Reply reply ≡ (becomes_in n u).answer
+    → IsDone (becomes_in n w) t u reply
+becomes_is t w u n reply works still is answered = (answered ∙ ap (λ (x : Tree). (becomes_in n x).answer) is, is ∙ becomes_done t w n works still)
+
+-- a call that goes on where this test fails
+pub unless_done : (b : Bool) (o p : Outcome) (t u : Tree) (reply : Reply) → b ≡ false → IsDone p t u reply → IsDone (cond b o p) t u reply
+unless_done true o p t u reply fails done = cc
+unless_done false o p t u reply fails done = done
+
+pub not_large : (size : ℕ) → size ≤ MOST_FILE_BYTES → nat_lt MOST_FILE_BYTES size ≡ false
+not_large size small = false_from_ne_true (nat_lt MOST_FILE_BYTES size) (λ is. let more : MOST_FILE_BYTES < size = ltb-true MOST_FILE_BYTES size is in omega arith)

@@ -1,0 +1,17 @@
+use Rattle.std.proofs.Common.{Some, ap, ◌∙◌}
+use Rattle.kernel_model.specs.FileLooks.{tell_in}
+use Rattle.kernel_model.specs.FilePaths.{walked}
+use Rattle.file_calls.specs.Walks.{node_or_reply}
+use Rattle.file_calls.proofs.Walks.{found_goes_on, lost_replies}
+use Rattle.file_calls.proofs.stats.file_stat_get.Goals as goal
+
+pub returns-in-Ok : goal.returns-in-Ok
+returns-in-Ok c =
+    c.tell_node.ensures
+    ∙ found_goes_on (tell_in c.args.tree.now) _ c.in-Ok.node
+    (c.in-Ok.ensures ∙ ap (λ mode. node_or_reply (walked c.args.tree.now mode c.args.path.now (Some c.args.kind.now))) c.lookup_mode.ensures)
+
+pub returns-in-Err : goal.returns-in-Err
+returns-in-Err c =
+    lost_replies (tell_in c.args.tree.now) _ c.in-Err.reply
+    (c.in-Err.ensures ∙ ap (λ mode. node_or_reply (walked c.args.tree.now mode c.args.path.now (Some c.args.kind.now))) c.lookup_mode.ensures)

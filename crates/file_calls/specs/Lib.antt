@@ -1,0 +1,4 @@
+pub mod Opens
+pub mod Walks
+pub mod Done
+pub mod Heads

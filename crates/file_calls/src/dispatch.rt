@@ -1,0 +1,69 @@
+//! Which calls work on an open, and what they do there.
+ghost use Rattle.std.specs.Prelude.{◌≡◌, true, IfOk, OnErr, Some};
+ghost use Rattle.kernel_model.specs.FileCalls as model;
+ghost use Rattle.file_calls.specs.Done.{HasSameNodes, IsDone};
+ghost use Rattle.file_calls.specs.Opens.{IsThere};
+
+use crate::changes::{file_allocate, file_stat_fput, file_stat_put};
+use crate::listings::file_readdir;
+use crate::stats::{file_stat_fget, file_stat_get};
+use crate::symlinks::file_readlink;
+use abi_types::{Call, Errno, OpenKind, Reply};
+use file_tree::Tree;
+use right_rules::refused;
+use std::alloc::{AllocError, Global};
+
+/// The descriptor on whose open the call works, where it is a call that does.
+pub fn opened_fd(call: &Call) -> Option<u32>
+    ensures { result ≡ model.opened_fd call.now }
+{
+    match call {
+        Call::FileAllocate { fd, .. }
+        | Call::FileReaddir { fd, .. }
+        | Call::FileReadlink { fd, .. }
+        | Call::FileStatFget { fd }
+        | Call::FileStatFput { fd, .. } => Some(*fd),
+        Call::FileStatGet { lookup, .. } | Call::FileStatPut { lookup, .. } => Some(lookup.fd),
+        _ => None,
+    }
+}
+
+/// Does a call on an open, at this time in nanoseconds since 1970: the reply, and the tree after it. `Err` comes only of a call
+/// that takes memory, and changes nothing. A call that doesn't work on an open answers `Errno::Nosys`.
+pub fn on_open(
+    alloc: Global,
+    tree: &mut Tree,
+    kind: &OpenKind,
+    now: u64,
+    call: &Call,
+) -> Result<Reply, AllocError>
+    requires { IsThere tree.old kind.now }
+    ensures ok { IfOk result (λ reply. IsDone ((model.file_meaning call.now).does now tree.old (Some kind.now)) tree.old tree.new reply) }
+    ensures only { OnErr result ((model.file_meaning call.now).takes_memory ≡ true) }
+    ensures err { OnErr result (tree.new ≡ tree.old) }
+    ensures nodes { HasSameNodes tree.old tree.new }
+{
+    match call {
+        Call::FileAllocate { offset, length, .. } => {
+            file_allocate(tree, kind, now, *offset, *length)
+        }
+        Call::FileReaddir { length, cookie, .. } => {
+            file_readdir(alloc, tree, kind, *length, *cookie)
+        }
+        Call::FileReadlink { path, length, .. } => {
+            file_readlink(alloc, tree, kind, path.as_slice(), *length)
+        }
+        Call::FileStatFget { .. } => Ok(file_stat_fget(tree, kind)),
+        Call::FileStatFput { stat, flags, .. } => file_stat_fput(tree, kind, now, stat, *flags),
+        Call::FileStatGet { lookup, path } => {
+            Ok(file_stat_get(tree, kind, lookup.flags, path.as_slice()))
+        }
+        Call::FileStatPut {
+            lookup,
+            path,
+            stat,
+            flags,
+        } => Ok(file_stat_put(tree, kind, now, lookup.flags, path.as_slice(), stat, *flags)),
+        _ => Ok(refused(Errno::Nosys)),
+    }
+}
