@@ -24,7 +24,7 @@ write_term bytes which (Some stream) = record {
   updates = set_term which (record stream { written = stream.written ++ bytes }) ∷ [];
 }
 
--- bytes written to an open. Of a valid state each is a standard stream.
+-- bytes written to an open: so far a standard stream alone takes them
 abbrev pub write_open : View → List ℕ → Option OpenKind → Outcome
 write_open v bytes None = replies (refused Badf)
 write_open v bytes (Some (Terminal which flags)) = write_term bytes which (v.term which)
@@ -57,7 +57,7 @@ read_term n which (Some stream) = record {
   updates = set_term which (record stream { left = drop n stream.left }) ∷ [];
 }
 
--- bytes read from an open. Of a valid state each is a standard stream.
+-- bytes read from an open: so far a standard stream alone gives them
 abbrev pub read_open : View → ℕ → Option OpenKind → Outcome
 read_open v n None = replies (refused Badf)
 read_open v n (Some (Terminal which flags)) = read_term n which (v.term which)
