@@ -15,12 +15,14 @@ use Rattle.guest_memory.proofs.PageRanges.{second_true}
 use Rattle.argument_reading.specs.Arguments.{argument, low}
 use Rattle.argument_reading.specs.Ranges.{gathered_in, ranges_at}
 use Rattle.argument_reading.specs.declared.ranges.TheConstants.{MOST_IOVECS}
-use Rattle.call_codec.specs.Args.{call_of, args_of, is_of_descriptors}
+use Rattle.call_codec.specs.Args.{call_of, args_of, is_of_descriptors, is_of_files}
 use Rattle.call_codec.specs.MemoryCalls.{has_bits, has_one, if_mapped, is_aligned, is_guests, map_refusal, mem_advise_of, mem_map_of, mem_protect_of, mem_sync_of, mem_unmap_of, pages_in, protect_refusal, unless_refused, writes_and_executes}
 use Rattle.call_codec.specs.Spelled.{descriptor_call, is_among, or_refused}
 use Rattle.call_codec.specs.WriteCall.{fd_write_with, fd_write_of}
+use Rattle.call_codec.proofs.FileReadings.{OfFiles, file_holds}
 use Rattle.call_codec.proofs.Readings.{IsListedRefusal, descriptor_holds}
 use Rattle.call_reading.specs.DescriptorCalls.{fd_pread_of, fd_pwrite_of, fd_read_of, fd_seek_of, fd_stat_get_of, fd_stat_put_of}
+use Rattle.file_reading.specs.FileCalls.{file_call}
 
 -- what holds of both calls holds of the one of them that the test chooses
 pub either_call : (P : Call → Type 0) (b : Bool) (x y : Call) → P x → P y → P (cond b x y)
@@ -42,6 +44,7 @@ pub record OfEach (P : Call → Type 0) (m : Pages) (r : Registers) : Type 0 whe
   pub fd_stat_put : (fd : ℕ) (stat : FdStat) (flags : ℕ) → fd_stat_put_of m r ≡ Ok (FdStatPut fd stat flags) → P (FdStatPut fd stat flags)
   pub fd_sync : (fd : ℕ) → P (FdSync fd)
   pub fd_write : (fd : ℕ) (bytes : List ℕ) → P (FdWrite fd bytes)
+  pub files : OfFiles P m r
   pub mem_advise : P (mem_advise_of m r)
   pub mem_map : P (mem_map_of m r)
   pub mem_protect : P (mem_protect_of m r)
@@ -82,6 +85,9 @@ module _ (P : Call → Type 0) (m : Pages) (r : Registers) (h : OfEach P m r) wh
     fd_write = write_holds;
   })
 
+  files_hold : (number : ℕ) → is_of_files number ≡ true → P (or_refused number (file_call m r number))
+  files_hold number among = file_holds P m r number h.files (h.refused number) among
+
   if_chosen : (b : Bool) (x y : Call) → (b ≡ true → P x) → P y → P (cond b x y)
   if_chosen true x y h k = h refl
   if_chosen false x y h k = k
@@ -89,12 +95,13 @@ module _ (P : Call → Type 0) (m : Pages) (r : Registers) (h : OfEach P m r) wh
   call_holds : (number : ℕ) → P (call_of m r number)
   call_holds number =
       if_chosen (is_of_descriptors number) _ _ (descriptors_hold number)
+      (if_chosen (is_of_files number) _ _ (files_hold number)
       (either_call P (number == 32) (mem_advise_of m r) _ h.mem_advise
       (either_call P (number == 33) (mem_map_of m r) _ h.mem_map
       (either_call P (number == 34) (mem_protect_of m r) _ h.mem_protect
       (either_call P (number == 35) (mem_sync_of m r) _ h.mem_sync
       (either_call P (number == 36) (mem_unmap_of r) _ h.mem_unmap
-      (either_call P (number == 39) (ProcExit (low (argument r 0))) _ (h.proc_exit (low (argument r 0))) (h.refused number Nosys tt)))))))
+      (either_call P (number == 39) (ProcExit (low (argument r 0))) _ (h.proc_exit (low (argument r 0))) (h.refused number Nosys tt))))))))
 
   -- what holds of each call, and of each refusal with a listed error, holds of the call
   pub args_hold : P (args_of m r)
@@ -145,6 +152,16 @@ args_listed m r = args_hold IsListedCall m r (record {
   fd_stat_put = λ fd stat flags is. tt;
   fd_sync = λ fd. tt;
   fd_write = λ fd bytes. tt;
+  files = record {
+    file_advise = λ fd offset length advice is. tt;
+    file_allocate = λ fd offset length is. tt;
+    file_readdir = λ fd room cookie is. tt;
+    file_readlink = λ fd path room is. tt;
+    file_stat_fget = λ fd is. tt;
+    file_stat_fput = λ fd stat flags is. tt;
+    file_stat_get = λ lookup path is. tt;
+    file_stat_put = λ lookup path stat flags is. tt;
+  };
   mem_advise = either_call IsListedCall _ (Memory 32 (if_mapped m (argument r 0) (argument r 1))) (Refused 32 Inval) tt tt;
   mem_map = unless_listed 33 _ _ (map_listed (argument r 0) (argument r 1) (low (argument r 2)) (low (argument r 3)) (argument r 5)) tt;
   mem_protect = unless_listed 34 _ _ (protect_listed (argument r 0) (low (argument r 2))) tt;

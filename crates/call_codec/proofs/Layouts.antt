@@ -1,15 +1,19 @@
 -- Bytes that are laid out are the layout's fields written into zeros.
 --     laid_is_written      for bytes, each of them below 256
---     fdstat_is      the same for a descriptor's state
-use Rattle.std.proofs.Common.{◌≡◌, ℕ, zero, suc, ◌+◌, ◌^◌, ◌<◌, List, [], ◌∷◌, ◌++◌, take, drop, get_or-drop, replicate, refl, sym, subst, arith, rules}
+--     fdstat_is, filestat_is      the same for the state of a descriptor or of a file
+--     fdstat_length, filestat_length      how many bytes these have
+use Rattle.std.proofs.Common.{◌≡◌, ℕ, zero, suc, ◌+◌, ◌^◌, ◌<◌, ◌≤◌, List, [], ◌∷◌, ◌++◌, length, take, drop, get_or-drop, replicate, refl, sym, subst, ◌∙◌, arith, rules}
+use Rattle.std.proofs.Math.ListN.{length-replicate}
 use Rattle.std.specs.Int.{byte_at, bytes_low_first}
-use Rattle.abi_layout.specs.Layout.{Field, Fit, IsLaidOut, IsProper, Layout, number_from, numbers, with_number, written}
+use Rattle.abi_layout.specs.Layout.{Field, Fit, FollowFrom, IsLaidOut, IsProper, Layout, number_from, numbers, with_number, written}
 use Rattle.abi_layout.specs.Laws.{AreBytes}
-use Rattle.abi_layout.specs.Structures.{fdstat_layout, fdstat_values}
+use Rattle.abi_layout.specs.Structures.{fdstat_layout, fdstat_values, filestat_layout, filestat_values}
 use Rattle.abi_layout.proofs.Bytes.{laid_out}
 use Rattle.abi_layout.proofs.Unique.{bytes_are_unique}
+use Rattle.abi_layout.proofs.Written.{length-written}
 use Rattle.abi_structures.specs.declared.structures.FdStat.{FdStat}
-use Rattle.call_codec.specs.Output.{fdstat_bytes}
+use Rattle.abi_structures.specs.declared.structures.FileStat.{FileStat}
+use Rattle.call_codec.specs.Output.{fdstat_bytes, filestat_bytes}
 
 -- ---- bytes stay bytes
 
@@ -76,3 +80,32 @@ laid_is_written layout values bytes proper small laid =
 
 pub fdstat_is : (stat : FdStat) (bytes : List ℕ) → AreBytes bytes → IsLaidOut fdstat_layout (fdstat_values stat) bytes → bytes ≡ fdstat_bytes stat
 fdstat_is stat bytes small laid = laid_is_written fdstat_layout (fdstat_values stat) bytes (search rules) small laid
+
+pub filestat_is : (stat : FileStat) (bytes : List ℕ) → AreBytes bytes → IsLaidOut filestat_layout (filestat_values stat) bytes → bytes ≡ filestat_bytes stat
+filestat_is stat bytes small laid = laid_is_written filestat_layout (filestat_values stat) bytes (search rules) small laid
+
+-- ---- how many bytes there are
+
+follow_ends : (fields : List Field) (place size : ℕ) → FollowFrom place fields size → place ≤ size
+follow_ends [] place size order = order
+follow_ends (f ∷ fields) place size order = let rest = follow_ends fields (f.offset + f.width) size order.1 in omega (arith, order.0)
+
+-- fields that are written leave as many bytes as there were
+fields_length : (fields : List Field) (values bytes : List ℕ) (place size : ℕ) → FollowFrom place fields size → length bytes ≡ size
+    → length (written fields values bytes) ≡ size
+fields_length [] values bytes place size order is = is
+fields_length (f ∷ fields) [] bytes place size order is = is
+fields_length (f ∷ fields) (value ∷ values) bytes place size order is =
+    let end = follow_ends fields (f.offset + f.width) size order.1 in
+    fields_length fields values (with_number bytes f.offset f.width value) (f.offset + f.width) size order.1
+    (length-written bytes f.offset f.width value (omega (arith, end, is)) ∙ is)
+
+layout_length : (layout : Layout) (values : List ℕ) → IsProper layout → length (written layout.fields values (replicate layout.size 0)) ≡ layout.size
+layout_length layout values proper =
+    fields_length layout.fields values (replicate layout.size 0) 0 layout.size proper (length-replicate {A = ℕ} layout.size 0)
+
+pub fdstat_length : (stat : FdStat) → length (fdstat_bytes stat) ≡ 24
+fdstat_length stat = layout_length fdstat_layout (fdstat_values stat) (search rules)
+
+pub filestat_length : (stat : FileStat) → length (filestat_bytes stat) ≡ 56
+filestat_length stat = layout_length filestat_layout (filestat_values stat) (search rules)

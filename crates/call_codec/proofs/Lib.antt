@@ -1,4 +1,5 @@
 pub mod Readings
+pub mod FileReadings
 pub mod Layouts
 pub mod Calls
 pub mod Images

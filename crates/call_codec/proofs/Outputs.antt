@@ -1,16 +1,16 @@
 -- The output of a call that registers and memory spell is written whole.
 --     read_written, pread_written      the bytes of a read
 --     state_written      a descriptor's state
-use Rattle.std.proofs.Common.{◌≡◌, ℕ, zero, suc, ◌+◌, ◌-◌, ◌%◌, ◌^◌, ◌≤◌, min, List, [], ◌∷◌, take, drop, length, length-drop, length-take, replicate, Result, Ok, Err, IsOk, refl, sym, ap, ◌∙◌, arith}
+--     entries_written, link_written      a directory's entries, the text of a symlink
+--     open_state_written, found_state_written      a file's state
+use Rattle.std.proofs.Common.{◌≡◌, ℕ, zero, suc, ◌+◌, ◌-◌, ◌%◌, ◌^◌, ◌≤◌, min, List, [], ◌∷◌, take, drop, length, length-drop, length-take, Result, Ok, Err, IsOk, refl, sym, ap, subst, ◌∙◌, arith}
 use Rattle.abi_base.specs.declared.errno.Errno.{Errno}
 use Rattle.abi_base.specs.declared.errno.Errno.TheVariants.{Inval}
 use Rattle.abi_base.specs.Registers.{Registers}
-use Rattle.abi_layout.specs.Layout.{with_number}
-use Rattle.abi_layout.proofs.Written.{length-written}
-use Rattle.abi_structures.specs.declared.structures.FdStat.{FdStat}
 use Rattle.abi_structures.specs.declared.structures.Iovec.{Iovec}
 use Rattle.abi_types.specs.declared.call.Call.{Call}
-use Rattle.abi_types.specs.declared.call.Call.TheVariants.{FdPread, FdRead, FdStatGet}
+use Rattle.abi_types.specs.declared.call.Call.TheVariants.{FdPread, FdRead, FdStatGet, FileReaddir, FileReadlink, FileStatFget, FileStatGet}
+use Rattle.abi_types.specs.declared.call.Lookup.{Lookup}
 use Rattle.guest_memory.specs.declared.access.Access.TheVariants.{Write}
 use Rattle.guest_memory.specs.declared.fault.MemFault.{MemFault}
 use Rattle.guest_memory.specs.Bytes.{byte_at, bytes_from, in_front}
@@ -18,15 +18,19 @@ use Rattle.guest_memory.specs.Page.{Pages}
 use Rattle.guest_memory.specs.Written.{write_of, written_over}
 use Rattle.guest_memory.proofs.Writes.{SameRights, ok_after, rights_kept}
 use Rattle.argument_reading.specs.Arguments.{argument}
-use Rattle.argument_reading.specs.Bytes.{writable}
+use Rattle.argument_reading.specs.Bytes.{path_in, writable}
 use Rattle.argument_reading.specs.Ranges.{counted, ranges_at, room_among, room_in, room_of}
 use Rattle.argument_reading.specs.Reading.{◌>>=◌, or_fault, refuse_when}
 use Rattle.argument_reading.specs.declared.ranges.TheConstants.{MOST_TRANSFERRED}
-use Rattle.call_codec.specs.Output.{fdstat_bytes, or_unwritten, with_bytes}
-use Rattle.call_codec.specs.OutputLaws.{AreWrittenInto, TakesBytes, PreadIsWritten, ReadIsWritten, StateIsWritten}
+use Rattle.call_codec.specs.Output.{fdstat_bytes, filestat_bytes, or_unwritten, with_bytes}
+use Rattle.call_codec.specs.OutputLaws.{AreWrittenInto, TakesBytes, TakesFileState, TakesRoomful, EntriesAreWritten, FoundStateIsWritten, LinkIsWritten, OpenStateIsWritten, PreadIsWritten, ReadIsWritten, StateIsWritten}
+use Rattle.call_codec.proofs.Layouts.{fdstat_length, filestat_length}
 use Rattle.call_codec.proofs.Puts.{call_suits}
 use Rattle.call_codec.proofs.Readings.{after}
 use Rattle.call_reading.specs.DescriptorCalls.{fd_pread_of, fd_read_of, fd_stat_get_of, has_many, is_beyond}
+use Rattle.file_reading.specs.Lookups.{looks_unknown}
+use Rattle.file_reading.specs.NameCalls.{file_readlink_of}
+use Rattle.file_reading.specs.NodeCalls.{file_readdir_of, file_stat_fget_of, file_stat_get_of}
 
 -- ---- one write
 
@@ -137,17 +141,6 @@ pread_written m r fd most offset spelled = takes_bytes m r most (pread_room m r 
 
 -- ---- a descriptor's state
 
-state_length : (stat : FdStat) → length (fdstat_bytes stat) ≡ 24
-state_length stat =
-    let zeros : List ℕ = replicate 24 0 in
-    let one : List ℕ = with_number zeros 0 1 stat.kind in
-    let two : List ℕ = with_number one 2 2 stat.flags in
-    let three : List ℕ = with_number two 8 8 stat.base.0 in
-    let at_one : length one ≡ 24 = length-written zeros 0 1 stat.kind (omega arith) in
-    let at_two : length two ≡ 24 = length-written one 2 2 stat.flags (omega (arith, at_one)) ∙ at_one in
-    let at_three : length three ≡ 24 = length-written two 8 8 stat.base.0 (omega (arith, at_two)) ∙ at_two in
-    length-written three 16 8 stat.inheriting.0 (omega (arith, at_three)) ∙ at_three
-
 had_ok : (found : Result (List ℕ) MemFault) (x : Unit {0}) → (or_fault found >>= λ before. Ok tt) ≡ Ok x → IsOk found
 had_ok (Ok bytes) x e = refl
 had_ok (Err fault) x e = absurd (cc)
@@ -159,4 +152,66 @@ state_room m r fd =
 
 pub state_written : StateIsWritten
 state_written m r fd stat spelled =
-    write_made m (argument r 1) 24 (fdstat_bytes stat) (let all = state_length stat in omega (arith, all)) (state_room m r fd (call_suits m r (FdStatGet fd) (sym spelled)))
+    write_made m (argument r 1) 24 (fdstat_bytes stat) (let all = fdstat_length stat in omega (arith, all)) (state_room m r fd (call_suits m r (FdStatGet fd) (sym spelled)))
+
+-- ---- a directory's entries, and a symlink's text
+
+-- so many bytes from an address on may be written
+abbrev HasRoom : Pages → ℕ → ℕ → Type 0
+HasRoom m a n = IsOk (bytes_from Write m a n)
+
+roomful : (m : Pages) (a n room : ℕ) (x : Unit {0}) → writable m a (min n MOST_TRANSFERRED) ≡ Ok x → n ≡ room → HasRoom m a (min room MOST_TRANSFERRED)
+roomful m a n room x e same = subst (λ k. HasRoom m a (min k MOST_TRANSFERRED)) same (had_ok (bytes_from Write m a (min n MOST_TRANSFERRED)) x e)
+
+takes_roomful : (m : Pages) (a room : ℕ) → HasRoom m a (min room MOST_TRANSFERRED) → TakesRoomful m a room
+takes_roomful m a room has bytes less = write_made m a (min room MOST_TRANSFERRED) bytes less has
+
+entries_room : (m : Pages) (r : Registers) (fd room cookie : ℕ) → file_readdir_of m r ≡ Ok (FileReaddir fd room cookie)
+    → HasRoom m (argument r 1) (min room MOST_TRANSFERRED)
+entries_room m r fd room cookie =
+    let wanted = λ (x : Result Call Errno). x ≡ Ok (FileReaddir fd room cookie) → HasRoom m (argument r 1) (min room MOST_TRANSFERRED) in
+    after wanted (writable m (argument r 1) (min (argument r 2) MOST_TRANSFERRED)) _ (λ errno e is. absurd (cc))
+    (λ x e is. roomful m (argument r 1) (argument r 2) room x e (cc))
+
+link_room : (m : Pages) (r : Registers) (fd : ℕ) (path : List ℕ) (room : ℕ) → file_readlink_of m r ≡ Ok (FileReadlink fd path room)
+    → HasRoom m (argument r 3) (min room MOST_TRANSFERRED)
+link_room m r fd path room =
+    let wanted = λ (x : Result Call Errno). x ≡ Ok (FileReadlink fd path room) → HasRoom m (argument r 3) (min room MOST_TRANSFERRED) in
+    after wanted (path_in m (argument r 1) (argument r 2)) _ (λ errno e is. absurd (cc)) (λ read e.
+    after wanted (writable m (argument r 3) (min (argument r 4) MOST_TRANSFERRED)) _ (λ errno e is. absurd (cc))
+    (λ x e is. roomful m (argument r 3) (argument r 4) room x e (cc)))
+
+pub entries_written : EntriesAreWritten
+entries_written m r fd room cookie spelled =
+    takes_roomful m (argument r 1) room (entries_room m r fd room cookie (call_suits m r (FileReaddir fd room cookie) (sym spelled)))
+
+pub link_written : LinkIsWritten
+link_written m r fd path room spelled =
+    takes_roomful m (argument r 3) room (link_room m r fd path room (call_suits m r (FileReadlink fd path room) (sym spelled)))
+
+-- ---- a file's state
+
+takes_file_state : (m : Pages) (a : ℕ) → HasRoom m a 56 → TakesFileState m a
+takes_file_state m a has stat =
+    let all = filestat_length stat in (all, write_made m a 56 (filestat_bytes stat) (omega (arith, all)) has)
+
+open_room : (m : Pages) (r : Registers) (fd : ℕ) → file_stat_fget_of m r ≡ Ok (FileStatFget fd) → HasRoom m (argument r 1) 56
+open_room m r fd =
+    after (λ x. x ≡ Ok (FileStatFget fd) → HasRoom m (argument r 1) 56) (writable m (argument r 1) 56) _
+    (λ errno e is. absurd (cc)) (λ x e is. had_ok (bytes_from Write m (argument r 1) 56) x e)
+
+found_room : (m : Pages) (r : Registers) (lookup : Lookup) (path : List ℕ) → file_stat_get_of m r ≡ Ok (FileStatGet lookup path)
+    → HasRoom m (argument r 3) 56
+found_room m r lookup path =
+    let wanted = λ (x : Result Call Errno). x ≡ Ok (FileStatGet lookup path) → HasRoom m (argument r 3) 56 in
+    after wanted (refuse_when (looks_unknown (argument r 0)) Inval) _ (λ errno e is. absurd (cc)) (λ x e.
+    after wanted (path_in m (argument r 1) (argument r 2)) _ (λ errno e is. absurd (cc)) (λ read e.
+    after wanted (writable m (argument r 3) 56) _ (λ errno e is. absurd (cc))
+    (λ x e is. had_ok (bytes_from Write m (argument r 3) 56) x e)))
+
+pub open_state_written : OpenStateIsWritten
+open_state_written m r fd spelled = takes_file_state m (argument r 1) (open_room m r fd (call_suits m r (FileStatFget fd) (sym spelled)))
+
+pub found_state_written : FoundStateIsWritten
+found_state_written m r lookup path spelled =
+    takes_file_state m (argument r 3) (found_room m r lookup path (call_suits m r (FileStatGet lookup path) (sym spelled)))

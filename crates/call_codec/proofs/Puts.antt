@@ -1,6 +1,6 @@
 -- What registers and memory are like that spell a call.
---     call_suits      a read has its room and a descriptor's state its place; a mapping goes where it may; mem_protect and
---                     mem_unmap are of a page's address, and mem_protect's pages are there
+--     call_suits      what a call gives has its room; a mapping goes where it may; mem_protect and mem_unmap are of a page's
+--                     address, and mem_protect's pages are there
 --     few_of_pread, few_of_read      an iovec array to read into has at most 1024 iovecs
 --     guests_pages      pages that are there lie in the guest's part of the address space
 --     unmapped_within      pages past that part need not be taken away
@@ -11,7 +11,7 @@ use Rattle.std.specs.FinMap.{get, len}
 use Rattle.guest_memory.specs.declared.fault.MemFault.{MemFault}
 use Rattle.guest_memory.specs.declared.fault.MemFault.TheVariants.{NotMapped, NoRight, PageLimit, Overlaps, NoMemory}
 use Rattle.abi_types.specs.declared.call.Call.{Call}
-use Rattle.abi_types.specs.declared.call.Call.TheVariants.{FdPread, FdRead, FdStatGet, MemMap, Memory, Refused}
+use Rattle.abi_types.specs.declared.call.Call.TheVariants.{FdPread, FdRead, FdStatGet, FileReaddir, FileReadlink, FileStatFget, FileStatGet, MemMap, Memory, Refused}
 use Rattle.abi_base.specs.declared.errno.Errno.{Errno}
 use Rattle.abi_base.specs.declared.errno.Errno.TheVariants.{Success, Fault, Inval, Nobufs, Nosys, Notsup}
 use Rattle.abi_types.specs.declared.place.Place.{Place}
@@ -30,6 +30,8 @@ use Rattle.argument_reading.specs.Reading.{◌>>=◌, refuse_when}
 use Rattle.call_codec.proofs.Calls.{args_hold}
 use Rattle.call_codec.proofs.Readings.{after, test_false}
 use Rattle.call_reading.specs.DescriptorCalls.{fd_pread_of, fd_read_of, fd_stat_get_of, has_many}
+use Rattle.file_reading.specs.NameCalls.{file_readlink_of}
+use Rattle.file_reading.specs.NodeCalls.{file_readdir_of, file_stat_fget_of, file_stat_get_of}
 use Rattle.argument_reading.specs.Arguments.{argument, low}
 use Rattle.call_codec.specs.Args.{args_of}
 use Rattle.call_codec.specs.MemoryCalls.{has_bits, is_aligned, is_guests, is_range, is_sync, pages_in, if_mapped, mem_advise_of, mem_map_of, mem_protect_of, mem_sync_of, mem_unmap_of, map_refusal, protect_refusal, unless_refused, place_at, place_in, place_in_gap, place_of, writes_and_executes, has_one, MayMapAt, MayMapThere}
@@ -39,6 +41,10 @@ abbrev pub Suits : Pages → Registers → Call → Type 0
 Suits m r (FdPread fd length offset) = fd_pread_of m r ≡ Ok (FdPread fd length offset)
 Suits m r (FdRead fd length) = fd_read_of m r ≡ Ok (FdRead fd length)
 Suits m r (FdStatGet fd) = fd_stat_get_of m r ≡ Ok (FdStatGet fd)
+Suits m r (FileReaddir fd room cookie) = file_readdir_of m r ≡ Ok (FileReaddir fd room cookie)
+Suits m r (FileReadlink fd path room) = file_readlink_of m r ≡ Ok (FileReadlink fd path room)
+Suits m r (FileStatFget fd) = file_stat_fget_of m r ≡ Ok (FileStatFget fd)
+Suits m r (FileStatGet lookup path) = file_stat_get_of m r ≡ Ok (FileStatGet lookup path)
 Suits m r (MemMap place length prot flags fd offset) = MayMapThere m place (pages_in length)
 Suits m r (Memory number errno) =
     IsPageAddress (argument r 0) × (number ≡ 34 → errno ≡ Success → AreThere m (argument r 0 / 4096) (pages_in (argument r 1)))
@@ -188,6 +194,16 @@ args_suit m r = args_hold (Suits m r) m r (record {
   fd_stat_put = λ fd stat flags is. tt;
   fd_sync = λ fd. tt;
   fd_write = λ fd bytes. tt;
+  files = record {
+    file_advise = λ fd offset length advice is. tt;
+    file_allocate = λ fd offset length is. tt;
+    file_readdir = λ fd room cookie is. is;
+    file_readlink = λ fd path room is. is;
+    file_stat_fget = λ fd is. is;
+    file_stat_fput = λ fd stat flags is. tt;
+    file_stat_get = λ lookup path is. is;
+    file_stat_put = λ lookup path stat flags is. tt;
+  };
   mem_advise = advise_suits m r;
   mem_map = map_suits m r;
   mem_protect = protect_suits m r;

@@ -66,12 +66,12 @@ unmade_listed : (kind : ℕ) → IsListedRefusal (unmade kind)
 unmade_listed kind = elim (is_file_type kind) as (λ b. IsListedRefusal (cond b Notsup Inval)) [ true ↦ tt | false ↦ tt ]
 
 -- nor does it with another where what is made of the memory refuses nothing
-made_listed : {X A : Type 0} (found : Result X MemFault) (make : X → A) (given : Errno) → (or_fault found >>= λ x. Ok (make x)) ≡ Err given → IsListedRefusal given
+pub made_listed : {X A : Type 0} (found : Result X MemFault) (make : X → A) (given : Errno) → (or_fault found >>= λ x. Ok (make x)) ≡ Err given → IsListedRefusal given
 made_listed (Ok x) make given e = cc
 made_listed (Err fault) make given e = let same : Fault ≡ given = cc in subst IsListedRefusal same tt
 
 -- a place that can't be written refuses with FAULT alone
-writable_listed : (m : Pages) (a n : ℕ) (given : Errno) → writable m a n ≡ Err given → IsListedRefusal given
+pub writable_listed : (m : Pages) (a n : ℕ) (given : Errno) → writable m a n ≡ Err given → IsListedRefusal given
 writable_listed m a n given e = made_listed (bytes_from Write m a n) (λ before. tt) given e
 
 -- a state that can't be read refuses with FAULT alone

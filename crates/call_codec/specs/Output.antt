@@ -1,11 +1,12 @@
--- What a call that succeeded writes into the caller's memory: the bytes that were read, or a descriptor's state. Where the bytes of a
--- write can't be written, the memory stays as it is. For registers that spelled the call this never comes, since they are refused
--- where a place for output can't be written.
+-- What a call that succeeded writes into the caller's memory: the bytes that were read, or the state of a descriptor or of a file.
+-- Where the bytes of a write can't be written, the memory stays as it is. For registers that spelled the call this never comes,
+-- since they are refused where a place for output can't be written.
 use Rattle.std.specs.Prelude.{ℕ, List, [], ◌∷◌, take, drop, replicate, Result, Ok, Err}
 use Rattle.abi_base.specs.Registers.{Registers}
 use Rattle.abi_layout.specs.Layout.{written}
-use Rattle.abi_layout.specs.Structures.{fdstat_layout, fdstat_values}
+use Rattle.abi_layout.specs.Structures.{fdstat_layout, fdstat_values, filestat_layout, filestat_values}
 use Rattle.abi_structures.specs.declared.structures.FdStat.{FdStat}
+use Rattle.abi_structures.specs.declared.structures.FileStat.{FileStat}
 use Rattle.abi_structures.specs.declared.structures.Iovec.{Iovec}
 use Rattle.abi_types.specs.declared.reply.Payload.{Payload}
 use Rattle.abi_types.specs.declared.reply.Payload.TheVariants as payload
@@ -43,13 +44,19 @@ abbrev pub with_content : Pages → Registers → Payload → Pages
 with_content m r (Content bytes) = into_ranges m (ranges_at m (argument r 1) (argument r 2)) bytes
 with_content m r other = m
 
--- ---- a descriptor's state
+-- ---- what goes to one address
 
 -- a descriptor's state as 24 bytes: each field in its place, and 0 where there is none
 abbrev pub fdstat_bytes : FdStat → List ℕ
 fdstat_bytes stat = written fdstat_layout.fields (fdstat_values stat) (replicate fdstat_layout.size 0)
 
--- fd_stat_get: the state goes to the address in a1
-abbrev pub with_state : Pages → Registers → Payload → Pages
-with_state m r (payload.FdStat stat) = with_bytes m (argument r 1) (fdstat_bytes stat)
-with_state m r other = m
+-- a file's state as 56 bytes, likewise
+abbrev pub filestat_bytes : FileStat → List ℕ
+filestat_bytes stat = written filestat_layout.fields (filestat_values stat) (replicate filestat_layout.size 0)
+
+-- the bytes, or the state of a descriptor or of a file, that a call gave go to an address
+abbrev pub with_payload : Pages → ℕ → Payload → Pages
+with_payload m a (Content bytes) = with_bytes m a bytes
+with_payload m a (payload.FdStat stat) = with_bytes m a (fdstat_bytes stat)
+with_payload m a (payload.FileStat stat) = with_bytes m a (filestat_bytes stat)
+with_payload m a other = m

@@ -1,15 +1,18 @@
 -- What registers and memory that spell a call say of its output: each byte of it is written.
-use Rattle.std.specs.Prelude.{◌≡◌, ◌≤◌, ℕ, List, [], ◌∷◌, take, drop, length, Ok, IsOk}
+use Rattle.std.specs.Prelude.{◌≡◌, ◌≤◌, ℕ, List, [], ◌∷◌, take, drop, length, min, Ok, IsOk}
 use Rattle.abi_base.specs.Registers.{Registers}
 use Rattle.abi_structures.specs.declared.structures.FdStat.{FdStat}
+use Rattle.abi_structures.specs.declared.structures.FileStat.{FileStat}
 use Rattle.abi_structures.specs.declared.structures.Iovec.{Iovec}
-use Rattle.abi_types.specs.declared.call.Call.TheVariants.{FdPread, FdRead, FdStatGet}
+use Rattle.abi_types.specs.declared.call.Call.TheVariants.{FdPread, FdRead, FdStatGet, FileReaddir, FileReadlink, FileStatFget, FileStatGet}
+use Rattle.abi_types.specs.declared.call.Lookup.{Lookup}
 use Rattle.guest_memory.specs.Page.{Pages}
 use Rattle.guest_memory.specs.Written.{write_of}
 use Rattle.argument_reading.specs.Arguments.{argument}
 use Rattle.argument_reading.specs.Ranges.{ranges_at}
+use Rattle.argument_reading.specs.declared.ranges.TheConstants.{MOST_TRANSFERRED}
 use Rattle.call_codec.specs.Args.{args_of}
-use Rattle.call_codec.specs.Output.{fdstat_bytes, with_bytes}
+use Rattle.call_codec.specs.Output.{fdstat_bytes, filestat_bytes, with_bytes}
 
 -- bytes go into ranges, one after another: each write is made, and no byte is left over
 abbrev pub AreWrittenInto : Pages → List Iovec → List ℕ → Type 0
@@ -35,3 +38,31 @@ ReadIsWritten = (m : Pages) (r : Registers) (fd most : ℕ) → args_of m r ≡ 
 abbrev pub StateIsWritten : Type 0
 StateIsWritten =
     (m : Pages) (r : Registers) (fd : ℕ) (stat : FdStat) → args_of m r ≡ FdStatGet fd → IsOk (write_of m (argument r 1) (fdstat_bytes stat))
+
+-- bytes, as many as there is room for and 65,536 at most, are written from an address on
+abbrev pub TakesRoomful : Pages → ℕ → ℕ → Type 0
+TakesRoomful m a room = (bytes : List ℕ) → length bytes ≤ min room MOST_TRANSFERRED → IsOk (write_of m a bytes)
+
+-- Where file_readdir is spelled, as many bytes of entries as it has room for are written.
+abbrev pub EntriesAreWritten : Type 0
+EntriesAreWritten =
+    (m : Pages) (r : Registers) (fd room cookie : ℕ) → args_of m r ≡ FileReaddir fd room cookie → TakesRoomful m (argument r 1) room
+
+-- Where file_readlink is spelled, as many bytes of the text as it has room for are written.
+abbrev pub LinkIsWritten : Type 0
+LinkIsWritten =
+    (m : Pages) (r : Registers) (fd : ℕ) (path : List ℕ) (room : ℕ) → args_of m r ≡ FileReadlink fd path room
+    → TakesRoomful m (argument r 3) room
+
+-- a file's state is written from an address on, all of its 56 bytes
+abbrev pub TakesFileState : Pages → ℕ → Type 0
+TakesFileState m a = (stat : FileStat) → (length (filestat_bytes stat) ≡ 56) × IsOk (write_of m a (filestat_bytes stat))
+
+-- Where file_stat_fget or file_stat_get is spelled, a file's state is written.
+abbrev pub OpenStateIsWritten : Type 0
+OpenStateIsWritten = (m : Pages) (r : Registers) (fd : ℕ) → args_of m r ≡ FileStatFget fd → TakesFileState m (argument r 1)
+
+abbrev pub FoundStateIsWritten : Type 0
+FoundStateIsWritten =
+    (m : Pages) (r : Registers) (lookup : Lookup) (path : List ℕ) → args_of m r ≡ FileStatGet lookup path
+    → TakesFileState m (argument r 3)

@@ -5,17 +5,18 @@ use Rattle.std.specs.Prelude.{◌+◌, ◌%◌, ◌^◌}
 use Rattle.abi_types.specs.declared.reply.Answer.{Answer}
 use Rattle.abi_types.specs.declared.reply.Answer.TheVariants as answer
 use Rattle.abi_types.specs.declared.call.Call.{Call}
-use Rattle.abi_types.specs.declared.call.Call.TheVariants.{FdDup, FdPread, FdPwrite, FdRead, FdSeek, FdStatGet, FdWrite, MemMap}
+use Rattle.abi_types.specs.declared.call.Call.TheVariants.{FdDup, FdPread, FdPwrite, FdRead, FdSeek, FdStatGet, FdWrite, FileReaddir, FileReadlink, FileStatFget, FileStatGet, MemMap}
 use Rattle.abi_types.specs.declared.reply.Payload.{Payload}
 use Rattle.abi_types.specs.declared.reply.Reply.{Reply}
 use Rattle.abi_base.specs.Errno.{number_of}
 use Rattle.abi_base.specs.Registers.{Registers, with_pc, with_x}
 use Rattle.guest_memory.specs.Page.{Pages}
+use Rattle.argument_reading.specs.Arguments.{argument}
 use Rattle.call_codec.specs.MemoryCalls.{memory_with, on_success, IsSomewhere}
-use Rattle.call_codec.specs.Output.{with_content, with_state}
+use Rattle.call_codec.specs.Output.{with_content, with_payload}
 
 -- the results of a call that succeeded: fd_dup has the new number; fd_pread, fd_pwrite, fd_read and fd_write have how many bytes
--- went; fd_seek has the new offset; mem_map has an address
+-- went, and file_readdir and file_readlink how many came; fd_seek has the new offset; mem_map has an address
 abbrev pub with_results : Registers → Call → Reply → Registers
 with_results r (FdDup fd) reply = with_x r 11 reply.r1
 with_results r (FdPread fd length offset) reply = with_x r 11 reply.r1
@@ -23,6 +24,8 @@ with_results r (FdPwrite fd bytes offset) reply = with_x r 11 reply.r1
 with_results r (FdRead fd length) reply = with_x r 11 reply.r1
 with_results r (FdSeek fd offset whence) reply = with_x r 11 reply.r1
 with_results r (FdWrite fd bytes) reply = with_x r 11 reply.r1
+with_results r (FileReaddir fd length cookie) reply = with_x r 11 reply.r1
+with_results r (FileReadlink fd path length) reply = with_x r 11 reply.r1
 with_results r (MemMap place length prot flags fd offset) reply = with_x r 11 reply.r1
 with_results r other reply = r
 
@@ -34,12 +37,16 @@ put_of r call reply =
 abbrev pub answered_of : Registers → Call → Answer → Registers
 answered_of r call (answer.Reply reply) = put_of r call reply
 
--- the memory after a call of these registers that succeeded and gave this beside its results. The calls that aren't named here
--- write nothing of it
+-- the memory after a call of these registers that succeeded and gave this beside its results: that goes to an iovec array, or to the
+-- address in a1 or in a3. The calls that aren't named here write nothing of it
 abbrev pub memory_after : Pages → Registers → Call → Payload → Pages
 memory_after m r (FdPread fd length offset) payload = with_content m r payload
 memory_after m r (FdRead fd length) payload = with_content m r payload
-memory_after m r (FdStatGet fd) payload = with_state m r payload
+memory_after m r (FdStatGet fd) payload = with_payload m (argument r 1) payload
+memory_after m r (FileReaddir fd length cookie) payload = with_payload m (argument r 1) payload
+memory_after m r (FileReadlink fd path length) payload = with_payload m (argument r 3) payload
+memory_after m r (FileStatFget fd) payload = with_payload m (argument r 1) payload
+memory_after m r (FileStatGet lookup path) payload = with_payload m (argument r 3) payload
 memory_after m r other payload = memory_with m r other
 
 -- the memory after an answer to a call of these registers

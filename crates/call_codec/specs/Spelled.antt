@@ -16,8 +16,7 @@ use Rattle.call_reading.specs.LockCalls.{condvar_signal_of, lock_unlock_of, thre
 use Rattle.call_reading.specs.ProcessCalls.{proc_exec_of, proc_fork_of, proc_raise_of, random_get_of}
 use Rattle.call_reading.specs.SocketCalls.{sock_recv_of, sock_send_of, sock_shutdown_of}
 use Rattle.call_reading.specs.ThreadCalls.{thread_create_of, thread_yield_of}
-use Rattle.file_reading.specs.NameCalls.{file_create_of, file_link_of, file_open_of, file_readlink_of, file_rename_of, file_symlink_of, file_unlink_of}
-use Rattle.file_reading.specs.NodeCalls.{file_advise_of, file_allocate_of, file_readdir_of, file_stat_fget_of, file_stat_fput_of, file_stat_get_of, file_stat_put_of}
+use Rattle.file_reading.specs.FileCalls.{file_call}
 use Rattle.guest_memory.specs.Page.{Pages}
 use Rattle.poll_reading.specs.Poll.{poll_of}
 
@@ -38,25 +37,6 @@ descriptor_call m r number =
     else if number == 14 then fd_stat_put_of m r
     else if number == 15 then Ok (fd_sync_of r)
     else if number == 16 then Ok (fd_write_of m r)
-    else Err Nosys
-
--- the calls about files, by number
-unfoldable pub file_call : Pages → Registers → ℕ → Result Call Errno
-file_call m r number =
-    if number == 17 then file_advise_of r
-    else if number == 18 then file_allocate_of r
-    else if number == 19 then file_create_of m r
-    else if number == 20 then file_link_of m r
-    else if number == 21 then file_open_of m r
-    else if number == 22 then file_readdir_of m r
-    else if number == 23 then file_readlink_of m r
-    else if number == 24 then file_rename_of m r
-    else if number == 25 then file_stat_fget_of m r
-    else if number == 26 then file_stat_fput_of m r
-    else if number == 27 then file_stat_get_of m r
-    else if number == 28 then file_stat_put_of m r
-    else if number == 29 then file_symlink_of m r
-    else if number == 30 then file_unlink_of m r
     else Err Nosys
 
 -- the calls about the caller's memory, by number; the errors that they answer of their own are in the calls

@@ -2,6 +2,7 @@
 ghost use Rattle.std.specs.Prelude.{◌≡◌, IfOk, OnErr, slice_index};
 ghost use Rattle.call_codec.specs.Args.{args_of, IsCopied};
 ghost use Rattle.call_codec.specs.Spelled.{descriptor_call, or_refused};
+ghost use Rattle.file_reading.specs.FileCalls.{CopiesPath, file_call};
 
 use crate::memory_calls::{
     MEM_ADVISE, MEM_MAP, MEM_PROTECT, MEM_SYNC, MEM_UNMAP, mem_advise, mem_map, mem_protect,
@@ -10,6 +11,7 @@ use crate::memory_calls::{
 use crate::reading::descriptor_call;
 use abi_types::{Call, Errno, Regs};
 use argument_reading::{Refusal, low};
+use file_reading::file_call;
 use guest_memory::GuestMemory;
 use std::alloc::{AllocError, Global};
 
@@ -26,6 +28,7 @@ pub fn args(alloc: Global, regs: &Regs, memory: &GuestMemory) -> Result<Call, Al
     let number = regs.get(17);
     match number {
         3 | 4 | 6..=16 => of_descriptors(alloc, regs, memory, number),
+        17 | 18 | 22 | 23 | 25..=28 => of_files(alloc, regs, memory, number),
         MEM_ADVISE => Ok(mem_advise(regs, memory)),
         MEM_MAP => Ok(mem_map(regs, memory)),
         MEM_PROTECT => Ok(mem_protect(regs, memory)),
@@ -52,6 +55,23 @@ fn of_descriptors(
     ensures only { OnErr result (IsCopied number) }
 {
     match descriptor_call(alloc, regs, memory, number) {
+        Ok(call) => Ok(call),
+        Err(Refusal::Errno(errno)) => Ok(Call::Refused { number, errno }),
+        Err(Refusal::NoMemory) => Err(AllocError),
+    }
+}
+
+// The call about files with this number, or its refusal.
+fn of_files(
+    alloc: Global,
+    regs: &Regs,
+    memory: &GuestMemory,
+    number: u64,
+) -> Result<Call, AllocError>
+    ensures ok { IfOk result (λ call. call ≡ or_refused number (file_call memory.now regs.now number)) }
+    ensures only { OnErr result (CopiesPath number) }
+{
+    match file_call(alloc, regs, memory, number) {
         Ok(call) => Ok(call),
         Err(Refusal::Errno(errno)) => Ok(Call::Refused { number, errno }),
         Err(Refusal::NoMemory) => Err(AllocError),

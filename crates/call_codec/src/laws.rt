@@ -1,5 +1,5 @@
 //! Laws of the definitions. The functions do nothing.
-ghost use Rattle.call_codec.specs.OutputLaws.{PreadIsWritten, ReadIsWritten, StateIsWritten};
+ghost use Rattle.call_codec.specs.OutputLaws.{EntriesAreWritten, FoundStateIsWritten, LinkIsWritten, OpenStateIsWritten, PreadIsWritten, ReadIsWritten, StateIsWritten};
 ghost use Rattle.call_codec.specs.Refusals.{AdviseIsListed, MapIsListed, ProtectIsListed, SyncIsListed, UnmapIsListed};
 ghost use Rattle.call_codec.specs.StartBlock.{ArgdataStands, CanaryStands, VectorStands};
 
@@ -21,9 +21,13 @@ pub fn start_block_stands()
 {}
 
 /// The output of a call that registers and memory spell is written whole: no write of bytes that were read, as many as the call
-/// asks for at most, and none of a descriptor's state is refused.
+/// asks for or has room for at most, and none of the state of a descriptor or of a file is refused.
 pub fn output_is_written()
     ensures pread { PreadIsWritten }
     ensures read { ReadIsWritten }
     ensures state { StateIsWritten }
+    ensures entries { EntriesAreWritten }
+    ensures link { LinkIsWritten }
+    ensures open_state { OpenStateIsWritten }
+    ensures found_state { FoundStateIsWritten }
 {}

@@ -1,9 +1,9 @@
 //! What a call that succeeded writes into the caller's memory.
 ghost use Rattle.std.specs.Prelude.{◌≡◌, ◌≤◌, OnOk, OnErr};
 ghost use Rattle.argument_reading.specs.Arguments.{argument};
-ghost use Rattle.call_codec.specs.Output.{fdstat_bytes, scattered, with_bytes, with_content, with_state};
+ghost use Rattle.call_codec.specs.Output.{fdstat_bytes, filestat_bytes, scattered, with_bytes, with_content, with_payload};
 
-use abi_layout::write_fdstat;
+use abi_layout::{write_fdstat, write_filestat};
 use abi_structures::Iovec;
 use abi_types::{Payload, Regs};
 use argument_reading::{MOST_IOVECS, read_ranges};
@@ -51,12 +51,14 @@ pub fn put_content(
     Ok(())
 }
 
-/// Writes the descriptor's state of the payload, if it has one, at the address in a1.
-pub fn put_state(regs: &Regs, memory: &mut GuestMemory, payload: &Payload)
-    ensures { memory.new ≡ with_state memory.old regs.now payload.now }
+/// Writes the payload from an address on, if it is bytes or the state of a descriptor or of a file.
+pub fn put_payload(memory: &mut GuestMemory, at: u64, payload: &Payload)
+    ensures { memory.new ≡ with_payload memory.old at payload.now }
 {
-    if let Payload::FdStat(stat) = payload {
-        let bytes = write_fdstat(stat);
-        put_bytes(memory, regs.get(11), &bytes);
+    match payload {
+        Payload::Content(bytes) => put_bytes(memory, at, bytes.as_slice()),
+        Payload::FdStat(stat) => put_bytes(memory, at, &write_fdstat(stat)),
+        Payload::FileStat(stat) => put_bytes(memory, at, &write_filestat(stat)),
+        _ => {}
     }
 }

@@ -2,7 +2,7 @@
 ghost use Rattle.std.specs.Prelude.{◌≡◌, IfOk, IsTrue, OnErr, slice_index};
 ghost use Rattle.argument_reading.specs.Reading.{LacksMemory, Reads};
 ghost use Rattle.call_codec.specs.Args.{IsCopied};
-ghost use Rattle.call_codec.specs.Spelled.{descriptor_call, file_call, is_copied, memory_call, numbered, process_call, spelled_of, thread_call};
+ghost use Rattle.call_codec.specs.Spelled.{descriptor_call, is_copied, memory_call, numbered, process_call, spelled_of, thread_call};
 
 use crate::memory_calls::{mapping, mem_advise, mem_protect, mem_sync, mem_unmap};
 use crate::write_call::fd_write;
@@ -14,11 +14,7 @@ use call_reading::{
     lock_unlock, proc_exec, proc_fork, proc_raise, random_get, sock_recv, sock_send, sock_shutdown,
     thread_create, thread_exit, thread_yield,
 };
-use file_reading::{
-    file_advise, file_allocate, file_create, file_link, file_open, file_readdir, file_readlink,
-    file_rename, file_stat_fget, file_stat_fput, file_stat_get, file_stat_put, file_symlink,
-    file_unlink,
-};
+use file_reading::file_call;
 use guest_memory::GuestMemory;
 use poll_reading::poll;
 use std::alloc::{AllocError, Global};
@@ -49,31 +45,6 @@ pub(crate) fn descriptor_call(
         14 => Ok(fd_stat_put(regs, memory)?),
         15 => Ok(fd_sync(regs)),
         16 => Ok(fd_write(alloc, regs, memory)?),
-        _ => Err(Refusal::Errno(Errno::Nosys)),
-    }
-}
-
-// The calls about files, by number.
-#[tactic(auto, unfolding(crate::specs::Spelled::file_call))]
-fn file_call(alloc: Global, regs: &Regs, memory: &GuestMemory, number: u64) -> Result<Call, Refusal>
-    ensures reads { Reads result (file_call memory.now regs.now number) }
-    ensures only { LacksMemory result → IsTrue (is_copied number) }
-{
-    match number {
-        17 => Ok(file_advise(regs)?),
-        18 => Ok(file_allocate(regs)?),
-        19 => file_create(alloc, regs, memory),
-        20 => file_link(alloc, regs, memory),
-        21 => file_open(alloc, regs, memory),
-        22 => Ok(file_readdir(regs, memory)?),
-        23 => file_readlink(alloc, regs, memory),
-        24 => file_rename(alloc, regs, memory),
-        25 => Ok(file_stat_fget(regs, memory)?),
-        26 => Ok(file_stat_fput(regs, memory)?),
-        27 => file_stat_get(alloc, regs, memory),
-        28 => file_stat_put(alloc, regs, memory),
-        29 => file_symlink(alloc, regs, memory),
-        30 => file_unlink(alloc, regs, memory),
         _ => Err(Refusal::Errno(Errno::Nosys)),
     }
 }

@@ -9,7 +9,7 @@ ghost use Rattle.guest_memory.specs.Mapping.{AreThere};
 ghost use Rattle.guest_memory.specs.Ranges.{IsPageAddress};
 
 use crate::memory_calls::{has_bits, pages_in};
-use crate::output::{put_content, put_state};
+use crate::output::{put_content, put_payload};
 use abi_base::{GUEST_END, PAGE_SIZE};
 use abi_types::{Answer, Call, Errno, Payload, Place, Prot, Regs, Reply};
 use argument_reading::low;
@@ -66,6 +66,8 @@ fn put_results(regs: &mut Regs, call: &Call, reply: &Reply)
         | Call::FdRead { .. }
         | Call::FdSeek { .. }
         | Call::FdWrite { .. }
+        | Call::FileReaddir { .. }
+        | Call::FileReadlink { .. }
         | Call::MemMap { .. } => regs.set(11, reply.r1),
         _ => {}
     }
@@ -97,8 +99,12 @@ fn put_memory(
 {
     match call {
         Call::FdPread { .. } | Call::FdRead { .. } => put_content(alloc, regs, memory, payload),
-        Call::FdStatGet { .. } => {
-            put_state(regs, memory, payload);
+        Call::FdStatGet { .. } | Call::FileReaddir { .. } | Call::FileStatFget { .. } => {
+            put_payload(memory, regs.get(11), payload);
+            Ok(())
+        }
+        Call::FileReadlink { .. } | Call::FileStatGet { .. } => {
+            put_payload(memory, regs.get(13), payload);
             Ok(())
         }
         Call::MemMap {

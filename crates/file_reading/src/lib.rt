@@ -1,18 +1,13 @@
 //! The calls about files that a thread's registers and memory spell, or the error that refuses one: a function for each call,
-//! named after it, and beside it in specs/ its definition, whose name ends in `_of`.
+//! named after it, and beside it in specs/ its definition, whose name ends in `_of`; and `file_call`, which is given the number.
 //!
 //! Errors are refusals that the arguments alone show. What registers show comes first, then FAULT for memory that can't be
 //! read or written, then what the memory shows. A path of over 1024 bytes isn't read here, and isn't refused here.
 #![tactic(auto)]
 
-pub use name_calls::{
-    file_create, file_link, file_open, file_readlink, file_rename, file_symlink, file_unlink,
-};
-pub use node_calls::{
-    file_advise, file_allocate, file_readdir, file_stat_fget, file_stat_fput, file_stat_get,
-    file_stat_put,
-};
+pub use file_calls::file_call;
 
+mod file_calls;
 mod lookups;
 mod name_calls;
 mod node_calls;

@@ -1,17 +1,18 @@
 -- The errors that calls which registers spell answer of their own.
 --     args_no_lack      none is want of memory
 --     args_not_denied      none is NOTCAPABLE
-use Rattle.std.proofs.Common.{◌≢◌, ℕ, nat_le, nat_lt, ◌==◌, ◌&&◌, ◌||◌, not, Bool, true, false, cond, Option, Some, None}
+use Rattle.std.proofs.Common.{◌≢◌, ℕ, nat_le, nat_lt, ◌==◌, ◌&&◌, ◌||◌, not, Bool, true, false, cond, [], ◌∷◌, Option, Some, None}
 use Rattle.std.specs.List.{AllByRecursion}
 use Rattle.abi_types.specs.declared.call.Call.{Call}
 use Rattle.abi_types.specs.declared.call.Call.TheVariants.{Memory, Refused}
 use Rattle.abi_base.specs.declared.errno.Errno.{Errno}
-use Rattle.abi_base.specs.declared.errno.Errno.TheVariants.{Success, Badf, Fault, Inval, Mfile, Nobufs, Nomem, Nosys, Notcapable, Notsup}
+use Rattle.abi_base.specs.declared.errno.Errno.TheVariants.{Success, Badf, Fault, Fbig, Ilseq, Inval, Loop, Mfile, NameTooLong, Nobufs, Noent, Nomem, Nosys, Notcapable, Notdir, Notsup}
 use Rattle.abi_types.specs.declared.place.Place.{Place}
 use Rattle.abi_types.specs.declared.place.Place.TheVariants as place
 use Rattle.abi_types.specs.declared.place.Place.TheVariants.{At}
 use Rattle.abi_base.specs.Registers.{Registers}
 use Rattle.kernel_model.specs.Calls.{errors_of}
+use Rattle.kernel_model.specs.FilePaths.{path_errors}
 use Rattle.kernel_model.specs.Laws.{IsNotDeniedEarly}
 use Rattle.std.specs.Prelude.{bit_and}
 use Rattle.kernel_model.specs.MemoryCalls.{map_file, map_zeros, place_errors}
@@ -64,6 +65,20 @@ notsup_spelled = (λ e. cc, λ e. cc)
 
 mfile_spelled : IsSpelled Mfile
 mfile_spelled = (λ e. cc, λ e. cc)
+
+-- the errors of a call that changes a file
+changing_spelled : AllByRecursion IsSpelled (Badf ∷ Fbig ∷ [])
+changing_spelled = (badf_spelled, ((λ e. cc, λ e. cc), tt))
+
+-- the errors of a path
+path_spelled : AllByRecursion IsSpelled path_errors
+path_spelled =
+    let name_too_long : IsSpelled NameTooLong = (λ e. cc, λ e. cc) in
+    let ilseq : IsSpelled Ilseq = (λ e. cc, λ e. cc) in
+    let notdir : IsSpelled Notdir = (λ e. cc, λ e. cc) in
+    let noent : IsSpelled Noent = (λ e. cc, λ e. cc) in
+    let loop : IsSpelled Loop = (λ e. cc, λ e. cc) in
+    (badf_spelled, (name_too_long, (ilseq, (inval_spelled, (notdir, (noent, (loop, tt)))))))
 
 -- an error with which a call is refused
 listed_spelled : (errno : Errno) → IsListedRefusal errno → IsSpelled errno
@@ -163,6 +178,16 @@ args_spelled m r = args_hold IsSpelledCall m r (record {
   fd_stat_put = λ fd stat flags is. (badf_spelled, tt);
   fd_sync = λ fd. tt;
   fd_write = λ fd bytes. (badf_spelled, tt);
+  files = record {
+    file_advise = λ fd offset length advice is. tt;
+    file_allocate = λ fd offset length is. changing_spelled;
+    file_readdir = λ fd room cookie is. (badf_spelled, tt);
+    file_readlink = λ fd path room is. path_spelled;
+    file_stat_fget = λ fd is. (badf_spelled, tt);
+    file_stat_fput = λ fd stat flags is. changing_spelled;
+    file_stat_get = λ lookup path is. path_spelled;
+    file_stat_put = λ lookup path stat flags is. path_spelled;
+  };
   mem_advise = advise_spelled m r;
   mem_map = map_spelled m r;
   mem_protect = protect_spelled m r;

@@ -1,4 +1,4 @@
-use Rattle.call_codec.proofs.Outputs.{pread_written, read_written, state_written}
+use Rattle.call_codec.proofs.Outputs.{entries_written, found_state_written, link_written, open_state_written, pread_written, read_written, state_written}
 use Rattle.call_codec.proofs.laws.output_is_written.Goals as goal
 
 pub returns-clause-pread : goal.returns-clause-pread
@@ -9,3 +9,15 @@ returns-clause-read c = read_written
 
 pub returns-clause-state : goal.returns-clause-state
 returns-clause-state c = state_written
+
+pub returns-clause-entries : goal.returns-clause-entries
+returns-clause-entries c = entries_written
+
+pub returns-clause-link : goal.returns-clause-link
+returns-clause-link c = link_written
+
+pub returns-clause-open_state : goal.returns-clause-open_state
+returns-clause-open_state c = open_state_written
+
+pub returns-clause-found_state : goal.returns-clause-found_state
+returns-clause-found_state c = found_state_written
