@@ -2,6 +2,7 @@
 #![tactic(auto)]
 
 pub use arguments::{ARGUMENT_LENGTH, FIRST_DESCRIPTOR, WRITE_TO_EACH};
+pub use call_list::{CALL_LIST, CallList};
 pub use calls::{
     BAD_POINTER, HELLO, LONG_WRITE, MANY_RANGES, NO_DESCRIPTOR, PAST_THE_STACK, START_BLOCK,
     TWO_PAGES, UNBUILT_CALLS, exit_with,
@@ -19,6 +20,7 @@ pub use relocation::RELOCATED;
 pub use streams::{COPY, COPY_BY_TWO, FILL_THE_TABLE, calls_over};
 
 mod arguments;
+mod call_list;
 mod calls;
 mod hello_file;
 mod machine;

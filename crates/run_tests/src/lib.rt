@@ -6,6 +6,12 @@ mod calls;
 #[cfg(test)]
 mod command_lines;
 #[cfg(test)]
+mod file_changes;
+#[cfg(test)]
+mod file_looks;
+#[cfg(test)]
+mod file_runs;
+#[cfg(test)]
 mod guests;
 #[cfg(test)]
 mod memory_calls;

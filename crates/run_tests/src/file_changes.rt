@@ -1,0 +1,231 @@
+//! What guests change of files where no name changes: file_allocate, file_stat_fput and file_stat_put. And file_advise, which
+//! changes nothing.
+use crate::file_runs::{Ask, Left, Node, Path, Row, Run, WITH_HISTORY, check_run};
+use std::test::Fail;
+
+// The run begins 5 nanoseconds after the epoch: so row k, from 1 on, is at 1000 k + 5.
+const FROM_FIVE: &[&str] = &["run", "--history", "--tree=tree", "--epoch=5", "p"];
+
+// 5 is `d`, 6 is `f`, 7 is `l`.
+const TREE: &[u8] = b"dir d\nfile 3 d/f\nabc\nlink 1 d/l\nf\n";
+
+const D: Node = Node {
+    ino: 0xffff_ffff_0000_0005,
+    kind: 32,
+    nlink: 1,
+};
+
+const F: Node = Node {
+    ino: 0xffff_ffff_0000_0006,
+    kind: 96,
+    nlink: 1,
+};
+
+const L: Node = Node {
+    ino: 0xffff_ffff_0000_0007,
+    kind: 144,
+    nlink: 1,
+};
+
+// Descriptors, of which the last isn't there, and the directory's as a lookup that follows a symlink at the path's end.
+const DIR: u64 = 1;
+
+const FILE: u64 = 2;
+
+const ABSENT: u64 = 9;
+
+const FOLLOW: u64 = 0x1_0000_0001;
+
+// What is put.
+const ATIM: u64 = 1;
+
+const ATIM_NOW: u64 = 2;
+
+const MTIM: u64 = 4;
+
+const MTIM_NOW: u64 = 8;
+
+const SIZE: u64 = 16;
+
+// No flag has this bit.
+const UNKNOWN: u64 = 32;
+
+// Nothing that is looked at.
+const UNREAD: [u64; 3] = [u64::MAX; 3];
+
+// How many bytes a file can have, and one more.
+const MOST: u64 = 67_108_864;
+
+const OVER: [u64; 3] = [67_108_865, 0, 0];
+
+// The greatest number that an advice's range may end at.
+const LAST: u64 = 0x7fff_ffff_ffff_ffff;
+
+const CHANGES: &[Row] = &[
+    (Ask::StatFput(FILE, UNREAD, MTIM_NOW), "SUCCESS", 0, Left::Nothing),
+    (Ask::StatFget(FILE), "SUCCESS", 0, Left::Stat(F, 3, [5, 1005, 1005])),
+    (Ask::StatFget(DIR), "SUCCESS", 0, Left::Stat(D, 0, [5; 3])),
+    (Ask::StatGet(DIR, Path::Is(b"l")), "SUCCESS", 0, Left::Stat(L, 1, [5; 3])),
+    // rows 5 to 7 don't grow the file; row 9 does
+    (Ask::Allocate(FILE, 0, 3), "SUCCESS", 0, Left::Nothing),
+    (Ask::Allocate(FILE, 1, 2), "SUCCESS", 0, Left::Nothing),
+    (Ask::Allocate(FILE, 0, 1), "SUCCESS", 0, Left::Nothing),
+    (Ask::StatFget(FILE), "SUCCESS", 0, Left::Stat(F, 3, [5, 1005, 1005])),
+    (Ask::Allocate(FILE, 3, 5), "SUCCESS", 0, Left::Nothing),
+    (Ask::StatFget(FILE), "SUCCESS", 0, Left::Stat(F, 8, [5, 9005, 9005])),
+    // refused, or of a size that the file has: rows 11 to 20 change nothing
+    (Ask::Allocate(FILE, MOST, 1), "FBIG", 0, Left::Nothing),
+    (Ask::Allocate(FILE, u64::MAX, u64::MAX), "FBIG", 0, Left::Nothing),
+    (Ask::Allocate(FILE, 9, 0), "INVAL", 0, Left::Nothing),
+    (Ask::StatFput(FILE, OVER, SIZE), "FBIG", 0, Left::Nothing),
+    (Ask::StatFput(FILE, OVER, SIZE | MTIM_NOW), "FBIG", 0, Left::Nothing),
+    (Ask::StatFput(FILE, [8, 0, 0], SIZE), "SUCCESS", 0, Left::Nothing),
+    (Ask::StatFput(FILE, UNREAD, 0), "INVAL", 0, Left::Nothing),
+    (Ask::StatFput(FILE, UNREAD, ATIM | ATIM_NOW), "INVAL", 0, Left::Nothing),
+    (Ask::StatFput(FILE, UNREAD, MTIM | MTIM_NOW), "INVAL", 0, Left::Nothing),
+    (Ask::StatFput(FILE, UNREAD, MTIM_NOW | UNKNOWN), "INVAL", 0, Left::Nothing),
+    (Ask::StatFget(FILE), "SUCCESS", 0, Left::Stat(F, 8, [5, 9005, 9005])),
+    // the size first, and then the times
+    (Ask::StatFput(FILE, [2, 70, u64::MAX], SIZE | ATIM | MTIM), "SUCCESS", 0, Left::Nothing),
+    (Ask::StatFget(FILE), "SUCCESS", 0, Left::Stat(F, 2, [70, u64::MAX, 22_005])),
+    (Ask::StatFput(FILE, [6, 0, 0], SIZE), "SUCCESS", 0, Left::Nothing),
+    (Ask::StatFget(FILE), "SUCCESS", 0, Left::Stat(F, 6, [70, 24_005, 24_005])),
+    (Ask::StatFput(DIR, UNREAD, ATIM_NOW), "SUCCESS", 0, Left::Nothing),
+    (Ask::StatFget(DIR), "SUCCESS", 0, Left::Stat(D, 0, [26_005, 5, 26_005])),
+    // of the symlink, and through it
+    (Ask::StatPut(DIR, Path::Is(b"l"), [0, 1, 2], ATIM | MTIM), "SUCCESS", 0, Left::Nothing),
+    (Ask::StatPut(FOLLOW, Path::Is(b"l"), UNREAD, MTIM_NOW), "SUCCESS", 0, Left::Nothing),
+    (Ask::StatGet(DIR, Path::Is(b"l")), "SUCCESS", 0, Left::Stat(L, 1, [1, 2, 28_005])),
+    (Ask::StatGet(FOLLOW, Path::Is(b"l")), "SUCCESS", 0, Left::Stat(F, 6, [70, 29_005, 29_005])),
+    // nothing changes in what follows
+    (Ask::StatPut(DIR, Path::Is(b"f"), [3, 0, 0], SIZE), "INVAL", 0, Left::Nothing),
+    (Ask::StatPut(DIR, Path::Is(b"f"), [3, 0, 0], SIZE | MTIM_NOW), "INVAL", 0, Left::Nothing),
+    (Ask::StatPut(DIR, Path::Is(b"f"), UNREAD, 0), "INVAL", 0, Left::Nothing),
+    (Ask::StatPut(DIR, Path::Is(b"f"), UNREAD, ATIM | ATIM_NOW), "INVAL", 0, Left::Nothing),
+    (Ask::StatPut(DIR, Path::Is(b".."), UNREAD, MTIM_NOW), "NOTCAPABLE", 0, Left::Nothing),
+    (Ask::StatPut(DIR, Path::Is(b"x"), UNREAD, MTIM_NOW), "NOENT", 0, Left::Nothing),
+    (Ask::StatPut(FOLLOW, Path::Is(b"l/"), UNREAD, MTIM_NOW), "NOTDIR", 0, Left::Nothing),
+    (Ask::StatPut(DIR, Path::Is(b"f\0"), UNREAD, MTIM_NOW), "INVAL", 0, Left::Nothing),
+    (Ask::Advise(FILE, 0, 0, 1), "SUCCESS", 0, Left::Nothing),
+    (Ask::Advise(FILE, LAST, 0, 6), "SUCCESS", 0, Left::Nothing),
+    (Ask::Advise(FILE, LAST, 1, 6), "INVAL", 0, Left::Nothing),
+    (Ask::Advise(FILE, u64::MAX, 1, 1), "INVAL", 0, Left::Nothing),
+    (Ask::Advise(FILE, 0, 0, 0), "INVAL", 0, Left::Nothing),
+    (Ask::Advise(FILE, 0, 0, 7), "INVAL", 0, Left::Nothing),
+    // what the arguments show, then memory, then the descriptor, and a size that is too large last
+    (Ask::Advise(ABSENT, 0, 0, 7), "INVAL", 0, Left::Nothing),
+    (Ask::Advise(ABSENT, 0, 0, 1), "BADF", 0, Left::Nothing),
+    (Ask::Allocate(ABSENT, 0, 0), "INVAL", 0, Left::Nothing),
+    (Ask::Allocate(ABSENT, MOST, 1), "BADF", 0, Left::Nothing),
+    (Ask::Other("file_stat_fput", [26, ABSENT, 0, 0, 0, 0]), "INVAL", 0, Left::Nothing),
+    (Ask::Other("file_stat_fput", [26, ABSENT, 0, SIZE, 0, 0]), "FAULT", 0, Left::Nothing),
+    (Ask::StatFput(ABSENT, OVER, SIZE), "BADF", 0, Left::Nothing),
+    (Ask::Other("file_stat_put", [28, ABSENT, 0, 1, 0, SIZE]), "INVAL", 0, Left::Nothing),
+    (Ask::Other("file_stat_put", [28, ABSENT, 0, 1, 0, ATIM]), "FAULT", 0, Left::Nothing),
+    (Ask::StatPut(ABSENT, Path::Is(b".."), UNREAD, MTIM_NOW), "BADF", 0, Left::Nothing),
+    (Ask::StatFget(FILE), "SUCCESS", 0, Left::Stat(F, 6, [70, 29_005, 29_005])),
+    (Ask::StatFget(DIR), "SUCCESS", 0, Left::Stat(D, 0, [26_005, 5, 26_005])),
+];
+
+#[test]
+fn changes_sizes_and_times(rt: HostRuntime) -> Result<(), Fail> {
+    let run = Run {
+        words: FROM_FIVE,
+        text: "[!fd stdout, !file {path: d}, !file {path: d/f}]",
+        tree: TREE,
+        rows: CHANGES,
+        denials: &["file_stat_put outside 0"],
+        left: b"== tree 3\ndir d\nfile 6 d/f\nab\0\0\0\0\nlink 1 d/l\nf\n",
+    };
+    check_run(&rt, rt.alloc(), &run)
+}
+
+// ---- what is needed
+
+// Descriptors 1 and 2 are of the directory and the file without the rights that these calls need, 3 and 4 have just these rights,
+// the last but one, which 5 has alone.
+const RIGHTS_TEXT: &str = "
+- !fd stdout
+- !file {path: d, rights: [FD_DATASYNC, FD_STAT_PUT_FLAGS, FD_SYNC, FILE_CREATE_DIRECTORY, FILE_CREATE_FILE, FILE_LINK_SOURCE,\
+ FILE_LINK_TARGET, FILE_OPEN, FILE_RENAME_SOURCE, FILE_RENAME_TARGET, FILE_SYMLINK, FILE_UNLINK]}
+- !file {path: d/f, rights: [FD_DATASYNC, FD_READ, FD_SEEK, FD_STAT_PUT_FLAGS, FD_SYNC, FD_TELL, FD_WRITE, MEM_MAP, MEM_MAP_EXEC,\
+ POLL_FD_READWRITE, PROC_EXEC]}
+- !file {path: d, rights: [FILE_READDIR, FILE_READLINK, FILE_STAT_FGET, FILE_STAT_FPUT_TIMES, FILE_STAT_GET, FILE_STAT_PUT_TIMES]}
+- !file {path: d/f, rights: [FILE_ADVISE, FILE_ALLOCATE, FILE_STAT_FGET, FILE_STAT_FPUT_SIZE]}
+- !file {path: d/f, rights: [FILE_STAT_FPUT_TIMES]}
+";
+
+// The entries `f` and `l`.
+const ENTRIES: &[u8] = b"\x01\0\0\0\0\0\0\0\x06\0\0\0\xff\xff\xff\xff\x01\0\0\0\x60\0\0\0f\
+    \x02\0\0\0\0\0\0\0\x07\0\0\0\xff\xff\xff\xff\x01\0\0\0\x90\0\0\0l";
+
+const RIGHTS: &[Row] = &[
+    (Ask::Advise(2, 0, 0, 1), "NOTCAPABLE", 0, Left::Nothing),
+    (Ask::Allocate(2, 0, 8), "NOTCAPABLE", 0, Left::Nothing),
+    (Ask::Readdir(1, 64, 0), "NOTCAPABLE", 0, Left::Nothing),
+    (Ask::Readlink(1, Path::Is(b"l"), 8), "NOTCAPABLE", 0, Left::Nothing),
+    (Ask::StatFget(1), "NOTCAPABLE", 0, Left::Nothing),
+    (Ask::StatFget(2), "NOTCAPABLE", 0, Left::Nothing),
+    (Ask::StatFput(1, UNREAD, ATIM), "NOTCAPABLE", 0, Left::Nothing),
+    (Ask::StatFput(2, UNREAD, SIZE | MTIM_NOW), "NOTCAPABLE", 0, Left::Nothing),
+    (Ask::StatFput(2, UNREAD, SIZE), "NOTCAPABLE", 0, Left::Nothing),
+    (Ask::StatFput(2, UNREAD, ATIM_NOW), "NOTCAPABLE", 0, Left::Nothing),
+    (Ask::StatFput(4, UNREAD, SIZE | MTIM), "NOTCAPABLE", 0, Left::Nothing),
+    (Ask::StatFput(5, UNREAD, SIZE | MTIM), "NOTCAPABLE", 0, Left::Nothing),
+    // a directory has no right to a size
+    (Ask::StatFput(3, UNREAD, SIZE), "NOTCAPABLE", 0, Left::Nothing),
+    (Ask::StatGet(1, Path::Is(b"l")), "NOTCAPABLE", 0, Left::Nothing),
+    (Ask::StatPut(1, Path::Is(b"l"), UNREAD, MTIM_NOW), "NOTCAPABLE", 0, Left::Nothing),
+    // what is a directory's is no file's, and the reverse
+    (Ask::Advise(3, 0, 0, 1), "NOTCAPABLE", 0, Left::Nothing),
+    (Ask::Allocate(3, 0, 8), "NOTCAPABLE", 0, Left::Nothing),
+    (Ask::StatPut(4, Path::Is(b"l"), UNREAD, MTIM_NOW), "NOTCAPABLE", 0, Left::Nothing),
+    // nothing has changed until here; what follows has its rights
+    (Ask::StatGet(3, Path::Is(b"f")), "SUCCESS", 0, Left::Stat(F, 3, [0; 3])),
+    (Ask::Advise(4, 0, 0, 1), "SUCCESS", 0, Left::Nothing),
+    (Ask::Allocate(4, 0, 4), "SUCCESS", 0, Left::Nothing),
+    (Ask::StatFget(4), "SUCCESS", 0, Left::Stat(F, 4, [0, 21_000, 21_000])),
+    (Ask::StatFput(4, [5, 0, 0], SIZE), "SUCCESS", 0, Left::Nothing),
+    (Ask::StatFput(5, [0, 7, 0], ATIM), "SUCCESS", 0, Left::Nothing),
+    (Ask::StatFget(4), "SUCCESS", 0, Left::Stat(F, 5, [7, 23_000, 24_000])),
+    (Ask::StatFput(3, [0, 0, 9], MTIM), "SUCCESS", 0, Left::Nothing),
+    (Ask::StatFget(3), "SUCCESS", 0, Left::Stat(D, 0, [0, 9, 26_000])),
+    (Ask::StatPut(3, Path::Is(b"l"), [0, 3, 0], ATIM | MTIM_NOW), "SUCCESS", 0, Left::Nothing),
+    (Ask::StatGet(3, Path::Is(b"l")), "SUCCESS", 0, Left::Stat(L, 1, [3, 28_000, 28_000])),
+    (Ask::Readlink(3, Path::Is(b"l"), 8), "SUCCESS", 1, Left::Bytes(b"f")),
+    (Ask::Readdir(3, 100, 0), "SUCCESS", 50, Left::Bytes(ENTRIES)),
+];
+
+const RIGHTS_DENIALS: &[&str] = &[
+    "file_advise fd 2 base FILE_ADVISE inheriting -",
+    "file_allocate fd 2 base FILE_ALLOCATE inheriting -",
+    "file_readdir fd 1 base FILE_READDIR inheriting -",
+    "file_readlink fd 1 base FILE_READLINK inheriting -",
+    "file_stat_fget fd 1 base FILE_STAT_FGET inheriting -",
+    "file_stat_fget fd 2 base FILE_STAT_FGET inheriting -",
+    "file_stat_fput fd 1 base FILE_STAT_FPUT_TIMES inheriting -",
+    "file_stat_fput fd 2 base FILE_STAT_FPUT_SIZE,FILE_STAT_FPUT_TIMES inheriting -",
+    "file_stat_fput fd 2 base FILE_STAT_FPUT_SIZE inheriting -",
+    "file_stat_fput fd 2 base FILE_STAT_FPUT_TIMES inheriting -",
+    "file_stat_fput fd 4 base FILE_STAT_FPUT_TIMES inheriting -",
+    "file_stat_fput fd 5 base FILE_STAT_FPUT_SIZE inheriting -",
+    "file_stat_fput fd 3 base FILE_STAT_FPUT_SIZE inheriting -",
+    "file_stat_get fd 1 base FILE_STAT_GET inheriting -",
+    "file_stat_put fd 1 base FILE_STAT_PUT_TIMES inheriting -",
+    "file_advise fd 3 base FILE_ADVISE inheriting -",
+    "file_allocate fd 3 base FILE_ALLOCATE inheriting -",
+    "file_stat_put fd 4 base FILE_STAT_PUT_TIMES inheriting -",
+];
+
+#[test]
+fn needs_rights(rt: HostRuntime) -> Result<(), Fail> {
+    let run = Run {
+        words: WITH_HISTORY,
+        text: RIGHTS_TEXT,
+        tree: TREE,
+        rows: RIGHTS,
+        denials: RIGHTS_DENIALS,
+        left: b"== tree 3\ndir d\nfile 5 d/f\nabc\0\0\nlink 1 d/l\nf\n",
+    };
+    check_run(&rt, rt.alloc(), &run)
+}
