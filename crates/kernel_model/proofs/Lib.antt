@@ -9,6 +9,7 @@ pub mod DescriptorCalls
 pub mod StreamCalls
 pub mod Branches
 pub mod FileMeanings
+pub mod NameMeanings
 pub mod FilePaths
 pub mod Listings
 pub mod FileLooks

@@ -26,6 +26,8 @@ pub record Meaning : Type 0 where
   pub outside : View → Table → Option ℕ
   -- what it may change beside the clock, what is the process's own, and the process's status
   pub changes : State → Table → List Part
+  -- how many objects it makes at most
+  pub numbers : ℕ
   -- the errors that it answers of its own, with nothing changed
   pub errors : List Errno
   -- whether memory may be wanting
@@ -40,6 +42,7 @@ answering errors reply = record {
   does = λ constants v who table. replies reply;
   outside = λ v table. None;
   changes = λ S table. [];
+  numbers = 0;
   errors = errors;
   takes_memory = false;
 }
