@@ -4,6 +4,7 @@ pub mod Parts
 pub mod Ends
 pub mod Valids
 pub mod Sights
+pub mod ObjectNumbers
 pub mod Answering
 pub mod DescriptorCalls
 pub mod StreamCalls
