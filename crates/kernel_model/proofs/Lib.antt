@@ -17,11 +17,12 @@ pub mod FileLooks
 pub mod Dirents
 pub mod Reworks
 pub mod FileChanges
-pub mod Opened
 pub mod TreeChanges
 pub mod FileCalls
 pub mod MemoryCalls
 pub mod ProcessCalls
+pub mod NewOpens
+pub mod Opened
 pub mod Calls
 pub mod Outcomes
 pub mod Touches

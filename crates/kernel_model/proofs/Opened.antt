@@ -1,7 +1,14 @@
 -- What a call comes to that opens.
 --     OpensAlike, opens_alike      by what is seen of the tree it opens what it opens by the whole, and sets the same
-use Rattle.std.proofs.Common.{◌≡◌, ◌≢◌, ◌⊎◌, ℕ, ◌==◌, ◌&&◌, ◌||◌, Bool, true, false, not, cond, List, [], ◌∷◌, ◌++◌, map, Option, Some, None, is_none, inl, inr, refl, sym, ap, subst, ◌∙◌}
+--     opened_holds      what holds of each refusal, of a file and a directory that is there, and of a file that is made, holds of it
+--     OpensPlainly, opens_plainly      its errors are among these
+--     OpensBeside, opens_beside      and these are the new file's, or what it says that it changes
+--     OpensWell, opens_well      the change leads to a tree, and what is opened is there
+use Rattle.std.proofs.Common.{◌≡◌, ◌≢◌, ◌⊎◌, ℕ, ◌==◌, ◌&&◌, ◌||◌, Bool, true, false, not, cond, List, [], ◌∷◌, ◌++◌, map, Option, Some, None, is_none, is_some, inl, inr, refl, sym, ap, subst, ◌∙◌, arith}
+use Rattle.std.specs.Prelude.{⊤}
 use Rattle.std.specs.FinMap.{get, insert}
+use Rattle.abi_base.specs.declared.errno.Errno.{Errno}
+use Rattle.abi_base.specs.declared.errno.Errno.TheVariants.{Again, Badf, Exist, Isdir, Loop, Mfile, Noent, Notdir}
 use Rattle.abi_types.specs.declared.node.Node.{Node}
 use Rattle.abi_types.specs.declared.node.NodeKind.{NodeKind}
 use Rattle.abi_types.specs.declared.node.NodeKind.TheVariants as kind
@@ -13,25 +20,31 @@ use Rattle.path_lookup.specs.Laws.{IsIn}
 use Rattle.path_lookup.specs.declared.ends.End.{End as PathEnd}
 use Rattle.path_lookup.specs.declared.ends.End.TheVariants as end
 use Rattle.path_lookup.specs.declared.ends.WalkMode.{WalkMode}
-use Rattle.tree_model.specs.Changes.{Faults, first_fault, made, make_faults}
-use Rattle.tree_model.specs.Entries.{here_or_other}
+use Rattle.tree_model.specs.Changes.{Faults, first_fault, is_absent, is_file, is_file_kind, is_file_node, is_removed, lacks_name, made, make_faults}
+use Rattle.tree_model.specs.Entries.{KeepsNodes, KeepsNodes-itself, here_or_other}
+use Rattle.tree_model.specs.Facts.{absent_no_directory, two_kinds}
+use Rattle.tree_model.specs.Faults.{can_make}
 use Rattle.tree_model.specs.Finds.{HasSameBelow}
-use Rattle.tree_model.specs.Tree.{below, is_directory_node, links_in, names_in}
+use Rattle.tree_model.specs.Tree.{IsTree, below, is_directory, is_directory_kind, is_directory_node, links_in, names_in}
 use Rattle.tree_model.specs.declared.fault.TreeFault.{TreeFault}
 use Rattle.tree_model.specs.declared.fault.TreeFault.TheVariants.{Absent, Taken, NotDirectory}
 use Rattle.tree_model.specs.declared.limits.TheConstants.{ROOT}
 use Rattle.kernel_model.specs.FileChanges.{modified, retimed, sized}
-use Rattle.kernel_model.specs.FilePaths.{Walked, Ends, Fails, LeadsOutside, walked, walked_in}
+use Rattle.kernel_model.specs.FilePaths.{Walked, Ends, Fails, LeadsOutside, end_part, path_errors, walked, walked_in}
 use Rattle.kernel_model.specs.LastNames.{name_at}
-use Rattle.kernel_model.specs.NameMaking.{node_of, with_node}
-use Rattle.kernel_model.specs.Opening.{Opened, NotOpened, OpenedOutside, Opens, creates, makes_new, truncates, truncated, wants_directory, open_file, open_directory, open_kind, open_node, make_file, open_absent, open_end, open_walked}
-use Rattle.kernel_model.specs.State.{Names, Tree, Update}
+use Rattle.kernel_model.specs.NameMaking.{errno_of, node_of, with_node}
+use Rattle.kernel_model.specs.Opening.{Opened, NotOpened, OpenedOutside, Opens, absent_end_parts, creates, parts_where, makes_new, truncates, truncated, wants_directory, open_file, open_directory, open_kind, open_node, make_file, open_absent, open_end, open_walked}
+use Rattle.kernel_model.specs.Proper.{IsIn as IsAmong}
+use Rattle.kernel_model.specs.State.{Names, Part, Tree, Update, at_names, at_node, has_part, part_of, same_part}
 use Rattle.kernel_model.specs.TreeUpdates.{Change, change_updates, names_update, node_update, no_change}
 use Rattle.kernel_model.proofs.Branches.{IsSeen}
-use Rattle.kernel_model.proofs.FileChanges.{sized_alike}
-use Rattle.kernel_model.proofs.FilePaths.{LeadsIn, leads_below, walk_reads}
-use Rattle.kernel_model.proofs.Parts.{insert_alike}
-use Rattle.kernel_model.proofs.Reworks.{Alike, retimed_alike, retimed_reworks}
+use Rattle.kernel_model.proofs.FileChanges.{sized_alike, sized_reworks}
+use Rattle.kernel_model.proofs.FilePaths.{LeadsIn, badf_among, leads_below, loop_among, noent_among, notdir_among, walk_reads}
+use Rattle.kernel_model.proofs.Lists.{in_longer}
+use Rattle.kernel_model.proofs.NameMeanings.{IsChangeOf}
+use Rattle.kernel_model.proofs.Parts.{insert_alike, of_first, of_second, outside_cons}
+use Rattle.kernel_model.proofs.Reworks.{Alike, Reworks, retimed_alike, retimed_reworks}
+use Rattle.kernel_model.proofs.TreeChanges.{first_is_member, kept_change, later_is_member, made_change, not_member_apart, retimed_change}
 
 -- ---- what it opens, by what is seen
 
@@ -162,3 +175,224 @@ module _ (oflags flags : ℕ) (path : List ℕ) (now new : ℕ) (t u : Tree) whe
   opens_alike mode (Some (End reads writes f)) seen = refl
   opens_alike mode (Some (Terminal which f)) seen = refl
   opens_alike mode (Some (Process p)) seen = refl
+
+-- ---- what it may come to
+
+abbrev pub open_errors : List Errno
+open_errors = path_errors ++ Mfile ∷ Exist ∷ Isdir ∷ Again ∷ []
+
+path_among : (errno : Errno) → IsAmong errno path_errors → IsAmong errno open_errors
+path_among errno here = in_longer errno path_errors (Mfile ∷ Exist ∷ Isdir ∷ Again ∷ []) here
+
+pub mfile_among : IsAmong Mfile open_errors
+mfile_among = (path_errors, Exist ∷ Isdir ∷ Again ∷ [], refl)
+
+exist_among : IsAmong Exist open_errors
+exist_among = (path_errors ++ Mfile ∷ [], Isdir ∷ Again ∷ [], refl)
+
+isdir_among : IsAmong Isdir open_errors
+isdir_among = (path_errors ++ Mfile ∷ Exist ∷ [], Again ∷ [], refl)
+
+pub again_among : IsAmong Again open_errors
+again_among = (path_errors ++ Mfile ∷ Exist ∷ Isdir ∷ [], [], refl)
+
+-- the error for a fault is one of these
+abbrev FaultAmong : Option TreeFault → Type 0
+FaultAmong None = ⊤
+FaultAmong (Some fault) = IsAmong (errno_of fault) open_errors
+
+fault_among : (a b c e : Bool) → FaultAmong (first_fault ((a, Absent) ∷ (b, NotDirectory) ∷ (c, Absent) ∷ (e, Taken) ∷ []))
+fault_among true b c e = path_among Noent noent_among
+fault_among false true c e = path_among Notdir notdir_among
+fault_among false false true e = path_among Noent noent_among
+fault_among false false false true = exist_among
+fault_among false false false false = tt
+
+-- What holds of each of these, by the path's end, holds of what it comes to: a refusal; a file that is there, or a directory; and
+-- a file that is made in a directory that may have it.
+module _ (oflags flags : ℕ) (path : List ℕ) (now new : ℕ) (t : Tree) (P : PathEnd → Opened → Type 0)
+    (refuses : (end : PathEnd) (errno : Errno) → IsAmong errno open_errors → P end (NotOpened errno))
+    (file : (n : ℕ) → is_file t n ≡ true → P (end.Found n) (Opens (File n 0 flags) (truncated oflags now t n) 0))
+    (directory : (n : ℕ) → is_directory t n ≡ true → P (end.Found n) (Opens (Directory n flags) (no_change t) 0))
+    (makes : (d from len : ℕ) → creates oflags ≡ true → first_fault (make_faults t d (name_at path from len)) ≡ None
+    → P (end.Absent d from len) (Opens (File new 0 flags) (with_node (kind.File []) now new t d (name_at path from len)) 1)) where
+  either_holds : (end : PathEnd) (b : Bool) (x y : Opened) → P end x → P end y → P end (cond b x y)
+  either_holds end true x y first second = first
+  either_holds end false x y first second = second
+
+  kind_holds : (n : ℕ) (kind : NodeKind) → (is_file_kind kind ≡ true → is_file t n ≡ true) → (is_directory_kind kind ≡ true → is_directory t n ≡ true)
+      → P (end.Found n) (open_kind oflags flags now t n kind)
+  kind_holds n (kind.File bytes) is other =
+      either_holds (end.Found n) (wants_directory oflags) _ _ (refuses (end.Found n) Notdir (path_among Notdir notdir_among)) (file n (is refl))
+  kind_holds n kind.Directory other is =
+      either_holds (end.Found n) (creates oflags || truncates oflags) _ _ (refuses (end.Found n) Isdir isdir_among) (directory n (is refl))
+  kind_holds n (kind.Link text) other another = refuses (end.Found n) Loop (path_among Loop loop_among)
+
+  found_holds : (n : ℕ) (o : Option Node) → get t.nodes n ≡ o → P (end.Found n) (open_node oflags flags now t n o)
+  found_holds n None there = refuses (end.Found n) Badf (path_among Badf badf_among)
+  found_holds n (Some node) there =
+      either_holds (end.Found n) (makes_new oflags) _ _ (refuses (end.Found n) Exist exist_among)
+      (kind_holds n node.kind (λ is. ap is_file_node there ∙ is) (λ is. ap is_directory_node there ∙ is))
+
+  made_holds : (d from len : ℕ) → creates oflags ≡ true → (fault : Option TreeFault) → first_fault (make_faults t d (name_at path from len)) ≡ fault
+      → FaultAmong fault → P (end.Absent d from len) (make_file flags now new t d (name_at path from len) fault)
+  made_holds d from len made None free among = makes d from len made free
+  made_holds d from len made (Some fault) is among = refuses (end.Absent d from len) (errno_of fault) among
+
+  absent_holds : (d from len : ℕ) (b : Bool) → creates oflags ≡ b
+      → P (end.Absent d from len) (cond b (make_file flags now new t d (name_at path from len) (first_fault (make_faults t d (name_at path from len)))) (NotOpened Noent))
+  absent_holds d from len true made =
+      made_holds d from len made (first_fault (make_faults t d (name_at path from len))) refl
+      (fault_among (is_absent t d) (not (is_directory t d)) (is_removed t d) (not (lacks_name t d (name_at path from len))))
+  absent_holds d from len false unmade = refuses (end.Absent d from len) Noent (path_among Noent noent_among)
+
+  pub opened_holds : (end : PathEnd) → P end (open_end oflags flags path now new t end)
+  opened_holds (end.Found n) = found_holds n (get t.nodes n) refl
+  opened_holds (end.Absent d from len) = absent_holds d from len (creates oflags) refl
+  opened_holds (end.Last d from len) = refuses (end.Last d from len) Noent (path_among Noent noent_among)
+
+-- ---- its errors
+
+abbrev pub OpensPlainly : Opened → Type 0
+OpensPlainly (NotOpened errno) = IsAmong errno open_errors
+OpensPlainly (OpenedOutside component) = ⊥
+OpensPlainly (Opens kind c makes) = ⊤
+
+pub opens_plainly : (oflags flags : ℕ) (path : List ℕ) (now new : ℕ) (t : Tree) (end : PathEnd) → OpensPlainly (open_end oflags flags path now new t end)
+opens_plainly oflags flags path now new t end =
+    opened_holds oflags flags path now new t (λ end o. OpensPlainly o) (λ end errno here. here) (λ n file. tt) (λ n is. tt) (λ d from len made free. tt) end
+
+-- ---- what it sets
+
+-- no update sets the part
+abbrev pub Unset : List Update → Part → Type 0
+Unset us q = has_part (map part_of us) q ≡ false
+
+pub both_unset : (us ws : List Update) (q : Part) → Unset us q → Unset ws q → Unset (us ++ ws) q
+both_unset [] ws q first second = second
+both_unset (u ∷ us) ws q first second =
+    let apart = outside_cons (part_of u) (map part_of us) q first in
+    ap (λ b. b || has_part (map part_of (us ++ ws)) q) apart.0 ∙ both_unset us ws q apart.1 second
+
+node_unset : (n : ℕ) (o : Option Node) (q : Part) → same_part (at_node n) q ≡ false → Unset (node_update n o) q
+node_unset n None q apart = refl
+node_unset n (Some node) q apart = ap (λ b. b || false) apart
+
+names_unset : (d : ℕ) (o : Option Names) (q : Part) → same_part (at_names d) q ≡ false → Unset (names_update d o) q
+names_unset d None q apart = refl
+names_unset d (Some names) q apart = ap (λ b. b || false) apart
+
+-- at most one node is made
+abbrev pub IsFew : ℕ → Type 0
+IsFew makes = (makes ≡ 0) ⊎ (makes ≡ 1)
+
+-- where something is opened, the change of the tree sets other parts than this
+abbrev pub OpensBeside : Part → Opened → Type 0
+OpensBeside q (NotOpened errno) = ⊤
+OpensBeside q (OpenedOutside component) = ⊤
+OpensBeside q (Opens kind c makes) = IsFew makes × Unset (change_updates c) q
+
+-- what it may change, by the path's end
+abbrev pub end_changes : ℕ → PathEnd → List Part
+end_changes oflags end = parts_where (creates oflags) (absent_end_parts end) ++ parts_where (truncates oflags) (end_part end)
+
+truncated_unset : (b : Bool) (t u : Tree) (n : ℕ) (q : Part) → has_part (parts_where b (at_node n ∷ [])) q ≡ false
+    → Unset (change_updates (cond b (record { tree = u; nodes = n ∷ []; directories = [] }) (no_change t))) q
+truncated_unset true t u n q h =
+    both_unset (node_update n (get u.nodes n) ++ []) [] q
+    (both_unset (node_update n (get u.nodes n)) [] q (node_unset n (get u.nodes n) q (outside_cons (at_node n) [] q h).0) refl) refl
+truncated_unset false t u n q h = refl
+
+file_unset : (now new : ℕ) (t : Tree) (d : ℕ) (name : List ℕ) (q : Part) → same_part (at_node new) q ≡ false → has_part (at_node d ∷ at_names d ∷ []) q ≡ false
+    → Unset (change_updates (with_node (kind.File []) now new t d name)) q
+file_unset now new t d name q apart h =
+    let u : Tree = file_tree now new t d name in
+    let above = outside_cons (at_node d) (at_names d ∷ []) q h in
+    both_unset (node_update d (get u.nodes d) ++ (node_update new (get u.nodes new) ++ [])) (names_update d (get u.names d) ++ []) q
+    (both_unset (node_update d (get u.nodes d)) (node_update new (get u.nodes new) ++ []) q (node_unset d (get u.nodes d) q above.0)
+    (both_unset (node_update new (get u.nodes new)) [] q (node_unset new (get u.nodes new) q apart) refl))
+    (both_unset (names_update d (get u.names d)) [] q (names_unset d (get u.names d) q (outside_cons (at_names d) [] q above.1).0) refl)
+
+pub opens_beside : (oflags flags : ℕ) (path : List ℕ) (now new : ℕ) (t : Tree) (q : Part) → same_part (at_node new) q ≡ false
+    → (end : PathEnd) → has_part (end_changes oflags end) q ≡ false → OpensBeside q (open_end oflags flags path now new t end)
+opens_beside oflags flags path now new t q apart =
+    opened_holds oflags flags path now new t (λ end o. has_part (end_changes oflags end) q ≡ false → OpensBeside q o) (λ end errno here h. tt)
+    (λ n file h. (
+    inl refl,
+    truncated_unset (truncates oflags) t (sized t n now 0) n q (of_second (parts_where (creates oflags) []) (parts_where (truncates oflags) (at_node n ∷ [])) q h),
+    ))
+    (λ n is h. (inl refl, refl))
+    (λ d from len made free h. (
+    inr refl,
+    file_unset now new t d (name_at path from len) q apart
+    (sym (ap (λ b. has_part (parts_where b (at_node d ∷ at_names d ∷ [])) q) made)
+    ∙ of_first (parts_where (creates oflags) (at_node d ∷ at_names d ∷ [])) (parts_where (truncates oflags) []) q h),
+    ))
+
+-- ---- the tree after it
+
+-- what is opened is there
+abbrev pub IsThere : Tree → OpenKind → Type 0
+IsThere t (File n offset flags) = is_file t n ≡ true
+IsThere t (Directory n flags) = is_directory t n ≡ true
+IsThere t _ = ⊥
+
+abbrev pub OpensWell : Tree → ℕ → Opened → Type 0
+OpensWell t new (NotOpened errno) = ⊤
+OpensWell t new (OpenedOutside component) = ⊤
+OpensWell t new (Opens kind c makes) = IsFew makes × IsChangeOf t new makes c × IsThere c.tree kind
+
+file_is_some : (o : Option Node) → is_file_node o ≡ true → is_some o ≡ true
+file_is_some None file = file
+file_is_some (Some node) file = refl
+
+module _ (t u : Tree) (n : ℕ) (works : Reworks t u n) (file : is_file t n ≡ true) where
+  reworked_keeps : KeepsNodes t u
+  reworked_keeps = record {
+    nodes = λ q. here_or_other (λ k. is_some (get u.nodes k) ≡ is_some (get t.nodes k)) n q
+        (file_is_some (get u.nodes n) (works.file ∙ file) ∙ sym (file_is_some (get t.nodes n) file)) (λ other. ap is_some (works.others q other));
+    kinds = λ q. here_or_other (λ k. is_directory u k ≡ is_directory t k) n q works.directory (λ other. ap is_directory_node (works.others q other));
+    tables = λ q. ap (λ m. is_some (get m q)) works.names;
+  }
+
+  reworked_change : (new makes : ℕ) → IsTree t → IsChangeOf t new makes (record { tree = u; nodes = n ∷ []; directories = [] })
+  reworked_change new makes tree =
+      kept_change t new makes (record { tree = u; nodes = n ∷ []; directories = [] }) (works.tree tree) reworked_keeps
+      (λ q is. here_or_other (λ k. is_file u k ≡ is_file t k) n q works.file (λ other. ap is_file_node (works.others q other)) ∙ is)
+      (λ q lacks. works.others q (not_member_apart n q (n ∷ []) (first_is_member n []) lacks)) (λ q lacks. ap (λ m. get m q) works.names)
+
+either_well : (b : Bool) (t : Tree) (new makes : ℕ) (kind : OpenKind) (c d : Change) → IsChangeOf t new makes c × IsThere c.tree kind
+    → IsChangeOf t new makes d × IsThere d.tree kind → IsChangeOf t new makes (cond b c d) × IsThere (cond b c d).tree kind
+either_well true t new makes kind c d first second = first
+either_well false t new makes kind c d first second = second
+
+unchanged : (t : Tree) (new makes : ℕ) → IsTree t → IsChangeOf t new makes (no_change t)
+unchanged t new makes tree =
+    kept_change t new makes (no_change t) tree (KeepsNodes-itself t) (λ q is. is) (λ q lacks. refl) (λ q lacks. refl)
+
+module _ (flags now new : ℕ) (t : Tree) (tree : IsTree t) where
+  truncated_well : (oflags n : ℕ) → is_file t n ≡ true
+      → IsChangeOf t new 0 (truncated oflags now t n) × IsThere (truncated oflags now t n).tree (File n 0 flags)
+  truncated_well oflags n file =
+      let works = sized_reworks t n now 0 file in
+      either_well (truncates oflags) t new 0 (File n 0 flags) (record { tree = sized t n now 0; nodes = n ∷ []; directories = [] }) (no_change t)
+      (reworked_change t (sized t n now 0) n works file new 0 tree, works.file ∙ file) (unchanged t new 0 tree, file)
+
+  made_well : (d : ℕ) (name : List ℕ) → get t.nodes new ≡ None → first_fault (make_faults t d name) ≡ None
+      → IsChangeOf t new 1 (with_node (kind.File []) now new t d name) × IsThere (with_node (kind.File []) now new t d name).tree (File new 0 flags)
+  made_well d name none free =
+      let apart : new ≢ d = two_kinds t d new (can_make t d name free).directory (absent_no_directory t new none) in (
+        retimed_change t new 1 (record { tree = with_file now new t d name; nodes = d ∷ new ∷ []; directories = d ∷ [] }) d (modified now)
+        (first_is_member d (new ∷ []))
+        (made_change t d name new (node_of (kind.File []) now) none 1 (d ∷ new ∷ []) (d ∷ []) tree free (λ e. absurd (omega (arith, e)))
+        (later_is_member new d (new ∷ []) (first_is_member new [])) (first_is_member d []) (λ q lacks. refl)),
+        ap is_file_node ((retimed_reworks (with_file now new t d name) d (modified now)).others new apart ∙ get-insert-same t.nodes new _),
+      )
+
+pub opens_well : (oflags flags : ℕ) (path : List ℕ) (now new : ℕ) (t : Tree) → IsTree t → get t.nodes new ≡ None → (end : PathEnd)
+    → OpensWell t new (open_end oflags flags path now new t end)
+opens_well oflags flags path now new t tree none =
+    opened_holds oflags flags path now new t (λ end o. OpensWell t new o) (λ end errno here. tt)
+    (λ n file. (let well = truncated_well flags now new t tree oflags n file in (inl refl, well.0, well.1)))
+    (λ n is. (inl refl, unchanged t new 0 tree, is))
+    (λ d from len made free. (let well = made_well flags now new t tree d (name_at path from len) none free in (inr refl, well.0, well.1)))
