@@ -1,7 +1,9 @@
 -- What holds of a path that is walked, and of what a call does where it leads.
 --     walked_reads      by what is seen of the tree it leads where it does by the whole
 --     at_walked_reads      and the call does there the same
+--     leads_below      it ends below the directory where it begins
 --     found_is_seen      the node that is found is seen
+--     walked_plainly      its error is one of those that a path may come to
 --     at_walked_holds, at_walked_plain, at_walked_unset      what holds of each reply and at each node holds where it leads
 use Rattle.std.proofs.Common.{◌≡◌, ◌≢◌, ℕ, Bool, true, false, not, cond, List, [], ◌∷◌, Option, Some, None, Ok, Err, inr, refl, sym, ap, subst, ◌∙◌}
 use Rattle.std.specs.Prelude.{⊤, nat_lt, length}
