@@ -36,7 +36,7 @@ replying_is_proper named need seen errors reply names sees plain listed = record
   plain = λ constants v who table. (plain, elim listed [ inl done ↦ inl done | inr here ↦ inr (refl, here) ]);
   lacks = λ h. absurd (not_true h);
   others = λ constants v who table q apart. (refl, refl);
-  threads = λ constants S v who table live. refl;
+  threads = λ constants S who table live. refl;
   valid = λ constants S who table there nearly. nearly;
 }
 

@@ -120,7 +120,7 @@ setting_is_proper named errors takes f is lacks = record {
   others = λ constants v who table q apart.
       of_table (λ o. IsUnset o (at_proc q) × IsUnset o (at_status q)) errors who.pid table (f who.pid table) (is who.pid table) (λ errno _. (refl, refl))
       (λ result new _. (other_table who.pid q apart, refl));
-  threads = λ constants S v who table. of_table (KeepsThreads S who.pid) errors who.pid table (f who.pid table) (is who.pid table) (λ errno _ _. refl) (λ result new _ _. refl);
+  threads = λ constants S who table. of_table (KeepsThreads S who.pid) errors who.pid table (f who.pid table) (is who.pid table) (λ errno _ _. refl) (λ result new _ _. refl);
   valid = λ constants S who table there nearly. setting_valid errors S who.pid table (f who.pid table) (is who.pid table) there nearly;
 }
 
@@ -193,7 +193,7 @@ fd_stat_get_is_proper fd = record {
     stat_holds (λ o. IsUnset o (at_proc q)) v (get table fd) refl (λ d kind. refl),
     stat_holds (λ o. IsUnset o (at_status q)) v (get table fd) refl (λ d kind. refl),
   );
-  threads = λ constants S v who table. stat_holds (KeepsThreads S who.pid) v (get table fd) (λ _. refl) (λ d kind _. refl);
+  threads = λ constants S who table. stat_holds (KeepsThreads S who.pid) (whole S) (get table fd) (λ _. refl) (λ d kind _. refl);
   valid = λ constants S who table there nearly. stat_holds (λ (o : Outcome). IsNearlyValid (put_all o.updates S)) (whole S) (get table fd) nearly (λ d kind. nearly);
 }
 
@@ -289,6 +289,6 @@ fd_stat_put_is_proper fd stat flags = record {
       put_holds (IsPlain (Badf ∷ [])) v who.pid table fd stat flags (get table fd) (refl, inr (refl, ([], [], refl))) (λ d kind _ _. (refl, inl refl));
   lacks = λ h. absurd (not_true h);
   others = λ constants v who table q apart. put_others v who.pid table fd stat flags (get table fd) q apart;
-  threads = λ constants S v who table. put_threads S v who.pid table fd stat flags (get table fd);
+  threads = λ constants S who table. put_threads S (whole S) who.pid table fd stat flags (get table fd);
   valid = λ constants S who table there nearly. put_valid S who.pid table fd stat flags there nearly;
 }

@@ -133,9 +133,9 @@ module _ (m : FileMeaning) (well : KeepsWell m) where
     others = λ constants v who table q apart.
         tree_unset (m.does (real_time constants v.clock) v.branch (open_of v (get table row.fd))).updates q
         (well.tree (real_time constants v.clock) v.branch (open_of v (get table row.fd)));
-    threads = λ constants S v who table live.
-        tree_threads (m.does (real_time constants v.clock) v.branch (open_of v (get table row.fd))).updates S who.pid
-        (well.tree (real_time constants v.clock) v.branch (open_of v (get table row.fd)));
+    threads = λ constants S who table live.
+        tree_threads (m.does (real_time constants S.clock) (tree_of S) (open_of (whole S) (get table row.fd))).updates S who.pid
+        (well.tree (real_time constants S.clock) (tree_of S) (open_of (whole S) (get table row.fd)));
     valid = λ constants S who table there nearly.
         well.valid (real_time constants S.clock) S (open_of (whole S) (get table row.fd)) (file_behind S (get table row.fd) nearly) nearly;
   }

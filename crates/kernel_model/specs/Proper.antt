@@ -71,9 +71,9 @@ pub record IsProper (m : Meaning) : Type 0 where
   pub others : (constants : Constants) (v : View) (who : Who) (table : Table) (q : ℕ) → q ≢ who.pid
       → IsUnset (m.does constants v who table) (at_proc q) × IsUnset (m.does constants v who table) (at_status q)
   -- where its process lives on, that has the threads that it had
-  pub threads : (constants : Constants) (S : State) (v : View) (who : Who) (table : Table)
-      → get (put_all (m.does constants v who table).updates S).statuses who.pid ≡ Some Live
-      → threads_of (put_all (m.does constants v who table).updates S) who.pid ≡ threads_of S who.pid
+  pub threads : (constants : Constants) (S : State) (who : Who) (table : Table)
+      → get (put_all (m.does constants (whole S) who table).updates S).statuses who.pid ≡ Some Live
+      → threads_of (put_all (m.does constants (whole S) who table).updates S) who.pid ≡ threads_of S who.pid
   -- a state that is nearly valid, and in which its process has this table, it leaves so
   pub valid : (constants : Constants) (S : State) (who : Who) (table : Table) → get S.tables who.pid ≡ Some table → IsNearlyValid S
       → IsNearlyValid (put_all (m.does constants (whole S) who table).updates S)
