@@ -409,7 +409,7 @@ table_named S p old new there from v q n table d at here =
     ]
 
 -- a process that has a table still has one
-some_again : {X : Type 0} (m : FinMap nat_cmp X) (k : ℕ) (x y : X) (q : ℕ) → get m k ≡ Some x → is_some (get (insert m k y) q) ≡ is_some (get m q)
+pub some_again : {X : Type 0} (m : FinMap nat_cmp X) (k : ℕ) (x y : X) (q : ℕ) → get m k ≡ Some x → is_some (get (insert m k y) q) ≡ is_some (get m q)
 some_again m k x y q there =
     elim (eqb_tells q k) [
       | inl same ↦ subst (λ j. is_some (get (insert m k y) j) ≡ is_some (get m j)) (sym same.1) (ap is_some (get-insert-same m k y) ∙ sym (ap is_some there))
