@@ -11,6 +11,7 @@ pub mod StreamCalls
 pub mod Branches
 pub mod FileMeanings
 pub mod NameMeanings
+pub mod TreeUpdates
 pub mod FilePaths
 pub mod Listings
 pub mod FileLooks
