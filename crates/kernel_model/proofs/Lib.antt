@@ -25,6 +25,7 @@ pub mod MemoryCalls
 pub mod ProcessCalls
 pub mod NewOpens
 pub mod Opened
+pub mod Opening
 pub mod Calls
 pub mod Outcomes
 pub mod Touches

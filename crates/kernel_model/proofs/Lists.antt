@@ -1,6 +1,5 @@
 -- Items of lists.
-use Rattle.std.proofs.Common.{List, [], ◌∷◌, ◌++◌, ap, subst, ◌∙◌}
-use Rattle.std.proofs.lemmas.List.{append_assoc}
+use Rattle.std.proofs.Common.{List, [], ◌∷◌, ◌++◌, ap, subst}
 use Rattle.std.specs.List.{AllByRecursion}
 use Rattle.kernel_model.specs.Proper.{IsIn}
 
@@ -19,6 +18,3 @@ all_weaker P Q weaker (x ∷ xs) all = (weaker x all.0, all_weaker P Q weaker xs
 
 pub in_more : {X : Type 0} (x first : X) (xs : List X) → IsIn x xs → IsIn x (first ∷ xs)
 in_more x first xs here = (first ∷ here.0, here.1, ap (λ more. first ∷ more) here.2)
-
-pub in_longer : {X : Type 0} (x : X) (xs more : List X) → IsIn x xs → IsIn x (xs ++ more)
-in_longer x xs more here = (here.0, here.1 ++ more, ap (λ ys. ys ++ more) here.2 ∙ append_assoc here.0 (x ∷ here.1) more)

@@ -1,6 +1,5 @@
 -- A state with one open more, that a new descriptor of a process names.
 --     IsBeside, put_last      updates of the tree, and of what a process has of its own beside its descriptors, may come before others
---     put_both      updates one behind the other
 --     new_open_nearly_valid, new_descriptor_nearly_valid      a nearly valid state stays so with the open, and with the descriptor
 use Rattle.std.proofs.Common.{◌≡◌, ◌≢◌, ℕ, ◌<◌, ◌^◌, Bool, true, false, List, [], ◌∷◌, ◌++◌, Option, Some, None, inl, inr, refl, sym, ap, subst, ◌∙◌}
 use Rattle.std.proofs.lemmas.Bool.Decides.{eqb_tells}
@@ -41,10 +40,6 @@ module _ (o : ℕ) (kind : OpenKind) (p : ℕ) (table : Table) where
       → put_all (set_open o kind ∷ set_table p table ∷ us) S ≡ put_one (set_table p table) (put_one (set_open o kind) (put_all us S))
   put_last [] S h = refl
   put_last (u ∷ us) S h = ap (put_all us) (one_last u S h.0) ∙ put_last us (put_one u S) h.1
-
-pub put_both : (us ws : List Update) (S : State) → put_all (us ++ ws) S ≡ put_all ws (put_all us S)
-put_both [] ws S = refl
-put_both (u ∷ us) ws S = put_both us ws (put_one u S)
 
 -- ---- one open more
 

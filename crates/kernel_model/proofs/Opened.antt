@@ -40,11 +40,12 @@ use Rattle.kernel_model.specs.TreeUpdates.{Change, change_updates, names_update,
 use Rattle.kernel_model.proofs.Branches.{IsSeen}
 use Rattle.kernel_model.proofs.FileChanges.{sized_alike, sized_reworks}
 use Rattle.kernel_model.proofs.FilePaths.{LeadsIn, badf_among, leads_below, loop_among, noent_among, notdir_among, walk_reads}
-use Rattle.kernel_model.proofs.Lists.{in_longer}
+use Rattle.kernel_model.proofs.LastNames.{in_front}
 use Rattle.kernel_model.proofs.NameMeanings.{IsChangeOf}
 use Rattle.kernel_model.proofs.Parts.{insert_alike, of_first, of_second, outside_cons}
 use Rattle.kernel_model.proofs.Reworks.{Alike, Reworks, retimed_alike, retimed_reworks}
 use Rattle.kernel_model.proofs.TreeChanges.{first_is_member, kept_change, later_is_member, made_change, not_member_apart, retimed_change}
+use Rattle.kernel_model.proofs.TreeUpdates.{both_unset}
 
 -- ---- what it opens, by what is seen
 
@@ -181,8 +182,8 @@ module _ (oflags flags : ℕ) (path : List ℕ) (now new : ℕ) (t u : Tree) whe
 abbrev pub open_errors : List Errno
 open_errors = path_errors ++ Mfile ∷ Exist ∷ Isdir ∷ Again ∷ []
 
-path_among : (errno : Errno) → IsAmong errno path_errors → IsAmong errno open_errors
-path_among errno here = in_longer errno path_errors (Mfile ∷ Exist ∷ Isdir ∷ Again ∷ []) here
+pub path_among : (errno : Errno) → IsAmong errno path_errors → IsAmong errno open_errors
+path_among errno here = in_front errno path_errors (Mfile ∷ Exist ∷ Isdir ∷ Again ∷ []) here
 
 pub mfile_among : IsAmong Mfile open_errors
 mfile_among = (path_errors, Exist ∷ Isdir ∷ Again ∷ [], refl)
@@ -267,12 +268,6 @@ opens_plainly oflags flags path now new t end =
 -- no update sets the part
 abbrev pub Unset : List Update → Part → Type 0
 Unset us q = has_part (map part_of us) q ≡ false
-
-pub both_unset : (us ws : List Update) (q : Part) → Unset us q → Unset ws q → Unset (us ++ ws) q
-both_unset [] ws q first second = second
-both_unset (u ∷ us) ws q first second =
-    let apart = outside_cons (part_of u) (map part_of us) q first in
-    ap (λ b. b || has_part (map part_of (us ++ ws)) q) apart.0 ∙ both_unset us ws q apart.1 second
 
 node_unset : (n : ℕ) (o : Option Node) (q : Part) → same_part (at_node n) q ≡ false → Unset (node_update n o) q
 node_unset n None q apart = refl
