@@ -18,6 +18,7 @@ pub mod Reworks
 pub mod FileChanges
 pub mod TreeChanges
 pub mod LastNames
+pub mod NameMaking
 pub mod FileCalls
 pub mod MemoryCalls
 pub mod ProcessCalls
