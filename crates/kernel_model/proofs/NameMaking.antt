@@ -1,16 +1,16 @@
 -- The meanings of the calls that make a directory or a symlink keep to what the meanings on names keep to.
---     first_holds, unless_holds, unless_alike, seen_in_front      what holds of what a call comes to unless the tree has a fault for it
+--     first_holds, unless_holds, table_holds, unless_alike, seen_in_front      what holds of what a call comes to unless the tree has a fault for it
 --     with_node_change, with_node_alike, with_node_unset      a new node with its first name: that is a change;  by what is seen it sets
 --         the same;  and it sets the new node and its directory alone
 --     making_well, making_unless_well, making_text_well      the meanings
-use Rattle.std.proofs.Common.{◌≡◌, ◌≢◌, ◌⊎◌, ℕ, ◌==◌, ◌&&◌, ◌||◌, Bool, true, false, not, cond, List, [], ◌∷◌, ◌++◌, length, map, Option, Some, None, inl, inr, is_none, refl, sym, ap, subst, ◌∙◌, arith}
+use Rattle.std.proofs.Common.{◌≡◌, ◌≢◌, ℕ, ◌==◌, ◌&&◌, ◌||◌, Bool, true, false, not, cond, List, [], ◌∷◌, ◌++◌, length, map, Option, Some, None, inr, is_none, refl, sym, ap, subst, ◌∙◌, arith}
 use Rattle.std.specs.Prelude.{⊤, nat_lt}
 use Rattle.std.specs.FinMap.{FinMap, empty, get, insert}
 use Rattle.std.specs.List.{AllByRecursion}
 use Rattle.std.specs.Ordering.{nat_cmp}
 use Rattle.std.specs.Str.{is_utf8}
 use Rattle.abi_base.specs.declared.errno.Errno.{Errno}
-use Rattle.abi_base.specs.declared.errno.Errno.TheVariants.{Again, Exist, Ilseq, Inval, NameTooLong, Noent, Nomem}
+use Rattle.abi_base.specs.declared.errno.Errno.TheVariants.{Again, Exist, Ilseq, Inval, NameTooLong, Nomem}
 use Rattle.abi_types.specs.declared.node.Node.{Node}
 use Rattle.abi_types.specs.declared.node.NodeKind.{NodeKind}
 use Rattle.abi_types.specs.declared.node.NodeKind.TheVariants as kind
@@ -18,7 +18,7 @@ use Rattle.number_map.specs.Closure.{member}
 use Rattle.number_map.specs.Maps.{get-insert-same, get-insert-other}
 use Rattle.tree_model.specs.Changes.{Faults, first_fault, made, make_faults, new_node, with_count}
 use Rattle.tree_model.specs.Entries.{here_or_other, table-new_node-other}
-use Rattle.tree_model.specs.Tree.{IsTree, is_directory_node, links_in, names_in, names_of}
+use Rattle.tree_model.specs.Tree.{IsTree, is_directory_node, links_in, names_in}
 use Rattle.tree_model.specs.declared.fault.TreeFault.{TreeFault}
 use Rattle.tree_model.specs.declared.fault.TreeFault.TheVariants.{Absent, NotDirectory, Taken}
 use Rattle.tree_model.specs.declared.limits.TheConstants.{ROOT}
@@ -28,10 +28,11 @@ use Rattle.kernel_model.specs.LastNames.{directory_parts, last_name, last_outsid
 use Rattle.kernel_model.specs.NameMaking.{empty_error, errno_of, make_in, making, making_unless, new_directories, node_of, or_else, text_error, with_node}
 use Rattle.kernel_model.specs.NameMeaning.{Comes, Refuses, Changes, NameMeaning, unless_fault}
 use Rattle.kernel_model.specs.Proper.{IsIn}
-use Rattle.kernel_model.specs.State.{Names, Part, Tree, at_names, at_node, at_open, has_part, part_of, same_part, tree_of}
-use Rattle.kernel_model.specs.TreeUpdates.{Change, change_updates}
+use Rattle.kernel_model.specs.State.{Part, Tree, at_names, at_node, at_open, has_part, part_of, same_part, tree_of}
+use Rattle.kernel_model.specs.TreeUpdates.{change_updates}
 use Rattle.kernel_model.proofs.FilePaths.{ilseq_among, inval_among, name_too_long_among, noent_among, notdir_among, path_errors_lack}
 use Rattle.kernel_model.proofs.LastNames.{all_both, at_name_holds, at_name_plain, at_name_reads, below_alike, directory_is_seen, directory_unset, in_front, last_name_reads}
+use Rattle.kernel_model.proofs.Lists.{all_weaker}
 use Rattle.kernel_model.proofs.NameMeanings.{IsChangeOf, IsGood, IsPlainly, IsUnsetBy, NamesWell, SetsAlike, new_node_parts}
 use Rattle.kernel_model.proofs.Parts.{has_of_both, outside_cons}
 use Rattle.kernel_model.proofs.Tests.{either_false, not_true}
@@ -55,6 +56,15 @@ pub unless_holds : (P : Comes → Type 0) (error : TreeFault → Errno) (o : Opt
     → (o ≡ None → P c) → P (unless_fault error o c)
 unless_holds P error None c refuses free = free refl
 unless_holds P error (Some fault) c refuses free = refuses (error fault)
+
+-- the same with each fault of a table, and where it has none
+pub table_holds : (P : Comes → Type 0) (error : TreeFault → Errno) (faults : Faults) (c : Comes)
+    → AllByRecursion (λ (f : Bool × TreeFault). P (Refuses (error f.1))) faults → (first_fault faults ≡ None → P c)
+    → P (unless_fault error (first_fault faults) c)
+table_holds P error faults c refuses free =
+    first_holds (λ o. first_fault faults ≡ o → P (unless_fault error o c)) faults free
+    (all_weaker (λ (f : Bool × TreeFault). P (Refuses (error f.1))) (λ f. first_fault faults ≡ Some f.1 → P (Refuses (error f.1))) (λ f one _. one) faults refuses)
+    refl
 
 same_unless : (error : TreeFault → Errno) (o : Option TreeFault) (c other : Comes) → SetsAlike c other
     → SetsAlike (unless_fault error o c) (unless_fault error o other)
@@ -181,7 +191,7 @@ making_well kind path = record {
   walks = λ t u here there seen second. ap last_outside (last_name_reads t u path here seen);
   sets = λ now new t here there q h.
       let both = either_false (has_part (new_node_parts 1 new) q) (has_part (directory_parts (last_name t path here)) q)
-          (sym (has_of_both (new_node_parts 1 new) (directory_parts (last_name t path here)) q) ∙ h) in
+      (sym (has_of_both (new_node_parts 1 new) (directory_parts (last_name t path here)) q) ∙ h) in
       at_name_holds (λ c. IsUnsetBy c q) (make_in kind now new t) (λ _. tt) (λ _. tt) (last_name t path here)
       (λ d name is.
       unless_holds (λ c. IsUnsetBy c q) errno_of (first_fault (make_faults t d name)) (Changes (with_node kind now new t d name)) (λ _. tt)
@@ -194,7 +204,7 @@ making_well kind path = record {
       at_name_holds (IsGood (tree_of S) new 1) (make_in kind now new (tree_of S)) (λ _. tt) (λ _. tt) (last_name (tree_of S) path here)
       (λ d name is.
       unless_holds (IsGood (tree_of S) new 1) errno_of (first_fault (make_faults (tree_of S) d name)) (Changes (with_node kind now new (tree_of S) d name))
-      (λ _. tt) (λ free. with_node_change kind now new (tree_of S) d name 1 tree free none (λ e. omega arith)));
+      (λ _. tt) (λ free. with_node_change kind now new (tree_of S) d name 1 tree free (none (λ e. omega arith)) (λ e. omega arith)));
 }
 
 -- ---- a text that is looked at before
