@@ -12,6 +12,7 @@ pub mod Branches
 pub mod FileMeanings
 pub mod NameMeanings
 pub mod TreeUpdates
+pub mod NameProper
 pub mod FilePaths
 pub mod Listings
 pub mod FileLooks
