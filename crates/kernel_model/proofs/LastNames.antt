@@ -189,7 +189,8 @@ last_plainly t path kind = last_is_plain path (walked t Parent path kind) (walke
 
 -- ---- what a call comes to at the last name
 
-module _ (P : Comes → Type 0) (goes : ℕ → List ℕ → Comes) (refuses : (errno : Errno) → P (Refuses errno)) (leads : (component : ℕ) → P (LeadsOut component)) where
+module _ (P : Comes → Type 0) (goes : ℕ → List ℕ → Comes)
+    (refuses : (errno : Errno) → P (Refuses errno)) (leads : (component : ℕ) → P (LeadsOut component)) where
   pub at_name_holds : (last : LastName) → ((d : ℕ) (name : List ℕ) → last ≡ StandsIn d name → P (goes d name)) → P (at_name goes last)
   at_name_holds (StandsIn d name) at = at d name refl
   at_name_holds (IsNone errno) at = refuses errno

@@ -3,6 +3,7 @@
 --     with_node_change, with_node_alike, with_node_unset      a new node with its first name: that is a change;  by what is seen it sets
 --         the same;  and it sets the new node and its directory alone
 --     making_well, making_unless_well, making_text_well      the meanings
+--     file_create_is_proper, file_symlink_is_proper      the calls are proper
 use Rattle.std.proofs.Common.{◌≡◌, ◌≢◌, ℕ, ◌==◌, ◌&&◌, ◌||◌, Bool, true, false, not, cond, List, [], ◌∷◌, ◌++◌, length, map, Option, Some, None, inr, is_none, refl, sym, ap, subst, ◌∙◌, arith}
 use Rattle.std.specs.Prelude.{⊤, nat_lt}
 use Rattle.std.specs.FinMap.{FinMap, empty, get, insert}
@@ -25,15 +26,16 @@ use Rattle.tree_model.specs.declared.limits.TheConstants.{ROOT}
 use Rattle.kernel_model.specs.FileChanges.{modified}
 use Rattle.kernel_model.specs.FilePaths.{longest_path, path_error, path_errors}
 use Rattle.kernel_model.specs.LastNames.{directory_parts, last_name, last_outside}
-use Rattle.kernel_model.specs.NameMaking.{empty_error, errno_of, make_in, making, making_unless, new_directories, node_of, or_else, text_error, with_node}
+use Rattle.kernel_model.specs.NameMaking.{empty_error, errno_of, file_create, file_symlink, make_in, making, making_unless, new_directories, node_of, or_else, text_error, with_node}
 use Rattle.kernel_model.specs.NameMeaning.{Comes, Refuses, Changes, NameMeaning, unless_fault}
-use Rattle.kernel_model.specs.Proper.{IsIn}
+use Rattle.kernel_model.specs.Proper.{IsIn, IsProper}
 use Rattle.kernel_model.specs.State.{Part, Tree, at_names, at_node, at_open, has_part, part_of, same_part, tree_of}
 use Rattle.kernel_model.specs.TreeUpdates.{change_updates}
 use Rattle.kernel_model.proofs.FilePaths.{ilseq_among, inval_among, name_too_long_among, noent_among, notdir_among, path_errors_lack}
 use Rattle.kernel_model.proofs.LastNames.{all_both, at_name_holds, at_name_plain, at_name_reads, below_alike, directory_is_seen, directory_unset, in_front, last_name_reads}
 use Rattle.kernel_model.proofs.Lists.{all_weaker}
 use Rattle.kernel_model.proofs.NameMeanings.{IsChangeOf, IsGood, IsPlainly, IsUnsetBy, NamesWell, SetsAlike, new_node_parts}
+use Rattle.kernel_model.proofs.NameProper.{by_name_is_proper}
 use Rattle.kernel_model.proofs.Parts.{has_of_both, outside_cons}
 use Rattle.kernel_model.proofs.Tests.{either_false, not_true}
 use Rattle.kernel_model.proofs.TreeChanges.{first_is_member, later_is_member, made_change, not_member_apart, retimed_alike_at, retimed_change, updates_alike, updates_unset}
@@ -63,7 +65,8 @@ pub table_holds : (P : Comes → Type 0) (error : TreeFault → Errno) (faults :
     → P (unless_fault error (first_fault faults) c)
 table_holds P error faults c refuses free =
     first_holds (λ o. first_fault faults ≡ o → P (unless_fault error o c)) faults free
-    (all_weaker (λ (f : Bool × TreeFault). P (Refuses (error f.1))) (λ f. first_fault faults ≡ Some f.1 → P (Refuses (error f.1))) (λ f one _. one) faults refuses)
+    (all_weaker (λ (f : Bool × TreeFault). P (Refuses (error f.1)))
+    (λ f. first_fault faults ≡ Some f.1 → P (Refuses (error f.1))) (λ f one _. one) faults refuses)
     refl
 
 same_unless : (error : TreeFault → Errno) (o : Option TreeFault) (c other : Comes) → SetsAlike c other
@@ -250,3 +253,11 @@ text_error_any more text =
 pub making_text_well : (text path : List ℕ) → NamesWell (making_unless (text_error text) (making (kind.Link text) path))
 making_text_well text path =
     making_unless_well (text_error text) (making (kind.Link text) path) (text_error_any (Exist ∷ Again ∷ []) text) (making_well (kind.Link text) path)
+
+-- ---- the calls
+
+pub file_create_is_proper : (fd : ℕ) (path : List ℕ) → IsProper (file_create fd path)
+file_create_is_proper fd path = by_name_is_proper (making kind.Directory path) (making_well kind.Directory path) _
+
+pub file_symlink_is_proper : (text : List ℕ) (fd : ℕ) (path : List ℕ) → IsProper (file_symlink text fd path)
+file_symlink_is_proper text fd path = by_name_is_proper (making_unless (text_error text) (making (kind.Link text) path)) (making_text_well text path) _

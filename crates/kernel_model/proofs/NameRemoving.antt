@@ -3,7 +3,7 @@
 --     without_name_change, without_name_alike, without_name_unset      a name that goes: that is a change;  by what is seen it sets the
 --         same;  and it sets the directory and the node of the name alone
 --     named_is_seen      the node of a name is seen
---     unlinking_well      the meaning
+--     unlinking_well, file_unlink_is_proper      the meaning;  the call is proper
 use Rattle.std.proofs.Common.{◌≡◌, ◌≢◌, ℕ, ◌-◌, Bool, true, false, not, cond, List, [], ◌∷◌, ◌++◌, map, Option, Some, None, inl, inr, is_none, is_some, refl, sym, ap, subst, ◌∙◌}
 use Rattle.std.specs.Prelude.{nat_lt}
 use Rattle.std.specs.FinMap.{get, len, remove}
@@ -22,8 +22,8 @@ use Rattle.kernel_model.specs.FilePaths.{path_errors}
 use Rattle.kernel_model.specs.LastNames.{LastName, StandsIn, IsNone, IsOutside, directory_parts, last_name, last_outside}
 use Rattle.kernel_model.specs.NameMaking.{with_new_names}
 use Rattle.kernel_model.specs.NameMeaning.{Comes, Refuses, Changes, unless_fault}
-use Rattle.kernel_model.specs.NameRemoving.{named_parts, node_parts_of, recounted, removes_directory, unless_lost, unlink_errno, unlink_in, unlink_node, unlinking, without_name}
-use Rattle.kernel_model.specs.Proper.{IsIn}
+use Rattle.kernel_model.specs.NameRemoving.{file_unlink, named_parts, node_parts_of, recounted, removes_directory, unless_lost, unlink_errno, unlink_in, unlink_node, unlinking, without_name}
+use Rattle.kernel_model.specs.Proper.{IsIn, IsProper}
 use Rattle.kernel_model.specs.Sight.{behind}
 use Rattle.kernel_model.specs.State.{Part, State, Tree, at_names, at_node, has_part, part_of, same_part, tree_of}
 use Rattle.kernel_model.specs.TreeUpdates.{change_updates}
@@ -32,6 +32,7 @@ use Rattle.kernel_model.proofs.FilePaths.{noent_among, notdir_among, path_errors
 use Rattle.kernel_model.proofs.LastNames.{HasBelow, StandsBelow, all_both, at_name_holds, at_name_plain, at_name_reads, below_alike, below_is_seen, directory_is_seen, directory_unset, entry_alike, entry_below, in_front, last_name_below, last_name_reads}
 use Rattle.kernel_model.proofs.NameMaking.{seen_in_front, table_holds, unless_alike}
 use Rattle.kernel_model.proofs.NameMeanings.{IsChangeOf, IsGood, IsPlainly, IsUnsetBy, NamesWell, SetsAlike}
+use Rattle.kernel_model.proofs.NameProper.{by_name_is_proper}
 use Rattle.kernel_model.proofs.Parts.{has_of_both, outside_cons, same_part_is}
 use Rattle.kernel_model.proofs.Reworks.{retimed_reworks}
 use Rattle.kernel_model.proofs.Tests.{either_false, either_true, not_false, not_true, or_false}
@@ -92,7 +93,9 @@ module _ (P : Comes → Type 0) (flags now : ℕ) (t : Tree) (d : ℕ) (name : L
   by_entry None goes = by_faults None (λ free. refuses Noent noent_of)
   by_entry (Some n) goes =
       lost_holds _ (is_absent t n)
-      (λ there. by_faults (Some n) (λ free. node_holds (Changes (without_name now t d name n)) (is_directory t n) (removes_directory flags) (goes n refl there free)))
+      (λ there.
+      by_faults (Some n)
+      (λ free. node_holds (Changes (without_name now t d name n)) (is_directory t n) (removes_directory flags) (goes n refl there free)))
 
   pub unlink_holds : ((n : ℕ) → HasName t d name n → is_absent t n ≡ false → first_fault (unlink_faults t d name) ≡ None
       → P (Changes (without_name now t d name n))) → P (unlink_in flags now t d name)
@@ -260,7 +263,8 @@ unlinking_well flags path = record {
       at_name_holds (λ c. IsUnsetBy c q) (unlink_in flags now t) (λ _. tt) (λ _. tt) last
       (λ d name is.
       unlink_holds (λ c. IsUnsetBy c q) flags now t d name (λ _ _. tt)
-      (λ n named there free. without_name_unset now t d name n q (directory_unset last q d name both.0 is) (named_unset t last q d name n both.1 is named there)));
+      (λ n named there free.
+      without_name_unset now t d name n q (directory_unset last q d name both.0 is) (named_unset t last q d name n both.1 is named there)));
   seen = λ S here there q h.
       let last = last_name (tree_of S) path here in
       seen_in_front _ _ q
@@ -280,3 +284,6 @@ unlinking_well flags path = record {
       unlink_holds (IsGood (tree_of S) new 0) flags now (tree_of S) d name (λ _ _. tt)
       (λ n named there free. without_name_change now (tree_of S) d name n new 0 tree named free));
 }
+
+pub file_unlink_is_proper : (fd : ℕ) (path : List ℕ) (flags : ℕ) → IsProper (file_unlink fd path flags)
+file_unlink_is_proper fd path flags = by_name_is_proper (unlinking flags path) (unlinking_well flags path) _
