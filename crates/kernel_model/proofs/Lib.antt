@@ -21,6 +21,8 @@ pub mod Reworks
 pub mod FileChanges
 pub mod TreeChanges
 pub mod LastNames
+pub mod NameMaking
+pub mod NameRemoving
 pub mod FileCalls
 pub mod MemoryCalls
 pub mod ProcessCalls
