@@ -10,6 +10,7 @@ pub mod StreamCalls
 pub mod Branches
 pub mod FileMeanings
 pub mod NameMeanings
+pub mod TreesAlike
 pub mod FilePaths
 pub mod Listings
 pub mod FileLooks
