@@ -17,6 +17,7 @@ pub mod FileLooks
 pub mod Dirents
 pub mod Reworks
 pub mod FileChanges
+pub mod TreeChanges
 pub mod FileCalls
 pub mod MemoryCalls
 pub mod ProcessCalls
