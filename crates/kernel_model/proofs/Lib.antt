@@ -10,7 +10,6 @@ pub mod StreamCalls
 pub mod Branches
 pub mod FileMeanings
 pub mod NameMeanings
-pub mod TreesAlike
 pub mod FilePaths
 pub mod Listings
 pub mod FileLooks
@@ -18,6 +17,8 @@ pub mod Dirents
 pub mod Reworks
 pub mod FileChanges
 pub mod TreeChanges
+pub mod TreesAlike
+pub mod MoveChanges
 pub mod FileCalls
 pub mod MemoryCalls
 pub mod ProcessCalls

@@ -1,11 +1,8 @@
--- Changes of trees that hang on a node, or on the names in a directory, alone; and what they leave of the kinds of nodes.
+-- Changes of trees hang on a node, or on the names in a directory, alone.
 --     NodeAlike t u q, NamesAlike t u d      the trees have the same node of this number;  the same names in this directory
 --     changed_node_alike, changed_names_alike      so they have after the same change of one node
 --     retimed-changes      other times of a node are such a change
 --     put_name_alike, drop_name_alike      and after the same name came, or went
---     KeepsKinds t u      no node came or went, and each is of the kind that it was
---     kept_files, kept_directories, kept_there      so each test of kinds says the same
---     kept_change      a change by which no node comes or goes is a change of the tree
 use Rattle.std.proofs.Common.{◌≡◌, ◌≢◌, ℕ, Bool, true, false, List, Option, Some, None, is_some, refl, sym, ap, ◌∙◌}
 use Rattle.std.specs.FinMap.{get, insert, remove}
 use Rattle.std.specs.Option.{option_map}
@@ -84,68 +81,3 @@ put_name_alike t u d name n q same =
 pub drop_name_alike : (t u : Tree) (d : ℕ) (name : List ℕ) (q : ℕ) → NamesAlike t u q → NamesAlike (drop_name t d name) (drop_name u d name) q
 drop_name_alike t u d name q same =
     set_alike t u d _ _ q (λ is. ap (λ (names : Names). remove names name) (names_there t u d q same is)) same
-
--- ---- kinds
-
-abbrev pub kind_in : Option Node → Option NodeKind
-kind_in None = None
-kind_in (Some node) = Some node.kind
-
--- no node came or went, and each is of the kind that it was
-abbrev pub KeepsKinds : Tree → Tree → Type 0
-KeepsKinds t u = (q : ℕ) → kind_in (get u.nodes q) ≡ kind_in (get t.nodes q)
-
-changed_kind : (f : Node → Node) → ((node : Node) → (f node).kind ≡ node.kind) → (o : Option Node) → kind_in (option_map f o) ≡ kind_in o
-changed_kind f keeps None = refl
-changed_kind f keeps (Some node) = ap Some (keeps node)
-
-pub changed_keeps_kinds : (t u : Tree) (n : ℕ) (f : Node → Node) → ((node : Node) → (f node).kind ≡ node.kind) → ChangesNode t u n f → KeepsKinds t u
-changed_keeps_kinds t u n f keeps c q =
-    here_or_other (λ x. kind_in (get u.nodes x) ≡ kind_in (get t.nodes x)) n q
-    (ap kind_in c.node ∙ changed_kind f keeps (get t.nodes n))
-    (λ other. ap kind_in (c.others q other))
-
--- a test of kinds
-abbrev test_kind : (NodeKind → Bool) → Option NodeKind → Bool
-test_kind test None = false
-test_kind test (Some kind) = test kind
-
-file_by_kind : (o : Option Node) → is_file_node o ≡ test_kind is_file_kind (kind_in o)
-file_by_kind None = refl
-file_by_kind (Some node) = refl
-
-directory_by_kind : (o : Option Node) → is_directory_node o ≡ test_kind is_directory_kind (kind_in o)
-directory_by_kind None = refl
-directory_by_kind (Some node) = refl
-
-some_by_kind : (o : Option Node) → is_some o ≡ is_some (kind_in o)
-some_by_kind None = refl
-some_by_kind (Some node) = refl
-
-module _ (t u : Tree) (keeps : KeepsKinds t u) where
-  pub kept_files : (q : ℕ) → is_file u q ≡ is_file t q
-  kept_files q = file_by_kind (get u.nodes q) ∙ ap (test_kind is_file_kind) (keeps q) ∙ sym (file_by_kind (get t.nodes q))
-
-  pub kept_directories : (q : ℕ) → is_directory u q ≡ is_directory t q
-  kept_directories q = directory_by_kind (get u.nodes q) ∙ ap (test_kind is_directory_kind) (keeps q) ∙ sym (directory_by_kind (get t.nodes q))
-
-  pub kept_there : (q : ℕ) → is_some (get u.nodes q) ≡ is_some (get t.nodes q)
-  kept_there q = some_by_kind (get u.nodes q) ∙ ap is_some (keeps q) ∙ sym (some_by_kind (get t.nodes q))
-
-none_still : (o p : Option Node) → is_some o ≡ is_some p → p ≡ None → o ≡ None
-none_still None p same none = refl
-none_still (Some node) p same none = absurd (not_true (sym (ap is_some none) ∙ sym same))
-
--- a change by which no node comes or goes
-pub kept_change : (t : Tree) (new makes : ℕ) (c : Change) → IsTree c.tree → KeepsKinds t c.tree
-    → ((q : ℕ) → member q c.nodes ≡ false → get c.tree.nodes q ≡ get t.nodes q)
-    → ((q : ℕ) → member q c.directories ≡ false → get c.tree.names q ≡ get t.names q) → IsChangeOf t new makes c
-kept_change t new makes c tree keeps nodes names = record {
-  tree = tree;
-  nodes = nodes;
-  names = names;
-  files = λ q is. kept_files t c.tree keeps q ∙ is;
-  directories = λ q is. kept_directories t c.tree keeps q ∙ is;
-  stays = λ q none. none_still (get t.nodes q) (get c.tree.nodes q) (sym (kept_there t c.tree keeps q)) none;
-  fresh = λ q node none there. absurd (none_is_no node (sym (none_still (get c.tree.nodes q) (get t.nodes q) (kept_there t c.tree keeps q) none) ∙ there));
-}
