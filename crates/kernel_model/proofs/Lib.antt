@@ -17,11 +17,12 @@ pub mod Dirents
 pub mod Reworks
 pub mod FileChanges
 pub mod TreeChanges
-pub mod TreesAlike
-pub mod MoveChanges
+pub mod LastNames
 pub mod FileCalls
 pub mod MemoryCalls
 pub mod ProcessCalls
+pub mod TreesAlike
+pub mod MoveChanges
 pub mod Calls
 pub mod Outcomes
 pub mod Touches
