@@ -101,6 +101,7 @@ setting_is_proper : (named : List ℕ) (errors : List Errno) (takes : Bool) (f :
       does = λ constants v who table. f who.pid table;
       outside = λ v table. None;
       changes = λ S table. [];
+      numbers = 0;
       errors = errors;
       takes_memory = takes;
     })

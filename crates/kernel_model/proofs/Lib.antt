@@ -4,12 +4,14 @@ pub mod Parts
 pub mod Ends
 pub mod Valids
 pub mod Sights
+pub mod ObjectNumbers
 pub mod Answering
 pub mod DescriptorCalls
 pub mod StreamCalls
 pub mod Branches
 pub mod FileMeanings
 pub mod NameMeanings
+pub mod TreeUpdates
 pub mod FilePaths
 pub mod Listings
 pub mod FileLooks

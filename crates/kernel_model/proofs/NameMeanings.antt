@@ -87,4 +87,4 @@ pub record NamesWell (m : NameMeaning) : Type 0 where
   pub lacks : AllByRecursion (λ errno. errno ≢ Nomem) m.errors
   -- what it changes is a change of the tree
   pub good : (now new : ℕ) (S : State) (here there : Option OpenKind) → IsBehind S here → IsBehind S there → IsTree (tree_of S)
-      → get S.nodes new ≡ None → IsGood (tree_of S) new m.makes (m.does now new (tree_of S) here there)
+      → (m.makes ≢ 0 → get S.nodes new ≡ None) → IsGood (tree_of S) new m.makes (m.does now new (tree_of S) here there)
