@@ -24,6 +24,7 @@ pub mod FileCalls
 pub mod MemoryCalls
 pub mod ProcessCalls
 pub mod TreesAlike
+pub mod NameChanges
 pub mod MoveChanges
 pub mod Calls
 pub mod Outcomes
