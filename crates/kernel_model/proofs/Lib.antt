@@ -26,6 +26,7 @@ pub mod ProcessCalls
 pub mod TreesAlike
 pub mod NameChanges
 pub mod MoveChanges
+pub mod NameLinking
 pub mod Calls
 pub mod Outcomes
 pub mod Touches
