@@ -29,6 +29,10 @@ pub mod ProcessCalls
 pub mod NewOpens
 pub mod Opened
 pub mod Opening
+pub mod TreesAlike
+pub mod NameChanges
+pub mod MoveChanges
+pub mod NameLinking
 pub mod Calls
 pub mod Outcomes
 pub mod Touches
