@@ -11,6 +11,7 @@ use Rattle.kernel_model.proofs.ProcessCalls.{proc_exit_is_proper}
 use Rattle.kernel_model.proofs.DescriptorCalls.{fd_close_is_proper, fd_dup_is_proper, fd_replace_is_proper, fd_stat_get_is_proper, fd_stat_put_is_proper}
 use Rattle.kernel_model.proofs.FileChanges.{file_allocate_is_proper, file_stat_fput_is_proper, file_stat_put_is_proper}
 use Rattle.kernel_model.proofs.FileLooks.{file_advise_is_proper, file_readdir_is_proper, file_readlink_is_proper, file_stat_fget_is_proper, file_stat_get_is_proper}
+use Rattle.kernel_model.proofs.Opening.{file_open_is_proper}
 use Rattle.kernel_model.proofs.StreamCalls.{fd_read_is_proper, fd_write_is_proper}
 
 pub proper : (call : Call) → IsProper (meaning_of call)
@@ -35,7 +36,7 @@ proper (call.FileAdvise fd offset length advice) = file_advise_is_proper fd
 proper (call.FileAllocate fd offset length) = file_allocate_is_proper fd offset length
 proper (call.FileCreate fd path kind) = ?
 proper (call.FileLink lookup path new_fd new_path) = ?
-proper (call.FileOpen lookup path oflags stat) = ?
+proper (call.FileOpen lookup path oflags stat) = file_open_is_proper lookup path oflags stat
 proper (call.FileReaddir fd length cookie) = file_readdir_is_proper fd length cookie
 proper (call.FileReadlink fd path length) = file_readlink_is_proper fd path length
 proper (call.FileRename fd path new_fd new_path) = ?

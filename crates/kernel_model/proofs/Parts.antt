@@ -110,7 +110,7 @@ put_keeps (u ∷ us) S q h =
     let apart = outside_cons (part_of u) (map part_of us) q h in
     agree_through (put_all us (put_one u S)) (put_one u S) S q (put_keeps us (put_one u S) q apart.1) (put_one_keeps u S q apart.0)
 
-pub insert_alike : {X : Type 0} (m n : FinMap nat_cmp X) (k : ℕ) (x : X) (q : ℕ) → get m q ≡ get n q → get (insert m k x) q ≡ get (insert n k x) q
+insert_alike : {X : Type 0} (m n : FinMap nat_cmp X) (k : ℕ) (x : X) (q : ℕ) → get m q ≡ get n q → get (insert m k x) q ≡ get (insert n k x) q
 insert_alike m n k x q e =
     elim (eqb_tells q k) [
       | inl is ↦ subst (λ j. get (insert m k x) j ≡ get (insert n k x) j) (sym is.1) (get-insert-same m k x ∙ sym (get-insert-same n k x))
