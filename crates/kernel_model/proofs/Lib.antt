@@ -27,6 +27,7 @@ pub mod TreesAlike
 pub mod NameChanges
 pub mod MoveChanges
 pub mod NameLinking
+pub mod NameMoving
 pub mod Calls
 pub mod Outcomes
 pub mod Touches
