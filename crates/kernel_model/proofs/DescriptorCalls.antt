@@ -83,13 +83,13 @@ setting_valid errors S p table o is there nearly =
     (λ result new from. set_table_nearly_valid S p table new there from nearly)
 
 -- the table is the process's own
-own_table : (p : ℕ) (q : Part) → has_part (own_parts p) q ≡ false → has_part (at_proc p ∷ []) q ≡ false
+pub own_table : (p : ℕ) (q : Part) → has_part (own_parts p) q ≡ false → has_part (at_proc p ∷ []) q ≡ false
 own_table p q h =
     let rest = outside_cons at_clock (at_proc p ∷ at_status p ∷ []) q h in
     let proc = outside_cons (at_proc p) (at_status p ∷ []) q rest.1 in
     ap (λ b. b || false) proc.0
 
-other_table : (p q : ℕ) → q ≢ p → has_part (at_proc p ∷ []) (at_proc q) ≡ false
+pub other_table : (p q : ℕ) → q ≢ p → has_part (at_proc p ∷ []) (at_proc q) ≡ false
 other_table p q apart = ap (λ b. b || false) (number_apart p q apart)
 
 setting_is_proper : (named : List ℕ) (errors : List Errno) (takes : Bool) (f : ℕ → Table → Outcome) → ((p : ℕ) (table : Table) → IsOfTable errors p table (f p table))

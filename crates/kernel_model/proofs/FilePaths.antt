@@ -170,10 +170,10 @@ FailsPlainly (LeadsOutside component) = ⊤
 pub badf_among : IsAmong Badf path_errors
 badf_among = ([], NameTooLong ∷ Ilseq ∷ Inval ∷ Notdir ∷ Noent ∷ Loop ∷ [], refl)
 
-name_too_long_among : IsAmong NameTooLong path_errors
+pub name_too_long_among : IsAmong NameTooLong path_errors
 name_too_long_among = (Badf ∷ [], Ilseq ∷ Inval ∷ Notdir ∷ Noent ∷ Loop ∷ [], refl)
 
-ilseq_among : IsAmong Ilseq path_errors
+pub ilseq_among : IsAmong Ilseq path_errors
 ilseq_among = (Badf ∷ NameTooLong ∷ [], Inval ∷ Notdir ∷ Noent ∷ Loop ∷ [], refl)
 
 pub inval_among : IsAmong Inval path_errors

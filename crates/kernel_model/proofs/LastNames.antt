@@ -4,11 +4,11 @@
 --         so is the node of a name in it;  which is below as well, where it is there
 --     walks_below      what a path's end names is below the open's directory
 --     last_name_reads      by what is seen of the tree the last name stands where it does by the whole
---     stands_below, directory_is_seen, directory_unset      its directory is below the open's;  it is seen;  and when it is unset
+--     last_name_below, stands_below, directory_is_seen, directory_unset      its directory is below the open's;  it is seen;  and when it is unset
 --     last_plainly      where it stands nowhere, that is for an error that a path may come to
 --     in_front, in_behind, all_both      lists one behind the other
 --     at_name_holds, at_name_alike, at_name_reads, at_name_plain      what a call comes to at the last name
-use Rattle.std.proofs.Common.{◌≡◌, ◌≢◌, ◌||◌, ℕ, Bool, true, false, not, cond, List, [], ◌∷◌, ◌++◌, Option, Some, None, inl, inr, IsSome, is_some, refl, sym, ap, subst, ◌∙◌}
+use Rattle.std.proofs.Common.{◌≡◌, ◌||◌, ℕ, Bool, true, false, cond, List, [], ◌∷◌, ◌++◌, Option, Some, None, inl, inr, IsSome, refl, sym, ap, subst, ◌∙◌}
 use Rattle.std.proofs.lemmas.List.{append_assoc}
 use Rattle.std.specs.Prelude.{⊤}
 use Rattle.std.specs.FinMap.{get}
@@ -25,7 +25,7 @@ use Rattle.tree_model.specs.Below.{below_closed}
 use Rattle.tree_model.specs.Finds.{named_alike}
 use Rattle.tree_model.specs.Tree.{HasName, below}
 use Rattle.kernel_model.specs.FilePaths.{Walked, Ends, Fails, LeadsOutside, path_errors, walked}
-use Rattle.kernel_model.specs.LastNames.{LastName, StandsIn, IsNone, IsOutside, directory_parts, is_dots, last_name, last_of, last_of_end, last_outside, name_at}
+use Rattle.kernel_model.specs.LastNames.{LastName, StandsIn, IsNone, IsOutside, directory_parts, is_dots, last_name, last_of, last_outside, name_at}
 use Rattle.kernel_model.specs.NameMeaning.{Comes, Refuses, LeadsOut, at_name}
 use Rattle.kernel_model.specs.Proper.{IsIn}
 use Rattle.kernel_model.specs.Sight.{behind}
@@ -33,7 +33,7 @@ use Rattle.kernel_model.specs.State.{State, Tree, tree_of, Part, at_node, at_nam
 use Rattle.kernel_model.proofs.Branches.{IsSeen, names_are_part, node_is_part}
 use Rattle.kernel_model.proofs.FilePaths.{FailsPlainly, LeadsIn, inval_among, leads_below, noent_among, walked_plainly, walked_reads}
 use Rattle.kernel_model.proofs.Lists.{in_more}
-use Rattle.kernel_model.proofs.NameMeanings.{IsPlainly, IsUnsetBy, SetsAlike}
+use Rattle.kernel_model.proofs.NameMeanings.{IsPlainly, SetsAlike}
 use Rattle.kernel_model.proofs.Parts.{outside_cons, same_part_is}
 use Rattle.kernel_model.proofs.Tests.{either_true, not_true}
 
@@ -124,9 +124,12 @@ last_is_below t kind path (Ends (end.Found n)) h = tt
 last_is_below t kind path (Fails errno) h = tt
 last_is_below t kind path (LeadsOutside component) h = tt
 
+pub last_name_below : (t : Tree) (path : List ℕ) (kind : Option OpenKind) → StandsBelow t kind (last_name t path kind)
+last_name_below t path kind = last_is_below t kind path (walked t Parent path kind) (walks_below t Parent path kind)
+
 pub stands_below : (t : Tree) (path : List ℕ) (kind : Option OpenKind) (d : ℕ) (name : List ℕ) → last_name t path kind ≡ StandsIn d name → HasBelow t kind d
 stands_below t path kind d name is =
-    subst (StandsBelow t kind) is (last_is_below t kind path (walked t Parent path kind) (walks_below t Parent path kind))
+    subst (StandsBelow t kind) is (last_name_below t path kind)
 
 directory_seen : (S : State) (kind : Option OpenKind) (last : LastName) (q : Part) → StandsBelow (tree_of S) kind last
     → has_part (directory_parts last) q ≡ true → has_part (behind S kind) q ≡ true
@@ -145,8 +148,7 @@ directory_seen S kind (IsOutside component) q under here = absurd (not_true here
 pub directory_is_seen : (S : State) (path : List ℕ) (kind : Option OpenKind) (q : Part)
     → has_part (directory_parts (last_name (tree_of S) path kind)) q ≡ true → has_part (behind S kind) q ≡ true
 directory_is_seen S path kind q here =
-    directory_seen S kind (last_name (tree_of S) path kind) q
-    (last_is_below (tree_of S) kind path (walked (tree_of S) Parent path kind) (walks_below (tree_of S) Parent path kind)) here
+    directory_seen S kind (last_name (tree_of S) path kind) q (last_name_below (tree_of S) path kind) here
 
 pub directory_unset : (last : LastName) (q : Part) (d : ℕ) (name : List ℕ) → has_part (directory_parts last) q ≡ false → last ≡ StandsIn d name
     → (same_part (at_node d) q ≡ false) × (same_part (at_names d) q ≡ false)
@@ -187,7 +189,8 @@ last_plainly t path kind = last_is_plain path (walked t Parent path kind) (walke
 
 -- ---- what a call comes to at the last name
 
-module _ (P : Comes → Type 0) (goes : ℕ → List ℕ → Comes) (refuses : (errno : Errno) → P (Refuses errno)) (leads : (component : ℕ) → P (LeadsOut component)) where
+module _ (P : Comes → Type 0) (goes : ℕ → List ℕ → Comes)
+    (refuses : (errno : Errno) → P (Refuses errno)) (leads : (component : ℕ) → P (LeadsOut component)) where
   pub at_name_holds : (last : LastName) → ((d : ℕ) (name : List ℕ) → last ≡ StandsIn d name → P (goes d name)) → P (at_name goes last)
   at_name_holds (StandsIn d name) at = at d name refl
   at_name_holds (IsNone errno) at = refuses errno

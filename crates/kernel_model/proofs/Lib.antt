@@ -12,6 +12,7 @@ pub mod Branches
 pub mod FileMeanings
 pub mod NameMeanings
 pub mod TreeUpdates
+pub mod NameProper
 pub mod FilePaths
 pub mod Listings
 pub mod FileLooks
@@ -20,6 +21,8 @@ pub mod Reworks
 pub mod FileChanges
 pub mod TreeChanges
 pub mod LastNames
+pub mod NameMaking
+pub mod NameRemoving
 pub mod FileCalls
 pub mod MemoryCalls
 pub mod ProcessCalls

@@ -2,28 +2,32 @@
 --     first_is_member, later_is_member      numbers of a list
 --     kept_change      so it is where no node comes or goes, none becomes one of another kind, and what isn't named is as it was
 --     FilesStay, files-changed, files-one_more, files-without_old      what is a file stays one
+--     updates_alike, updates_unset      what a change sets, where trees are alike at what it names;  what it doesn't name it doesn't set
+--     retimed_alike_at      where trees are alike, they are so once a node has other times
 --     made_change, unlinked_change      a new node with its first name;  a name that is taken away
 --     retimed_change      and other times of a node that is named keep it
-use Rattle.std.proofs.Common.{◌≡◌, ◌≢◌, ◌||◌, ℕ, Bool, true, false, List, [], ◌∷◌, Option, Some, None, is_none, is_some, refl, sym, ap, ◌∙◌}
+use Rattle.std.proofs.Common.{◌≡◌, ◌≢◌, ◌||◌, ℕ, Bool, true, false, List, [], ◌∷◌, ◌++◌, map, Option, Some, None, is_none, is_some, refl, sym, ap, ◌∙◌}
 use Rattle.std.proofs.lemmas.Bool.{eq-eqb}
 use Rattle.std.specs.Bool.{nat_eq}
 use Rattle.std.specs.FinMap.{get}
+use Rattle.std.specs.List.{AllByRecursion}
 use Rattle.std.specs.Option.{option_map}
 use Rattle.abi_types.specs.declared.node.Node.{Node}
 use Rattle.abi_types.specs.declared.node.Times.{Times}
 use Rattle.number_map.specs.Closure.{member}
 use Rattle.number_map.specs.Maps.{get-insert-other}
 use Rattle.tree_model.specs.Changes.{first_fault, is_file, is_file_kind, is_file_node, made, make_faults, new_node, one_less, one_more, unlinked, unlink_faults, without_old}
-use Rattle.tree_model.specs.Entries.{ChangesNode, KeepsNodes, KeepsNodes-drop_name, KeepsNodes-twice, KeepsNodes-without_old, get-new_node-same, get-new_node-other, here_or_other, names-without_old, node_there-changed, one_less-changes, one_more-changes, table-new_node-other, with_times-changes}
+use Rattle.tree_model.specs.Entries.{ChangesNode, KeepsNodes, KeepsNodes-drop_name, KeepsNodes-twice, KeepsNodes-without_old, get-new_node-other, here_or_other, names-without_old, node_there-changed, one_less-changes, one_more-changes, with_times-changes}
 use Rattle.tree_model.specs.Facts.{table_of_directory}
 use Rattle.tree_model.specs.Faults.{can_unlink, none_of, some_there}
 use Rattle.tree_model.specs.Keeps.{made-tree, unlinked-tree}
 use Rattle.tree_model.specs.Tree.{IsTree, entry_of, is_directory, is_directory_node}
 use Rattle.kernel_model.specs.FileChanges.{retimed_in, retimed}
-use Rattle.kernel_model.specs.State.{Tree}
-use Rattle.kernel_model.specs.TreeUpdates.{Change}
+use Rattle.kernel_model.specs.State.{Names, Part, Tree, Update, at_names, at_node, has_part, part_of, same_part}
+use Rattle.kernel_model.specs.TreeUpdates.{Change, change_updates, names_update, names_updates, node_update, nodes_updates}
 use Rattle.kernel_model.proofs.NameMeanings.{IsChangeOf}
-use Rattle.kernel_model.proofs.Reworks.{retimed_reworks}
+use Rattle.kernel_model.proofs.Parts.{outside_cons}
+use Rattle.kernel_model.proofs.Reworks.{retimed_alike, retimed_reworks}
 use Rattle.kernel_model.proofs.Tests.{none_is_no, not_true, or_true}
 
 -- ---- numbers of a list
@@ -168,3 +172,57 @@ retimed_change t new makes c n times has is =
           let old = kept_there c.tree (retimed c.tree n times) q node (there q) now in
           is.fresh q old.0 none old.1;
     }
+
+pub retimed_alike_at : (t u : Tree) (n : ℕ) (times : Times → Times) (q : ℕ) → get t.nodes n ≡ get u.nodes n → get t.nodes q ≡ get u.nodes q
+    → get (retimed t n times).nodes q ≡ get (retimed u n times).nodes q
+retimed_alike_at t u n times q same at =
+    here_or_other (λ k. get (retimed t n times).nodes k ≡ get (retimed u n times).nodes k) n q (retimed_alike t u n times same)
+    (λ other. (retimed_reworks t n times).others q other ∙ at ∙ sym ((retimed_reworks u n times).others q other))
+
+-- ---- what a change sets
+
+module _ (t u : Tree) where
+  nodes_alike : (ns : List ℕ) → AllByRecursion (λ n. get t.nodes n ≡ get u.nodes n) ns → nodes_updates u ns ≡ nodes_updates t ns
+  nodes_alike [] all = refl
+  nodes_alike (n ∷ ns) all = λ i. node_update n (sym all.0 i) ++ nodes_alike ns all.1 i
+
+  names_alike : (ds : List ℕ) → AllByRecursion (λ d. get t.names d ≡ get u.names d) ds → names_updates u ds ≡ names_updates t ds
+  names_alike [] all = refl
+  names_alike (d ∷ ds) all = λ i. names_update d (sym all.0 i) ++ names_alike ds all.1 i
+
+  pub updates_alike : (ns ds : List ℕ) → AllByRecursion (λ n. get t.nodes n ≡ get u.nodes n) ns → AllByRecursion (λ d. get t.names d ≡ get u.names d) ds
+      → change_updates (record { tree = u; nodes = ns; directories = ds }) ≡ change_updates (record { tree = t; nodes = ns; directories = ds })
+  updates_alike ns ds nodes names = λ i. nodes_alike ns nodes i ++ names_alike ds names i
+
+-- updates one behind the other
+sets_neither : (first second : List Update) (q : Part) → has_part (map part_of first) q ≡ false → has_part (map part_of second) q ≡ false
+    → has_part (map part_of (first ++ second)) q ≡ false
+sets_neither [] second q h more = more
+sets_neither (one ∷ first) second q h more =
+    let apart = outside_cons (part_of one) (map part_of first) q h in
+    ap (λ b. b || has_part (map part_of (first ++ second)) q) apart.0 ∙ sets_neither first second q apart.1 more
+
+module _ (t : Tree) (q : Part) where
+  node_unset : (n : ℕ) (o : Option Node) → same_part (at_node n) q ≡ false → has_part (map part_of (node_update n o)) q ≡ false
+  node_unset n None h = refl
+  node_unset n (Some node) h = ap (λ b. b || false) h
+
+  names_unset : (d : ℕ) (o : Option Names) → same_part (at_names d) q ≡ false → has_part (map part_of (names_update d o)) q ≡ false
+  names_unset d None h = refl
+  names_unset d (Some names) h = ap (λ b. b || false) h
+
+  all_nodes_unset : (ns : List ℕ) → AllByRecursion (λ n. same_part (at_node n) q ≡ false) ns → has_part (map part_of (nodes_updates t ns)) q ≡ false
+  all_nodes_unset [] all = refl
+  all_nodes_unset (n ∷ ns) all =
+      sets_neither (node_update n (get t.nodes n)) (nodes_updates t ns) q (node_unset n (get t.nodes n) all.0) (all_nodes_unset ns all.1)
+
+  all_names_unset : (ds : List ℕ) → AllByRecursion (λ d. same_part (at_names d) q ≡ false) ds → has_part (map part_of (names_updates t ds)) q ≡ false
+  all_names_unset [] all = refl
+  all_names_unset (d ∷ ds) all =
+      sets_neither (names_update d (get t.names d)) (names_updates t ds) q (names_unset d (get t.names d) all.0) (all_names_unset ds all.1)
+
+  pub updates_unset : (ns ds : List ℕ) → AllByRecursion (λ n. same_part (at_node n) q ≡ false) ns
+      → AllByRecursion (λ d. same_part (at_names d) q ≡ false) ds
+      → has_part (map part_of (change_updates (record { tree = t; nodes = ns; directories = ds }))) q ≡ false
+  updates_unset ns ds nodes names =
+      sets_neither (nodes_updates t ns) (names_updates t ds) q (all_nodes_unset ns nodes) (all_names_unset ds names)

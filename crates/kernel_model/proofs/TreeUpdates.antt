@@ -250,6 +250,11 @@ counted_nearly_valid S p count v =
     counted_holds IsNearlyValid S p count v (λ own there.
     set_own_nearly_valid S p own (made_more count own) there (record { threads = refl; numbered = refl; more = omega arith }) v)
 
+pub counted_threads : (S : State) (p count q : ℕ) → threads_of (counted p count S) q ≡ threads_of S q
+counted_threads S p count q =
+    counted_holds (λ (T : State). threads_of T q ≡ threads_of S q) S p count refl (λ own there.
+    same_threads S p own (made_more count own) there (record { threads = refl; numbered = refl; more = omega arith }) q)
+
 pub counted_more : (S : State) (p count : ℕ) → can_number p count (get S.own p) ≡ true
     → (counts_in (get (counted p count S).own p)).objects ≡ (counts_in (get S.own p)).objects + count
 counted_more S p zero can = omega arith
