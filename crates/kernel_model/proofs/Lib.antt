@@ -27,7 +27,6 @@ pub mod FileCalls
 pub mod MemoryCalls
 pub mod ProcessCalls
 pub mod TreesAlike
-pub mod NameChanges
 pub mod MoveChanges
 pub mod NameLinking
 pub mod NameMoving

@@ -1,9 +1,9 @@
 -- The meaning of the call that moves a name keeps to what the meanings on names keep to.
+--     IsLed t o, unless_lost_holds, unless_lost_alike      where a name has a node, it is there;  what a call comes to unless it isn't
 --     below_seen      the same is below a node that is seen
 --     LedAlike t u o      the node of a name, if there is one, is alike as far as a move looks at it
 --     rename_alike, rename_unset, rename_plain, rename_good      what a move comes to
---     named_is_seen      the node of a path's last name is seen
---     renaming_well      the meaning
+--     renaming_well, file_rename_is_proper      the meaning;  the call is proper
 use Rattle.std.proofs.Common.{◌≡◌, ◌≢◌, ℕ, ◌==◌, ◌&&◌, ◌||◌, Bool, true, false, not, cond, List, [], ◌∷◌, ◌++◌, Option, Some, None, inl, inr, IsSome, is_none, is_some, refl, sym, ap, subst, ◌∙◌}
 use Rattle.std.specs.Prelude.{⊤, nat_lt, if◌then◌else◌}
 use Rattle.std.specs.FinMap.{get, len}
@@ -26,9 +26,9 @@ use Rattle.kernel_model.specs.FilePaths.{path_errors}
 use Rattle.kernel_model.specs.LastNames.{LastName, StandsIn, IsNone, IsOutside, directory_parts, last_name, last_outside}
 use Rattle.kernel_model.specs.NameMaking.{errno_of, with_new_names}
 use Rattle.kernel_model.specs.NameMeaning.{Comes, Refuses, LeadsOut, Changes, at_name, unless_fault}
-use Rattle.kernel_model.specs.NameMoving.{move_or_stay, node_of_name, rename_in, renaming, second_outside, with_move, with_new_count_of}
+use Rattle.kernel_model.specs.NameMoving.{file_rename, move_or_stay, node_of_name, rename_in, renaming, second_outside, with_move, with_new_count_of}
 use Rattle.kernel_model.specs.NameRemoving.{named_parts, node_parts_of, recounted, unless_lost}
-use Rattle.kernel_model.specs.Proper.{IsIn}
+use Rattle.kernel_model.specs.Proper.{IsIn, IsProper}
 use Rattle.kernel_model.specs.Sight.{behind}
 use Rattle.kernel_model.specs.State.{Part, State, Tree, at_names, at_node, has_part, same_part, tree_of}
 use Rattle.kernel_model.specs.TreeUpdates.{Change, change_updates, no_change}
@@ -36,12 +36,46 @@ use Rattle.kernel_model.proofs.Branches.{IsSeen}
 use Rattle.kernel_model.proofs.FilePaths.{inval_among, noent_among, notdir_among, path_errors_lack}
 use Rattle.kernel_model.proofs.LastNames.{HasBelow, LastPlainly, all_both, at_name_holds, at_name_plain, at_name_reads, below_alike, below_is_seen, directory_is_seen, directory_unset, entry_alike, entry_below, in_front, last_name_reads, last_plainly, stands_below}
 use Rattle.kernel_model.proofs.MoveChanges.{move_change}
-use Rattle.kernel_model.proofs.NameChanges.{IsLed, change_alike, change_unset, first_fault_holds, unless_fault_alike, unless_fault_holds, unless_lost_alike, unless_lost_holds}
-use Rattle.kernel_model.proofs.NameLinking.{outside_both, seen_behind}
+use Rattle.kernel_model.proofs.NameLinking.{seen_behind}
+use Rattle.kernel_model.proofs.NameMaking.{table_holds, unless_alike, unless_holds}
 use Rattle.kernel_model.proofs.NameMeanings.{IsGood, IsPlainly, IsUnsetBy, NamesWell, SetsAlike}
-use Rattle.kernel_model.proofs.Parts.{has_of_both, outside_cons, same_part_is}
-use Rattle.kernel_model.proofs.Tests.{either_true, not_true, or_false}
+use Rattle.kernel_model.proofs.NameProper.{by_names_is_proper}
+use Rattle.kernel_model.proofs.NameRemoving.{named_is_seen}
+use Rattle.kernel_model.proofs.Parts.{has_of_both, outside_both, outside_cons}
+use Rattle.kernel_model.proofs.Tests.{either_true, none_is_no, not_true, same_some}
+use Rattle.kernel_model.proofs.TreeChanges.{updates_alike, updates_unset}
 use Rattle.kernel_model.proofs.TreesAlike.{NamesAlike, NodeAlike, changed_names_alike, changed_node_alike, drop_name_alike, put_name_alike, retimed-changes}
+
+-- ---- the nodes of names
+
+-- where the name has a node, it is there
+abbrev pub IsLed : Tree → Option ℕ → Type 0
+IsLed t o = (n : ℕ) → o ≡ Some n → IsSome (get t.nodes n)
+
+none_led : (t : Tree) → IsLed t None
+none_led t n is = absurd (none_is_no n is)
+
+some_led : (t : Tree) (n : ℕ) → IsSome (get t.nodes n) → IsLed t (Some n)
+some_led t n there m is = subst (λ k. IsSome (get t.nodes k)) (same_some n m is) there
+
+pub unless_lost_holds : (P : Comes → Type 0) (t : Tree) (o : Option ℕ) (a : Comes) → P (Refuses Noent) → (IsLed t o → P a) → P (unless_lost t o a)
+unless_lost_holds P t None a refused led = led (none_led t)
+unless_lost_holds P t (Some n) a refused led =
+    elim (get t.nodes n) as (λ o. get t.nodes n ≡ o → P (cond (is_none o) (Refuses Noent) a)) [
+      | None ↦ λ _. refused
+      | Some node ↦ λ there. led (some_led t n (ap is_some there))
+    ] refl
+
+lost_alike : (first second : Option Node) (a b : Comes) → first ≡ second → (IsSome second → SetsAlike a b)
+    → SetsAlike (cond (is_none first) (Refuses Noent) a) (cond (is_none second) (Refuses Noent) b)
+lost_alike first None a b same alike = subst (λ o. SetsAlike (cond (is_none o) (Refuses Noent) a) (Refuses Noent)) (sym same) refl
+lost_alike first (Some node) a b same alike = subst (λ o. SetsAlike (cond (is_none o) (Refuses Noent) a) b) (sym same) (alike refl)
+
+pub unless_lost_alike : (t u : Tree) (o : Option ℕ) (a b : Comes) → ((n : ℕ) → o ≡ Some n → NodeAlike t u n) → (IsLed t o → SetsAlike a b)
+    → SetsAlike (unless_lost u o a) (unless_lost t o b)
+unless_lost_alike t u None a b nodes alike = alike (none_led t)
+unless_lost_alike t u (Some n) a b nodes alike =
+    lost_alike (get u.nodes n) (get t.nodes n) a b (sym (nodes n refl)) (λ there. alike (some_led t n there))
 
 -- ---- the node of a name, as far as a move looks at it
 
@@ -186,9 +220,9 @@ module _ (from : ℕ) (name : List ℕ) (to : ℕ) (new : List ℕ) where
           ]
 
       module _ (source : NodeAlike t u from) (source_names : NamesAlike t u from) (target : NodeAlike t u to) (target_names : NamesAlike t u to) where
-        move_alike : ((m : ℕ) → old ≡ Some m → NodeAlike t u m) → change_updates (move_by t moved old) ≡ change_updates (move_by u moved old)
+        move_alike : ((m : ℕ) → old ≡ Some m → NodeAlike t u m) → change_updates (move_by u moved old) ≡ change_updates (move_by t moved old)
         move_alike nodes =
-            change_alike (after_by t moved old) (after_by u moved old) (from ∷ to ∷ node_of_name (replaced_by moved old)) (from ∷ to ∷ [])
+            updates_alike (after_by t moved old) (after_by u moved old) (from ∷ to ∷ node_of_name (replaced_by moved old)) (from ∷ to ∷ [])
             (after_node_alike from source, (after_node_alike to target, replaced_alike nodes))
             (after_names_alike from source_names, (after_names_alike to target_names, tt))
 
@@ -197,7 +231,7 @@ module _ (from : ℕ) (name : List ℕ) (to : ℕ) (new : List ℕ) where
         changes_alike nodes =
             elim (is_same moved old) as (λ b. SetsAlike (Changes (if b then no_change u else move_by u moved old)) (Changes (if b then no_change t else move_by t moved old))) [
               | true ↦ (no_change t, refl, refl)
-              | false ↦ (move_by t moved old, refl, sym (move_alike nodes))
+              | false ↦ (move_by t moved old, refl, move_alike nodes)
             ]
 
         replace_alike : LedAlike t u moved → LedAlike t u old → replace_faults u moved to old ≡ replace_faults t moved to old
@@ -218,7 +252,7 @@ module _ (from : ℕ) (name : List ℕ) (to : ℕ) (new : List ℕ) where
         by_alike nodes others first second =
             unless_lost_alike t u moved _ _ nodes (λ led.
             unless_lost_alike t u old _ _ others (λ led_too.
-            unless_fault_alike errno_of (first_fault (faults_by u moved old)) (first_fault (faults_by t moved old)) _ _
+            unless_alike errno_of (first_fault (faults_by u moved old)) (first_fault (faults_by t moved old)) _ _
             (ap first_fault (faults_alike (first led) (second led_too))) (changes_alike others)))
 
     -- a move comes to the same by what two opens see, where its directories are below theirs
@@ -258,7 +292,7 @@ module _ (now : ℕ) (t : Tree) (from : ℕ) (name : List ℕ) (to : ℕ) (new :
   rename_holds P refused changed =
       unless_lost_holds P t (entry_of t from name) _ (refused Noent) (λ _.
       unless_lost_holds P t (entry_of t to new) _ (refused Noent) (λ led.
-      unless_fault_holds P errno_of (first_fault (rename_faults t from name to new)) _ refused (λ free. changed led free)))
+      unless_holds P errno_of (first_fault (rename_faults t from name to new)) _ refused (λ free. changed led free)))
 
   replaced_unset : (q : Part) → IsLed t (entry_of t to new) → has_part (node_parts_of t (entry_of t to new)) q ≡ false
       → AllByRecursion (λ n. same_part (at_node n) q ≡ false) (node_of_name (replaced t from name to new))
@@ -278,7 +312,9 @@ module _ (now : ℕ) (t : Tree) (from : ℕ) (name : List ℕ) (to : ℕ) (new :
       rename_holds (λ c. IsUnsetBy c q) (λ _. tt) (λ led free.
       elim (is_same (entry_of t from name) (entry_of t to new)) as (λ b. IsUnsetBy (Changes (if b then no_change t else with_move now t from name to new)) q) [
         | true ↦ refl
-        | false ↦ change_unset (with_move now t from name to new) q (source.0, (target.0, replaced_unset q led old)) (source.1, (target.1, tt))
+        | false ↦
+            updates_unset (with_move now t from name to new).tree q (from ∷ to ∷ node_of_name (replaced t from name to new)) (from ∷ to ∷ [])
+            (source.0, (target.0, replaced_unset q led old)) (source.1, (target.1, tt))
       ])
 
   rename_good : (number : ℕ) → IsTree t → IsGood t number 0 (rename_in now t from name to new)
@@ -286,44 +322,21 @@ module _ (now : ℕ) (t : Tree) (from : ℕ) (name : List ℕ) (to : ℕ) (new :
 
   rename_plain : IsPlainly (path_errors ++ rename_errors) None (rename_in now t from name to new)
   rename_plain =
+      let plainly : Comes → Type 0 = IsPlainly (path_errors ++ rename_errors) None in
       let absent : IsIn Noent (path_errors ++ rename_errors) = in_front Noent path_errors rename_errors noent_among in
       let notdir = in_front _ path_errors rename_errors notdir_among in
-      let plainly : Option TreeFault → Type 0 =
-      λ o. IsPlainly (path_errors ++ rename_errors) None (unless_fault errno_of o (Changes (move_or_stay now t from name to new))) in
-      unless_lost_holds (IsPlainly (path_errors ++ rename_errors) None) t (entry_of t from name) _ absent (λ _.
-      unless_lost_holds (IsPlainly (path_errors ++ rename_errors) None) t (entry_of t to new) _ absent (λ _.
-      first_fault_holds plainly tt (rename_faults t from name to new)
+      unless_lost_holds plainly t (entry_of t from name) _ absent (λ _.
+      unless_lost_holds plainly t (entry_of t to new) _ absent (λ _.
+      table_holds plainly errno_of (rename_faults t from name to new) (Changes (move_or_stay now t from name to new))
       (absent, (notdir, (absent, (absent, (notdir, (absent,
       elim (is_same (entry_of t from name) (entry_of t to new)) as
-      (λ b. AllByRecursion (λ f. plainly (Some f.1)) (if b then [] else replace_faults t (entry_of t from name) to (entry_of t to new))) [
+      (λ b. AllByRecursion (λ f. plainly (Refuses (errno_of f.1))) (if b then [] else replace_faults t (entry_of t from name) to (entry_of t to new))) [
         | true ↦ tt
         | false ↦ (
           in_front _ path_errors rename_errors inval_among,
           (notdir, ((path_errors, Notempty ∷ [], refl), ((path_errors ++ Isdir ∷ [], [], refl), tt))),
         )
-      ]))))))))
-
--- ---- the node of a last name
-
-named_seen : (S : State) (kind : Option OpenKind) (last : LastName) (q : Part) → ((d : ℕ) (name : List ℕ) → last ≡ StandsIn d name → HasBelow (tree_of S) kind d)
-    → has_part (named_parts (tree_of S) last) q ≡ true → has_part (behind S kind) q ≡ true
-named_seen S kind (StandsIn d name) q under h =
-    elim (entry_of (tree_of S) d name) as (λ o. entry_of (tree_of S) d name ≡ o → has_part (node_parts_of (tree_of S) o) q ≡ true → has_part (behind S kind) q ≡ true) [
-      | None ↦ λ _ none. absurd (not_true none)
-      | Some n ↦ λ has. elim (get S.nodes n) as (λ o. get S.nodes n ≡ o → has_part (if is_none o then [] else at_node n ∷ []) q ≡ true → has_part (behind S kind) q ≡ true) [
-        | None ↦ λ _ none. absurd (not_true none)
-        | Some node ↦ λ there one.
-            subst (λ part. has_part (behind S kind) part ≡ true) (same_part_is (at_node n) q (sym (or_false (same_part (at_node n) q)) ∙ one))
-            (below_is_seen S kind n (entry_below (tree_of S) kind d name n (under d name refl) has (ap is_some there))).0
-      ] refl
-    ] refl h
-named_seen S kind (IsNone errno) q under h = absurd (not_true h)
-named_seen S kind (IsOutside component) q under h = absurd (not_true h)
-
-pub named_is_seen : (S : State) (path : List ℕ) (kind : Option OpenKind) (q : Part)
-    → has_part (named_parts (tree_of S) (last_name (tree_of S) path kind)) q ≡ true → has_part (behind S kind) q ≡ true
-named_is_seen S path kind q =
-    named_seen S kind (last_name (tree_of S) path kind) q (λ d name is. stands_below (tree_of S) path kind d name is)
+      ])))))) (λ free. tt)))
 
 -- ---- the meaning
 
@@ -403,3 +416,6 @@ module _ (path new_path : List ℕ) where
     lacks = all_both (λ errno. errno ≢ Nomem) path_errors rename_errors path_errors_lack ((λ e. cc), ((λ e. cc), tt));
     good = λ now number S here there first second tree none. renaming_good now number (tree_of S) here there tree;
   }
+
+pub file_rename_is_proper : (fd : ℕ) (path : List ℕ) (new_fd : ℕ) (new_path : List ℕ) → IsProper (file_rename fd path new_fd new_path)
+file_rename_is_proper fd path new_fd new_path = by_names_is_proper (renaming path new_path) (renaming_well path new_path) _ _
