@@ -38,9 +38,13 @@ has_left xs ys q h = has_of_both xs ys q ∙ ap (λ b. b || has_part ys q) h
 pub has_right : (xs ys : List Part) (q : Part) → has_part ys q ≡ true → has_part (xs ++ ys) q ≡ true
 has_right xs ys q h = has_of_both xs ys q ∙ ap (λ b. has_part xs q || b) h ∙ or_true (has_part xs q)
 
+-- a part that neither has
+pub outside_both : (xs ys : List Part) (q : Part) → has_part (xs ++ ys) q ≡ false → (has_part xs q ≡ false) × (has_part ys q ≡ false)
+outside_both xs ys q h = either_false (has_part xs q) (has_part ys q) (sym (has_of_both xs ys q) ∙ h)
+
 -- a part that is neither the process's own nor among these
 pub beyond_own : (p : ℕ) (parts : List Part) (q : Part) → has_part (own_parts p ++ parts) q ≡ false → (has_part (own_parts p) q ≡ false) × (has_part parts q ≡ false)
-beyond_own p parts q h = either_false (has_part (own_parts p) q) (has_part parts q) (sym (has_of_both (own_parts p) parts q) ∙ h)
+beyond_own p parts q h = outside_both (own_parts p) parts q h
 
 -- ---- the same values
 
