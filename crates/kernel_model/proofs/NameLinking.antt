@@ -124,10 +124,12 @@ module _ (now : ℕ) (t u : Tree) (n d : ℕ) (name : List ℕ) (node : NodeAlik
   pub link_alike : SetsAlike (link_in now u n d name) (link_in now t n d name)
   link_alike =
       unless_alike link_errno (first_fault (link_faults u d name n)) (first_fault (link_faults t d name n))
-      (Changes (with_link now u n d name)) (Changes (with_link now t n d name)) (ap first_fault (sym faults_alike))
-      (with_link now t n d name, refl,
-      updates_alike (with_link now t n d name).tree (with_link now u n d name).tree (d ∷ n ∷ []) (d ∷ [])
-      (linked_node_alike d directory, (linked_node_alike n node, tt)) (linked_names_alike d names, tt))
+      (Changes (with_link now u n d name)) (Changes (with_link now t n d name)) (ap first_fault (sym faults_alike)) (
+        with_link now t n d name,
+        refl,
+        updates_alike (with_link now t n d name).tree (with_link now u n d name).tree (d ∷ n ∷ []) (d ∷ [])
+            (linked_node_alike d directory, (linked_node_alike n node, tt)) (linked_names_alike d names, tt),
+      )
 
 pub link_unset : (now : ℕ) (t : Tree) (n d : ℕ) (name : List ℕ) (q : Part) → same_part (at_node n) q ≡ false → same_part (at_node d) q ≡ false
     → same_part (at_names d) q ≡ false → IsUnsetBy (link_in now t n d name) q
@@ -142,9 +144,19 @@ link_errors = Perm ∷ Exist ∷ Mlink ∷ []
 link_plain : (now : ℕ) (t : Tree) (n d : ℕ) (name : List ℕ) → IsPlainly (path_errors ++ link_errors) None (link_in now t n d name)
 link_plain now t n d name =
     let absent : IsIn Noent (path_errors ++ link_errors) = in_front Noent path_errors link_errors noent_among in
-    table_holds (IsPlainly (path_errors ++ link_errors) None) link_errno (link_faults t d name n) (Changes (with_link now t n d name))
-    (absent, (in_front _ path_errors link_errors notdir_among, (absent, (absent,
-    ((path_errors, Exist ∷ Mlink ∷ [], refl), ((path_errors ++ Perm ∷ [], Mlink ∷ [], refl), ((path_errors ++ Perm ∷ Exist ∷ [], [], refl), tt))))))) (λ free. tt)
+    table_holds (IsPlainly (path_errors ++ link_errors) None) link_errno (link_faults t d name n) (Changes (with_link now t n d name)) (
+      absent,
+      (
+        in_front _ path_errors link_errors notdir_among,
+        (
+          absent,
+          (
+            absent,
+            ((path_errors, Exist ∷ Mlink ∷ [], refl), ((path_errors ++ Perm ∷ [], Mlink ∷ [], refl), ((path_errors ++ Perm ∷ Exist ∷ [], [], refl), tt))),
+          ),
+        ),
+      ),
+    ) (λ free. tt)
 
 link_good : (now new : ℕ) (t : Tree) (n d : ℕ) (name : List ℕ) → IsTree t → IsGood t new 0 (link_in now t n d name)
 link_good now new t n d name tree =

@@ -327,16 +327,32 @@ module _ (now : ℕ) (t : Tree) (from : ℕ) (name : List ℕ) (to : ℕ) (new :
       let notdir = in_front _ path_errors rename_errors notdir_among in
       unless_lost_holds plainly t (entry_of t from name) _ absent (λ _.
       unless_lost_holds plainly t (entry_of t to new) _ absent (λ _.
-      table_holds plainly errno_of (rename_faults t from name to new) (Changes (move_or_stay now t from name to new))
-      (absent, (notdir, (absent, (absent, (notdir, (absent,
-      elim (is_same (entry_of t from name) (entry_of t to new)) as
-      (λ b. AllByRecursion (λ f. plainly (Refuses (errno_of f.1))) (if b then [] else replace_faults t (entry_of t from name) to (entry_of t to new))) [
-        | true ↦ tt
-        | false ↦ (
-          in_front _ path_errors rename_errors inval_among,
-          (notdir, ((path_errors, Notempty ∷ [], refl), ((path_errors ++ Isdir ∷ [], [], refl), tt))),
-        )
-      ])))))) (λ free. tt)))
+      table_holds plainly errno_of (rename_faults t from name to new) (Changes (move_or_stay now t from name to new)) (
+        absent,
+        (
+          notdir,
+          (
+            absent,
+            (
+              absent,
+              (
+                notdir,
+                (
+                  absent,
+                  elim (is_same (entry_of t from name) (entry_of t to new)) as
+                      (λ b. AllByRecursion (λ f. plainly (Refuses (errno_of f.1))) (if b then [] else replace_faults t (entry_of t from name) to (entry_of t to new))) [
+                        | true ↦ tt
+                        | false ↦ (
+                          in_front _ path_errors rename_errors inval_among,
+                          (notdir, ((path_errors, Notempty ∷ [], refl), ((path_errors ++ Isdir ∷ [], [], refl), tt))),
+                        )
+                      ],
+                ),
+              ),
+            ),
+          ),
+        ),
+      ) (λ free. tt)))
 
 -- ---- the meaning
 
