@@ -10,7 +10,10 @@ use Rattle.kernel_model.specs.ClockCalls.{clock_res_get, clock_time_get, random_
 use Rattle.kernel_model.specs.DescriptorCalls.{fd_close, fd_datasync, fd_dup, fd_replace, fd_seek, fd_stat_get, fd_stat_put, fd_sync}
 use Rattle.kernel_model.specs.FileChanges.{file_allocate, file_stat_fput, file_stat_put}
 use Rattle.kernel_model.specs.FileLooks.{file_advise, file_readdir, file_readlink, file_stat_fget, file_stat_get}
-use Rattle.kernel_model.specs.NameCalls.{file_create, file_link, file_open, file_rename, file_symlink, file_unlink}
+use Rattle.kernel_model.specs.NameMaking.{file_create, file_symlink}
+use Rattle.kernel_model.specs.NameMoving.{file_link, file_rename}
+use Rattle.kernel_model.specs.NameRemoving.{file_unlink}
+use Rattle.kernel_model.specs.Opening.{file_open}
 use Rattle.kernel_model.specs.MemoryCalls.{decided, mem_map}
 use Rattle.kernel_model.specs.ProcessCalls.{proc_exec, proc_exit, proc_fork, proc_raise, thread_create, thread_exit, thread_yield}
 use Rattle.kernel_model.specs.SocketCalls.{fd_create1, fd_create2, sock_recv, sock_send, sock_shutdown}
@@ -41,18 +44,18 @@ meaning_of (call.FdSync fd) = fd_sync fd
 meaning_of (call.FdWrite fd bytes) = fd_write fd bytes
 meaning_of (call.FileAdvise fd offset length advice) = file_advise fd
 meaning_of (call.FileAllocate fd offset length) = file_allocate fd offset length
-meaning_of (call.FileCreate fd path kind) = file_create fd
-meaning_of (call.FileLink lookup path new_fd new_path) = file_link lookup new_fd
-meaning_of (call.FileOpen lookup path oflags stat) = file_open lookup oflags stat
+meaning_of (call.FileCreate fd path kind) = file_create fd path
+meaning_of (call.FileLink lookup path new_fd new_path) = file_link lookup path new_fd new_path
+meaning_of (call.FileOpen lookup path oflags stat) = file_open lookup path oflags stat
 meaning_of (call.FileReaddir fd length cookie) = file_readdir fd length cookie
 meaning_of (call.FileReadlink fd path length) = file_readlink fd path length
-meaning_of (call.FileRename fd path new_fd new_path) = file_rename fd new_fd
+meaning_of (call.FileRename fd path new_fd new_path) = file_rename fd path new_fd new_path
 meaning_of (call.FileStatFget fd) = file_stat_fget fd
 meaning_of (call.FileStatFput fd stat flags) = file_stat_fput fd stat flags
 meaning_of (call.FileStatGet lookup path) = file_stat_get lookup path
 meaning_of (call.FileStatPut lookup path stat flags) = file_stat_put lookup path stat flags
-meaning_of (call.FileSymlink text fd path) = file_symlink fd
-meaning_of (call.FileUnlink fd path flags) = file_unlink fd
+meaning_of (call.FileSymlink text fd path) = file_symlink text fd path
+meaning_of (call.FileUnlink fd path flags) = file_unlink fd path flags
 meaning_of (call.LockUnlock lock word scope) = lock_unlock
 meaning_of (call.MemMap place length prot flags fd offset) = mem_map place prot flags fd
 meaning_of (call.Memory number errno) = decided errno

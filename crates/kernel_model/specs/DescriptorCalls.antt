@@ -35,6 +35,7 @@ fd_close fd = record {
   does = λ constants v who table. with_table who.pid 0 (remove table fd);
   outside = λ v table. None;
   changes = λ S table. [];
+  numbers = 0;
   errors = [];
   takes_memory = false;
 }
@@ -79,6 +80,7 @@ fd_dup fd = record {
   does = λ constants v who table. dup_of who.pid table (get table fd);
   outside = λ v table. None;
   changes = λ S table. [];
+  numbers = 0;
   errors = Badf ∷ Mfile ∷ [];
   takes_memory = true;
 }
@@ -98,6 +100,7 @@ fd_replace from to = record {
   does = λ constants v who table. replaced_by who.pid table to (get table from);
   outside = λ v table. None;
   changes = λ S table. [];
+  numbers = 0;
   errors = Badf ∷ [];
   takes_memory = false;
 }
@@ -150,6 +153,7 @@ fd_stat_get fd = record {
   does = λ constants v who table. stat_get v (get table fd);
   outside = λ v table. None;
   changes = λ S table. [];
+  numbers = 0;
   errors = Badf ∷ [];
   takes_memory = false;
 }
@@ -207,6 +211,7 @@ fd_stat_put fd stat flags = record {
   does = λ constants v who table. stat_put v who.pid table fd stat flags (get table fd);
   outside = λ v table. None;
   changes = λ S table. open_part (get table fd);
+  numbers = 0;
   errors = Badf ∷ [];
   takes_memory = false;
 }

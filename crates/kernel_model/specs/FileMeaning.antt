@@ -36,6 +36,7 @@ on_open row m = record {
   does = λ constants v who table. m.does (real_time constants v.clock) v.branch (open_of v (get table row.fd));
   outside = λ v table. m.outside v.branch (open_of v (get table row.fd));
   changes = λ S table. m.changes (tree_of S) (open_of (whole S) (get table row.fd));
+  numbers = 0;
   errors = m.errors;
   takes_memory = m.takes_memory;
 }

@@ -18,14 +18,15 @@ use Rattle.abi_types.specs.declared.status.Status.TheVariants.{Live}
 use Rattle.abi_types.specs.declared.who.Who.{Who}
 use Rattle.kernel_model.specs.Calls.{meaning_of, named, need, errors_of, takes_memory, refusal_of}
 use Rattle.kernel_model.specs.Need.{has_needed, missing}
+use Rattle.kernel_model.specs.Numbers.{can_number}
 use Rattle.kernel_model.specs.Proper.{IsIn, IsProper}
 use Rattle.kernel_model.specs.Release.{ends, is_released, IsEnd}
 use Rattle.kernel_model.specs.Reply.{refused, denied}
 use Rattle.kernel_model.specs.Sight.{own_parts, behind}
 use Rattle.tree_model.specs.Grants.{MayBegin}
 use Rattle.kernel_model.specs.Start.{start_state}
-use Rattle.kernel_model.specs.State.{State, Tree, Table, Part, at_open, has_part, Agree, AgreeOn, threads_of}
-use Rattle.kernel_model.specs.Step.{tick, sight, touch, act, outcome, outside, outside_by, unreleased, step_answer, step_state, failed, IsStep, IsUntouched, end_unreleased, end_state}
+use Rattle.kernel_model.specs.State.{State, Tree, Table, Part, at_open, at_node, at_names, has_part, Agree, AgreeOn, threads_of}
+use Rattle.kernel_model.specs.Step.{made_by, tick, sight, touch, act, outcome, outside, outside_by, unreleased, step_answer, step_state, failed, IsStep, IsUntouched, end_unreleased, end_state}
 use Rattle.kernel_model.specs.Valid.{IsValid}
 use Rattle.kernel_model.specs.View.{whole}
 
@@ -106,9 +107,24 @@ SightIsReached =
 
 -- ---- what a call changes
 
--- What a call touches it sees.
+-- What a call touches it sees, or it makes it.
 abbrev pub TouchIsSeen : Type 0
-TouchIsSeen = (S : State) (who : Who) (call : Call) (q : Part) → has_part (touch S who call) q ≡ true → has_part (sight S who call) q ≡ true
+TouchIsSeen =
+    (S : State) (who : Who) (call : Call) (q : Part) → has_part (touch S who call) q ≡ true
+    → (has_part (sight S who call) q ≡ true) ⊎ (has_part (made_by S who call) q ≡ true)
+
+-- the state has nothing of this part
+abbrev pub IsNotThere : State → Part → Type 0
+IsNotThere S (at_open o) = get S.opens o ≡ None
+IsNotThere S (at_node n) = get S.nodes n ≡ None
+IsNotThere S (at_names n) = get S.names n ≡ None
+IsNotThere S q = ⊥
+
+-- What a call may make isn't there in a valid state, as long as its process can number so many objects.
+abbrev pub MadeIsNew : Type 0
+MadeIsNew =
+    (S : State) (who : Who) (call : Call) (q : Part) → IsValid S → can_number who.pid (meaning_of call).numbers (get S.own who.pid) ≡ true
+    → has_part (made_by S who call) q ≡ true → IsNotThere S q
 
 -- After a step each part that the call does not touch and that the release does not end has the value it had.
 abbrev pub OthersStay : Type 0

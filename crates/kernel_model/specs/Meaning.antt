@@ -26,6 +26,8 @@ pub record Meaning : Type 0 where
   pub outside : View → Table → Option ℕ
   -- what it may change beside the clock, what is the process's own, and the process's status
   pub changes : State → Table → List Part
+  -- how many objects it makes at most
+  pub numbers : ℕ
   -- the errors that it answers of its own, with nothing changed
   pub errors : List Errno
   -- whether memory may be wanting
@@ -40,6 +42,7 @@ answering errors reply = record {
   does = λ constants v who table. replies reply;
   outside = λ v table. None;
   changes = λ S table. [];
+  numbers = 0;
   errors = errors;
   takes_memory = false;
 }
@@ -57,10 +60,6 @@ unbuilt_naming fds = unbuilt fds [] []
 -- one that needs this of one descriptor
 abbrev pub unbuilt_row : Needed → Meaning
 unbuilt_row row = unbuilt (row.fd ∷ []) (row ∷ []) (row.fd ∷ [])
-
--- one that needs this of two
-abbrev pub unbuilt_rows : Needed → Needed → Meaning
-unbuilt_rows first second = unbuilt (first.fd ∷ second.fd ∷ []) (first ∷ second ∷ []) (first.fd ∷ second.fd ∷ [])
 
 -- one that needs this of one descriptor, and names others behind it
 abbrev pub unbuilt_listing : Needed → List ℕ → Meaning

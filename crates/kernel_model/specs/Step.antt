@@ -10,6 +10,7 @@ use Rattle.abi_base.specs.declared.errno.Errno.TheVariants.{Badf, Nomem}
 use Rattle.abi_types.specs.declared.status.Status.{Status}
 use Rattle.abi_types.specs.declared.who.Who.{Who}
 use Rattle.kernel_model.specs.Calls.{meaning_of, seen, takes_memory, refusal, refusal_of}
+use Rattle.kernel_model.specs.Numbers.{new_parts}
 use Rattle.kernel_model.specs.Outcome.{Outcome, replies}
 use Rattle.kernel_model.specs.ProcessCalls.{end_updates}
 use Rattle.kernel_model.specs.Release.{release, is_released}
@@ -43,9 +44,17 @@ abbrev pub changed : State → Call → Option Table → List Part
 changed S call None = []
 changed S call (Some table) = unless_refused (refusal table call) ((meaning_of call).changes S table)
 
+-- the objects that a call may make, where none is absent and no right is missing
+abbrev pub made_on : State → Who → Call → Option Table → List Part
+made_on S who call None = []
+made_on S who call (Some table) = unless_refused (refusal table call) (new_parts who.pid (meaning_of call).numbers (get S.own who.pid))
+
+abbrev pub made_by : State → Who → Call → List Part
+made_by S who call = made_on S who call (get S.tables who.pid)
+
 -- all that a call may change, but for what the release ends
 unfoldable pub touch : State → Who → Call → List Part
-touch S who call = own_parts who.pid ++ changed S call (get S.tables who.pid)
+touch S who call = own_parts who.pid ++ (made_by S who call ++ changed S call (get S.tables who.pid))
 
 -- ---- what a call does
 

@@ -43,6 +43,7 @@ fd_write fd bytes = record {
   does = λ constants v who table. write_to v bytes (get table fd);
   outside = λ v table. None;
   changes = λ S table. reached_by S (get table fd);
+  numbers = 0;
   errors = Badf ∷ [];
   takes_memory = true;
 }
@@ -76,6 +77,7 @@ fd_read fd n = record {
   does = λ constants v who table. read_from v n (get table fd);
   outside = λ v table. None;
   changes = λ S table. reached_by S (get table fd);
+  numbers = 0;
   errors = Badf ∷ [];
   takes_memory = true;
 }

@@ -1,5 +1,5 @@
 -- States that a kernel may be in.
-use Rattle.std.specs.Prelude.{◌≡◌, ◌≢◌, ℕ, ◌+◌, ◌*◌, ◌^◌, ◌<◌, ◌≤◌, true, Option, None, Some, IsSome, IsTrue, is_some}
+use Rattle.std.specs.Prelude.{◌≡◌, ◌≢◌, ℕ, ◌^◌, ◌<◌, ◌≤◌, true, Option, None, Some, IsSome, IsTrue, is_some}
 use Rattle.std.specs.FinMap.{get, empty}
 use Rattle.abi_types.specs.declared.descriptor.Descriptor.{Descriptor}
 use Rattle.abi_types.specs.declared.open_kind.OpenKind.{OpenKind}
@@ -13,6 +13,7 @@ use Rattle.abi_base.specs.Grants.{stream_rights}
 use Rattle.abi_base.specs.Rights.{has_all}
 use Rattle.tree_model.specs.Changes.{is_file}
 use Rattle.tree_model.specs.Tree.{IsTree, is_directory}
+use Rattle.kernel_model.specs.Numbers.{object_of}
 use Rattle.kernel_model.specs.Release.{holders, is_node_kept}
 use Rattle.kernel_model.specs.State.{State, Table, tree_of, threads_of, thread_of, counts_in}
 
@@ -51,14 +52,10 @@ HasBehind S (kind.Directory node flags) = is_directory (tree_of S) node ≡ true
 HasBehind S (kind.Terminal which flags) = IsSome (get S.terms which) × (which < 3)
 HasBehind S _ = ⊥
 
--- the object that a process numbers so
-abbrev pub object_of : ℕ → ℕ → ℕ
-object_of p k = p * 2 ^ 32 + k
-
 -- All of validity but that each open is held and each node has a name or an open: what each call keeps before the release,
 -- which brings the rest. Each descriptor's open is there with its rights, and each open has what stands behind it. A process
 -- has a table, what is its own and a status, or none of these, and an ended process has no descriptor and no thread. No thread
--- and no open that a process has is numbered beyond its count. The file tree is a tree.
+-- that a process has, and no open and no node that it made, is numbered beyond its count. The file tree is a tree.
 pub record IsNearlyValid (S : State) : Type 0 where
   pub named : (p n : ℕ) (table : Table) (d : Descriptor) → get S.tables p ≡ Some table → get table n ≡ Some d → IsNamed (get S.opens d.id) d
   pub behind : (o : ℕ) (kind : OpenKind) → get S.opens o ≡ Some kind → HasBehind S kind
@@ -67,6 +64,7 @@ pub record IsNearlyValid (S : State) : Type 0 where
   pub ended : (p : ℕ) (status : Status) → get S.statuses p ≡ Some status → status ≢ Live → (get S.tables p ≡ Some empty) × (threads_of S p ≡ Some empty)
   pub numbered : (p t : ℕ) → IsSome (thread_of S p t) → t ≤ (counts_in (get S.own p)).threads
   pub made : (p k : ℕ) → p < 0xffffffff → (counts_in (get S.own p)).objects < k → k < 2 ^ 32 → get S.opens (object_of p k) ≡ None
+  pub made_nodes : (p k : ℕ) → p < 0xffffffff → (counts_in (get S.own p)).objects < k → k < 2 ^ 32 → get S.nodes (object_of p k) ≡ None
   pub tree : IsTree (tree_of S)
 
 -- a state is valid where it is nearly so, each open is held, and each node is the root, has a name or is open

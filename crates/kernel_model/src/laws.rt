@@ -1,5 +1,5 @@
 //! Laws of the kernel's steps. The statements are in `specs/Laws.antt`, and each holds of every state, process and call.
-ghost use Rattle.kernel_model.specs.Laws.{MeaningsAreProper, ReadsSight, SightDecides, StepDecided, SightIsReached, TouchIsSeen};
+ghost use Rattle.kernel_model.specs.Laws.{MeaningsAreProper, ReadsSight, SightDecides, StepDecided, SightIsReached, TouchIsSeen, MadeIsNew};
 ghost use Rattle.kernel_model.specs.Laws.{OthersStay, EndKeeps, ErrorKeeps, StepMovesOnly, EndStateEndsOnly, EndsAreLeast};
 ghost use Rattle.kernel_model.specs.Laws.{FirstLackIsNamed, DenialIsOfFirstLack, NotcapableIsDenied, OutsideIsDenied, OutsideReadsSight};
 ghost use Rattle.kernel_model.specs.Laws.{RepliesAreListed, NoMemoryIsExact, AbsentIsBadf, LackIsDenied};
@@ -29,10 +29,15 @@ pub fn step_decided()
 {}
 
 /// What a call sees is the clock, what is the process's own and its status, or it is reached through a descriptor that the
-/// call needs and that has all rights which it asks. What a call touches it sees.
+/// call needs and that has all rights which it asks. What a call touches it sees, or it makes it.
 pub fn sight_is_reached()
     ensures sees { SightIsReached }
     ensures touches { TouchIsSeen }
+{}
+
+/// What a call makes isn't there in a valid state, as long as its process can number so many objects more.
+pub fn made_is_new()
+    ensures { MadeIsNew }
 {}
 
 /// After a step each part that the call does not touch and that the release after it does not end has the value it had.

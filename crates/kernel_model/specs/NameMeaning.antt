@@ -1,0 +1,91 @@
+-- What a call means that makes names of files, moves them or takes them away, by the paths of one descriptor or of two.
+use Rattle.std.specs.Prelude.{ℕ, true, ◌++◌, List, [], ◌∷◌, Option, None, Some, if◌then◌else◌}
+use Rattle.std.specs.FinMap.{get}
+use Rattle.abi_base.specs.declared.errno.Errno.{Errno}
+use Rattle.abi_base.specs.declared.errno.Errno.TheVariants.{Again}
+use Rattle.abi_types.specs.declared.descriptor.Denial.TheVariants.{Outside}
+use Rattle.abi_types.specs.declared.needed.Needed.{Needed}
+use Rattle.abi_types.specs.declared.open_kind.OpenKind.{OpenKind}
+use Rattle.abi_types.specs.declared.reply.Answer.TheVariants as answer
+use Rattle.tree_model.specs.declared.fault.TreeFault.{TreeFault}
+use Rattle.kernel_model.specs.ClockCalls.{real_time}
+use Rattle.kernel_model.specs.FileMeaning.{open_of}
+use Rattle.kernel_model.specs.LastNames.{LastName, StandsIn, IsNone, IsOutside}
+use Rattle.kernel_model.specs.Meaning.{Meaning}
+use Rattle.kernel_model.specs.Numbers.{can_number, next_object, own_updates}
+use Rattle.kernel_model.specs.Outcome.{Outcome, replies}
+use Rattle.kernel_model.specs.Reply.{denied, refused, success}
+use Rattle.kernel_model.specs.State.{Own, Part, Tree, tree_of}
+use Rattle.kernel_model.specs.TreeUpdates.{Change, change_updates}
+use Rattle.kernel_model.specs.View.{whole}
+
+-- what such a call comes to: it is refused, its path leads outside, or it changes the tree
+pub data Comes : Type 0 where
+  Refuses : Errno → Comes
+  LeadsOut : ℕ → Comes
+  Changes : Change → Comes
+
+pub record NameMeaning : Type 0 where
+  -- what it comes to, by the time in nanoseconds since 1970, the number of the node that it may make, and the opens
+  pub does : ℕ → ℕ → Tree → Option OpenKind → Option OpenKind → Comes
+  -- the component at which one of its paths leads outside, if one does
+  pub outside : Tree → Option OpenKind → Option OpenKind → Option ℕ
+  -- what it may change of the tree beside the node that it makes
+  pub changes : Tree → Option OpenKind → Option OpenKind → List Part
+  -- how many nodes it makes
+  pub makes : ℕ
+  pub errors : List Errno
+
+-- what it does, by what its process has of its own
+abbrev pub outcome_of : ℕ → Option Own → ℕ → Comes → Outcome
+outcome_of p own makes (Refuses errno) = replies (refused errno)
+outcome_of p own makes (LeadsOut component) = replies (denied (Outside component))
+outcome_of p own makes (Changes change) =
+    if can_number p makes own then record { answer = answer.Reply (success 0 0); updates = own_updates p makes own ++ change_updates change }
+    else replies (refused Again)
+
+-- the meaning of a call by the path of one descriptor, of which it needs this
+abbrev pub by_name : Needed → NameMeaning → Meaning
+by_name row m = record {
+  named = row.fd ∷ [];
+  need = row ∷ [];
+  seen = row.fd ∷ [];
+  does = λ constants v who table.
+      outcome_of who.pid (v.own who.pid) m.makes
+      (m.does (real_time constants v.clock) (next_object who.pid (v.own who.pid) 1) v.branch (open_of v (get table row.fd)) None);
+  outside = λ v table. m.outside v.branch (open_of v (get table row.fd)) None;
+  changes = λ S table. m.changes (tree_of S) (open_of (whole S) (get table row.fd)) None;
+  numbers = m.makes;
+  errors = m.errors;
+  takes_memory = true;
+}
+
+-- and by the paths of two
+abbrev pub by_names : Needed → Needed → NameMeaning → Meaning
+by_names first second m = record {
+  named = first.fd ∷ second.fd ∷ [];
+  need = first ∷ second ∷ [];
+  seen = first.fd ∷ second.fd ∷ [];
+  does = λ constants v who table.
+      outcome_of who.pid (v.own who.pid) m.makes
+      (m.does (real_time constants v.clock) (next_object who.pid (v.own who.pid) 1) v.branch
+      (open_of v (get table first.fd)) (open_of v (get table second.fd)));
+  outside = λ v table. m.outside v.branch (open_of v (get table first.fd)) (open_of v (get table second.fd));
+  changes = λ S table. m.changes (tree_of S) (open_of (whole S) (get table first.fd)) (open_of (whole S) (get table second.fd));
+  numbers = m.makes;
+  errors = m.errors;
+  takes_memory = true;
+}
+
+-- ---- parts of what such calls do
+
+-- it goes on with the last name of a path
+abbrev pub at_name : (ℕ → List ℕ → Comes) → LastName → Comes
+at_name goes (StandsIn dir name) = goes dir name
+at_name goes (IsNone errno) = Refuses errno
+at_name goes (IsOutside component) = LeadsOut component
+
+-- it is refused where the tree has a fault for it
+abbrev pub unless_fault : (TreeFault → Errno) → Option TreeFault → Comes → Comes
+unless_fault errno_of None comes = comes
+unless_fault errno_of (Some fault) comes = Refuses (errno_of fault)
