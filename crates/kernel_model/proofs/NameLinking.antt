@@ -2,10 +2,9 @@
 --     at_found_holds, at_found_reads, at_found_plain      what a call comes to at the node that a path leads to
 --     link_alike, link_unset, link_plain, link_good      what one more name comes to
 --     linking_well, file_link_is_proper      the meaning;  the call is proper
-use Rattle.std.proofs.Common.{◌≡◌, ◌≢◌, ℕ, ◌==◌, ◌&&◌, ◌||◌, true, false, not, List, [], ◌∷◌, ◌++◌, Option, Some, None, inl, inr, is_none, refl, sym, ap, subst, ◌∙◌}
-use Rattle.std.specs.Prelude.{⊤, nat_le}
+use Rattle.std.proofs.Common.{◌≡◌, ◌≢◌, ℕ, ◌==◌, ◌&&◌, true, false, not, List, [], ◌∷◌, ◌++◌, Option, None, inl, inr, is_none, refl, sym, ap, subst, ◌∙◌}
+use Rattle.std.specs.Prelude.{nat_le}
 use Rattle.std.specs.FinMap.{get}
-use Rattle.std.specs.List.{AllByRecursion}
 use Rattle.abi_base.specs.declared.errno.Errno.{Errno}
 use Rattle.abi_base.specs.declared.errno.Errno.TheVariants.{Exist, Mlink, Noent, Nomem, Perm}
 use Rattle.abi_types.specs.declared.call.Lookup.{Lookup}
@@ -20,10 +19,10 @@ use Rattle.tree_model.specs.Tree.{IsTree, is_directory_node, links_in, names_in}
 use Rattle.tree_model.specs.declared.fault.TreeFault.TheVariants.{Absent, Taken, NotDirectory, IsDirectory, Links}
 use Rattle.tree_model.specs.declared.limits.TheConstants.{ROOT, MOST_LINKS}
 use Rattle.kernel_model.specs.FileChanges.{modified}
-use Rattle.kernel_model.specs.FilePaths.{Walked, Ends, Fails, LeadsOutside, end_part, found_part, lookup_mode, path_errors, walked}
+use Rattle.kernel_model.specs.FilePaths.{Walked, Ends, Fails, LeadsOutside, found_part, lookup_mode, path_errors, walked}
 use Rattle.kernel_model.specs.LastNames.{directory_parts, last_name, last_outside}
 use Rattle.kernel_model.specs.NameMaking.{with_new_names}
-use Rattle.kernel_model.specs.NameMeaning.{Comes, Refuses, LeadsOut, Changes, at_name, unless_fault}
+use Rattle.kernel_model.specs.NameMeaning.{Comes, Refuses, LeadsOut, Changes, at_name}
 use Rattle.kernel_model.specs.NameMoving.{at_found, at_found_end, found_outside, found_outside_end, file_link, link_errno, link_in, linking, with_link}
 use Rattle.kernel_model.specs.NameRemoving.{recounted}
 use Rattle.kernel_model.specs.Proper.{IsIn, IsProper}
@@ -31,15 +30,15 @@ use Rattle.kernel_model.specs.Sight.{behind}
 use Rattle.kernel_model.specs.State.{Names, Part, State, Tree, at_names, at_node, has_part, same_part, tree_of}
 use Rattle.kernel_model.proofs.Branches.{IsSeen}
 use Rattle.kernel_model.proofs.FilePaths.{FailsPlainly, found_is_seen, noent_among, notdir_among, path_errors_lack, walked_plainly, walked_reads}
-use Rattle.kernel_model.proofs.LastNames.{EndsBelow, HasBelow, WalksBelow, all_both, at_name_holds, at_name_plain, at_name_reads, below_alike, directory_is_seen, directory_unset, in_behind, in_front, last_name_reads, walks_below}
+use Rattle.kernel_model.proofs.LastNames.{EndsBelow, HasBelow, WalksBelow, all_both, at_name_holds, at_name_plain, at_name_reads, below_alike, directory_is_seen, directory_unset, in_front, last_name_reads, walks_below}
 use Rattle.kernel_model.proofs.MoveChanges.{with_link_change}
 use Rattle.kernel_model.proofs.NameMaking.{table_holds, unless_alike, unless_holds}
 use Rattle.kernel_model.proofs.NameMeanings.{IsGood, IsPlainly, IsUnsetBy, NamesWell, SetsAlike}
 use Rattle.kernel_model.proofs.NameProper.{by_names_is_proper}
 use Rattle.kernel_model.proofs.Parts.{has_left, has_of_both, has_right, outside_both, outside_cons}
-use Rattle.kernel_model.proofs.Tests.{either_false, either_true, or_true}
+use Rattle.kernel_model.proofs.Tests.{either_true}
 use Rattle.kernel_model.proofs.TreeChanges.{updates_alike, updates_unset}
-use Rattle.kernel_model.proofs.TreesAlike.{NamesAlike, NodeAlike, changed_names_alike, changed_node_alike, put_name_alike, retimed-changes}
+use Rattle.kernel_model.proofs.TreesAlike.{NamesAlike, NodeAlike, changed_names_alike, changed_node_alike, put_name_alike, retimed_names_alike, retimed_node_alike}
 
 -- ---- at the node that a path leads to
 
@@ -106,28 +105,26 @@ module _ (now : ℕ) (t u : Tree) (n d : ℕ) (name : List ℕ) (node : NodeAlik
 
   linked_node_alike : (q : ℕ) → NodeAlike t u q → NodeAlike (with_link now t n d name).tree (with_link now u n d name).tree q
   linked_node_alike q same =
-      changed_node_alike (with_new_names now (linked t d name n) d) (with_new_names now (linked u d name n) d) _ _ n _
-      (retimed-changes (with_new_names now (linked t d name n) d) n (recounted now)) (retimed-changes (with_new_names now (linked u d name n) d) n (recounted now)) q
-      (changed_node_alike (linked t d name n) (linked u d name n) _ _ d _
-      (retimed-changes (linked t d name n) d (modified now)) (retimed-changes (linked u d name n) d (modified now)) q
+      retimed_node_alike (with_new_names now (linked t d name n) d) (with_new_names now (linked u d name n) d) n (recounted now) q
+      (retimed_node_alike (linked t d name n) (linked u d name n) d (modified now) q
       (changed_node_alike t u (one_more t n) (one_more u n) n _ (one_more-changes t n) (one_more-changes u n) q same))
 
   linked_names_alike : (q : ℕ) → NamesAlike t u q → NamesAlike (with_link now t n d name).tree (with_link now u n d name).tree q
   linked_names_alike q same =
-      changed_names_alike (with_new_names now (linked t d name n) d) (with_new_names now (linked u d name n) d) _ _ n _
-      (retimed-changes (with_new_names now (linked t d name n) d) n (recounted now)) (retimed-changes (with_new_names now (linked u d name n) d) n (recounted now)) q
-      (changed_names_alike (linked t d name n) (linked u d name n) _ _ d _
-      (retimed-changes (linked t d name n) d (modified now)) (retimed-changes (linked u d name n) d (modified now)) q
+      retimed_names_alike (with_new_names now (linked t d name n) d) (with_new_names now (linked u d name n) d) n (recounted now) q
+      (retimed_names_alike (linked t d name n) (linked u d name n) d (modified now) q
       (put_name_alike (one_more t n) (one_more u n) d name n q
       (changed_names_alike t u (one_more t n) (one_more u n) n _ (one_more-changes t n) (one_more-changes u n) q same)))
 
   pub link_alike : SetsAlike (link_in now u n d name) (link_in now t n d name)
   link_alike =
       unless_alike link_errno (first_fault (link_faults u d name n)) (first_fault (link_faults t d name n))
-      (Changes (with_link now u n d name)) (Changes (with_link now t n d name)) (ap first_fault (sym faults_alike))
-      (with_link now t n d name, refl,
-      updates_alike (with_link now t n d name).tree (with_link now u n d name).tree (d ∷ n ∷ []) (d ∷ [])
-      (linked_node_alike d directory, (linked_node_alike n node, tt)) (linked_names_alike d names, tt))
+      (Changes (with_link now u n d name)) (Changes (with_link now t n d name)) (ap first_fault (sym faults_alike)) (
+        with_link now t n d name,
+        refl,
+        updates_alike (with_link now t n d name).tree (with_link now u n d name).tree (d ∷ n ∷ []) (d ∷ [])
+            (linked_node_alike d directory, (linked_node_alike n node, tt)) (linked_names_alike d names, tt),
+      )
 
 pub link_unset : (now : ℕ) (t : Tree) (n d : ℕ) (name : List ℕ) (q : Part) → same_part (at_node n) q ≡ false → same_part (at_node d) q ≡ false
     → same_part (at_names d) q ≡ false → IsUnsetBy (link_in now t n d name) q
@@ -142,9 +139,20 @@ link_errors = Perm ∷ Exist ∷ Mlink ∷ []
 link_plain : (now : ℕ) (t : Tree) (n d : ℕ) (name : List ℕ) → IsPlainly (path_errors ++ link_errors) None (link_in now t n d name)
 link_plain now t n d name =
     let absent : IsIn Noent (path_errors ++ link_errors) = in_front Noent path_errors link_errors noent_among in
-    table_holds (IsPlainly (path_errors ++ link_errors) None) link_errno (link_faults t d name n) (Changes (with_link now t n d name))
-    (absent, (in_front _ path_errors link_errors notdir_among, (absent, (absent,
-    ((path_errors, Exist ∷ Mlink ∷ [], refl), ((path_errors ++ Perm ∷ [], Mlink ∷ [], refl), ((path_errors ++ Perm ∷ Exist ∷ [], [], refl), tt))))))) (λ free. tt)
+    table_holds (IsPlainly (path_errors ++ link_errors) None) link_errno (link_faults t d name n) (Changes (with_link now t n d name)) (
+      absent,
+      (
+        in_front _ path_errors link_errors notdir_among,
+        (
+          absent,
+          (
+            absent,
+            ((path_errors, Exist ∷ Mlink ∷ [], refl), ((path_errors ++ Perm ∷ [], Mlink ∷ [], refl), ((path_errors ++ Perm ∷ Exist ∷ [], [], refl), tt))),
+          ),
+        ),
+      ),
+    )
+    (λ free. tt)
 
 link_good : (now new : ℕ) (t : Tree) (n d : ℕ) (name : List ℕ) → IsTree t → IsGood t new 0 (link_in now t n d name)
 link_good now new t n d name tree =
