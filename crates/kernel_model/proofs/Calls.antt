@@ -15,6 +15,7 @@ use Rattle.kernel_model.proofs.NameLinking.{file_link_is_proper}
 use Rattle.kernel_model.proofs.NameMaking.{file_create_is_proper, file_symlink_is_proper}
 use Rattle.kernel_model.proofs.NameMoving.{file_rename_is_proper}
 use Rattle.kernel_model.proofs.NameRemoving.{file_unlink_is_proper}
+use Rattle.kernel_model.proofs.Opening.{file_open_is_proper}
 use Rattle.kernel_model.proofs.StreamCalls.{fd_read_is_proper, fd_write_is_proper}
 
 pub proper : (call : Call) → IsProper (meaning_of call)
@@ -39,7 +40,7 @@ proper (call.FileAdvise fd offset length advice) = file_advise_is_proper fd
 proper (call.FileAllocate fd offset length) = file_allocate_is_proper fd offset length
 proper (call.FileCreate fd path kind) = file_create_is_proper fd path
 proper (call.FileLink lookup path new_fd new_path) = file_link_is_proper lookup path new_fd new_path
-proper (call.FileOpen lookup path oflags stat) = ?
+proper (call.FileOpen lookup path oflags stat) = file_open_is_proper lookup path oflags stat
 proper (call.FileReaddir fd length cookie) = file_readdir_is_proper fd length cookie
 proper (call.FileReadlink fd path length) = file_readlink_is_proper fd path length
 proper (call.FileRename fd path new_fd new_path) = file_rename_is_proper fd path new_fd new_path

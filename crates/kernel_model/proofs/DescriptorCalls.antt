@@ -54,7 +54,7 @@ inserted_from table fd number d e there within n x here =
       | inr other ↦ (n, x, sym (get-insert-other table number e n other.1) ∙ here, within_itself x)
     ]
 
-met_within : (a b : ℕ) → has_all a (meet_of a b) ≡ true
+pub met_within : (a b : ℕ) → has_all a (meet_of a b) ≡ true
 met_within a b = eq-eqb _ _ (sym (and_assoc b a a) ∙ ap (λ x. bit_and x b) (and_self a))
 
 pub lowered_within : (d : Descriptor) (stat : FdStat) → IsWithin (lowered_to d stat) d

@@ -39,7 +39,7 @@ use Rattle.kernel_model.proofs.Tests.{not_true, or_false}
 
 -- ---- where a path leads, by what is seen
 
-walk_reads : (t u : Tree) (mode : WalkMode) (path : List ℕ) (start : ℕ) → HasSameBelow t u start → walked_in u mode path start ≡ walked_in t mode path start
+pub walk_reads : (t u : Tree) (mode : WalkMode) (path : List ℕ) (start : ℕ) → HasSameBelow t u start → walked_in u mode path start ≡ walked_in t mode path start
 walk_reads t u mode path start same =
     ap (walked_unless (path_error path))
     (sym (reads_below (finds t) (finds u) (λ n. member n (below t start)) mode start path (finds_closed t start) (finds_agree t u start same) (below_self t start)))
@@ -185,7 +185,7 @@ notdir_among = (Badf ∷ NameTooLong ∷ Ilseq ∷ Inval ∷ [], Noent ∷ Loop 
 pub noent_among : IsAmong Noent path_errors
 noent_among = (Badf ∷ NameTooLong ∷ Ilseq ∷ Inval ∷ Notdir ∷ [], Loop ∷ [], refl)
 
-loop_among : IsAmong Loop path_errors
+pub loop_among : IsAmong Loop path_errors
 loop_among = (Badf ∷ NameTooLong ∷ Ilseq ∷ Inval ∷ Notdir ∷ Noent ∷ [], [], refl)
 
 failed_plainly : (fault : WalkFault) → FailsPlainly (walk_failed fault)

@@ -131,7 +131,7 @@ pub stands_below : (t : Tree) (path : List ℕ) (kind : Option OpenKind) (d : �
 stands_below t path kind d name is =
     subst (StandsBelow t kind) is (last_name_below t path kind)
 
-directory_seen : (S : State) (kind : Option OpenKind) (last : LastName) (q : Part) → StandsBelow (tree_of S) kind last
+pub directory_seen : (S : State) (kind : Option OpenKind) (last : LastName) (q : Part) → StandsBelow (tree_of S) kind last
     → has_part (directory_parts last) q ≡ true → has_part (behind S kind) q ≡ true
 directory_seen S kind (StandsIn dir name) q under here =
     let seen = below_is_seen S kind dir under in

@@ -26,6 +26,9 @@ pub mod NameRemoving
 pub mod FileCalls
 pub mod MemoryCalls
 pub mod ProcessCalls
+pub mod NewOpens
+pub mod Opened
+pub mod Opening
 pub mod TreesAlike
 pub mod MoveChanges
 pub mod NameLinking

@@ -24,6 +24,13 @@ pub has_of_both : (xs ys : List Part) (q : Part) → has_part (xs ++ ys) q ≡ (
 has_of_both [] ys q = refl
 has_of_both (x ∷ xs) ys q = ap (λ b. same_part x q || b) (has_of_both xs ys q) ∙ or_or (same_part x q) (has_part xs q) (has_part ys q)
 
+-- a part outside both lists is outside each
+pub of_first : (xs ys : List Part) (q : Part) → has_part (xs ++ ys) q ≡ false → has_part xs q ≡ false
+of_first xs ys q h = (either_false (has_part xs q) (has_part ys q) (sym (has_of_both xs ys q) ∙ h)).0
+
+pub of_second : (xs ys : List Part) (q : Part) → has_part (xs ++ ys) q ≡ false → has_part ys q ≡ false
+of_second xs ys q h = (either_false (has_part xs q) (has_part ys q) (sym (has_of_both xs ys q) ∙ h)).1
+
 -- what one list has both have
 pub has_left : (xs ys : List Part) (q : Part) → has_part xs q ≡ true → has_part (xs ++ ys) q ≡ true
 has_left xs ys q h = has_of_both xs ys q ∙ ap (λ b. b || has_part ys q) h

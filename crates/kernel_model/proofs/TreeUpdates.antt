@@ -233,7 +233,7 @@ abbrev pub counted : ℕ → ℕ → State → State
 counted p count S = put_all (own_updates p count (get S.own p)) S
 
 -- what holds of the state holds where nothing is made, and where more is
-counted_holds : (P : State → Type 0) (S : State) (p count : ℕ) → P S
+pub counted_holds : (P : State → Type 0) (S : State) (p count : ℕ) → P S
     → ((own : Own) → get S.own p ≡ Some own → P (put_one (set_own p (made_more count own)) S)) → P (counted p count S)
 counted_holds P S p zero none some = none
 counted_holds P S p (suc count) none some =
@@ -268,7 +268,7 @@ counted_more S p (suc count) can =
 -- ---- a call that has made so many objects and changed the tree
 
 -- a number is that of one object alone
-one_object : (p q j k : ℕ) → object_of q k ≡ object_of p j → k < 2 ^ 32 → j < 2 ^ 32 → (q ≡ p) × (k ≡ j)
+pub one_object : (p q j k : ℕ) → object_of q k ≡ object_of p j → k < 2 ^ 32 → j < 2 ^ 32 → (q ≡ p) × (k ≡ j)
 one_object p q j k same small fits = (omega (arith, same, small, fits), omega (arith, same, small, fits))
 
 module _ (S : State) (p count new makes : ℕ) (c : Change) (can : can_number p count (get S.own p) ≡ true) (change : IsChangeOf (tree_of S) new makes c)

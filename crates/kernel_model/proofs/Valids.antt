@@ -86,7 +86,7 @@ left_is_held S o false stays there =
     ]
 
 -- what stands behind an open does not depend on the parts that aren't behind any
-behind_same : (S T : State) → ((n : ℕ) → get T.nodes n ≡ get S.nodes n) → ((k : ℕ) → IsSome (get S.terms k) → IsSome (get T.terms k)) → (kind : OpenKind)
+pub behind_same : (S T : State) → ((n : ℕ) → get T.nodes n ≡ get S.nodes n) → ((k : ℕ) → IsSome (get S.terms k) → IsSome (get T.terms k)) → (kind : OpenKind)
     → HasBehind S kind → HasBehind T kind
 behind_same S T nodes more (Terminal which flags) h = (more which h.0, h.1)
 behind_same S T nodes more (File node offset flags) h = ap is_file_node (nodes node) ∙ h
