@@ -1,12 +1,11 @@
 -- A meaning on names that keeps to what is shown of each (`NamesWell`) is proper.
-use Rattle.std.proofs.Common.{◌≡◌, ◌≢◌, ◌⊎◌, ℕ, zero, suc, ◌==◌, ◌||◌, Bool, true, false, cond, List, [], ◌∷◌, ◌++◌, map, Option, Some, None, inl, inr, refl, sym, ap, subst, ◌∙◌, arith}
+use Rattle.std.proofs.Common.{◌≡◌, ◌≢◌, ◌⊎◌, ℕ, zero, suc, ◌||◌, true, false, cond, List, [], ◌∷◌, ◌++◌, map, Option, Some, None, inl, inr, refl, sym, ap, subst, ◌∙◌, arith}
 use Rattle.std.proofs.lemmas.Bool.{eq-eqb}
 use Rattle.std.specs.FinMap.{get}
 use Rattle.abi_base.specs.declared.errno.Errno.{Errno}
 use Rattle.abi_base.specs.declared.errno.Errno.TheVariants.{Again}
 use Rattle.abi_types.specs.declared.descriptor.Descriptor.{Descriptor}
 use Rattle.abi_types.specs.declared.needed.Needed.{Needed}
-use Rattle.abi_types.specs.declared.open_kind.OpenKind.{OpenKind}
 use Rattle.abi_types.specs.declared.reply.Answer.TheVariants as answer
 use Rattle.kernel_model.specs.ClockCalls.{real_time}
 use Rattle.kernel_model.specs.FileMeaning.{open_of}
@@ -16,7 +15,7 @@ use Rattle.kernel_model.specs.Outcome.{Outcome, replies}
 use Rattle.kernel_model.specs.Proper.{IsDeniedOutside, IsIn, IsProper, IsUnset}
 use Rattle.kernel_model.specs.Reply.{refused, success}
 use Rattle.kernel_model.specs.Sight.{own_parts, behind, reached_by}
-use Rattle.kernel_model.specs.State.{State, Own, Part, tree_of, at_clock, at_open, at_proc, at_status, has_part, part_of, put_all, threads_of}
+use Rattle.kernel_model.specs.State.{State, Own, Part, tree_of, at_open, at_proc, at_status, has_part, part_of, put_all, threads_of}
 use Rattle.kernel_model.specs.Step.{tick}
 use Rattle.kernel_model.specs.TreeUpdates.{Change, change_updates}
 use Rattle.kernel_model.specs.Valid.{IsNearlyValid}
@@ -24,7 +23,7 @@ use Rattle.kernel_model.specs.View.{only, restrict, whole}
 use Rattle.kernel_model.proofs.Branches.{IsSeen, all_behind_is_seen}
 use Rattle.kernel_model.proofs.DescriptorCalls.{other_table, own_table}
 use Rattle.kernel_model.proofs.FileMeanings.{open_has_behind, tree_threads, tree_unset}
-use Rattle.kernel_model.proofs.NameMeanings.{IsChangeOf, IsGood, IsPlainly, IsUnsetBy, NamesWell, SetsAlike, new_node_parts}
+use Rattle.kernel_model.proofs.NameMeanings.{IsGood, IsPlainly, IsUnsetBy, NamesWell, SetsAlike, new_node_parts}
 use Rattle.kernel_model.proofs.ObjectNumbers.{fewer_fit, next_is_absent}
 use Rattle.kernel_model.proofs.Parts.{beyond_own, has_left, has_of_both, has_right}
 use Rattle.kernel_model.proofs.Sights.{first_seen}

@@ -5,13 +5,12 @@
 --     own_nearly_valid      a nearly valid state in which a process has made more is so
 --     with_tree_nearly_valid      and so is one with another tree in which no file and no directory is missing
 --     change_nearly_valid      and so is one where a call has made so many nodes and changed the tree
-use Rattle.std.proofs.Common.{◌≡◌, ◌≢◌, ℕ, zero, suc, ◌+◌, ◌^◌, ◌<◌, ◌≤◌, Bool, true, false, List, [], ◌∷◌, ◌++◌, map, Option, Some, None, IsSome, is_some, inl, inr, refl, sym, ap, subst, ◌∙◌, arith}
-use Rattle.std.proofs.lemmas.Bool.Decides.{eqb_tells}
+use Rattle.std.proofs.Common.{◌≡◌, ◌≢◌, ℕ, zero, suc, ◌+◌, ◌^◌, ◌<◌, ◌≤◌, true, false, List, [], ◌∷◌, ◌++◌, map, Option, Some, None, IsSome, is_some, refl, sym, ap, subst, ◌∙◌, arith}
 use Rattle.std.specs.List.{AllByRecursion}
 use Rattle.std.specs.Ordering.{nat_cmp}
 use Rattle.std.specs.FinMap.{FinMap, get, insert}
 use Rattle.std.specs.Option.{option_map}
-use Rattle.std.specs.Prelude.{◌==◌, ◌||◌}
+use Rattle.std.specs.Prelude.{◌||◌}
 use Rattle.abi_types.specs.declared.node.Node.{Node}
 use Rattle.abi_types.specs.declared.open_kind.OpenKind.{OpenKind}
 use Rattle.abi_types.specs.declared.open_kind.OpenKind.TheVariants.{File, Directory, End, Terminal, Process}
@@ -21,7 +20,7 @@ use Rattle.tree_model.specs.Changes.{is_file}
 use Rattle.tree_model.specs.Entries.{here_or_other}
 use Rattle.tree_model.specs.Tree.{IsTree, is_directory}
 use Rattle.kernel_model.specs.Numbers.{can_number, next_object, object_of, made_more, own_updates}
-use Rattle.kernel_model.specs.State.{State, Names, Own, Tree, tree_of, Part, Update, counts_in, has_part, part_of, put_all, put_one, set_node, set_names, set_own, thread_in, threads_of, thread_of}
+use Rattle.kernel_model.specs.State.{State, Names, Own, Tree, tree_of, Part, Update, counts_in, has_part, part_of, put_all, put_one, set_node, set_names, set_own, thread_in, threads_of}
 use Rattle.kernel_model.specs.TreeUpdates.{Change, change_updates, names_update, names_updates, node_update, nodes_updates}
 use Rattle.kernel_model.specs.Valid.{HasBehind, IsNearlyValid}
 use Rattle.kernel_model.proofs.FileMeanings.{IsOfTree}
@@ -29,7 +28,7 @@ use Rattle.kernel_model.proofs.NameMeanings.{IsChangeOf}
 use Rattle.kernel_model.proofs.ObjectNumbers.{fewer_fit}
 use Rattle.kernel_model.proofs.Parts.{number_apart, outside_cons}
 use Rattle.kernel_model.proofs.Tests.{none_is_no, not_true}
-use Rattle.kernel_model.proofs.Valids.{same_value, some_again}
+use Rattle.kernel_model.proofs.Valids.{some_again}
 
 -- ---- lists of updates
 
