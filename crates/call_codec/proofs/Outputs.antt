@@ -23,7 +23,7 @@ use Rattle.argument_reading.specs.Ranges.{counted, ranges_at, room_among, room_i
 use Rattle.argument_reading.specs.Reading.{◌>>=◌, or_fault, refuse_when}
 use Rattle.argument_reading.specs.declared.ranges.TheConstants.{MOST_TRANSFERRED}
 use Rattle.call_codec.specs.Output.{fdstat_bytes, filestat_bytes, or_unwritten, with_bytes}
-use Rattle.call_codec.specs.OutputLaws.{AreWrittenInto, TakesBytes, TakesFileState, TakesRoomful, EntriesAreWritten, FoundStateIsWritten, LinkIsWritten, OpenStateIsWritten, PreadIsWritten, ReadIsWritten, StateIsWritten}
+use Rattle.call_codec.specs.OutputLaws.{AreWrittenInto, TakesBytes, TakesFileState, TakesUpTo, EntriesAreWritten, FoundStateIsWritten, LinkIsWritten, OpenStateIsWritten, PreadIsWritten, ReadIsWritten, StateIsWritten}
 use Rattle.call_codec.proofs.Layouts.{fdstat_length, filestat_length}
 use Rattle.call_codec.proofs.Puts.{call_suits}
 use Rattle.call_codec.proofs.Readings.{after}
@@ -157,53 +157,53 @@ state_written m r fd stat spelled =
 -- ---- a directory's entries, and a symlink's text
 
 -- so many bytes from an address on may be written
-abbrev HasRoom : Pages → ℕ → ℕ → Type 0
-HasRoom m a n = IsOk (bytes_from Write m a n)
+abbrev IsWritable : Pages → ℕ → ℕ → Type 0
+IsWritable m a n = IsOk (bytes_from Write m a n)
 
-roomful : (m : Pages) (a n room : ℕ) (x : Unit {0}) → writable m a (min n MOST_TRANSFERRED) ≡ Ok x → n ≡ room → HasRoom m a (min room MOST_TRANSFERRED)
-roomful m a n room x e same = subst (λ k. HasRoom m a (min k MOST_TRANSFERRED)) same (had_ok (bytes_from Write m a (min n MOST_TRANSFERRED)) x e)
+room_writable : (m : Pages) (a n room : ℕ) (x : Unit {0}) → writable m a (min n MOST_TRANSFERRED) ≡ Ok x → n ≡ room → IsWritable m a (min room MOST_TRANSFERRED)
+room_writable m a n room x e same = subst (λ k. IsWritable m a (min k MOST_TRANSFERRED)) same (had_ok (bytes_from Write m a (min n MOST_TRANSFERRED)) x e)
 
-takes_roomful : (m : Pages) (a room : ℕ) → HasRoom m a (min room MOST_TRANSFERRED) → TakesRoomful m a room
-takes_roomful m a room has bytes less = write_made m a (min room MOST_TRANSFERRED) bytes less has
+takes_up_to : (m : Pages) (a room : ℕ) → IsWritable m a (min room MOST_TRANSFERRED) → TakesUpTo m a room
+takes_up_to m a room has bytes less = write_made m a (min room MOST_TRANSFERRED) bytes less has
 
 entries_room : (m : Pages) (r : Registers) (fd room cookie : ℕ) → file_readdir_of m r ≡ Ok (FileReaddir fd room cookie)
-    → HasRoom m (argument r 1) (min room MOST_TRANSFERRED)
+    → IsWritable m (argument r 1) (min room MOST_TRANSFERRED)
 entries_room m r fd room cookie =
-    let wanted = λ (x : Result Call Errno). x ≡ Ok (FileReaddir fd room cookie) → HasRoom m (argument r 1) (min room MOST_TRANSFERRED) in
+    let wanted = λ (x : Result Call Errno). x ≡ Ok (FileReaddir fd room cookie) → IsWritable m (argument r 1) (min room MOST_TRANSFERRED) in
     after wanted (writable m (argument r 1) (min (argument r 2) MOST_TRANSFERRED)) _ (λ errno e is. absurd (cc))
-    (λ x e is. roomful m (argument r 1) (argument r 2) room x e (cc))
+    (λ x e is. room_writable m (argument r 1) (argument r 2) room x e (cc))
 
 link_room : (m : Pages) (r : Registers) (fd : ℕ) (path : List ℕ) (room : ℕ) → file_readlink_of m r ≡ Ok (FileReadlink fd path room)
-    → HasRoom m (argument r 3) (min room MOST_TRANSFERRED)
+    → IsWritable m (argument r 3) (min room MOST_TRANSFERRED)
 link_room m r fd path room =
-    let wanted = λ (x : Result Call Errno). x ≡ Ok (FileReadlink fd path room) → HasRoom m (argument r 3) (min room MOST_TRANSFERRED) in
+    let wanted = λ (x : Result Call Errno). x ≡ Ok (FileReadlink fd path room) → IsWritable m (argument r 3) (min room MOST_TRANSFERRED) in
     after wanted (path_in m (argument r 1) (argument r 2)) _ (λ errno e is. absurd (cc)) (λ read e.
     after wanted (writable m (argument r 3) (min (argument r 4) MOST_TRANSFERRED)) _ (λ errno e is. absurd (cc))
-    (λ x e is. roomful m (argument r 3) (argument r 4) room x e (cc)))
+    (λ x e is. room_writable m (argument r 3) (argument r 4) room x e (cc)))
 
 pub entries_written : EntriesAreWritten
 entries_written m r fd room cookie spelled =
-    takes_roomful m (argument r 1) room (entries_room m r fd room cookie (call_suits m r (FileReaddir fd room cookie) (sym spelled)))
+    takes_up_to m (argument r 1) room (entries_room m r fd room cookie (call_suits m r (FileReaddir fd room cookie) (sym spelled)))
 
 pub link_written : LinkIsWritten
 link_written m r fd path room spelled =
-    takes_roomful m (argument r 3) room (link_room m r fd path room (call_suits m r (FileReadlink fd path room) (sym spelled)))
+    takes_up_to m (argument r 3) room (link_room m r fd path room (call_suits m r (FileReadlink fd path room) (sym spelled)))
 
 -- ---- a file's state
 
-takes_file_state : (m : Pages) (a : ℕ) → HasRoom m a 56 → TakesFileState m a
+takes_file_state : (m : Pages) (a : ℕ) → IsWritable m a 56 → TakesFileState m a
 takes_file_state m a has stat =
     let all = filestat_length stat in (all, write_made m a 56 (filestat_bytes stat) (omega (arith, all)) has)
 
-open_room : (m : Pages) (r : Registers) (fd : ℕ) → file_stat_fget_of m r ≡ Ok (FileStatFget fd) → HasRoom m (argument r 1) 56
+open_room : (m : Pages) (r : Registers) (fd : ℕ) → file_stat_fget_of m r ≡ Ok (FileStatFget fd) → IsWritable m (argument r 1) 56
 open_room m r fd =
-    after (λ x. x ≡ Ok (FileStatFget fd) → HasRoom m (argument r 1) 56) (writable m (argument r 1) 56) _
+    after (λ x. x ≡ Ok (FileStatFget fd) → IsWritable m (argument r 1) 56) (writable m (argument r 1) 56) _
     (λ errno e is. absurd (cc)) (λ x e is. had_ok (bytes_from Write m (argument r 1) 56) x e)
 
 found_room : (m : Pages) (r : Registers) (lookup : Lookup) (path : List ℕ) → file_stat_get_of m r ≡ Ok (FileStatGet lookup path)
-    → HasRoom m (argument r 3) 56
+    → IsWritable m (argument r 3) 56
 found_room m r lookup path =
-    let wanted = λ (x : Result Call Errno). x ≡ Ok (FileStatGet lookup path) → HasRoom m (argument r 3) 56 in
+    let wanted = λ (x : Result Call Errno). x ≡ Ok (FileStatGet lookup path) → IsWritable m (argument r 3) 56 in
     after wanted (refuse_when (looks_unknown (argument r 0)) Inval) _ (λ errno e is. absurd (cc)) (λ x e.
     after wanted (path_in m (argument r 1) (argument r 2)) _ (λ errno e is. absurd (cc)) (λ read e.
     after wanted (writable m (argument r 3) 56) _ (λ errno e is. absurd (cc))

@@ -40,19 +40,19 @@ StateIsWritten =
     (m : Pages) (r : Registers) (fd : ℕ) (stat : FdStat) → args_of m r ≡ FdStatGet fd → IsOk (write_of m (argument r 1) (fdstat_bytes stat))
 
 -- bytes, as many as there is room for and 65,536 at most, are written from an address on
-abbrev pub TakesRoomful : Pages → ℕ → ℕ → Type 0
-TakesRoomful m a room = (bytes : List ℕ) → length bytes ≤ min room MOST_TRANSFERRED → IsOk (write_of m a bytes)
+abbrev pub TakesUpTo : Pages → ℕ → ℕ → Type 0
+TakesUpTo m a room = (bytes : List ℕ) → length bytes ≤ min room MOST_TRANSFERRED → IsOk (write_of m a bytes)
 
 -- Where file_readdir is spelled, as many bytes of entries as it has room for are written.
 abbrev pub EntriesAreWritten : Type 0
 EntriesAreWritten =
-    (m : Pages) (r : Registers) (fd room cookie : ℕ) → args_of m r ≡ FileReaddir fd room cookie → TakesRoomful m (argument r 1) room
+    (m : Pages) (r : Registers) (fd room cookie : ℕ) → args_of m r ≡ FileReaddir fd room cookie → TakesUpTo m (argument r 1) room
 
 -- Where file_readlink is spelled, as many bytes of the text as it has room for are written.
 abbrev pub LinkIsWritten : Type 0
 LinkIsWritten =
     (m : Pages) (r : Registers) (fd : ℕ) (path : List ℕ) (room : ℕ) → args_of m r ≡ FileReadlink fd path room
-    → TakesRoomful m (argument r 3) room
+    → TakesUpTo m (argument r 3) room
 
 -- a file's state is written from an address on, all of its 56 bytes
 abbrev pub TakesFileState : Pages → ℕ → Type 0
