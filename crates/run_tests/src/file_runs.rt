@@ -8,6 +8,7 @@ use std::process::Abort;
 use std::test::Fail;
 
 /// A path that a guest gives.
+#[derive(Drop)]
 pub(crate) enum Path {
     // These bytes.
     Is(&'static [u8]),
@@ -21,6 +22,7 @@ pub(crate) enum Path {
 pub(crate) type Put = [u64; 3];
 
 /// A call that a guest makes.
+#[derive(Drop)]
 pub(crate) enum Ask {
     // The descriptor, the offset, the length and the advice.
     Advise(u64, u64, u64, u64),
@@ -43,6 +45,7 @@ pub(crate) enum Ask {
 }
 
 /// What of a node no call of these tests changes.
+#[derive(Drop)]
 pub(crate) struct Node {
     pub(crate) ino: u64,
     pub(crate) kind: u8,
@@ -50,6 +53,7 @@ pub(crate) struct Node {
 }
 
 /// What a call leaves in its output, before zeros.
+#[derive(Drop)]
 pub(crate) enum Left {
     Nothing,
     Bytes(&'static [u8]),
@@ -61,6 +65,7 @@ pub(crate) enum Left {
 pub(crate) type Row = (Ask, &'static str, u64, Left);
 
 /// The options of a run, its launch text and tree document, its calls, the lines of its denials, and its tree at the end.
+#[derive(Drop)]
 pub(crate) struct Run<'a> {
     pub(crate) words: &'static [&'static str],
     pub(crate) text: &'static str,
