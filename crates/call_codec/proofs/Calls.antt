@@ -85,8 +85,8 @@ module _ (P : Call → Type 0) (m : Pages) (r : Registers) (h : OfEach P m r) wh
     fd_write = write_holds;
   })
 
-  files_hold : (number : ℕ) → is_of_files number ≡ true → P (or_refused number (file_call m r number))
-  files_hold number among = file_holds P m r number h.files (h.refused number) among
+  files_hold : (number : ℕ) → P (or_refused number (file_call m r number))
+  files_hold number = file_holds P m r number h.files (h.refused number)
 
   if_chosen : (b : Bool) (x y : Call) → (b ≡ true → P x) → P y → P (cond b x y)
   if_chosen true x y h k = h refl
@@ -95,7 +95,7 @@ module _ (P : Call → Type 0) (m : Pages) (r : Registers) (h : OfEach P m r) wh
   call_holds : (number : ℕ) → P (call_of m r number)
   call_holds number =
       if_chosen (is_of_descriptors number) _ _ (descriptors_hold number)
-      (if_chosen (is_of_files number) _ _ (files_hold number)
+      (either_call P (is_of_files number) (or_refused number (file_call m r number)) _ (files_hold number)
       (either_call P (number == 32) (mem_advise_of m r) _ h.mem_advise
       (either_call P (number == 33) (mem_map_of m r) _ h.mem_map
       (either_call P (number == 34) (mem_protect_of m r) _ h.mem_protect
@@ -155,12 +155,18 @@ args_listed m r = args_hold IsListedCall m r (record {
   files = record {
     file_advise = λ fd offset length advice is. tt;
     file_allocate = λ fd offset length is. tt;
+    file_create = λ fd path kind is. tt;
+    file_link = λ lookup path new_fd new_path is. tt;
+    file_open = λ lookup path oflags stat is. tt;
     file_readdir = λ fd room cookie is. tt;
     file_readlink = λ fd path room is. tt;
+    file_rename = λ fd path new_fd new_path is. tt;
     file_stat_fget = λ fd is. tt;
     file_stat_fput = λ fd stat flags is. tt;
     file_stat_get = λ lookup path is. tt;
     file_stat_put = λ lookup path stat flags is. tt;
+    file_symlink = λ text fd path is. tt;
+    file_unlink = λ fd path flags is. tt;
   };
   mem_advise = either_call IsListedCall _ (Memory 32 (if_mapped m (argument r 0) (argument r 1))) (Refused 32 Inval) tt tt;
   mem_map = unless_listed 33 _ _ (map_listed (argument r 0) (argument r 1) (low (argument r 2)) (low (argument r 3)) (argument r 5)) tt;

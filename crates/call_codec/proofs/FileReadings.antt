@@ -1,32 +1,33 @@
--- What registers and memory spell by a number of the calls about files that the kernel is handed: a call of its kind, or a refusal
--- with an error that is listed.
+-- What registers and memory spell by a number of the calls about files: a call of its kind, or a refusal with an error that is
+-- listed.
 --     file_holds      what holds of each such call, and of each such refusal, holds of what they spell
 use Rattle.std.proofs.Common.{◌≡◌, ℕ, ◌+◌, ◌^◌, ◌==◌, ◌&&◌, not, min, nat_le, Bool, true, false, cond, List, Result, Ok, Err, refl, subst}
-use Rattle.std.proofs.lemmas.Bool.{eqb-true}
 use Rattle.std.specs.Prelude.{bit_and}
 use Rattle.abi_types.specs.declared.call.Call.{Call}
-use Rattle.abi_types.specs.declared.call.Call.TheVariants.{FileAdvise, FileAllocate, FileReaddir, FileReadlink, FileStatFget, FileStatFput, FileStatGet, FileStatPut, Refused}
+use Rattle.abi_types.specs.declared.call.Call.TheVariants.{FileAdvise, FileAllocate, FileCreate, FileLink, FileOpen, FileReaddir, FileReadlink, FileRename, FileStatFget, FileStatFput, FileStatGet, FileStatPut, FileSymlink, FileUnlink, Refused}
 use Rattle.abi_types.specs.declared.call.Lookup.{Lookup}
 use Rattle.abi_base.specs.declared.errno.Errno.{Errno}
 use Rattle.abi_base.specs.declared.errno.Errno.TheVariants.{Inval, Nosys}
 use Rattle.abi_base.specs.Registers.{Registers}
+use Rattle.abi_structures.specs.declared.structures.FdStat.{FdStat}
 use Rattle.abi_structures.specs.declared.structures.FileStat.{FileStat}
 use Rattle.guest_memory.specs.Bytes.{bytes_at}
 use Rattle.guest_memory.specs.Page.{Pages}
-use Rattle.guest_memory.proofs.PageRanges.{not_both}
 use Rattle.argument_reading.specs.Arguments.{argument, low}
 use Rattle.argument_reading.specs.Bytes.{bytes_in, path_in, unread_path, writable}
 use Rattle.argument_reading.specs.Reading.{refuse_when}
-use Rattle.argument_reading.specs.Structures.{filestat_at, filestat_of}
+use Rattle.argument_reading.specs.Structures.{fdstat_at, filestat_at, filestat_of}
 use Rattle.argument_reading.specs.declared.bytes.TheConstants.{MOST_OF_PATH}
 use Rattle.argument_reading.specs.declared.ranges.TheConstants.{MOST_TRANSFERRED}
-use Rattle.call_codec.specs.Args.{is_of_files}
 use Rattle.call_codec.specs.Spelled.{or_refused}
-use Rattle.call_codec.proofs.Readings.{IsListedRefusal, after, fault_listed, made_listed, test_listed, writable_listed}
+use Rattle.call_codec.proofs.Readings.{IsListedRefusal, after, fault_listed, fdstat_listed, made_listed, test_listed, writable_listed}
+use Rattle.call_reading.specs.DescriptorCalls.{asks_unknown}
+use Rattle.call_reading.specs.Flags.{has_unknown}
 use Rattle.file_reading.specs.FileCalls.{file_call}
 use Rattle.file_reading.specs.Lookups.{lookup_of, looks_unknown}
-use Rattle.file_reading.specs.NameCalls.{file_readlink_of}
+use Rattle.file_reading.specs.NameCalls.{file_create_of, file_link_of, file_open_of, file_readlink_of, file_rename_of, file_symlink_of, file_unlink_of, opens_wrongly}
 use Rattle.file_reading.specs.NodeCalls.{file_advise_of, file_allocate_of, file_readdir_of, file_stat_fget_of, file_stat_fput_of, file_stat_get_of, file_stat_put_of, sets_wrongly}
+use Rattle.file_reading.specs.declared.name_calls.TheConstants.{DIRECTORY, REMOVEDIR}
 use Rattle.file_reading.specs.declared.node_calls.TheConstants.{SIZE}
 
 -- a path that can't be read refuses with FAULT alone
@@ -41,17 +42,26 @@ path_listed m a n given =
 filestat_listed : (m : Pages) (a : ℕ) (given : Errno) → filestat_at m a ≡ Err given → IsListedRefusal given
 filestat_listed m a given e = made_listed (bytes_at m a 56) filestat_of given e
 
--- a property of each call about files that the kernel is handed, as registers and memory spell it
+-- a property of each call about files, as registers and memory spell it
 pub record OfFiles (P : Call → Type 0) (m : Pages) (r : Registers) : Type 0 where
   pub file_advise : (fd offset length advice : ℕ) → file_advise_of r ≡ Ok (FileAdvise fd offset length advice) → P (FileAdvise fd offset length advice)
   pub file_allocate : (fd offset length : ℕ) → file_allocate_of r ≡ Ok (FileAllocate fd offset length) → P (FileAllocate fd offset length)
+  pub file_create : (fd : ℕ) (path : List ℕ) (kind : ℕ) → file_create_of m r ≡ Ok (FileCreate fd path kind) → P (FileCreate fd path kind)
+  pub file_link : (lookup : Lookup) (path : List ℕ) (new_fd : ℕ) (new_path : List ℕ) → file_link_of m r ≡ Ok (FileLink lookup path new_fd new_path)
+      → P (FileLink lookup path new_fd new_path)
+  pub file_open : (lookup : Lookup) (path : List ℕ) (oflags : ℕ) (stat : FdStat) → file_open_of m r ≡ Ok (FileOpen lookup path oflags stat)
+      → P (FileOpen lookup path oflags stat)
   pub file_readdir : (fd room cookie : ℕ) → file_readdir_of m r ≡ Ok (FileReaddir fd room cookie) → P (FileReaddir fd room cookie)
   pub file_readlink : (fd : ℕ) (path : List ℕ) (room : ℕ) → file_readlink_of m r ≡ Ok (FileReadlink fd path room) → P (FileReadlink fd path room)
+  pub file_rename : (fd : ℕ) (path : List ℕ) (new_fd : ℕ) (new_path : List ℕ) → file_rename_of m r ≡ Ok (FileRename fd path new_fd new_path)
+      → P (FileRename fd path new_fd new_path)
   pub file_stat_fget : (fd : ℕ) → file_stat_fget_of m r ≡ Ok (FileStatFget fd) → P (FileStatFget fd)
   pub file_stat_fput : (fd : ℕ) (stat : FileStat) (flags : ℕ) → file_stat_fput_of m r ≡ Ok (FileStatFput fd stat flags) → P (FileStatFput fd stat flags)
   pub file_stat_get : (lookup : Lookup) (path : List ℕ) → file_stat_get_of m r ≡ Ok (FileStatGet lookup path) → P (FileStatGet lookup path)
   pub file_stat_put : (lookup : Lookup) (path : List ℕ) (stat : FileStat) (flags : ℕ) → file_stat_put_of m r ≡ Ok (FileStatPut lookup path stat flags)
       → P (FileStatPut lookup path stat flags)
+  pub file_symlink : (text : List ℕ) (fd : ℕ) (path : List ℕ) → file_symlink_of m r ≡ Ok (FileSymlink text fd path) → P (FileSymlink text fd path)
+  pub file_unlink : (fd : ℕ) (path : List ℕ) (flags : ℕ) → file_unlink_of m r ≡ Ok (FileUnlink fd path flags) → P (FileUnlink fd path flags)
 
 module _ (P : Call → Type 0) (m : Pages) (r : Registers) (number : ℕ) (h : OfFiles P m r) (refused : (errno : Errno) → IsListedRefusal errno → P (Refused number errno)) where
   abbrev Q : Result Call Errno → Type 0
@@ -86,6 +96,35 @@ module _ (P : Call → Type 0) (m : Pages) (r : Registers) (number : ℕ) (h : O
       (λ x e is. h.file_allocate (low (argument r 0)) (argument r 1) (argument r 2) is)
       refl
 
+  create_holds : Q (file_create_of m r)
+  create_holds =
+      let outcome = λ (x : Result Call Errno). file_create_of m r ≡ x → Q x in
+      after outcome (refuse_when (not (low (argument r 3) == DIRECTORY)) Inval) _ (λ errno e is. by_test _ errno e) (λ x e.
+      after outcome (path_in m (argument r 1) (argument r 2)) _ (λ errno e is. by_path _ _ errno e)
+      (λ path e is. h.file_create (low (argument r 0)) path (low (argument r 3)) is))
+      refl
+
+  link_holds : Q (file_link_of m r)
+  link_holds =
+      let outcome = λ (x : Result Call Errno). file_link_of m r ≡ x → Q x in
+      after outcome (refuse_when (looks_unknown (argument r 0)) Inval) _ (λ errno e is. by_test _ errno e) (λ x e.
+      after outcome (path_in m (argument r 1) (argument r 2)) _ (λ errno e is. by_path _ _ errno e) (λ path e.
+      after outcome (path_in m (argument r 4) (argument r 5)) _ (λ errno e is. by_path _ _ errno e)
+      (λ new_path e is. h.file_link (lookup_of (argument r 0)) path (low (argument r 3)) new_path is)))
+      refl
+
+  open_holds : Q (file_open_of m r)
+  open_holds =
+      let oflags = low (argument r 3) in
+      let outcome = λ (x : Result Call Errno). file_open_of m r ≡ x → Q x in
+      after outcome (refuse_when (looks_unknown (argument r 0)) Inval) _ (λ errno e is. by_test _ errno e) (λ x e.
+      after outcome (refuse_when (opens_wrongly oflags) Inval) _ (λ errno e is. by_test _ errno e) (λ x e.
+      after outcome (path_in m (argument r 1) (argument r 2)) _ (λ errno e is. by_path _ _ errno e) (λ path e.
+      after outcome (fdstat_at m (argument r 4)) _ (λ errno e is. refused errno (fdstat_listed m (argument r 4) errno e)) (λ stat e.
+      after outcome (refuse_when (asks_unknown stat) Inval) _ (λ errno e is. by_test _ errno e)
+      (λ x e is. h.file_open (lookup_of (argument r 0)) path oflags stat is)))))
+      refl
+
   readdir_holds : Q (file_readdir_of m r)
   readdir_holds =
       let outcome = λ (x : Result Call Errno). file_readdir_of m r ≡ x → Q x in
@@ -99,6 +138,14 @@ module _ (P : Call → Type 0) (m : Pages) (r : Registers) (number : ℕ) (h : O
       after outcome (path_in m (argument r 1) (argument r 2)) _ (λ errno e is. by_path _ _ errno e) (λ path e.
       after outcome (writable m (argument r 3) (min (argument r 4) MOST_TRANSFERRED)) _ (λ errno e is. by_room _ _ errno e)
       (λ x e is. h.file_readlink (low (argument r 0)) path (argument r 4) is))
+      refl
+
+  rename_holds : Q (file_rename_of m r)
+  rename_holds =
+      let outcome = λ (x : Result Call Errno). file_rename_of m r ≡ x → Q x in
+      after outcome (path_in m (argument r 1) (argument r 2)) _ (λ errno e is. by_path _ _ errno e) (λ path e.
+      after outcome (path_in m (argument r 4) (argument r 5)) _ (λ errno e is. by_path _ _ errno e)
+      (λ new_path e is. h.file_rename (low (argument r 0)) path (low (argument r 3)) new_path is))
       refl
 
   stat_fget_holds : Q (file_stat_fget_of m r)
@@ -138,29 +185,42 @@ module _ (P : Call → Type 0) (m : Pages) (r : Registers) (number : ℕ) (h : O
       (λ stat e is. h.file_stat_put (lookup_of (argument r 0)) path stat flags is)))))
       refl
 
-  -- what holds of the one reading where the test holds, and of the other, holds of the one that it chooses
-  either_file : (b : Bool) (x y : Result Call Errno) → (b ≡ true → Q x) → Q y → Q (cond b x y)
-  either_file true x y this that = this refl
+  symlink_holds : Q (file_symlink_of m r)
+  symlink_holds =
+      let outcome = λ (x : Result Call Errno). file_symlink_of m r ≡ x → Q x in
+      after outcome (path_in m (argument r 0) (argument r 1)) _ (λ errno e is. by_path _ _ errno e) (λ text e.
+      after outcome (path_in m (argument r 3) (argument r 4)) _ (λ errno e is. by_path _ _ errno e)
+      (λ path e is. h.file_symlink text (low (argument r 2)) path is))
+      refl
+
+  unlink_holds : Q (file_unlink_of m r)
+  unlink_holds =
+      let flags = low (argument r 3) in
+      let outcome = λ (x : Result Call Errno). file_unlink_of m r ≡ x → Q x in
+      after outcome (refuse_when (has_unknown flags REMOVEDIR) Inval) _ (λ errno e is. by_test _ errno e) (λ x e.
+      after outcome (path_in m (argument r 1) (argument r 2)) _ (λ errno e is. by_path _ _ errno e)
+      (λ path e is. h.file_unlink (low (argument r 0)) path flags is))
+      refl
+
+  -- what holds of both readings holds of the one of them that the test chooses
+  either_file : (b : Bool) (x y : Result Call Errno) → Q x → Q y → Q (cond b x y)
+  either_file true x y this that = this
   either_file false x y this that = that
 
-  -- a number of a call that the kernel is handed is none of one that it isn't
-  not_handed : (other : ℕ) → is_of_files number ≡ true → is_of_files other ≡ false → (number == other) ≡ true → ⊥
-  not_handed other among unbuilt e = not_both (is_of_files other) (subst (λ n. is_of_files n ≡ true) (eqb-true number other e) among) unbuilt
-
-  pub file_holds : is_of_files number ≡ true → P (or_refused number (file_call m r number))
+  pub file_holds : P (or_refused number (file_call m r number))
   unfolding file_call
-  file_holds among =
-      either_file (number == 17) _ _ (λ e. advise_holds)
-      (either_file (number == 18) _ _ (λ e. allocate_holds)
-      (either_file (number == 19) _ _ (λ e. absurd (not_handed 19 among refl e))
-      (either_file (number == 20) _ _ (λ e. absurd (not_handed 20 among refl e))
-      (either_file (number == 21) _ _ (λ e. absurd (not_handed 21 among refl e))
-      (either_file (number == 22) _ _ (λ e. readdir_holds)
-      (either_file (number == 23) _ _ (λ e. readlink_holds)
-      (either_file (number == 24) _ _ (λ e. absurd (not_handed 24 among refl e))
-      (either_file (number == 25) _ _ (λ e. stat_fget_holds)
-      (either_file (number == 26) _ _ (λ e. stat_fput_holds)
-      (either_file (number == 27) _ _ (λ e. stat_get_holds)
-      (either_file (number == 28) _ _ (λ e. stat_put_holds)
-      (either_file (number == 29) _ _ (λ e. absurd (not_handed 29 among refl e))
-      (either_file (number == 30) _ _ (λ e. absurd (not_handed 30 among refl e)) (refused Nosys tt))))))))))))))
+  file_holds =
+      either_file (number == 17) _ _ advise_holds
+      (either_file (number == 18) _ _ allocate_holds
+      (either_file (number == 19) _ _ create_holds
+      (either_file (number == 20) _ _ link_holds
+      (either_file (number == 21) _ _ open_holds
+      (either_file (number == 22) _ _ readdir_holds
+      (either_file (number == 23) _ _ readlink_holds
+      (either_file (number == 24) _ _ rename_holds
+      (either_file (number == 25) _ _ stat_fget_holds
+      (either_file (number == 26) _ _ stat_fput_holds
+      (either_file (number == 27) _ _ stat_get_holds
+      (either_file (number == 28) _ _ stat_put_holds
+      (either_file (number == 29) _ _ symlink_holds
+      (either_file (number == 30) _ _ unlink_holds (refused Nosys tt))))))))))))))

@@ -75,7 +75,7 @@ pub writable_listed : (m : Pages) (a n : ℕ) (given : Errno) → writable m a n
 writable_listed m a n given e = made_listed (bytes_from Write m a n) (λ before. tt) given e
 
 -- a state that can't be read refuses with FAULT alone
-fdstat_listed : (m : Pages) (a : ℕ) (given : Errno) → fdstat_at m a ≡ Err given → IsListedRefusal given
+pub fdstat_listed : (m : Pages) (a : ℕ) (given : Errno) → fdstat_at m a ≡ Err given → IsListedRefusal given
 fdstat_listed m a given e = made_listed (bytes_at m a 24) fdstat_of given e
 
 -- ---- readings

@@ -1,13 +1,13 @@
 -- The call that a thread's registers and memory spell as it stands at an ECALL: the call's number is in a7, its
 -- arguments are in a0 and the registers after it (x17, and x10 on: RISC-V ELF psABI, integer register convention).
-use Rattle.std.specs.Prelude.{◌≡◌, ℕ, ◌≤◌, ◌⊎◌, Bool, not, ◌==◌, ◌&&◌, ◌||◌, slice_index, if◌then◌else◌}
+use Rattle.std.specs.Prelude.{◌≡◌, ℕ, ◌≤◌, ◌⊎◌, Bool, not, ◌==◌, ◌&&◌, slice_index, if◌then◌else◌}
 use Rattle.abi_types.specs.declared.call.Call.{Call}
 use Rattle.abi_types.specs.declared.call.Call.TheVariants.{ProcExit, Refused}
 use Rattle.abi_base.specs.declared.errno.Errno.TheVariants.{Nosys}
 use Rattle.abi_base.specs.Registers.{Registers}
 use Rattle.guest_memory.specs.Page.{Pages}
 use Rattle.argument_reading.specs.Arguments.{argument, low}
-use Rattle.file_reading.specs.FileCalls.{file_call}
+use Rattle.file_reading.specs.FileCalls.{CopiesPath, file_call}
 use Rattle.call_codec.specs.MemoryCalls.{mem_advise_of, mem_map_of, mem_protect_of, mem_sync_of, mem_unmap_of}
 use Rattle.call_codec.specs.Spelled.{descriptor_call, is_among, or_refused}
 
@@ -15,10 +15,9 @@ use Rattle.call_codec.specs.Spelled.{descriptor_call, is_among, or_refused}
 abbrev pub is_of_descriptors : ℕ → Bool
 is_of_descriptors number = is_among 3 16 number && not (number == 5)
 
--- the numbers of the calls about files that the kernel is handed: file_advise and file_allocate; file_readdir and file_readlink;
--- file_stat_fget, file_stat_fput, file_stat_get and file_stat_put
+-- the numbers of the calls about files: 17, which is file_advise, to 30, which is file_unlink
 abbrev pub is_of_files : ℕ → Bool
-is_of_files number = is_among 17 18 number || is_among 22 23 number || is_among 25 28 number
+is_of_files number = is_among 17 30 number
 
 -- the call with this number; a number that no call has is NOSYS
 abbrev pub call_of : Pages → Registers → ℕ → Call
@@ -34,9 +33,9 @@ call_of m r number =
     else Refused number Nosys
 
 -- the calls of which something is copied from the caller's memory, by number: the iovecs or the bytes of fd_pread, fd_pwrite,
--- fd_read and fd_write, and the path of file_readlink, file_stat_get and file_stat_put. The others take no memory
+-- fd_read and fd_write, and the paths and the text of calls about files. The others take no memory
 abbrev pub IsCopied : ℕ → Type 0
-IsCopied number = ((8 ≤ number) × (number ≤ 10)) ⊎ ((number ≡ 16) ⊎ ((number ≡ 23) ⊎ ((27 ≤ number) × (number ≤ 28))))
+IsCopied number = ((8 ≤ number) × (number ≤ 10)) ⊎ ((number ≡ 16) ⊎ CopiesPath number)
 
 -- the call that the registers and the memory spell
 unfoldable pub args_of : Pages → Registers → Call

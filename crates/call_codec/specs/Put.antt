@@ -5,7 +5,7 @@ use Rattle.std.specs.Prelude.{◌+◌, ◌%◌, ◌^◌}
 use Rattle.abi_types.specs.declared.reply.Answer.{Answer}
 use Rattle.abi_types.specs.declared.reply.Answer.TheVariants as answer
 use Rattle.abi_types.specs.declared.call.Call.{Call}
-use Rattle.abi_types.specs.declared.call.Call.TheVariants.{FdDup, FdPread, FdPwrite, FdRead, FdSeek, FdStatGet, FdWrite, FileReaddir, FileReadlink, FileStatFget, FileStatGet, MemMap}
+use Rattle.abi_types.specs.declared.call.Call.TheVariants.{FdDup, FdPread, FdPwrite, FdRead, FdSeek, FdStatGet, FdWrite, FileOpen, FileReaddir, FileReadlink, FileStatFget, FileStatGet, MemMap}
 use Rattle.abi_types.specs.declared.reply.Payload.{Payload}
 use Rattle.abi_types.specs.declared.reply.Reply.{Reply}
 use Rattle.abi_base.specs.Errno.{number_of}
@@ -15,8 +15,8 @@ use Rattle.argument_reading.specs.Arguments.{argument}
 use Rattle.call_codec.specs.MemoryCalls.{memory_with, on_success, IsSomewhere}
 use Rattle.call_codec.specs.Output.{with_content, with_payload}
 
--- the results of a call that succeeded: fd_dup has the new number; fd_pread, fd_pwrite, fd_read and fd_write have how many bytes
--- went, and file_readdir and file_readlink how many came; fd_seek has the new offset; mem_map has an address
+-- the results of a call that succeeded: fd_dup and file_open have the new number; fd_pread, fd_pwrite, fd_read and fd_write have how
+-- many bytes went, and file_readdir and file_readlink how many came; fd_seek has the new offset; mem_map has an address
 abbrev pub with_results : Registers → Call → Reply → Registers
 with_results r (FdDup fd) reply = with_x r 11 reply.r1
 with_results r (FdPread fd length offset) reply = with_x r 11 reply.r1
@@ -24,6 +24,7 @@ with_results r (FdPwrite fd bytes offset) reply = with_x r 11 reply.r1
 with_results r (FdRead fd length) reply = with_x r 11 reply.r1
 with_results r (FdSeek fd offset whence) reply = with_x r 11 reply.r1
 with_results r (FdWrite fd bytes) reply = with_x r 11 reply.r1
+with_results r (FileOpen lookup path oflags stat) reply = with_x r 11 reply.r1
 with_results r (FileReaddir fd length cookie) reply = with_x r 11 reply.r1
 with_results r (FileReadlink fd path length) reply = with_x r 11 reply.r1
 with_results r (MemMap place length prot flags fd offset) reply = with_x r 11 reply.r1

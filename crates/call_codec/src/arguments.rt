@@ -28,7 +28,7 @@ pub fn args(alloc: Global, regs: &Regs, memory: &GuestMemory) -> Result<Call, Al
     let number = regs.get(17);
     match number {
         3 | 4 | 6..=16 => of_descriptors(alloc, regs, memory, number),
-        17 | 18 | 22 | 23 | 25..=28 => of_files(alloc, regs, memory, number),
+        17..=30 => of_files(alloc, regs, memory, number),
         MEM_ADVISE => Ok(mem_advise(regs, memory)),
         MEM_MAP => Ok(mem_map(regs, memory)),
         MEM_PROTECT => Ok(mem_protect(regs, memory)),

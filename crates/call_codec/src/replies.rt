@@ -66,6 +66,7 @@ fn put_results(regs: &mut Regs, call: &Call, reply: &Reply)
         | Call::FdRead { .. }
         | Call::FdSeek { .. }
         | Call::FdWrite { .. }
+        | Call::FileOpen { .. }
         | Call::FileReaddir { .. }
         | Call::FileReadlink { .. }
         | Call::MemMap { .. } => regs.set(11, reply.r1),

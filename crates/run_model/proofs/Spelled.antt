@@ -1,12 +1,12 @@
 -- The errors that calls which registers spell answer of their own.
 --     args_no_lack      none is want of memory
 --     args_not_denied      none is NOTCAPABLE
-use Rattle.std.proofs.Common.{◌≢◌, ℕ, nat_le, nat_lt, ◌==◌, ◌&&◌, ◌||◌, not, Bool, true, false, cond, [], ◌∷◌, Option, Some, None}
+use Rattle.std.proofs.Common.{◌≢◌, ℕ, nat_le, nat_lt, ◌==◌, ◌&&◌, ◌||◌, not, Bool, true, false, cond, List, [], ◌∷◌, ◌++◌, Option, Some, None}
 use Rattle.std.specs.List.{AllByRecursion}
 use Rattle.abi_types.specs.declared.call.Call.{Call}
 use Rattle.abi_types.specs.declared.call.Call.TheVariants.{Memory, Refused}
 use Rattle.abi_base.specs.declared.errno.Errno.{Errno}
-use Rattle.abi_base.specs.declared.errno.Errno.TheVariants.{Success, Badf, Fault, Fbig, Ilseq, Inval, Loop, Mfile, NameTooLong, Nobufs, Noent, Nomem, Nosys, Notcapable, Notdir, Notsup}
+use Rattle.abi_base.specs.declared.errno.Errno.TheVariants.{Success, Again, Badf, Exist, Fault, Fbig, Ilseq, Inval, Isdir, Loop, Mfile, Mlink, NameTooLong, Nobufs, Noent, Nomem, Nosys, Notcapable, Notdir, Notempty, Notsup, Perm}
 use Rattle.abi_types.specs.declared.place.Place.{Place}
 use Rattle.abi_types.specs.declared.place.Place.TheVariants as place
 use Rattle.abi_types.specs.declared.place.Place.TheVariants.{At}
@@ -16,8 +16,10 @@ use Rattle.kernel_model.specs.FilePaths.{path_errors}
 use Rattle.kernel_model.specs.Laws.{IsNotDeniedEarly}
 use Rattle.std.specs.Prelude.{bit_and}
 use Rattle.kernel_model.specs.MemoryCalls.{map_file, map_zeros, place_errors}
+use Rattle.kernel_model.specs.NameMaking.{making, making_unless, text_error}
 use Rattle.kernel_model.proofs.Lists.{all_weaker}
 use Rattle.kernel_model.proofs.Refusals.{IsNoLackOf}
+use Rattle.abi_types.specs.declared.node.NodeKind.TheVariants as kind
 use Rattle.guest_memory.specs.Changes.{all_there, lowest_gap}
 use Rattle.guest_memory.specs.Mapping.{page_limit}
 use Rattle.guest_memory.specs.Page.{Pages}
@@ -70,15 +72,43 @@ mfile_spelled = (λ e. cc, λ e. cc)
 changing_spelled : AllByRecursion IsSpelled (Badf ∷ Fbig ∷ [])
 changing_spelled = (badf_spelled, ((λ e. cc, λ e. cc), tt))
 
--- the errors of a path
-path_spelled : AllByRecursion IsSpelled path_errors
-path_spelled =
+-- the errors of a path, and others
+with_path_spelled : (others : List Errno) → AllByRecursion IsSpelled others → AllByRecursion IsSpelled (path_errors ++ others)
+with_path_spelled others h =
     let name_too_long : IsSpelled NameTooLong = (λ e. cc, λ e. cc) in
     let ilseq : IsSpelled Ilseq = (λ e. cc, λ e. cc) in
     let notdir : IsSpelled Notdir = (λ e. cc, λ e. cc) in
     let noent : IsSpelled Noent = (λ e. cc, λ e. cc) in
     let loop : IsSpelled Loop = (λ e. cc, λ e. cc) in
-    (badf_spelled, (name_too_long, (ilseq, (inval_spelled, (notdir, (noent, (loop, tt)))))))
+    (badf_spelled, (name_too_long, (ilseq, (inval_spelled, (notdir, (noent, (loop, h)))))))
+
+path_spelled : AllByRecursion IsSpelled path_errors
+path_spelled = with_path_spelled [] tt
+
+-- ---- calls on names
+
+making_spelled : AllByRecursion IsSpelled (path_errors ++ Exist ∷ Again ∷ [])
+making_spelled = with_path_spelled (Exist ∷ Again ∷ []) ((λ e. cc, λ e. cc), ((λ e. cc, λ e. cc), tt))
+
+removing_spelled : AllByRecursion IsSpelled (path_errors ++ Perm ∷ Notempty ∷ [])
+removing_spelled = with_path_spelled (Perm ∷ Notempty ∷ []) ((λ e. cc, λ e. cc), ((λ e. cc, λ e. cc), tt))
+
+linking_spelled : AllByRecursion IsSpelled (path_errors ++ Perm ∷ Exist ∷ Mlink ∷ [])
+linking_spelled =
+    with_path_spelled (Perm ∷ Exist ∷ Mlink ∷ []) ((λ e. cc, λ e. cc), ((λ e. cc, λ e. cc), ((λ e. cc, λ e. cc), tt)))
+
+moving_spelled : AllByRecursion IsSpelled (path_errors ++ Isdir ∷ Notempty ∷ [])
+moving_spelled = with_path_spelled (Isdir ∷ Notempty ∷ []) ((λ e. cc, λ e. cc), ((λ e. cc, λ e. cc), tt))
+
+opening_spelled : AllByRecursion IsSpelled (path_errors ++ Mfile ∷ Exist ∷ Isdir ∷ Again ∷ [])
+opening_spelled =
+    with_path_spelled (Mfile ∷ Exist ∷ Isdir ∷ Again ∷ [])
+    (mfile_spelled, ((λ e. cc, λ e. cc), ((λ e. cc, λ e. cc), ((λ e. cc, λ e. cc), tt))))
+
+-- a text that can't be a symlink's changes no error
+symlink_spelled : (error : Option Errno) (text path : List ℕ) → AllByRecursion IsSpelled (making_unless error (making (kind.Link text) path)).errors
+symlink_spelled None text path = making_spelled
+symlink_spelled (Some errno) text path = making_spelled
 
 -- an error with which a call is refused
 listed_spelled : (errno : Errno) → IsListedRefusal errno → IsSpelled errno
@@ -181,12 +211,18 @@ args_spelled m r = args_hold IsSpelledCall m r (record {
   files = record {
     file_advise = λ fd offset length advice is. tt;
     file_allocate = λ fd offset length is. changing_spelled;
+    file_create = λ fd path kind is. making_spelled;
+    file_link = λ lookup path new_fd new_path is. linking_spelled;
+    file_open = λ lookup path oflags stat is. opening_spelled;
     file_readdir = λ fd room cookie is. (badf_spelled, tt);
     file_readlink = λ fd path room is. path_spelled;
+    file_rename = λ fd path new_fd new_path is. moving_spelled;
     file_stat_fget = λ fd is. (badf_spelled, tt);
     file_stat_fput = λ fd stat flags is. changing_spelled;
     file_stat_get = λ lookup path is. path_spelled;
     file_stat_put = λ lookup path stat flags is. path_spelled;
+    file_symlink = λ text fd path is. symlink_spelled (text_error text) text path;
+    file_unlink = λ fd path flags is. removing_spelled;
   };
   mem_advise = advise_spelled m r;
   mem_map = map_spelled m r;
