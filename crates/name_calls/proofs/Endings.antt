@@ -1,8 +1,9 @@
 -- How calls on names end, by their parts.
 --     failed_as      what the tree refuses is refused as its first fault says
 --     unless_none      where it has no fault the call goes on
---     place_done, place_lost      a call goes on at the last name of a path, or is refused
---     found_comes, found_lost     it goes on at the node that a path leads to, or is refused
+--     done_as      a call ends so that comes to the same
+--     place_done      it goes on at the last name of a path
+--     found_comes      it goes on at the node that a path leads to
 use Rattle.std.proofs.Common.{◌≡◌, ℕ, List, Option, None, Some, Result, Ok, Err, refl, sym, ap, subst, ◌∙◌}
 use Rattle.abi_base.specs.declared.errno.Errno.{Errno}
 use Rattle.file_calls.specs.Walks.{node_at, node_or_refusal}
