@@ -2,10 +2,9 @@
 --     at_found_holds, at_found_reads, at_found_plain      what a call comes to at the node that a path leads to
 --     link_alike, link_unset, link_plain, link_good      what one more name comes to
 --     linking_well, file_link_is_proper      the meaning;  the call is proper
-use Rattle.std.proofs.Common.{◌≡◌, ◌≢◌, ℕ, ◌==◌, ◌&&◌, ◌||◌, true, false, not, List, [], ◌∷◌, ◌++◌, Option, Some, None, inl, inr, is_none, refl, sym, ap, subst, ◌∙◌}
-use Rattle.std.specs.Prelude.{⊤, nat_le}
+use Rattle.std.proofs.Common.{◌≡◌, ◌≢◌, ℕ, ◌==◌, ◌&&◌, true, false, not, List, [], ◌∷◌, ◌++◌, Option, None, inl, inr, is_none, refl, sym, ap, subst, ◌∙◌}
+use Rattle.std.specs.Prelude.{nat_le}
 use Rattle.std.specs.FinMap.{get}
-use Rattle.std.specs.List.{AllByRecursion}
 use Rattle.abi_base.specs.declared.errno.Errno.{Errno}
 use Rattle.abi_base.specs.declared.errno.Errno.TheVariants.{Exist, Mlink, Noent, Nomem, Perm}
 use Rattle.abi_types.specs.declared.call.Lookup.{Lookup}
@@ -20,10 +19,10 @@ use Rattle.tree_model.specs.Tree.{IsTree, is_directory_node, links_in, names_in}
 use Rattle.tree_model.specs.declared.fault.TreeFault.TheVariants.{Absent, Taken, NotDirectory, IsDirectory, Links}
 use Rattle.tree_model.specs.declared.limits.TheConstants.{ROOT, MOST_LINKS}
 use Rattle.kernel_model.specs.FileChanges.{modified}
-use Rattle.kernel_model.specs.FilePaths.{Walked, Ends, Fails, LeadsOutside, end_part, found_part, lookup_mode, path_errors, walked}
+use Rattle.kernel_model.specs.FilePaths.{Walked, Ends, Fails, LeadsOutside, found_part, lookup_mode, path_errors, walked}
 use Rattle.kernel_model.specs.LastNames.{directory_parts, last_name, last_outside}
 use Rattle.kernel_model.specs.NameMaking.{with_new_names}
-use Rattle.kernel_model.specs.NameMeaning.{Comes, Refuses, LeadsOut, Changes, at_name, unless_fault}
+use Rattle.kernel_model.specs.NameMeaning.{Comes, Refuses, LeadsOut, Changes, at_name}
 use Rattle.kernel_model.specs.NameMoving.{at_found, at_found_end, found_outside, found_outside_end, file_link, link_errno, link_in, linking, with_link}
 use Rattle.kernel_model.specs.NameRemoving.{recounted}
 use Rattle.kernel_model.specs.Proper.{IsIn, IsProper}
@@ -31,13 +30,13 @@ use Rattle.kernel_model.specs.Sight.{behind}
 use Rattle.kernel_model.specs.State.{Names, Part, State, Tree, at_names, at_node, has_part, same_part, tree_of}
 use Rattle.kernel_model.proofs.Branches.{IsSeen}
 use Rattle.kernel_model.proofs.FilePaths.{FailsPlainly, found_is_seen, noent_among, notdir_among, path_errors_lack, walked_plainly, walked_reads}
-use Rattle.kernel_model.proofs.LastNames.{EndsBelow, HasBelow, WalksBelow, all_both, at_name_holds, at_name_plain, at_name_reads, below_alike, directory_is_seen, directory_unset, in_behind, in_front, last_name_reads, walks_below}
+use Rattle.kernel_model.proofs.LastNames.{EndsBelow, HasBelow, WalksBelow, all_both, at_name_holds, at_name_plain, at_name_reads, below_alike, directory_is_seen, directory_unset, in_front, last_name_reads, walks_below}
 use Rattle.kernel_model.proofs.MoveChanges.{with_link_change}
 use Rattle.kernel_model.proofs.NameMaking.{table_holds, unless_alike, unless_holds}
 use Rattle.kernel_model.proofs.NameMeanings.{IsGood, IsPlainly, IsUnsetBy, NamesWell, SetsAlike}
 use Rattle.kernel_model.proofs.NameProper.{by_names_is_proper}
 use Rattle.kernel_model.proofs.Parts.{has_left, has_of_both, has_right, outside_both, outside_cons}
-use Rattle.kernel_model.proofs.Tests.{either_false, either_true, or_true}
+use Rattle.kernel_model.proofs.Tests.{either_true}
 use Rattle.kernel_model.proofs.TreeChanges.{updates_alike, updates_unset}
 use Rattle.kernel_model.proofs.TreesAlike.{NamesAlike, NodeAlike, changed_names_alike, changed_node_alike, put_name_alike, retimed-changes}
 

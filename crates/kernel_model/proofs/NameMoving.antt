@@ -4,28 +4,27 @@
 --     LedAlike t u o      the node of a name, if there is one, is alike as far as a move looks at it
 --     rename_alike, rename_unset, rename_plain, rename_good      what a move comes to
 --     renaming_well, file_rename_is_proper      the meaning;  the call is proper
-use Rattle.std.proofs.Common.{◌≡◌, ◌≢◌, ℕ, ◌==◌, ◌&&◌, ◌||◌, Bool, true, false, not, cond, List, [], ◌∷◌, ◌++◌, Option, Some, None, inl, inr, IsSome, is_none, is_some, refl, sym, ap, subst, ◌∙◌}
-use Rattle.std.specs.Prelude.{⊤, nat_lt, if◌then◌else◌}
+use Rattle.std.proofs.Common.{◌≡◌, ◌≢◌, ℕ, ◌==◌, ◌&&◌, true, false, not, cond, List, [], ◌∷◌, ◌++◌, Option, Some, None, inl, inr, IsSome, is_none, is_some, refl, sym, ap, subst, ◌∙◌}
+use Rattle.std.specs.Prelude.{nat_lt, if◌then◌else◌}
 use Rattle.std.specs.FinMap.{get, len}
 use Rattle.std.specs.List.{AllByRecursion}
 use Rattle.abi_base.specs.declared.errno.Errno.{Errno}
 use Rattle.abi_base.specs.declared.errno.Errno.TheVariants.{Isdir, Noent, Nomem, Notempty}
 use Rattle.abi_types.specs.declared.node.Node.{Node}
 use Rattle.abi_types.specs.declared.open_kind.OpenKind.{OpenKind}
-use Rattle.abi_types.specs.declared.open_kind.OpenKind.TheVariants.{File, Directory, End, Terminal, Process}
+use Rattle.abi_types.specs.declared.open_kind.OpenKind.TheVariants.{Directory}
 use Rattle.number_map.specs.Closure.{member}
-use Rattle.tree_model.specs.Changes.{Faults, drop_name, first_fault, is_below, is_full, is_same, leads_to_directory, one_less, put_name, rename_faults, renamed, replace_faults, replaced, without_old}
+use Rattle.tree_model.specs.Changes.{Faults, drop_name, first_fault, is_below, is_full, is_same, leads_to_directory, one_less, put_name, rename_faults, replace_faults, replaced, without_old}
 use Rattle.tree_model.specs.Entries.{one_less-changes}
 use Rattle.tree_model.specs.Finds.{below_alike as below_in_both}
-use Rattle.tree_model.specs.Tree.{HasName, IsTree, below, entry_of, is_directory_node, links_in, names_in}
-use Rattle.tree_model.specs.declared.fault.TreeFault.{TreeFault}
+use Rattle.tree_model.specs.Tree.{IsTree, below, entry_of, is_directory_node, links_in, names_in}
 use Rattle.tree_model.specs.declared.fault.TreeFault.TheVariants.{Absent, NotDirectory, IsDirectory, NotEmpty, Below}
 use Rattle.tree_model.specs.declared.limits.TheConstants.{ROOT}
 use Rattle.kernel_model.specs.FileChanges.{modified}
 use Rattle.kernel_model.specs.FilePaths.{path_errors}
 use Rattle.kernel_model.specs.LastNames.{LastName, StandsIn, IsNone, IsOutside, directory_parts, last_name, last_outside}
 use Rattle.kernel_model.specs.NameMaking.{errno_of, with_new_names}
-use Rattle.kernel_model.specs.NameMeaning.{Comes, Refuses, LeadsOut, Changes, at_name, unless_fault}
+use Rattle.kernel_model.specs.NameMeaning.{Comes, Refuses, Changes, at_name, unless_fault}
 use Rattle.kernel_model.specs.NameMoving.{file_rename, move_or_stay, node_of_name, rename_in, renaming, second_outside, with_move, with_new_count_of}
 use Rattle.kernel_model.specs.NameRemoving.{named_parts, node_parts_of, recounted, unless_lost}
 use Rattle.kernel_model.specs.Proper.{IsIn, IsProper}
@@ -34,7 +33,7 @@ use Rattle.kernel_model.specs.State.{Part, State, Tree, at_names, at_node, has_p
 use Rattle.kernel_model.specs.TreeUpdates.{Change, change_updates, no_change}
 use Rattle.kernel_model.proofs.Branches.{IsSeen}
 use Rattle.kernel_model.proofs.FilePaths.{inval_among, noent_among, notdir_among, path_errors_lack}
-use Rattle.kernel_model.proofs.LastNames.{HasBelow, LastPlainly, all_both, at_name_holds, at_name_plain, at_name_reads, below_alike, below_is_seen, directory_is_seen, directory_unset, entry_alike, entry_below, in_front, last_name_reads, last_plainly, stands_below}
+use Rattle.kernel_model.proofs.LastNames.{HasBelow, LastPlainly, all_both, at_name_holds, at_name_plain, at_name_reads, below_alike, directory_is_seen, directory_unset, entry_alike, entry_below, in_front, last_name_reads, last_plainly}
 use Rattle.kernel_model.proofs.MoveChanges.{move_change}
 use Rattle.kernel_model.proofs.NameLinking.{seen_behind}
 use Rattle.kernel_model.proofs.NameMaking.{table_holds, unless_alike, unless_holds}
