@@ -1,7 +1,8 @@
 -- What is seen of the file tree behind an open.
 --     node_is_part, names_are_part      a node of a list, and the names in it, are among the parts of the list
 --     IsSeen t u kind      u has what stands behind the open in the tree t, and no node that t lacks
---     behind_is_seen      what is seen of the tree has what stands behind an open that is seen
+--     all_behind_is_seen      what is seen of the tree has what stands behind an open, where the parts that are seen have that
+--     behind_is_seen      so it is behind an open that is seen
 use Rattle.std.proofs.Common.{◌≡◌, ℕ, ◌==◌, ◌||◌, Bool, true, false, cond, List, [], ◌∷◌, ◌++◌, Option, Some, None, inl, inr, refl, sym, ap, ◌∙◌}
 use Rattle.std.proofs.lemmas.Bool.{eq-eqb}
 use Rattle.std.proofs.lemmas.Bool.Decides.{eqb_tells}
@@ -16,8 +17,8 @@ use Rattle.tree_model.specs.Tree.{below}
 use Rattle.kernel_model.specs.Sight.{own_parts, behind, node_parts}
 use Rattle.kernel_model.specs.State.{State, Tree, tree_of, Part, at_open, at_node, at_names, has_part}
 use Rattle.kernel_model.specs.View.{restrict}
-use Rattle.kernel_model.proofs.Parts.{has_of_both}
-use Rattle.kernel_model.proofs.Tests.{not_true, or_false, or_true}
+use Rattle.kernel_model.proofs.Parts.{has_left, has_right}
+use Rattle.kernel_model.proofs.Tests.{not_true, or_true}
 
 -- ---- the parts of nodes
 
@@ -70,32 +71,32 @@ module _ (S : State) (parts : List Part) where
   unseen_node : (n : ℕ) → get S.nodes n ≡ None → get (restrict S parts).branch.nodes n ≡ None
   unseen_node n h = get-retain S.nodes (λ k. has_part parts (at_node k)) n ∙ none_chosen (has_part parts (at_node n)) (get S.nodes n) h
 
+-- the parts have all that stands behind the open
+abbrev pub HasAllBehind : State → List Part → Option OpenKind → Type 0
+HasAllBehind S parts kind = (q : Part) → has_part (behind S kind) q ≡ true → has_part parts q ≡ true
+
+pub all_behind_is_seen : (S : State) (parts : List Part) (kind : Option OpenKind) → HasAllBehind S parts kind
+    → IsSeen (tree_of S) (restrict S parts).branch kind
+all_behind_is_seen S parts None all = tt
+all_behind_is_seen S parts (Some (File node offset flags)) all =
+    seen_node S parts node (all (at_node node) (ap (λ b. b || false) (eq-eqb node node refl)))
+all_behind_is_seen S parts (Some (Directory node flags)) all =
+    let nodes : List ℕ = below (tree_of S) node in
+    record {
+      nodes = λ n under. seen_node S parts n (all (at_node n) (node_is_part n nodes under));
+      names = λ d under. seen_names S parts d (all (at_names d) (names_are_part d nodes under));
+      fewer = λ n none. unseen_node S parts n none;
+    }
+all_behind_is_seen S parts (Some (End reads writes flags)) all = tt
+all_behind_is_seen S parts (Some (Terminal which flags)) all = tt
+all_behind_is_seen S parts (Some (Process q)) all = tt
+
 -- the parts that a call sees of a process with number p, by an open with number o
 abbrev pub seen_parts : State → ℕ → ℕ → Option OpenKind → List Part
 seen_parts S p o kind = own_parts p ++ at_open o ∷ (behind S kind ++ [])
 
--- a node behind the open, and names behind it, are seen
-node_behind : (S : State) (p o n : ℕ) (kind : Option OpenKind) → has_part (behind S kind) (at_node n) ≡ true
-    → has_part (seen_parts S p o kind) (at_node n) ≡ true
-node_behind S p o n kind h = has_of_both (behind S kind) [] (at_node n) ∙ or_false (has_part (behind S kind) (at_node n)) ∙ h
-
-names_behind : (S : State) (p o n : ℕ) (kind : Option OpenKind) → has_part (behind S kind) (at_names n) ≡ true
-    → has_part (seen_parts S p o kind) (at_names n) ≡ true
-names_behind S p o n kind h = has_of_both (behind S kind) [] (at_names n) ∙ or_false (has_part (behind S kind) (at_names n)) ∙ h
-
 pub behind_is_seen : (S : State) (p o : ℕ) (kind : Option OpenKind) → IsSeen (tree_of S) (restrict S (seen_parts S p o kind)).branch kind
-behind_is_seen S p o None = tt
-behind_is_seen S p o (Some (File node offset flags)) =
-    seen_node S (seen_parts S p o (Some (File node offset flags))) node
-    (node_behind S p o node (Some (File node offset flags)) (ap (λ b. b || false) (eq-eqb node node refl)))
-behind_is_seen S p o (Some (Directory node flags)) =
-    let kind : Option OpenKind = Some (Directory node flags) in
-    let nodes : List ℕ = below (tree_of S) node in
-    record {
-      nodes = λ n under. seen_node S (seen_parts S p o kind) n (node_behind S p o n kind (node_is_part n nodes under));
-      names = λ d under. seen_names S (seen_parts S p o kind) d (names_behind S p o d kind (names_are_part d nodes under));
-      fewer = λ n none. unseen_node S (seen_parts S p o kind) n none;
-    }
-behind_is_seen S p o (Some (End reads writes flags)) = tt
-behind_is_seen S p o (Some (Terminal which flags)) = tt
-behind_is_seen S p o (Some (Process q)) = tt
+behind_is_seen S p o kind =
+    all_behind_is_seen S (seen_parts S p o kind) kind
+    (λ q h. has_right (own_parts p) (at_open o ∷ (behind S kind ++ [])) q
+    (has_right (at_open o ∷ []) (behind S kind ++ []) q (has_left (behind S kind) [] q h)))

@@ -54,7 +54,7 @@ inserted_from table fd number d e there within n x here =
       | inr other ↦ (n, x, sym (get-insert-other table number e n other.1) ∙ here, within_itself x)
     ]
 
-met_within : (a b : ℕ) → has_all a (meet_of a b) ≡ true
+pub met_within : (a b : ℕ) → has_all a (meet_of a b) ≡ true
 met_within a b = eq-eqb _ _ (sym (and_assoc b a a) ∙ ap (λ x. bit_and x b) (and_self a))
 
 pub lowered_within : (d : Descriptor) (stat : FdStat) → IsWithin (lowered_to d stat) d
@@ -83,13 +83,13 @@ setting_valid errors S p table o is there nearly =
     (λ result new from. set_table_nearly_valid S p table new there from nearly)
 
 -- the table is the process's own
-own_table : (p : ℕ) (q : Part) → has_part (own_parts p) q ≡ false → has_part (at_proc p ∷ []) q ≡ false
+pub own_table : (p : ℕ) (q : Part) → has_part (own_parts p) q ≡ false → has_part (at_proc p ∷ []) q ≡ false
 own_table p q h =
     let rest = outside_cons at_clock (at_proc p ∷ at_status p ∷ []) q h in
     let proc = outside_cons (at_proc p) (at_status p ∷ []) q rest.1 in
     ap (λ b. b || false) proc.0
 
-other_table : (p q : ℕ) → q ≢ p → has_part (at_proc p ∷ []) (at_proc q) ≡ false
+pub other_table : (p q : ℕ) → q ≢ p → has_part (at_proc p ∷ []) (at_proc q) ≡ false
 other_table p q apart = ap (λ b. b || false) (number_apart p q apart)
 
 setting_is_proper : (named : List ℕ) (errors : List Errno) (takes : Bool) (f : ℕ → Table → Outcome) → ((p : ℕ) (table : Table) → IsOfTable errors p table (f p table))
@@ -101,6 +101,7 @@ setting_is_proper : (named : List ℕ) (errors : List Errno) (takes : Bool) (f :
       does = λ constants v who table. f who.pid table;
       outside = λ v table. None;
       changes = λ S table. [];
+      numbers = 0;
       errors = errors;
       takes_memory = takes;
     })
@@ -119,7 +120,7 @@ setting_is_proper named errors takes f is lacks = record {
   others = λ constants v who table q apart.
       of_table (λ o. IsUnset o (at_proc q) × IsUnset o (at_status q)) errors who.pid table (f who.pid table) (is who.pid table) (λ errno _. (refl, refl))
       (λ result new _. (other_table who.pid q apart, refl));
-  threads = λ constants S v who table. of_table (KeepsThreads S who.pid) errors who.pid table (f who.pid table) (is who.pid table) (λ errno _ _. refl) (λ result new _ _. refl);
+  threads = λ constants S who table. of_table (KeepsThreads S who.pid) errors who.pid table (f who.pid table) (is who.pid table) (λ errno _ _. refl) (λ result new _ _. refl);
   valid = λ constants S who table there nearly. setting_valid errors S who.pid table (f who.pid table) (is who.pid table) there nearly;
 }
 
@@ -192,7 +193,7 @@ fd_stat_get_is_proper fd = record {
     stat_holds (λ o. IsUnset o (at_proc q)) v (get table fd) refl (λ d kind. refl),
     stat_holds (λ o. IsUnset o (at_status q)) v (get table fd) refl (λ d kind. refl),
   );
-  threads = λ constants S v who table. stat_holds (KeepsThreads S who.pid) v (get table fd) (λ _. refl) (λ d kind _. refl);
+  threads = λ constants S who table. stat_holds (KeepsThreads S who.pid) (whole S) (get table fd) (λ _. refl) (λ d kind _. refl);
   valid = λ constants S who table there nearly. stat_holds (λ (o : Outcome). IsNearlyValid (put_all o.updates S)) (whole S) (get table fd) nearly (λ d kind. nearly);
 }
 
@@ -288,6 +289,6 @@ fd_stat_put_is_proper fd stat flags = record {
       put_holds (IsPlain (Badf ∷ [])) v who.pid table fd stat flags (get table fd) (refl, inr (refl, ([], [], refl))) (λ d kind _ _. (refl, inl refl));
   lacks = λ h. absurd (not_true h);
   others = λ constants v who table q apart. put_others v who.pid table fd stat flags (get table fd) q apart;
-  threads = λ constants S v who table. put_threads S v who.pid table fd stat flags (get table fd);
+  threads = λ constants S who table. put_threads S (whole S) who.pid table fd stat flags (get table fd);
   valid = λ constants S who table there nearly. put_valid S who.pid table fd stat flags there nearly;
 }

@@ -51,7 +51,7 @@ sized_reworks t n now size file =
 abbrev sized_by : Tree → ℕ → ℕ → ℕ → List ℕ → Tree
 sized_by t n now size bytes = cond (length bytes == size) t (retimed (with_bytes t n (resized bytes size)) n (modified now))
 
-sized_alike : (t u : Tree) (n now size : ℕ) → Alike t u n → Alike (sized t n now size) (sized u n now size) n
+pub sized_alike : (t u : Tree) (n now size : ℕ) → Alike t u n → Alike (sized t n now size) (sized u n now size) n
 sized_alike t u n now size same =
     either_alike (length (bytes_of t n) == size) t u _ _ n same
     (retimed_alike (with_bytes t n (resized (bytes_of t n) size)) (with_bytes u n (resized (bytes_of t n) size)) n (modified now)

@@ -71,6 +71,11 @@ pub tree_tables : (us : List Update) (S : State) → AllByRecursion IsOfTree us 
 tree_tables [] S h = refl
 tree_tables (u ∷ us) S h = tree_tables us (put_one u S) h.1 ∙ one_tables u S h.0
 
+-- what stands behind a descriptor's open is there
+pub open_has_behind : (S : State) (o : Option Descriptor) → IsNearlyValid S → (k : OpenKind) → open_of (whole S) o ≡ Some k → HasBehind S k
+open_has_behind S None nearly k is = absurd (none_is_no k is)
+open_has_behind S (Some d) nearly k is = nearly.behind d.id k is
+
 -- ---- meanings
 
 pub record KeepsWell (m : FileMeaning) : Type 0 where
@@ -114,10 +119,6 @@ module _ (m : FileMeaning) (well : KeepsWell m) where
       has_of_both (reached_by S (Some d)) [] q ∙ or_false (has_part (reached_by S (Some d)) q)
       ∙ ap (λ b. same_part (at_open d.id) q || b) (well.seen S (get S.opens d.id) q h) ∙ or_true (same_part (at_open d.id) q)
 
-  file_behind : (S : State) (o : Option Descriptor) → IsNearlyValid S → (k : OpenKind) → open_of (whole S) o ≡ Some k → HasBehind S k
-  file_behind S None nearly k is = absurd (none_is_no k is)
-  file_behind S (Some d) nearly k is = nearly.behind d.id k is
-
   pub file_is_proper : (row : Needed) → IsProper (on_open row m)
   file_is_proper row = record {
     names = (([], [], refl), tt);
@@ -133,9 +134,9 @@ module _ (m : FileMeaning) (well : KeepsWell m) where
     others = λ constants v who table q apart.
         tree_unset (m.does (real_time constants v.clock) v.branch (open_of v (get table row.fd))).updates q
         (well.tree (real_time constants v.clock) v.branch (open_of v (get table row.fd)));
-    threads = λ constants S v who table live.
-        tree_threads (m.does (real_time constants v.clock) v.branch (open_of v (get table row.fd))).updates S who.pid
-        (well.tree (real_time constants v.clock) v.branch (open_of v (get table row.fd)));
+    threads = λ constants S who table live.
+        tree_threads (m.does (real_time constants S.clock) (tree_of S) (open_of (whole S) (get table row.fd))).updates S who.pid
+        (well.tree (real_time constants S.clock) (tree_of S) (open_of (whole S) (get table row.fd)));
     valid = λ constants S who table there nearly.
-        well.valid (real_time constants S.clock) S (open_of (whole S) (get table row.fd)) (file_behind S (get table row.fd) nearly) nearly;
+        well.valid (real_time constants S.clock) S (open_of (whole S) (get table row.fd)) (open_has_behind S (get table row.fd) nearly) nearly;
   }

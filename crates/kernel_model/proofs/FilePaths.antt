@@ -1,7 +1,9 @@
 -- What holds of a path that is walked, and of what a call does where it leads.
 --     walked_reads      by what is seen of the tree it leads where it does by the whole
 --     at_walked_reads      and the call does there the same
+--     leads_below      it ends below the directory where it begins
 --     found_is_seen      the node that is found is seen
+--     walked_plainly      its error is one of those that a path may come to
 --     at_walked_holds, at_walked_plain, at_walked_unset      what holds of each reply and at each node holds where it leads
 use Rattle.std.proofs.Common.{◌≡◌, ◌≢◌, ℕ, Bool, true, false, not, cond, List, [], ◌∷◌, Option, Some, None, Ok, Err, inr, refl, sym, ap, subst, ◌∙◌}
 use Rattle.std.specs.Prelude.{⊤, nat_lt, length}
@@ -37,7 +39,7 @@ use Rattle.kernel_model.proofs.Tests.{not_true, or_false}
 
 -- ---- where a path leads, by what is seen
 
-walk_reads : (t u : Tree) (mode : WalkMode) (path : List ℕ) (start : ℕ) → HasSameBelow t u start → walked_in u mode path start ≡ walked_in t mode path start
+pub walk_reads : (t u : Tree) (mode : WalkMode) (path : List ℕ) (start : ℕ) → HasSameBelow t u start → walked_in u mode path start ≡ walked_in t mode path start
 walk_reads t u mode path start same =
     ap (walked_unless (path_error path))
     (sym (reads_below (finds t) (finds u) (λ n. member n (below t start)) mode start path (finds_closed t start) (finds_agree t u start same) (below_self t start)))
@@ -53,7 +55,7 @@ walked_reads t u mode path (Some (Process p)) seen = refl
 -- ---- a path ends below the directory where it begins
 
 -- a number that the path's end has is in this set
-abbrev LeadsIn : (ℕ → Bool) → Walked → Type 0
+abbrev pub LeadsIn : (ℕ → Bool) → Walked → Type 0
 LeadsIn inside (Ends end) = IsIn inside end
 LeadsIn inside (Fails errno) = ⊤
 LeadsIn inside (LeadsOutside component) = ⊤
@@ -70,7 +72,7 @@ unless_in inside (Some errno) walk h = tt
 unless_in inside None (Ok end) h = h
 unless_in inside None (Err fault) h = failed_in inside fault
 
-leads_below : (t : Tree) (mode : WalkMode) (path : List ℕ) (start : ℕ) → LeadsIn (λ n. member n (below t start)) (walked_in t mode path start)
+pub leads_below : (t : Tree) (mode : WalkMode) (path : List ℕ) (start : ℕ) → LeadsIn (λ n. member n (below t start)) (walked_in t mode path start)
 leads_below t mode path start =
     unless_in (λ n. member n (below t start)) (path_error path) (walk_of (finds t) mode start path)
     (stays_below (finds t) mode start path (λ n. member n (below t start)) (finds_closed t start) (below_self t start))
@@ -160,7 +162,7 @@ at_walked_unset goes q one (LeadsOutside component) h = refl
 -- ---- the errors of paths
 
 -- an error of a path is one of those that it may come to
-abbrev FailsPlainly : Walked → Type 0
+abbrev pub FailsPlainly : Walked → Type 0
 FailsPlainly (Ends end) = ⊤
 FailsPlainly (Fails errno) = IsAmong errno path_errors
 FailsPlainly (LeadsOutside component) = ⊤
@@ -168,22 +170,22 @@ FailsPlainly (LeadsOutside component) = ⊤
 pub badf_among : IsAmong Badf path_errors
 badf_among = ([], NameTooLong ∷ Ilseq ∷ Inval ∷ Notdir ∷ Noent ∷ Loop ∷ [], refl)
 
-name_too_long_among : IsAmong NameTooLong path_errors
+pub name_too_long_among : IsAmong NameTooLong path_errors
 name_too_long_among = (Badf ∷ [], Ilseq ∷ Inval ∷ Notdir ∷ Noent ∷ Loop ∷ [], refl)
 
-ilseq_among : IsAmong Ilseq path_errors
+pub ilseq_among : IsAmong Ilseq path_errors
 ilseq_among = (Badf ∷ NameTooLong ∷ [], Inval ∷ Notdir ∷ Noent ∷ Loop ∷ [], refl)
 
 pub inval_among : IsAmong Inval path_errors
 inval_among = (Badf ∷ NameTooLong ∷ Ilseq ∷ [], Notdir ∷ Noent ∷ Loop ∷ [], refl)
 
-notdir_among : IsAmong Notdir path_errors
+pub notdir_among : IsAmong Notdir path_errors
 notdir_among = (Badf ∷ NameTooLong ∷ Ilseq ∷ Inval ∷ [], Noent ∷ Loop ∷ [], refl)
 
-noent_among : IsAmong Noent path_errors
+pub noent_among : IsAmong Noent path_errors
 noent_among = (Badf ∷ NameTooLong ∷ Ilseq ∷ Inval ∷ Notdir ∷ [], Loop ∷ [], refl)
 
-loop_among : IsAmong Loop path_errors
+pub loop_among : IsAmong Loop path_errors
 loop_among = (Badf ∷ NameTooLong ∷ Ilseq ∷ Inval ∷ Notdir ∷ Noent ∷ [], [], refl)
 
 failed_plainly : (fault : WalkFault) → FailsPlainly (walk_failed fault)

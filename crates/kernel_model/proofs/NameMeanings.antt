@@ -2,7 +2,7 @@
 --     IsChangeOf t new makes c      the change leads from the tree t to a tree, says all that it changes, and makes at most one node
 --     SetsAlike, SaysAll, IsPlainly, IsGood      what holds of what such a call comes to
 --     NamesWell m      what is shown of each such meaning
-use Rattle.std.proofs.Common.{◌≡◌, ◌≢◌, ◌⊎◌, ℕ, zero, suc, true, false, List, [], ◌∷◌, ◌++◌, map, Option, Some, None}
+use Rattle.std.proofs.Common.{◌≡◌, ◌≢◌, ◌⊎◌, ℕ, zero, suc, true, false, List, [], ◌++◌, map, Option, Some, None}
 use Rattle.std.specs.Prelude.{⊤}
 use Rattle.std.specs.FinMap.{get}
 use Rattle.std.specs.List.{AllByRecursion}
@@ -87,4 +87,4 @@ pub record NamesWell (m : NameMeaning) : Type 0 where
   pub lacks : AllByRecursion (λ errno. errno ≢ Nomem) m.errors
   -- what it changes is a change of the tree
   pub good : (now new : ℕ) (S : State) (here there : Option OpenKind) → IsBehind S here → IsBehind S there → IsTree (tree_of S)
-      → get S.nodes new ≡ None → IsGood (tree_of S) new m.makes (m.does now new (tree_of S) here there)
+      → (m.makes ≢ 0 → get S.nodes new ≡ None) → IsGood (tree_of S) new m.makes (m.does now new (tree_of S) here there)

@@ -8,7 +8,7 @@ use Rattle.abi_types.specs.declared.status.Status.TheVariants.{Live}
 use Rattle.kernel_model.specs.Outcome.{Outcome}
 use Rattle.kernel_model.specs.Sight.{own_parts}
 use Rattle.kernel_model.specs.State.{State, Part, at_clock, at_proc, at_status, at_open, at_node, at_names, at_term, same_part, has_part, Agree, AgreeOn, Update, set_table, set_own, set_status, set_open, set_node, set_names, set_term, part_of, put_one, put_all, threads_of}
-use Rattle.kernel_model.proofs.Tests.{not_true, either_false, either_true}
+use Rattle.kernel_model.proofs.Tests.{not_true, either_false, either_true, or_true}
 
 -- ---- lists of parts
 
@@ -24,9 +24,27 @@ pub has_of_both : (xs ys : List Part) (q : Part) → has_part (xs ++ ys) q ≡ (
 has_of_both [] ys q = refl
 has_of_both (x ∷ xs) ys q = ap (λ b. same_part x q || b) (has_of_both xs ys q) ∙ or_or (same_part x q) (has_part xs q) (has_part ys q)
 
+-- a part outside both lists is outside each
+pub of_first : (xs ys : List Part) (q : Part) → has_part (xs ++ ys) q ≡ false → has_part xs q ≡ false
+of_first xs ys q h = (either_false (has_part xs q) (has_part ys q) (sym (has_of_both xs ys q) ∙ h)).0
+
+pub of_second : (xs ys : List Part) (q : Part) → has_part (xs ++ ys) q ≡ false → has_part ys q ≡ false
+of_second xs ys q h = (either_false (has_part xs q) (has_part ys q) (sym (has_of_both xs ys q) ∙ h)).1
+
+-- what one list has both have
+pub has_left : (xs ys : List Part) (q : Part) → has_part xs q ≡ true → has_part (xs ++ ys) q ≡ true
+has_left xs ys q h = has_of_both xs ys q ∙ ap (λ b. b || has_part ys q) h
+
+pub has_right : (xs ys : List Part) (q : Part) → has_part ys q ≡ true → has_part (xs ++ ys) q ≡ true
+has_right xs ys q h = has_of_both xs ys q ∙ ap (λ b. has_part xs q || b) h ∙ or_true (has_part xs q)
+
+-- a part that neither has
+pub outside_both : (xs ys : List Part) (q : Part) → has_part (xs ++ ys) q ≡ false → (has_part xs q ≡ false) × (has_part ys q ≡ false)
+outside_both xs ys q h = either_false (has_part xs q) (has_part ys q) (sym (has_of_both xs ys q) ∙ h)
+
 -- a part that is neither the process's own nor among these
 pub beyond_own : (p : ℕ) (parts : List Part) (q : Part) → has_part (own_parts p ++ parts) q ≡ false → (has_part (own_parts p) q ≡ false) × (has_part parts q ≡ false)
-beyond_own p parts q h = either_false (has_part (own_parts p) q) (has_part parts q) (sym (has_of_both (own_parts p) parts q) ∙ h)
+beyond_own p parts q h = outside_both (own_parts p) parts q h
 
 -- ---- the same values
 

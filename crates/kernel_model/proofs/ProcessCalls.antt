@@ -49,6 +49,6 @@ proc_exit_is_proper code = record {
   plain = λ constants v who table. (refl, inl refl);
   lacks = λ h. absurd (not_true h);
   others = λ constants v who table q apart. end_others who.pid (v.own who.pid) (Exit code) q apart;
-  threads = λ constants S v who table live. absurd (exit_is_not_live code (sym (get-insert-same S.statuses who.pid (Exit code)) ∙ live));
+  threads = λ constants S who table live. absurd (exit_is_not_live code (sym (get-insert-same S.statuses who.pid (Exit code)) ∙ live));
   valid = λ constants S who table there nearly. end_nearly_valid S who.pid (Exit code) nearly;
 }

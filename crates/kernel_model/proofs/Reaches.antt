@@ -1,6 +1,6 @@
--- What a call sees is the process's own or reached through descriptors that have the rights needed, and what it touches it
--- sees.
-use Rattle.std.proofs.Common.{◌≡◌, ◌⊎◌, inl, inr, ℕ, ◌||◌, Bool, true, false, cond, T, List, [], ◌∷◌, Option, Some, None, IsSome, refl, sym, ap, subst, ◌∙◌}
+-- What a call sees is the process's own or reached through descriptors that have the rights needed; what it touches it sees or
+-- makes; and what it makes isn't there before.
+use Rattle.std.proofs.Common.{◌≡◌, ◌⊎◌, inl, inr, ℕ, ◌||◌, Bool, true, false, cond, T, List, [], ◌∷◌, ◌++◌, Option, Some, None, IsSome, refl, sym, ap, subst, ◌∙◌}
 use Rattle.std.specs.List.{AllByRecursion}
 use Rattle.std.specs.FinMap.{get}
 use Rattle.abi_types.specs.declared.call.Call.{Call}
@@ -11,18 +11,21 @@ use Rattle.abi_base.specs.declared.errno.Errno.TheVariants.{Badf}
 use Rattle.abi_types.specs.declared.needed.Needed.{Needed}
 use Rattle.abi_types.specs.declared.who.Who.{Who}
 use Rattle.kernel_model.specs.Calls.{meaning_of, named, need, seen, refusal}
-use Rattle.kernel_model.specs.Laws.{IsMet, IsReached, IsReachedBy, IsReachedByName}
+use Rattle.kernel_model.specs.Laws.{IsMet, IsNotThere, IsReached, IsReachedBy, IsReachedByName}
 use Rattle.kernel_model.specs.Need.{has_needed, missing, some_absent, lack_at, either_lack, first_lack, denied_by}
+use Rattle.kernel_model.specs.Numbers.{can_number, new_parts}
 use Rattle.kernel_model.specs.Proper.{IsIn, MaySee, NeedsOf}
 use Rattle.kernel_model.specs.Reply.{refused, denied}
 use Rattle.kernel_model.specs.Sight.{own_parts, reached_by, reached}
 use Rattle.kernel_model.specs.State.{State, Table, Part, has_part}
-use Rattle.kernel_model.specs.Step.{unless_refused, reach, sight, changed, touch}
+use Rattle.kernel_model.specs.Step.{unless_refused, reach, sight, changed, made_by, made_on, touch}
+use Rattle.kernel_model.specs.Valid.{IsNearlyValid, IsValid}
 use Rattle.kernel_model.proofs.Calls.{proper}
 use Rattle.kernel_model.proofs.Lacks.{all_present, HasRows, rows_there}
 use Rattle.kernel_model.proofs.Lists.{in_all}
+use Rattle.kernel_model.proofs.ObjectNumbers.{parts_are_absent}
 use Rattle.kernel_model.proofs.Parts.{has_of_both}
-use Rattle.kernel_model.proofs.Tests.{not_true, none_is_no, either_true}
+use Rattle.kernel_model.proofs.Tests.{not_true, none_is_no, either_true, or_true}
 
 -- ---- a call that is not refused has its needs met
 
@@ -49,7 +52,7 @@ no_refusal true lack h = absurd (none_is_no (refused Badf) (sym h))
 no_refusal false None h = (refl, refl)
 no_refusal false (Some denial) h = absurd (none_is_no (denied denial) (sym h))
 
-all_met : (call : Call) (table : Table) → refusal table call ≡ None → AllByRecursion (IsMet table) (need call)
+pub all_met : (call : Call) (table : Table) → refusal table call ≡ None → AllByRecursion (IsMet table) (need call)
 all_met call table h =
     let both = no_refusal (some_absent table (named call)) (first_lack table (need call)) h in
     rows_met table (need call) (rows_there call table (all_present table (named call) both.0)) both.1
@@ -129,13 +132,42 @@ either_of false b c more h = more h
 
 changed_is_reached : (S : State) (call : Call) (t : Option Table) (q : Part) → has_part (changed S call t) q ≡ true → has_part (reach S call t) q ≡ true
 changed_is_reached S call None q h = h
-changed_is_reached S call (Some table) q h = unless_more (refusal table call) ((meaning_of call).changes S table) (reached S table (seen call)) q ((proper call).changes S table q) h
+changed_is_reached S call (Some table) q h =
+    unless_more (refusal table call) ((meaning_of call).changes S table) (reached S table (seen call)) q ((proper call).changes S table q) h
 
-pub touch_is_seen : (S : State) (who : Who) (call : Call) (q : Part) → has_part (touch S who call) q ≡ true → has_part (sight S who call) q ≡ true
+-- what is among three lists is among the second, or among the first and the third
+around : (xs ys zs : List Part) (q : Part) → has_part (xs ++ (ys ++ zs)) q ≡ true → ((has_part xs q || has_part zs q) ≡ true) ⊎ (has_part ys q ≡ true)
+around xs ys zs q h =
+    elim (either_true (has_part xs q) (has_part (ys ++ zs) q) (sym (has_of_both xs (ys ++ zs) q) ∙ h)) [
+      | inl first ↦ inl (ap (λ b. b || has_part zs q) first)
+      | inr rest ↦ elim (either_true (has_part ys q) (has_part zs q) (sym (has_of_both ys zs q) ∙ rest)) [
+        | inl second ↦ inr second
+        | inr third ↦ inl (ap (λ b. has_part xs q || b) third ∙ or_true (has_part xs q))
+      ]
+    ]
+
+pub touch_is_seen : (S : State) (who : Who) (call : Call) (q : Part) → has_part (touch S who call) q ≡ true
+    → (has_part (sight S who call) q ≡ true) ⊎ (has_part (made_by S who call) q ≡ true)
 unfolding sight touch
 touch_is_seen S who call q h =
     let own = own_parts who.pid in
     let touched = changed S call (get S.tables who.pid) in
     let rest = reach S call (get S.tables who.pid) in
-    has_of_both own rest q
-    ∙ either_of (has_part own q) (has_part touched q) (has_part rest q) (changed_is_reached S call (get S.tables who.pid) q) (sym (has_of_both own touched q) ∙ h)
+    elim (around own (made_by S who call) touched q h) [
+      | inl seen ↦ inl (has_of_both own rest q
+          ∙ either_of (has_part own q) (has_part touched q) (has_part rest q) (changed_is_reached S call (get S.tables who.pid) q) seen)
+      | inr makes ↦ inr makes
+    ]
+
+-- ---- what is made
+
+made_is_absent : (S : State) (who : Who) (call : Call) (t : Option Table) (q : Part) → IsNearlyValid S
+    → can_number who.pid (meaning_of call).numbers (get S.own who.pid) ≡ true → has_part (made_on S who call t) q ≡ true → IsNotThere S q
+made_is_absent S who call None q v can h = absurd (not_true h)
+made_is_absent S who call (Some table) q v can h =
+    parts_are_absent S who.pid (meaning_of call).numbers q v can
+    (unrefused (refusal table call) (new_parts who.pid (meaning_of call).numbers (get S.own who.pid)) q h).1
+
+pub made_is_new : (S : State) (who : Who) (call : Call) (q : Part) → IsValid S
+    → can_number who.pid (meaning_of call).numbers (get S.own who.pid) ≡ true → has_part (made_by S who call) q ≡ true → IsNotThere S q
+made_is_new S who call q v can h = made_is_absent S who call (get S.tables who.pid) q v.nearly can h

@@ -4,7 +4,7 @@
 --     with_bytes_alike, retimed_alike      and the node after it hangs on the node before it alone
 --     put_tree      the tree of a state with such a node is u
 --     set_node_nearly_valid      a nearly valid state with such a node is so
-use Rattle.std.proofs.Common.{◌≡◌, ◌≢◌, ℕ, true, false, List, Option, Some, None, refl, sym, ap, subst, ◌∙◌}
+use Rattle.std.proofs.Common.{◌≡◌, ◌≢◌, ℕ, true, false, List, Option, Some, None, is_some, refl, sym, ap, subst, ◌∙◌}
 use Rattle.std.specs.FinMap.{get, insert}
 use Rattle.std.specs.Option.{option_map}
 use Rattle.abi_types.specs.declared.node.Node.{Node}
@@ -19,6 +19,7 @@ use Rattle.tree_model.specs.Entries.{here_or_other, with_bytes-changes, with_tim
 use Rattle.tree_model.specs.Keeps.{with_bytes-tree, with_times-tree}
 use Rattle.tree_model.specs.Tree.{IsTree, is_directory, is_directory_kind, is_directory_node}
 use Rattle.kernel_model.specs.FileChanges.{retimed_in, retimed}
+use Rattle.kernel_model.specs.Numbers.{object_of}
 use Rattle.kernel_model.specs.State.{State, Tree, tree_of, put_one, set_node}
 use Rattle.kernel_model.specs.Valid.{HasBehind, IsNearlyValid}
 use Rattle.kernel_model.proofs.Tests.{not_true}
@@ -29,21 +30,27 @@ use Rattle.kernel_model.proofs.Tests.{not_true}
 pub record Reworks (t u : Tree) (n : ℕ) : Type 0 where
   pub names : u.names ≡ t.names
   pub others : (q : ℕ) → q ≢ n → get u.nodes q ≡ get t.nodes q
+  pub here : is_some (get u.nodes n) ≡ is_some (get t.nodes n)
   pub file : is_file u n ≡ is_file t n
   pub directory : is_directory u n ≡ is_directory t n
   pub tree : IsTree t → IsTree u
 
 pub reworks_self : (t : Tree) (n : ℕ) → Reworks t t n
-reworks_self t n = record { names = refl; others = λ q other. refl; file = refl; directory = refl; tree = λ tree. tree }
+reworks_self t n = record { names = refl; others = λ q other. refl; here = refl; file = refl; directory = refl; tree = λ tree. tree }
 
 pub reworks_twice : (t u w : Tree) (n : ℕ) → Reworks t u n → Reworks u w n → Reworks t w n
 reworks_twice t u w n first second = record {
   names = second.names ∙ first.names;
   others = λ q other. second.others q other ∙ first.others q other;
+  here = second.here ∙ first.here;
   file = second.file ∙ first.file;
   directory = second.directory ∙ first.directory;
   tree = λ tree. second.tree (first.tree tree);
 }
+
+mapped_there : {X : Type 0} (f : X → X) (o : Option X) → is_some (option_map f o) ≡ is_some o
+mapped_there f None = refl
+mapped_there f (Some x) = refl
 
 -- what a test says of a node with other times
 retimed_node : {X : Type 0} (test : Option Node → X) (times : Times) → ((node : Node) → test (Some (record node { times = times })) ≡ test (Some node))
@@ -57,6 +64,7 @@ with_times_reworks t n times =
     record {
       names = c.names;
       others = c.others;
+      here = ap is_some c.node ∙ mapped_there (λ (node : Node). record node { times = times }) (get t.nodes n);
       file = ap is_file_node c.node ∙ retimed_node is_file_node times (λ node. refl) (get t.nodes n);
       directory = ap is_directory_node c.node ∙ retimed_node is_directory_node times (λ node. refl) (get t.nodes n);
       tree = with_times-tree t n times;
@@ -91,6 +99,7 @@ with_bytes_reworks t n bytes file =
     record {
       names = c.names;
       others = c.others;
+      here = ap is_some c.node ∙ mapped_there (λ (node : Node). record node { kind = kind.File bytes }) (get t.nodes n);
       file = ap is_file_node c.node ∙ file_again bytes (get t.nodes n) file;
       directory = ap is_directory_node c.node ∙ directory_again bytes (get t.nodes n) file;
       tree = λ tree. with_bytes-tree t n bytes tree file;
@@ -120,6 +129,10 @@ pub retimed_alike : (t u : Tree) (n : ℕ) (new : Times → Times) → Alike t u
 retimed_alike t u n new same =
     retimed_in_alike t u n new (get t.nodes n) same ∙ ap (λ o. get (retimed_in u n new o).nodes n) same
 
+none_of : {X : Type 0} (o : Option X) → is_some o ≡ false → o ≡ None
+none_of None h = refl
+none_of (Some x) h = absurd (not_true (sym h))
+
 -- ---- a state with another node
 
 module _ (S : State) (n : ℕ) (node : Node) (u : Tree) (works : Reworks (tree_of S) u n) (there : get u.nodes n ≡ Some node) where
@@ -147,6 +160,13 @@ module _ (S : State) (n : ℕ) (node : Node) (u : Tree) (works : Reworks (tree_o
   behind_stays (Terminal which flags) h = h
   behind_stays (Process p) h = h
 
+  -- a node that wasn't there isn't there still
+  none_comes : (q : ℕ) → get S.nodes q ≡ None → get (insert S.nodes n node) q ≡ None
+  none_comes q none =
+      ap (λ (t : Tree). get t.nodes q) put_tree
+      ∙ none_of (get u.nodes q) (here_or_other (λ k. is_some (get u.nodes k) ≡ is_some (get S.nodes k)) n q works.here
+      (λ other. ap is_some (works.others q other)) ∙ ap is_some none)
+
   pub set_node_nearly_valid : IsNearlyValid S → IsNearlyValid (put_one (set_node n node) S)
   set_node_nearly_valid v = record {
     named = v.named;
@@ -156,5 +176,6 @@ module _ (S : State) (n : ℕ) (node : Node) (u : Tree) (works : Reworks (tree_o
     ended = v.ended;
     numbered = v.numbered;
     made = v.made;
+    made_nodes = λ p k small beyond fits. none_comes (object_of p k) (v.made_nodes p k small beyond fits);
     tree = subst IsTree (sym put_tree) (works.tree v.tree);
   }

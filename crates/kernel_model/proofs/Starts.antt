@@ -21,10 +21,12 @@ use Rattle.abi_types.specs.declared.open_kind.OpenKind.TheVariants as kind
 use Rattle.tree_model.specs.Tree.{is_directory_kind, is_directory_node}
 use Rattle.kernel_model.specs.Release.{holders}
 use Rattle.tree_model.specs.Changes.{is_file_kind, is_file_node}
-use Rattle.tree_model.specs.Grants.{IsGrant, IsGrantOf, AreGrants, HasRightsOfType, MayBegin, type_of_kind, type_of_node}
+use Rattle.tree_model.specs.declared.limits.TheConstants.{ROOT}
+use Rattle.tree_model.specs.Grants.{IsStartTree, IsGrant, IsGrantOf, AreGrants, HasRightsOfType, MayBegin, type_of_kind, type_of_node}
 use Rattle.kernel_model.specs.Start.{first_open, numbered, granted_descriptor, open_of, open_of_node, granted_open, granted_table, first_own, unwritten, start_state}
 use Rattle.kernel_model.specs.State.{State, Table, Own, Tree, thread_in, thread_of, counts_in}
-use Rattle.kernel_model.specs.Valid.{object_of, HasRightsOf, IsNamed, HasBehind, IsValid}
+use Rattle.kernel_model.specs.Numbers.{object_of}
+use Rattle.kernel_model.specs.Valid.{HasRightsOf, IsNamed, HasBehind, IsValid}
 use Rattle.kernel_model.proofs.Tests.{none_is_no, not_true}
 use Rattle.kernel_model.proofs.Valids.{same_value, named_is_held, named_is_kept, same_keys_inserted}
 
@@ -244,6 +246,16 @@ start_made tree grants all p k small fits =
           absurd (omega (arith, place, small, fits)))
     ] refl
 
+-- and so are its nodes
+start_nodes : (tree : Tree) → IsStartTree tree → (p k : ℕ) → p < 0xffffffff → k < 2 ^ 32 → get tree.nodes (object_of p k) ≡ None
+start_nodes tree starts p k small fits =
+    elim (get tree.nodes (object_of p k)) as (λ o. get tree.nodes (object_of p k) ≡ o → o ≡ None) [
+      | None ↦ λ e. refl
+      | Some node ↦ λ e. (
+          let above : ROOT ≤ p * 2 ^ 32 + k = (starts.numbered (object_of p k) (ap is_some e)).0 in
+          absurd (omega (arith, above, small, fits)))
+    ] refl
+
 same_keys_one : {X Y : Type 0} (x : X) (y : Y) (p : ℕ) → is_some (get (insert (empty {R = nat_cmp}) 0 x) p) ≡ is_some (get (insert (empty {R = nat_cmp}) 0 y) p)
 same_keys_one x y = same_keys_inserted empty empty 0 x y (λ q. ap is_some (get-empty nat_cmp q) ∙ sym (ap is_some (get-empty nat_cmp q)))
 
@@ -257,6 +269,7 @@ start_valid tree grants stdin begins = record {
     ended = λ p status there ends. absurd (ends (sym (only_one Live status p there).1));
     numbered = start_numbered tree grants stdin;
     made = λ p k small beyond fits. start_made tree grants begins.grants p k small fits;
+    made_nodes = λ p k small beyond fits. start_nodes tree begins.tree p k small fits;
     tree = begins.tree.tree;
   };
   held = start_held tree grants begins.grants;

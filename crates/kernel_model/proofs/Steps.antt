@@ -82,7 +82,7 @@ step_threads : (constants : Constants) (S : State) (who : Who) (call : Call) →
     → threads_of (step_state constants S who call) who.pid ≡ threads_of S who.pid
 step_threads constants S who call =
     outcome_holds (KeepsThreads (tick S) who.pid) constants S who call (λ reply _ _. refl)
-    (λ table _. (proper call).threads constants (tick S) (whole (tick S)) who table)
+    (λ table _. (proper call).threads constants (tick S) who table)
 
 -- ---- all of them
 

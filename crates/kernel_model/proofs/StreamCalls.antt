@@ -113,7 +113,7 @@ fd_write_is_proper fd bytes = record {
     write_holds (λ o. IsUnset o (at_proc q)) v bytes (get table fd) refl (λ which stream. refl),
     write_holds (λ o. IsUnset o (at_status q)) v bytes (get table fd) refl (λ which stream. refl),
   );
-  threads = λ constants S v who table. write_holds (KeepsThreads S who.pid) v bytes (get table fd) (λ _. refl) (λ which stream _. refl);
+  threads = λ constants S who table. write_holds (KeepsThreads S who.pid) (whole S) bytes (get table fd) (λ _. refl) (λ which stream _. refl);
   valid = λ constants S who table there nearly.
       write_holds (λ o. IsNearlyValid (put_all o.updates S)) (whole S) bytes (get table fd) nearly
       (λ which stream. set_term_nearly_valid S which (record stream { written = stream.written ++ bytes }) nearly);
@@ -191,7 +191,7 @@ fd_read_is_proper fd n = record {
     read_holds (λ o. IsUnset o (at_proc q)) v n (get table fd) refl (λ which stream. refl),
     read_holds (λ o. IsUnset o (at_status q)) v n (get table fd) refl (λ which stream. refl),
   );
-  threads = λ constants S v who table. read_holds (KeepsThreads S who.pid) v n (get table fd) (λ _. refl) (λ which stream _. refl);
+  threads = λ constants S who table. read_holds (KeepsThreads S who.pid) (whole S) n (get table fd) (λ _. refl) (λ which stream _. refl);
   valid = λ constants S who table there nearly.
       read_holds (λ o. IsNearlyValid (put_all o.updates S)) (whole S) n (get table fd) nearly
       (λ which stream. set_term_nearly_valid S which (record stream { left = drop n stream.left }) nearly);

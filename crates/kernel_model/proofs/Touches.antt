@@ -8,6 +8,7 @@ use Rattle.abi_types.specs.declared.constants.Constants.{Constants}
 use Rattle.abi_types.specs.declared.status.Status.{Status}
 use Rattle.abi_types.specs.declared.who.Who.{Who}
 use Rattle.kernel_model.specs.Calls.{meaning_of, refusal}
+use Rattle.kernel_model.specs.Numbers.{new_parts}
 use Rattle.kernel_model.specs.Outcome.{Outcome}
 use Rattle.kernel_model.specs.ProcessCalls.{end_updates}
 use Rattle.kernel_model.specs.Proper.{IsUnset}
@@ -15,7 +16,7 @@ use Rattle.tree_model.specs.Retained.{retained-node, retained-table}
 use Rattle.kernel_model.specs.Release.{is_node_kept, is_released, release, without_ended}
 use Rattle.kernel_model.specs.Sight.{own_parts}
 use Rattle.kernel_model.specs.State.{State, Table, tree_of, Part, at_clock, at_proc, at_status, at_open, at_node, at_names, at_term, same_part, has_part, Agree, part_of}
-use Rattle.kernel_model.specs.Step.{tick, unless_refused, changed, touch, unless, act_on, outcome, unreleased, step_state, IsStep, IsUntouched, end_unreleased, end_state}
+use Rattle.kernel_model.specs.Step.{tick, unless_refused, changed, made_by, made_on, touch, unless, act_on, outcome, unreleased, step_state, IsStep, IsUntouched, end_unreleased, end_state}
 use Rattle.kernel_model.specs.View.{whole}
 use Rattle.kernel_model.proofs.Calls.{proper}
 use Rattle.kernel_model.proofs.Outcomes.{outcome_reads}
@@ -27,13 +28,14 @@ use Rattle.kernel_model.proofs.Valids.{released_stays}
 -- ---- what a call sets
 
 unless_unset : (constants : Constants) (S : State) (who : Who) (table : Table) (call : Call) (r : Option Reply) (q : Part)
-    → has_part (own_parts who.pid ++ unless_refused r ((meaning_of call).changes S table)) q ≡ false
+    → has_part (own_parts who.pid
+    ++ (unless_refused r (new_parts who.pid (meaning_of call).numbers (get S.own who.pid)) ++ unless_refused r ((meaning_of call).changes S table))) q ≡ false
     → IsUnset (unless r ((meaning_of call).does constants (whole (tick S)) who table)) q
 unless_unset constants S who table call (Some reply) q h = refl
 unless_unset constants S who table call None q h = (proper call).sets constants S who table q h
 
 act_unset : (constants : Constants) (S : State) (who : Who) (call : Call) (t : Option Table) (q : Part)
-    → has_part (own_parts who.pid ++ changed S call t) q ≡ false → IsUnset (act_on constants (whole (tick S)) who call t) q
+    → has_part (own_parts who.pid ++ (made_on S who call t ++ changed S call t)) q ≡ false → IsUnset (act_on constants (whole (tick S)) who call t) q
 act_unset constants S who call None q h = refl
 act_unset constants S who call (Some table) q h = unless_unset constants S who table call (refusal table call) q h
 
@@ -69,7 +71,7 @@ release_keeps S (at_term k) h = refl
 
 outside_clock : (S : State) (who : Who) (call : Call) (q : Part) → has_part (touch S who call) q ≡ false → same_part at_clock q ≡ false
 unfolding touch
-outside_clock S who call q h = (outside_cons at_clock (at_proc who.pid ∷ at_status who.pid ∷ changed S call (get S.tables who.pid)) q h).0
+outside_clock S who call q h = (outside_cons at_clock (at_proc who.pid ∷ at_status who.pid ∷ (made_by S who call ++ changed S call (get S.tables who.pid))) q h).0
 
 step_keeps : (constants : Constants) (S : State) (who : Who) (call : Call) (q : Part) → IsUntouched constants S who call q
     → Agree (step_state constants S who call) S q

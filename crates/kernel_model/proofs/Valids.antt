@@ -28,7 +28,8 @@ use Rattle.tree_model.specs.Tree.{IsTree, is_directory_node, links_in, links_of}
 use Rattle.kernel_model.specs.Release.{names_open, count_in, holders, ends, release, is_ending, is_node_kept, without_ended, without_nodes}
 use Rattle.kernel_model.specs.State.{State, Table, Own, tree_of, put_one, put_all, set_open, set_table, set_term, threads_of, thread_in, thread_of, counts_in}
 use Rattle.kernel_model.specs.Step.{tick}
-use Rattle.kernel_model.specs.Valid.{object_of, fits, fits_inheriting, IsNamed, HasBehind, IsNearlyValid, IsValid}
+use Rattle.kernel_model.specs.Numbers.{object_of}
+use Rattle.kernel_model.specs.Valid.{fits, fits_inheriting, IsNamed, HasBehind, IsNearlyValid, IsValid}
 use Rattle.kernel_model.proofs.Ends.{ends_closed, ends_unheld}
 use Rattle.kernel_model.proofs.Tests.{not_true, none_is_no, same_some}
 
@@ -85,7 +86,7 @@ left_is_held S o false stays there =
     ]
 
 -- what stands behind an open does not depend on the parts that aren't behind any
-behind_same : (S T : State) → ((n : ℕ) → get T.nodes n ≡ get S.nodes n) → ((k : ℕ) → IsSome (get S.terms k) → IsSome (get T.terms k)) → (kind : OpenKind)
+pub behind_same : (S T : State) → ((n : ℕ) → get T.nodes n ≡ get S.nodes n) → ((k : ℕ) → IsSome (get S.terms k) → IsSome (get T.terms k)) → (kind : OpenKind)
     → HasBehind S kind → HasBehind T kind
 behind_same S T nodes more (Terminal which flags) h = (more which h.0, h.1)
 behind_same S T nodes more (File node offset flags) h = ap is_file_node (nodes node) ∙ h
@@ -129,9 +130,9 @@ released_kept S n there =
       | false ↦ λ gone. absurd (not_true (sym (ap is_some (retained-no_node (tree_of S) (is_node_kept (without_ended S)) n gone)) ∙ there))
     ] refl
 
-none_left : {X : Type 0} (b : Bool) (o : Option X) → o ≡ None → cond (not b) o None ≡ None
-none_left true o h = refl
-none_left false o h = h
+none_left : {X : Type 0} (b : Bool) (o : Option X) → o ≡ None → cond b o None ≡ None
+none_left true o h = h
+none_left false o h = refl
 
 pub release_restores : (S : State) → IsNearlyValid S → IsValid (release S)
 release_restores S v = record {
@@ -145,7 +146,11 @@ release_restores S v = record {
     owns = v.owns;
     ended = v.ended;
     numbered = v.numbered;
-    made = λ p k small beyond fits. get_released S (object_of p k) ∙ none_left (is_ending S (object_of p k)) (get S.opens (object_of p k)) (v.made p k small beyond fits);
+    made = λ p k small beyond fits.
+        get_released S (object_of p k) ∙ none_left (not (is_ending S (object_of p k))) (get S.opens (object_of p k)) (v.made p k small beyond fits);
+    made_nodes = λ p k small beyond fits.
+        get-retain S.nodes (is_node_kept (without_ended S)) (object_of p k)
+        ∙ none_left (is_node_kept (without_ended S) (object_of p k)) (get S.nodes (object_of p k)) (v.made_nodes p k small beyond fits);
     tree = retained-tree (tree_of S) (is_node_kept (without_ended S)) v.tree (root_is_kept (without_ended S)) (named_is_kept (without_ended S));
   };
   held = λ o h. left_is_held S o (is_ending S o) refl (subst IsSome (get_released S o) h);
@@ -214,6 +219,7 @@ tick_nearly_valid S v = record {
   ended = v.ended;
   numbered = v.numbered;
   made = v.made;
+  made_nodes = v.made_nodes;
   tree = v.tree;
 }
 
@@ -251,6 +257,7 @@ streams_nearly_valid S terms more v = record {
   ended = v.ended;
   numbered = v.numbered;
   made = v.made;
+  made_nodes = v.made_nodes;
   tree = v.tree;
 }
 
@@ -341,6 +348,8 @@ end_nearly_valid S p status v = record {
   numbered = λ q t there. subst (λ (c : Counts). t ≤ c.threads) (sym (counts_stay S p status q)) (ended_numbered S p status v q t there);
   made = λ q k small beyond fits.
       v.made q k small (subst (λ (c : Counts). c.objects < k) (counts_stay S p status q) beyond) fits;
+  made_nodes = λ q k small beyond fits.
+      v.made_nodes q k small (subst (λ (c : Counts). c.objects < k) (counts_stay S p status q) beyond) fits;
   tree = v.tree;
 }
 
@@ -400,7 +409,7 @@ table_named S p old new there from v q n table d at here =
     ]
 
 -- a process that has a table still has one
-some_again : {X : Type 0} (m : FinMap nat_cmp X) (k : ℕ) (x y : X) (q : ℕ) → get m k ≡ Some x → is_some (get (insert m k y) q) ≡ is_some (get m q)
+pub some_again : {X : Type 0} (m : FinMap nat_cmp X) (k : ℕ) (x y : X) (q : ℕ) → get m k ≡ Some x → is_some (get (insert m k y) q) ≡ is_some (get m q)
 some_again m k x y q there =
     elim (eqb_tells q k) [
       | inl same ↦ subst (λ j. is_some (get (insert m k y) j) ≡ is_some (get m j)) (sym same.1) (ap is_some (get-insert-same m k y) ∙ sym (ap is_some there))
@@ -418,6 +427,7 @@ set_table_nearly_valid S p old new there from v = record {
   ended = λ q status is ends. (ended_table S p old new there from v q status is ends, (v.ended q status is ends).1);
   numbered = v.numbered;
   made = v.made;
+  made_nodes = v.made_nodes;
   tree = v.tree;
 }
 
@@ -473,5 +483,6 @@ set_open_nearly_valid S o kind new there same v = record {
   ended = v.ended;
   numbered = v.numbered;
   made = λ p k small beyond fits. open_made S o kind new (object_of p k) there (v.made p k small beyond fits);
+  made_nodes = v.made_nodes;
   tree = v.tree;
 }

@@ -38,12 +38,18 @@ with_new_names now t d = retimed t d (modified now)
 abbrev pub node_of : NodeKind → ℕ → Node
 node_of kind now = record { kind = kind; times = record { atim = now; mtim = now; ctim = now }; links = 0 }
 
+-- a new directory has names, though there is none yet
+abbrev pub new_directories : NodeKind → ℕ → List ℕ
+new_directories (kind.File bytes) new = []
+new_directories kind.Directory new = new ∷ []
+new_directories (kind.Link text) new = []
+
 -- a new node with its first name
 abbrev pub with_node : NodeKind → ℕ → ℕ → Tree → ℕ → List ℕ → Change
 with_node kind now new t d name = record {
   tree = with_new_names now (made t d name new (node_of kind now)) d;
   nodes = d ∷ new ∷ [];
-  directories = d ∷ new ∷ [];
+  directories = d ∷ new_directories kind new;
 }
 
 abbrev pub make_in : NodeKind → ℕ → ℕ → Tree → ℕ → List ℕ → Comes

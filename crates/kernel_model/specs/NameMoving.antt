@@ -16,7 +16,7 @@ use Rattle.kernel_model.specs.LastNames.{LastName, StandsIn, IsNone, IsOutside, 
 use Rattle.kernel_model.specs.Meaning.{Meaning}
 use Rattle.kernel_model.specs.NameMaking.{errno_of, with_new_names}
 use Rattle.kernel_model.specs.NameMeaning.{Comes, Refuses, LeadsOut, Changes, NameMeaning, at_name, by_names, unless_fault}
-use Rattle.kernel_model.specs.NameRemoving.{named_parts, with_new_count}
+use Rattle.kernel_model.specs.NameRemoving.{named_parts, unless_lost, with_new_count}
 use Rattle.kernel_model.specs.Rows.{base_row}
 use Rattle.kernel_model.specs.State.{Tree}
 use Rattle.kernel_model.specs.TreeUpdates.{Change, no_change}
@@ -97,7 +97,9 @@ move_or_stay now t from name to new =
 
 abbrev pub rename_in : ℕ → Tree → ℕ → List ℕ → ℕ → List ℕ → Comes
 rename_in now t from name to new =
-    unless_fault errno_of (first_fault (rename_faults t from name to new)) (Changes (move_or_stay now t from name to new))
+    unless_lost t (entry_of t from name)
+    (unless_lost t (entry_of t to new)
+    (unless_fault errno_of (first_fault (rename_faults t from name to new)) (Changes (move_or_stay now t from name to new))))
 
 abbrev pub second_outside : Option ℕ → LastName → Option ℕ
 second_outside second (StandsIn dir name) = second

@@ -4,7 +4,7 @@ use Rattle.abi_base.specs.declared.errno.Errno.{Errno}
 use Rattle.abi_base.specs.declared.errno.Errno.TheVariants.{Noent, Notdir, Notempty, Perm}
 use Rattle.abi_base.specs.declared.rights.TheConstants.Rights.{FILE_UNLINK}
 use Rattle.abi_types.specs.declared.node.Times.{Times}
-use Rattle.tree_model.specs.Changes.{first_fault, unlinked, unlink_faults}
+use Rattle.tree_model.specs.Changes.{first_fault, is_absent, unlinked, unlink_faults}
 use Rattle.tree_model.specs.Tree.{entry_of, is_directory}
 use Rattle.tree_model.specs.declared.fault.TreeFault.{TreeFault}
 use Rattle.tree_model.specs.declared.fault.TreeFault.TheVariants.{NotEmpty}
@@ -48,17 +48,23 @@ abbrev pub unlink_errno : ℕ → TreeFault → Errno
 unlink_errno flags NotEmpty = if removes_directory flags then Notempty else Perm
 unlink_errno flags fault = errno_of fault
 
+-- A name whose node isn't there is no entry. No tree has such a name.
+abbrev pub unless_lost : Tree → Option ℕ → Comes → Comes
+unless_lost t None comes = comes
+unless_lost t (Some n) comes = if is_absent t n then Refuses Noent else comes
+
 abbrev pub unlink_in : ℕ → ℕ → Tree → ℕ → List ℕ → Comes
 unlink_in flags now t d name =
-    unless_fault (unlink_errno flags) (first_fault (unlink_faults t d name)) (unlink_node flags now t d name (entry_of t d name))
+    unless_lost t (entry_of t d name)
+    (unless_fault (unlink_errno flags) (first_fault (unlink_faults t d name)) (unlink_node flags now t d name (entry_of t d name)))
 
--- the node that has a name, where one has it
-abbrev pub node_parts_of : Option ℕ → List Part
-node_parts_of None = []
-node_parts_of (Some n) = at_node n ∷ []
+-- the node that has a name, where it is there
+abbrev pub node_parts_of : Tree → Option ℕ → List Part
+node_parts_of t None = []
+node_parts_of t (Some n) = if is_absent t n then [] else at_node n ∷ []
 
 abbrev pub named_parts : Tree → LastName → List Part
-named_parts t (StandsIn dir name) = node_parts_of (entry_of t dir name)
+named_parts t (StandsIn dir name) = node_parts_of t (entry_of t dir name)
 named_parts t (IsNone errno) = []
 named_parts t (IsOutside component) = []
 

@@ -60,7 +60,8 @@ pub record IsProper (m : Meaning) : Type 0 where
   -- it sets no part beside its process's own, the objects that it makes and what it says that it changes, and it sees what it
   -- changes
   pub sets : (constants : Constants) (S : State) (who : Who) (table : Table) (part : Part)
-      → has_part (own_parts who.pid ++ (new_parts who.pid m.numbers (get S.own who.pid) ++ m.changes S table)) part ≡ false → IsUnset (m.does constants (whole (tick S)) who table) part
+      → has_part (own_parts who.pid ++ (new_parts who.pid m.numbers (get S.own who.pid) ++ m.changes S table)) part ≡ false
+      → IsUnset (m.does constants (whole (tick S)) who table) part
   pub changes : (S : State) (table : Table) (part : Part) → has_part (m.changes S table) part ≡ true → has_part (reached S table m.seen) part ≡ true
   -- where its path leads outside it is denied for that alone; else its reply is a success, or one of its errors with nothing
   -- set; and of these none is want of memory where that may be
@@ -71,9 +72,9 @@ pub record IsProper (m : Meaning) : Type 0 where
   pub others : (constants : Constants) (v : View) (who : Who) (table : Table) (q : ℕ) → q ≢ who.pid
       → IsUnset (m.does constants v who table) (at_proc q) × IsUnset (m.does constants v who table) (at_status q)
   -- where its process lives on, that has the threads that it had
-  pub threads : (constants : Constants) (S : State) (v : View) (who : Who) (table : Table)
-      → get (put_all (m.does constants v who table).updates S).statuses who.pid ≡ Some Live
-      → threads_of (put_all (m.does constants v who table).updates S) who.pid ≡ threads_of S who.pid
+  pub threads : (constants : Constants) (S : State) (who : Who) (table : Table)
+      → get (put_all (m.does constants (whole S) who table).updates S).statuses who.pid ≡ Some Live
+      → threads_of (put_all (m.does constants (whole S) who table).updates S) who.pid ≡ threads_of S who.pid
   -- a state that is nearly valid, and in which its process has this table, it leaves so
   pub valid : (constants : Constants) (S : State) (who : Who) (table : Table) → get S.tables who.pid ≡ Some table → IsNearlyValid S
       → IsNearlyValid (put_all (m.does constants (whole S) who table).updates S)

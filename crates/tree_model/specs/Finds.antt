@@ -4,7 +4,9 @@
 --     finds_closed      what a name is in a directory below a is below a
 --     finds_agree      two trees with the same below a find the same there
 --     named_alike      and the node of each name is the same
-use Rattle.std.proofs.Common.{◌≡◌, ℕ, true, List, Option, None, Some, is_some, refl, sym, ap, ◌∙◌}
+--     below_alike      and the same is below each directory there
+use Rattle.std.proofs.Common.{◌≡◌, ℕ, true, List, Option, None, Some, IsSome, is_some, refl, sym, ap, ◌∙◌}
+use Rattle.std.proofs.lemmas.Bool.Decides.{same_from_decides}
 use Rattle.std.specs.FinMap.{get}
 use Rattle.abi_types.specs.declared.node.Node.{Node}
 use Rattle.abi_types.specs.declared.node.NodeKind.{NodeKind}
@@ -14,7 +16,7 @@ use Rattle.path_lookup.specs.Finding.{Finding, Nothing, Directory, File, Link}
 use Rattle.path_lookup.specs.Laws.{FindsIn, IsClosed, Agree}
 use Rattle.path_lookup.specs.Walk.{Finds}
 use Rattle.tree_model.specs.Tree.{Tree, HasName, below, entry_of, names_in}
-use Rattle.tree_model.specs.Below.{below_closed}
+use Rattle.tree_model.specs.Below.{below_closed, below_induction, below_self, below_trans}
 
 -- what a node of this number and kind is
 abbrev pub finding_of_kind : ℕ → NodeKind → Finding
@@ -84,3 +86,37 @@ module _ (t u : Tree) (a : ℕ) (same : HasSameBelow t u a) where
     same = λ d name under.
         (entry_alike d name (entry_of t d name) under refl ∙ ap (λ m. finding_of u (get (names_in m) name)) (same.names d under));
   }
+
+  -- ---- the same is below
+
+  name_there : (d : ℕ) (name : List ℕ) (n : ℕ) → member d (below t a) ≡ true → HasName t d name n → HasName u d name n
+  name_there d name n under has = sym (ap (λ o. get (names_in o) name) (same.names d under)) ∙ has
+
+  name_back : (d : ℕ) (name : List ℕ) (n : ℕ) → member d (below t a) ≡ true → HasName u d name n → HasName t d name n
+  name_back d name n under has = ap (λ o. get (names_in o) name) (same.names d under) ∙ has
+
+  -- what u has t has
+  node_back : (n : ℕ) → IsSome (get u.nodes n) → IsSome (get t.nodes n)
+  node_back n here =
+      elim (get t.nodes n) as (λ o. get t.nodes n ≡ o → IsSome o) [
+        | None ↦ λ none. sym (ap is_some (same.fewer n none)) ∙ here
+        | Some node ↦ λ there. refl
+      ] refl
+
+  below_there : (n : ℕ) → member n (below t a) ≡ true → (q : ℕ) → member q (below t n) ≡ true → member q (below u n) ≡ true
+  below_there n under =
+      below_induction t n (λ q. member q (below u n) ≡ true) (below_self u n)
+      (λ d name m inside found has here.
+      let dir : member d (below t a) ≡ true = below_trans t a n under d inside in
+      below_closed u n d name m found (name_there d name m dir has)
+      (ap is_some (sym (same.nodes m (below_closed t a d name m dir has here))) ∙ here))
+
+  below_back : (n : ℕ) → member n (below t a) ≡ true → (q : ℕ) → member q (below u n) ≡ true → member q (below t n) ≡ true
+  below_back n under =
+      below_induction u n (λ q. member q (below t n) ≡ true) (below_self t n)
+      (λ d name m inside found has here.
+      below_closed t n d name m found (name_back d name m (below_trans t a n under d found) has) (node_back m here))
+
+  -- the same is below each node that is below a
+  pub below_alike : (n : ℕ) → member n (below t a) ≡ true → (q : ℕ) → member q (below t n) ≡ member q (below u n)
+  below_alike n under q = same_from_decides _ _ (λ e. e, λ e. e) (below_back n under q, below_there n under q)
