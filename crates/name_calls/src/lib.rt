@@ -12,6 +12,7 @@ pub use places::NamePlace;
 pub use plans::{OpenPlan, apply_plan};
 
 mod dispatch;
+mod entries;
 mod failure;
 mod making;
 mod moving;
