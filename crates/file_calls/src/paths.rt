@@ -78,12 +78,7 @@ fn walked_in(tree: &Tree, mode: WalkMode, path: &[u8], start: ObjId) -> Result<E
 
 /// Where the path leads from the open, or why it leads nowhere. What is no directory is a bad
 /// descriptor.
-pub fn walked(
-    tree: &Tree,
-    mode: WalkMode,
-    path: &[u8],
-    kind: &OpenKind,
-) -> Result<End, Refusal>
+pub fn walked(tree: &Tree, mode: WalkMode, path: &[u8], kind: &OpenKind) -> Result<End, Refusal>
     ensures { result ≡ end_or_refusal (paths.walked tree.now mode path.now (Some kind.now)) }
 {
     match kind {
@@ -106,12 +101,7 @@ fn node_at(end: End) -> Result<ObjId, Refusal>
 }
 
 /// The node to which the path leads from the open. A name that isn't there is no entry.
-pub fn found(
-    tree: &Tree,
-    mode: WalkMode,
-    path: &[u8],
-    kind: &OpenKind,
-) -> Result<ObjId, Refusal>
+pub fn found(tree: &Tree, mode: WalkMode, path: &[u8], kind: &OpenKind) -> Result<ObjId, Refusal>
     ensures { result ≡ node_or_refusal (paths.walked tree.now mode path.now (Some kind.now)) }
 {
     match walked(tree, mode, path, kind) {

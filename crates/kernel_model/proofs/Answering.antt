@@ -5,7 +5,7 @@ use Rattle.abi_base.specs.declared.errno.Errno.{Errno}
 use Rattle.abi_base.specs.declared.errno.Errno.TheVariants.{Success, Nosys}
 use Rattle.abi_types.specs.declared.needed.Needed.{Needed}
 use Rattle.abi_types.specs.declared.reply.Reply.{Reply}
-use Rattle.kernel_model.specs.Meaning.{answering, unbuilt, unbuilt_listing, unbuilt_naming, unbuilt_row, unbuilt_rows}
+use Rattle.kernel_model.specs.Meaning.{answering, unbuilt, unbuilt_listing, unbuilt_naming, unbuilt_row}
 use Rattle.kernel_model.specs.Proper.{IsIn, IsProper, NeedsOf}
 use Rattle.kernel_model.specs.DescriptorCalls.{needing}
 use Rattle.kernel_model.specs.Rows.{base_row}
@@ -54,12 +54,6 @@ naming_is_proper fds = unbuilt_is_proper fds [] [] tt tt
 
 pub row_is_proper : (row : Needed) → IsProper (unbuilt_row row)
 row_is_proper row = unbuilt_is_proper (row.fd ∷ []) (row ∷ []) (row.fd ∷ []) (([], [], refl), tt) ((row, ([], [], refl), refl), tt)
-
-pub rows_are_proper : (first second : Needed) → IsProper (unbuilt_rows first second)
-rows_are_proper first second =
-    unbuilt_is_proper (first.fd ∷ second.fd ∷ []) (first ∷ second ∷ []) (first.fd ∷ second.fd ∷ [])
-    (([], second.fd ∷ [], refl), ((first.fd ∷ [], [], refl), tt))
-    ((first, ([], second ∷ [], refl), refl), ((second, (first ∷ [], [], refl), refl), tt))
 
 pub listing_is_proper : (row : Needed) (fds : List ℕ) → IsProper (unbuilt_listing row fds)
 listing_is_proper row fds = unbuilt_is_proper (row.fd ∷ fds) (row ∷ []) (row.fd ∷ []) (([], fds, refl), tt) ((row, ([], [], refl), refl), tt)

@@ -5,12 +5,17 @@ use Rattle.abi_types.specs.declared.call.Call.TheVariants as call
 use Rattle.kernel_model.specs.Calls.{meaning_of}
 use Rattle.kernel_model.specs.Proper.{IsProper}
 use Rattle.kernel_model.specs.WaitCalls.{wait_rows}
-use Rattle.kernel_model.proofs.Answering.{each_row_is_proper, listing_is_proper, naming_is_proper, needing_is_proper, row_is_proper, rows_are_proper}
+use Rattle.kernel_model.proofs.Answering.{each_row_is_proper, listing_is_proper, naming_is_proper, needing_is_proper, row_is_proper}
 use Rattle.kernel_model.proofs.MemoryCalls.{decided_is_proper, mem_map_is_proper}
 use Rattle.kernel_model.proofs.ProcessCalls.{proc_exit_is_proper}
 use Rattle.kernel_model.proofs.DescriptorCalls.{fd_close_is_proper, fd_dup_is_proper, fd_replace_is_proper, fd_stat_get_is_proper, fd_stat_put_is_proper}
 use Rattle.kernel_model.proofs.FileChanges.{file_allocate_is_proper, file_stat_fput_is_proper, file_stat_put_is_proper}
 use Rattle.kernel_model.proofs.FileLooks.{file_advise_is_proper, file_readdir_is_proper, file_readlink_is_proper, file_stat_fget_is_proper, file_stat_get_is_proper}
+use Rattle.kernel_model.proofs.NameLinking.{file_link_is_proper}
+use Rattle.kernel_model.proofs.NameMaking.{file_create_is_proper, file_symlink_is_proper}
+use Rattle.kernel_model.proofs.NameMoving.{file_rename_is_proper}
+use Rattle.kernel_model.proofs.NameRemoving.{file_unlink_is_proper}
+use Rattle.kernel_model.proofs.Opening.{file_open_is_proper}
 use Rattle.kernel_model.proofs.StreamCalls.{fd_read_is_proper, fd_write_is_proper}
 
 pub proper : (call : Call) → IsProper (meaning_of call)
@@ -33,18 +38,18 @@ proper (call.FdSync fd) = needing_is_proper fd _
 proper (call.FdWrite fd bytes) = fd_write_is_proper fd bytes
 proper (call.FileAdvise fd offset length advice) = file_advise_is_proper fd
 proper (call.FileAllocate fd offset length) = file_allocate_is_proper fd offset length
-proper (call.FileCreate fd path kind) = ?
-proper (call.FileLink lookup path new_fd new_path) = ?
-proper (call.FileOpen lookup path oflags stat) = ?
+proper (call.FileCreate fd path kind) = file_create_is_proper fd path
+proper (call.FileLink lookup path new_fd new_path) = file_link_is_proper lookup path new_fd new_path
+proper (call.FileOpen lookup path oflags stat) = file_open_is_proper lookup path oflags stat
 proper (call.FileReaddir fd length cookie) = file_readdir_is_proper fd length cookie
 proper (call.FileReadlink fd path length) = file_readlink_is_proper fd path length
-proper (call.FileRename fd path new_fd new_path) = ?
+proper (call.FileRename fd path new_fd new_path) = file_rename_is_proper fd path new_fd new_path
 proper (call.FileStatFget fd) = file_stat_fget_is_proper fd
 proper (call.FileStatFput fd stat flags) = file_stat_fput_is_proper fd stat flags
 proper (call.FileStatGet lookup path) = file_stat_get_is_proper lookup path
 proper (call.FileStatPut lookup path stat flags) = file_stat_put_is_proper lookup path stat flags
-proper (call.FileSymlink text fd path) = ?
-proper (call.FileUnlink fd path flags) = ?
+proper (call.FileSymlink text fd path) = file_symlink_is_proper text fd path
+proper (call.FileUnlink fd path flags) = file_unlink_is_proper fd path flags
 proper (call.LockUnlock lock word scope) = naming_is_proper []
 proper (call.MemMap place length prot flags fd offset) = mem_map_is_proper place prot flags fd
 proper (call.Memory number errno) = decided_is_proper errno

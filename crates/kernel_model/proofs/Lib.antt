@@ -30,9 +30,9 @@ pub mod NewOpens
 pub mod Opened
 pub mod Opening
 pub mod TreesAlike
-pub mod NameChanges
 pub mod MoveChanges
 pub mod NameLinking
+pub mod NameMoving
 pub mod Calls
 pub mod Outcomes
 pub mod Touches

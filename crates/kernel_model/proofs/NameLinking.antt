@@ -1,13 +1,13 @@
 -- The meaning of the call that makes one more name of a node keeps to what the meanings on names keep to.
 --     at_found_holds, at_found_reads, at_found_plain      what a call comes to at the node that a path leads to
 --     link_alike, link_unset, link_plain, link_good      what one more name comes to
---     linking_well      the meaning
-use Rattle.std.proofs.Common.{◌≡◌, ◌≢◌, ℕ, ◌==◌, ◌&&◌, ◌||◌, true, false, not, List, [], ◌∷◌, ◌++◌, Option, Some, None, inl, inr, is_none, refl, sym, ap, subst, ◌∙◌}
-use Rattle.std.specs.Prelude.{⊤, nat_le}
+--     linking_well, file_link_is_proper      the meaning;  the call is proper
+use Rattle.std.proofs.Common.{◌≡◌, ◌≢◌, ℕ, ◌==◌, ◌&&◌, true, false, not, List, [], ◌∷◌, ◌++◌, Option, None, inl, inr, is_none, refl, sym, ap, subst, ◌∙◌}
+use Rattle.std.specs.Prelude.{nat_le}
 use Rattle.std.specs.FinMap.{get}
-use Rattle.std.specs.List.{AllByRecursion}
 use Rattle.abi_base.specs.declared.errno.Errno.{Errno}
 use Rattle.abi_base.specs.declared.errno.Errno.TheVariants.{Exist, Mlink, Noent, Nomem, Perm}
+use Rattle.abi_types.specs.declared.call.Lookup.{Lookup}
 use Rattle.abi_types.specs.declared.node.Node.{Node}
 use Rattle.abi_types.specs.declared.open_kind.OpenKind.{OpenKind}
 use Rattle.path_lookup.specs.declared.ends.End.{End as PathEnd}
@@ -19,23 +19,25 @@ use Rattle.tree_model.specs.Tree.{IsTree, is_directory_node, links_in, names_in}
 use Rattle.tree_model.specs.declared.fault.TreeFault.TheVariants.{Absent, Taken, NotDirectory, IsDirectory, Links}
 use Rattle.tree_model.specs.declared.limits.TheConstants.{ROOT, MOST_LINKS}
 use Rattle.kernel_model.specs.FileChanges.{modified}
-use Rattle.kernel_model.specs.FilePaths.{Walked, Ends, Fails, LeadsOutside, end_part, found_part, path_errors, walked}
+use Rattle.kernel_model.specs.FilePaths.{Walked, Ends, Fails, LeadsOutside, found_part, lookup_mode, path_errors, walked}
 use Rattle.kernel_model.specs.LastNames.{directory_parts, last_name, last_outside}
 use Rattle.kernel_model.specs.NameMaking.{with_new_names}
-use Rattle.kernel_model.specs.NameMeaning.{Comes, Refuses, LeadsOut, Changes, at_name, unless_fault}
-use Rattle.kernel_model.specs.NameMoving.{at_found, at_found_end, found_outside, found_outside_end, link_errno, link_in, linking, with_link}
+use Rattle.kernel_model.specs.NameMeaning.{Comes, Refuses, LeadsOut, Changes, at_name}
+use Rattle.kernel_model.specs.NameMoving.{at_found, at_found_end, found_outside, found_outside_end, file_link, link_errno, link_in, linking, with_link}
 use Rattle.kernel_model.specs.NameRemoving.{recounted}
-use Rattle.kernel_model.specs.Proper.{IsIn}
+use Rattle.kernel_model.specs.Proper.{IsIn, IsProper}
 use Rattle.kernel_model.specs.Sight.{behind}
 use Rattle.kernel_model.specs.State.{Names, Part, State, Tree, at_names, at_node, has_part, same_part, tree_of}
 use Rattle.kernel_model.proofs.Branches.{IsSeen}
 use Rattle.kernel_model.proofs.FilePaths.{FailsPlainly, found_is_seen, noent_among, notdir_among, path_errors_lack, walked_plainly, walked_reads}
-use Rattle.kernel_model.proofs.LastNames.{EndsBelow, HasBelow, WalksBelow, all_both, at_name_holds, at_name_plain, at_name_reads, below_alike, directory_is_seen, directory_unset, in_behind, in_front, last_name_reads, walks_below}
+use Rattle.kernel_model.proofs.LastNames.{EndsBelow, HasBelow, WalksBelow, all_both, at_name_holds, at_name_plain, at_name_reads, below_alike, directory_is_seen, directory_unset, in_front, last_name_reads, walks_below}
 use Rattle.kernel_model.proofs.MoveChanges.{with_link_change}
-use Rattle.kernel_model.proofs.NameChanges.{change_alike, change_unset, first_fault_holds, unless_fault_alike, unless_fault_holds}
+use Rattle.kernel_model.proofs.NameMaking.{table_holds, unless_alike, unless_holds}
 use Rattle.kernel_model.proofs.NameMeanings.{IsGood, IsPlainly, IsUnsetBy, NamesWell, SetsAlike}
-use Rattle.kernel_model.proofs.Parts.{has_of_both, outside_cons}
-use Rattle.kernel_model.proofs.Tests.{either_false, either_true, or_true}
+use Rattle.kernel_model.proofs.NameProper.{by_names_is_proper}
+use Rattle.kernel_model.proofs.Parts.{has_left, has_of_both, has_right, outside_both, outside_cons}
+use Rattle.kernel_model.proofs.Tests.{either_true}
+use Rattle.kernel_model.proofs.TreeChanges.{updates_alike, updates_unset}
 use Rattle.kernel_model.proofs.TreesAlike.{NamesAlike, NodeAlike, changed_names_alike, changed_node_alike, put_name_alike, retimed-changes}
 
 -- ---- at the node that a path leads to
@@ -120,17 +122,19 @@ module _ (now : ℕ) (t u : Tree) (n d : ℕ) (name : List ℕ) (node : NodeAlik
 
   pub link_alike : SetsAlike (link_in now u n d name) (link_in now t n d name)
   link_alike =
-      unless_fault_alike link_errno (first_fault (link_faults u d name n)) (first_fault (link_faults t d name n))
-      (Changes (with_link now u n d name)) (Changes (with_link now t n d name)) (ap first_fault (sym faults_alike))
-      (with_link now t n d name, refl,
-      sym (change_alike (with_link now t n d name).tree (with_link now u n d name).tree (d ∷ n ∷ []) (d ∷ [])
-      (linked_node_alike d directory, (linked_node_alike n node, tt)) (linked_names_alike d names, tt)))
+      unless_alike link_errno (first_fault (link_faults u d name n)) (first_fault (link_faults t d name n))
+      (Changes (with_link now u n d name)) (Changes (with_link now t n d name)) (ap first_fault (sym faults_alike)) (
+        with_link now t n d name,
+        refl,
+        updates_alike (with_link now t n d name).tree (with_link now u n d name).tree (d ∷ n ∷ []) (d ∷ [])
+            (linked_node_alike d directory, (linked_node_alike n node, tt)) (linked_names_alike d names, tt),
+      )
 
 pub link_unset : (now : ℕ) (t : Tree) (n d : ℕ) (name : List ℕ) (q : Part) → same_part (at_node n) q ≡ false → same_part (at_node d) q ≡ false
     → same_part (at_names d) q ≡ false → IsUnsetBy (link_in now t n d name) q
 link_unset now t n d name q node directory names =
-    unless_fault_holds (λ c. IsUnsetBy c q) link_errno (first_fault (link_faults t d name n)) (Changes (with_link now t n d name)) (λ _. tt)
-    (λ free. change_unset (with_link now t n d name) q (directory, (node, tt)) (names, tt))
+    unless_holds (λ c. IsUnsetBy c q) link_errno (first_fault (link_faults t d name n)) (Changes (with_link now t n d name)) (λ _. tt)
+    (λ free. updates_unset (with_link now t n d name).tree q (d ∷ n ∷ []) (d ∷ []) (directory, (node, tt)) (names, tt))
 
 -- its errors beside those of paths
 abbrev link_errors : List Errno
@@ -139,14 +143,23 @@ link_errors = Perm ∷ Exist ∷ Mlink ∷ []
 link_plain : (now : ℕ) (t : Tree) (n d : ℕ) (name : List ℕ) → IsPlainly (path_errors ++ link_errors) None (link_in now t n d name)
 link_plain now t n d name =
     let absent : IsIn Noent (path_errors ++ link_errors) = in_front Noent path_errors link_errors noent_among in
-    first_fault_holds (λ o. IsPlainly (path_errors ++ link_errors) None (unless_fault link_errno o (Changes (with_link now t n d name)))) tt
-    (link_faults t d name n)
-    (absent, (in_front _ path_errors link_errors notdir_among, (absent, (absent,
-    ((path_errors, Exist ∷ Mlink ∷ [], refl), ((path_errors ++ Perm ∷ [], Mlink ∷ [], refl), ((path_errors ++ Perm ∷ Exist ∷ [], [], refl), tt)))))))
+    table_holds (IsPlainly (path_errors ++ link_errors) None) link_errno (link_faults t d name n) (Changes (with_link now t n d name)) (
+      absent,
+      (
+        in_front _ path_errors link_errors notdir_among,
+        (
+          absent,
+          (
+            absent,
+            ((path_errors, Exist ∷ Mlink ∷ [], refl), ((path_errors ++ Perm ∷ [], Mlink ∷ [], refl), ((path_errors ++ Perm ∷ Exist ∷ [], [], refl), tt))),
+          ),
+        ),
+      ),
+    ) (λ free. tt)
 
 link_good : (now new : ℕ) (t : Tree) (n d : ℕ) (name : List ℕ) → IsTree t → IsGood t new 0 (link_in now t n d name)
 link_good now new t n d name tree =
-    unless_fault_holds (IsGood t new 0) link_errno (first_fault (link_faults t d name n)) (Changes (with_link now t n d name)) (λ _. tt)
+    unless_holds (IsGood t new 0) link_errno (first_fault (link_faults t d name n)) (Changes (with_link now t n d name)) (λ _. tt)
     (λ free. with_link_change t d name n tree free now new 0)
 
 -- ---- the meaning
@@ -156,15 +169,10 @@ pub seen_behind : (S : State) (here there : Option OpenKind) (q : Part) (first s
     → (has_part first q ≡ true → has_part (behind S here) q ≡ true) → (has_part second q ≡ true → has_part (behind S there) q ≡ true)
     → has_part (first ++ second) q ≡ true → has_part (behind S here ++ behind S there) q ≡ true
 seen_behind S here there q first second one other h =
-    has_of_both (behind S here) (behind S there) q
-    ∙ elim (either_true (has_part first q) (has_part second q) (sym (has_of_both first second q) ∙ h)) [
-      | inl front ↦ ap (λ b. b || has_part (behind S there) q) (one front)
-      | inr later ↦ ap (λ b. has_part (behind S here) q || b) (other later) ∙ or_true (has_part (behind S here) q)
+    elim (either_true (has_part first q) (has_part second q) (sym (has_of_both first second q) ∙ h)) [
+      | inl front ↦ has_left (behind S here) (behind S there) q (one front)
+      | inr later ↦ has_right (behind S here) (behind S there) q (other later)
     ]
-
--- a part that neither has
-pub outside_both : (first second : List Part) (q : Part) → has_part (first ++ second) q ≡ false → (has_part first q ≡ false) × (has_part second q ≡ false)
-outside_both first second q h = either_false (has_part first q) (has_part second q) (sym (has_of_both first second q) ∙ h)
 
 module _ (mode : WalkMode) (path new_path : List ℕ) where
   linking_reads : (now new : ℕ) (t u : Tree) (here there : Option OpenKind) → IsSeen t u here → IsSeen t u there
@@ -215,3 +223,7 @@ module _ (mode : WalkMode) (path new_path : List ℕ) where
     lacks = all_both (λ errno. errno ≢ Nomem) path_errors link_errors path_errors_lack ((λ e. cc), ((λ e. cc), ((λ e. cc), tt)));
     good = λ now new S here there first second tree none. linking_good now new (tree_of S) here there tree;
   }
+
+pub file_link_is_proper : (lookup : Lookup) (path : List ℕ) (new_fd : ℕ) (new_path : List ℕ) → IsProper (file_link lookup path new_fd new_path)
+file_link_is_proper lookup path new_fd new_path =
+    by_names_is_proper (linking (lookup_mode lookup.flags) path new_path) (linking_well (lookup_mode lookup.flags) path new_path) _ _

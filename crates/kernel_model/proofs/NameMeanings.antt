@@ -2,7 +2,7 @@
 --     IsChangeOf t new makes c      the change leads from the tree t to a tree, says all that it changes, and makes at most one node
 --     SetsAlike, SaysAll, IsPlainly, IsGood      what holds of what such a call comes to
 --     NamesWell m      what is shown of each such meaning
-use Rattle.std.proofs.Common.{◌≡◌, ◌≢◌, ◌⊎◌, ℕ, zero, suc, true, false, List, [], ◌∷◌, ◌++◌, map, Option, Some, None}
+use Rattle.std.proofs.Common.{◌≡◌, ◌≢◌, ◌⊎◌, ℕ, zero, suc, true, false, List, [], ◌++◌, map, Option, Some, None}
 use Rattle.std.specs.Prelude.{⊤}
 use Rattle.std.specs.FinMap.{get}
 use Rattle.std.specs.List.{AllByRecursion}

@@ -1,7 +1,7 @@
 -- A state with one open more, that a new descriptor of a process names.
---     IsBeside, put_last      updates of the tree, and of what a process has of its own beside its descriptors, may come before others
+--     IsBeside, put_last      an open and a table may be set after updates of the tree and of what a process has of its own beside its table
 --     new_open_nearly_valid, new_descriptor_nearly_valid      a nearly valid state stays so with the open, and with the descriptor
-use Rattle.std.proofs.Common.{◌≡◌, ◌≢◌, ℕ, ◌<◌, ◌^◌, Bool, true, false, List, [], ◌∷◌, ◌++◌, Option, Some, None, inl, inr, refl, sym, ap, subst, ◌∙◌}
+use Rattle.std.proofs.Common.{◌≡◌, ◌≢◌, ℕ, ◌<◌, ◌^◌, List, [], ◌∷◌, Some, None, inl, inr, refl, sym, ap, subst, ◌∙◌}
 use Rattle.std.proofs.lemmas.Bool.Decides.{eqb_tells}
 use Rattle.std.specs.Prelude.{⊤}
 use Rattle.std.specs.FinMap.{get, get-empty, empty, insert}
@@ -15,7 +15,7 @@ use Rattle.number_map.specs.Maps.{get-insert-same, get-insert-other}
 use Rattle.kernel_model.specs.Numbers.{object_of}
 use Rattle.kernel_model.specs.State.{State, Table, Update, counts_in, put_all, put_one, set_names, set_node, set_open, set_own, set_table}
 use Rattle.kernel_model.specs.Valid.{HasBehind, IsNamed, IsNearlyValid}
-use Rattle.kernel_model.proofs.Tests.{none_is_no, same_some}
+use Rattle.kernel_model.proofs.Tests.{none_is_no}
 use Rattle.kernel_model.proofs.Valids.{behind_same, same_value, some_again}
 
 -- ---- the order of updates
@@ -56,7 +56,8 @@ module _ (S : State) (o : ℕ) (kind : OpenKind) (none : get S.opens o ≡ None)
   still_behind there r k at =
       elim (eqb_tells r o) [
         | inl is ↦ (
-            let one : kind ≡ k = same_value kind k (get (insert S.opens o kind) o) (get-insert-same S.opens o kind) (subst (λ j. get (insert S.opens o kind) j ≡ Some k) is.1 at) in
+            let there_now : get (insert S.opens o kind) o ≡ Some k = subst (λ j. get (insert S.opens o kind) j ≡ Some k) is.1 at in
+            let one : kind ≡ k = same_value kind k (get (insert S.opens o kind) o) (get-insert-same S.opens o kind) there_now in
             subst (HasBehind S) one there)
         | inr other ↦ v.behind r k (sym (get-insert-other S.opens o kind r other.1) ∙ at)
       ]
@@ -91,14 +92,15 @@ module _ (S : State) (p : ℕ) (table : Table) (there : get S.tables p ≡ Some 
             one_named n d (ap (λ (t : Table). get t n) is ∙ here))
         | inr apart ↦ v.named q n other d (sym (get-insert-other S.tables p (insert table fd e) q apart.1) ∙ at) here
       ] where
-    one_named : (n : ℕ) (d : Descriptor) → get (insert table fd e) n ≡ Some d → IsNamed (get S.opens d.id) d
-    one_named n d here =
-        elim (eqb_tells n fd) [
-          | inl same ↦ (
-              let is : e ≡ d = same_value e d (get (insert table fd e) fd) (get-insert-same table fd e) (subst (λ j. get (insert table fd e) j ≡ Some d) same.1 here) in
-              subst (λ (x : Descriptor). IsNamed (get S.opens x.id) x) is named)
-          | inr apart ↦ v.named p n table d there (sym (get-insert-other table fd e n apart.1) ∙ here)
-        ]
+        one_named : (n : ℕ) (d : Descriptor) → get (insert table fd e) n ≡ Some d → IsNamed (get S.opens d.id) d
+        one_named n d here =
+            elim (eqb_tells n fd) [
+              | inl same ↦ (
+                  let here_now : get (insert table fd e) fd ≡ Some d = subst (λ j. get (insert table fd e) j ≡ Some d) same.1 here in
+                  let is : e ≡ d = same_value e d (get (insert table fd e) fd) (get-insert-same table fd e) here_now in
+                  subst (λ (x : Descriptor). IsNamed (get S.opens x.id) x) is named)
+              | inr apart ↦ v.named p n table d there (sym (get-insert-other table fd e n apart.1) ∙ here)
+            ]
 
   -- a process that has ended has no descriptor
   ended_bare : (q n : ℕ) (d : Descriptor) (status : Status) → get table n ≡ Some d → get S.statuses q ≡ Some status → status ≢ Live
@@ -106,7 +108,8 @@ module _ (S : State) (p : ℕ) (table : Table) (there : get S.tables p ≡ Some 
   ended_bare q n d status here is ends =
       elim (eqb_tells q p) [
         | inl same ↦ (
-            let bare : empty ≡ table = same_value empty table (get S.tables p) (subst (λ j. get S.tables j ≡ Some empty) same.1 (v.ended q status is ends).0) there in
+            let none_left : get S.tables p ≡ Some empty = subst (λ j. get S.tables j ≡ Some empty) same.1 (v.ended q status is ends).0 in
+            let bare : empty ≡ table = same_value empty table (get S.tables p) none_left there in
             absurd (none_is_no d (sym (get-empty nat_cmp n) ∙ ap (λ (m : Table). get m n) bare ∙ here)))
         | inr apart ↦ get-insert-other S.tables p (insert table fd e) q apart.1 ∙ (v.ended q status is ends).0
       ]

@@ -3,13 +3,13 @@
 --     IsNewPart, new_part_is      each part of what it makes next is one of an object of these
 --     next_is_absent      no open and no node has the number of an object that it makes next
 --     none_of_new, parts_are_absent      nor is there any part of what it makes
-use Rattle.std.proofs.Common.{◌≡◌, ℕ, zero, suc, ◌+◌, ◌^◌, ◌<◌, ◌≤◌, Bool, true, false, [], ◌∷◌, Option, Some, None, IsSome, is_some, inl, inr, refl, sym, ap, subst, ◌∙◌, arith}
+use Rattle.std.proofs.Common.{◌≡◌, ℕ, zero, suc, ◌+◌, ◌^◌, ◌<◌, ◌≤◌, Bool, true, false, [], ◌∷◌, Option, Some, None, IsSome, inl, inr, refl, sym, ap, subst, ◌∙◌, arith}
 use Rattle.std.proofs.lemmas.Bool.{ltb-true}
 use Rattle.std.specs.Prelude.{nat_lt, ◌&&◌}
 use Rattle.std.specs.FinMap.{get}
 use Rattle.tree_model.specs.Tree.{is_directory_node}
 use Rattle.kernel_model.specs.Laws.{IsNotThere}
-use Rattle.kernel_model.specs.Numbers.{can_number, next_object, new_parts, object_of, object_parts}
+use Rattle.kernel_model.specs.Numbers.{can_number, next_object, new_parts, object_parts}
 use Rattle.kernel_model.specs.State.{State, Own, Part, at_open, at_node, at_names, same_part, counts_in, has_part}
 use Rattle.kernel_model.specs.Valid.{IsNearlyValid}
 use Rattle.kernel_model.proofs.Parts.{has_of_both, same_part_is}

@@ -2,11 +2,11 @@
 --     OpensAlike, opens_alike      by what is seen of the tree it opens what it opens by the whole, and sets the same
 --     opened_holds      what holds of each refusal, of a file and a directory that is there, and of a file that is made, holds of it
 --     OpensPlainly, opens_plainly      its errors are among these
---     OpensBeside, opens_beside      and these are the new file's, or what it says that it changes
+--     OpensBeside, opens_beside      it sets of the tree the new file, and what it says that it changes
 --     OpensWell, opens_well      the change leads to a tree, and what is opened is there
-use Rattle.std.proofs.Common.{◌≡◌, ◌≢◌, ◌⊎◌, ℕ, ◌==◌, ◌&&◌, ◌||◌, Bool, true, false, not, cond, List, [], ◌∷◌, ◌++◌, map, Option, Some, None, is_none, is_some, inl, inr, refl, sym, ap, subst, ◌∙◌, arith}
+use Rattle.std.proofs.Common.{◌≡◌, ◌≢◌, ◌⊎◌, ℕ, ◌||◌, Bool, true, false, cond, List, [], ◌∷◌, ◌++◌, map, Option, Some, None, is_some, inl, inr, refl, sym, ap, subst, ◌∙◌, arith}
 use Rattle.std.specs.Prelude.{⊤}
-use Rattle.std.specs.FinMap.{get, insert}
+use Rattle.std.specs.FinMap.{get}
 use Rattle.abi_base.specs.declared.errno.Errno.{Errno}
 use Rattle.abi_base.specs.declared.errno.Errno.TheVariants.{Again, Badf, Exist, Isdir, Loop, Mfile, Noent, Notdir}
 use Rattle.abi_types.specs.declared.node.Node.{Node}
@@ -20,32 +20,31 @@ use Rattle.path_lookup.specs.Laws.{IsIn}
 use Rattle.path_lookup.specs.declared.ends.End.{End as PathEnd}
 use Rattle.path_lookup.specs.declared.ends.End.TheVariants as end
 use Rattle.path_lookup.specs.declared.ends.WalkMode.{WalkMode}
-use Rattle.tree_model.specs.Changes.{Faults, first_fault, is_absent, is_file, is_file_kind, is_file_node, is_removed, lacks_name, made, make_faults}
+use Rattle.tree_model.specs.Changes.{first_fault, is_file, is_file_kind, is_file_node, made, make_faults}
 use Rattle.tree_model.specs.Entries.{KeepsNodes, KeepsNodes-itself, here_or_other}
 use Rattle.tree_model.specs.Facts.{absent_no_directory, two_kinds}
 use Rattle.tree_model.specs.Faults.{can_make}
 use Rattle.tree_model.specs.Finds.{HasSameBelow}
-use Rattle.tree_model.specs.Tree.{IsTree, below, is_directory, is_directory_kind, is_directory_node, links_in, names_in}
+use Rattle.tree_model.specs.Tree.{IsTree, below, is_directory, is_directory_kind, is_directory_node}
 use Rattle.tree_model.specs.declared.fault.TreeFault.{TreeFault}
-use Rattle.tree_model.specs.declared.fault.TreeFault.TheVariants.{Absent, Taken, NotDirectory}
-use Rattle.tree_model.specs.declared.limits.TheConstants.{ROOT}
-use Rattle.kernel_model.specs.FileChanges.{modified, retimed, sized}
+use Rattle.kernel_model.specs.FileChanges.{modified, sized}
 use Rattle.kernel_model.specs.FilePaths.{Walked, Ends, Fails, LeadsOutside, end_part, path_errors, walked, walked_in}
 use Rattle.kernel_model.specs.LastNames.{name_at}
 use Rattle.kernel_model.specs.NameMaking.{errno_of, node_of, with_node}
-use Rattle.kernel_model.specs.Opening.{Opened, NotOpened, OpenedOutside, Opens, absent_end_parts, creates, parts_where, makes_new, truncates, truncated, wants_directory, open_file, open_directory, open_kind, open_node, make_file, open_absent, open_end, open_walked}
+use Rattle.kernel_model.specs.Numbers.{object_parts}
+use Rattle.kernel_model.specs.Opening.{Opened, NotOpened, OpenedOutside, Opens, absent_end_parts, creates, parts_where, makes_new, truncates, truncated, wants_directory, open_kind, open_node, make_file, open_absent, open_end, open_walked}
 use Rattle.kernel_model.specs.Proper.{IsIn as IsAmong}
-use Rattle.kernel_model.specs.State.{Names, Part, Tree, Update, at_names, at_node, has_part, part_of, same_part}
-use Rattle.kernel_model.specs.TreeUpdates.{Change, change_updates, names_update, node_update, no_change}
+use Rattle.kernel_model.specs.State.{Part, Tree, Update, at_names, at_node, has_part, part_of, same_part}
+use Rattle.kernel_model.specs.TreeUpdates.{Change, change_updates, node_update, no_change}
 use Rattle.kernel_model.proofs.Branches.{IsSeen}
 use Rattle.kernel_model.proofs.FileChanges.{sized_alike, sized_reworks}
 use Rattle.kernel_model.proofs.FilePaths.{LeadsIn, badf_among, leads_below, loop_among, noent_among, notdir_among, walk_reads}
 use Rattle.kernel_model.proofs.LastNames.{in_front}
+use Rattle.kernel_model.proofs.NameMaking.{first_holds, make_faults_alike, with_node_alike, with_node_change, with_node_unset}
 use Rattle.kernel_model.proofs.NameMeanings.{IsChangeOf}
-use Rattle.kernel_model.proofs.Parts.{insert_alike, of_first, of_second, outside_cons}
-use Rattle.kernel_model.proofs.Reworks.{Alike, Reworks, retimed_alike, retimed_reworks}
-use Rattle.kernel_model.proofs.TreeChanges.{first_is_member, kept_change, later_is_member, made_change, not_member_apart, retimed_change}
-use Rattle.kernel_model.proofs.TreeUpdates.{both_unset}
+use Rattle.kernel_model.proofs.Parts.{of_first, of_second, outside_cons}
+use Rattle.kernel_model.proofs.Reworks.{Alike, Reworks, retimed_reworks}
+use Rattle.kernel_model.proofs.TreeChanges.{first_is_member, kept_change, not_member_apart, updates_unset}
 
 -- ---- what it opens, by what is seen
 
@@ -93,62 +92,17 @@ module _ (oflags flags now : ℕ) (t u : Tree) (n : ℕ) (same : Alike t u n) wh
 
 -- ---- a new file
 
--- the faults hang on the directory's node and on the names in it
-abbrev faults_in : ℕ → List ℕ → Option Node → Option Names → Faults
-faults_in d name node names =
-    (is_none node, Absent) ∷ (not (is_directory_node node), NotDirectory) ∷ ((links_in node == 0) && not (d == ROOT), Absent)
-    ∷ (not (is_none (get (names_in names) name)), Taken) ∷ []
-
--- the updates of a new file in a directory
-abbrev file_updates : ℕ → ℕ → Option Node → Option Node → Option Names → List Update
-file_updates d new above node names = (node_update d above ++ (node_update new node ++ [])) ++ (names_update d names ++ [])
-
-abbrev with_file : ℕ → ℕ → Tree → ℕ → List ℕ → Tree
-with_file now new t d name = made t d name new (node_of (kind.File []) now)
-
-abbrev file_tree : ℕ → ℕ → Tree → ℕ → List ℕ → Tree
-file_tree now new t d name = retimed (with_file now new t d name) d (modified now)
-
 module _ (flags now new : ℕ) (t u : Tree) (d : ℕ) (name : List ℕ) (nodes : Alike t u d) (names : get t.names d ≡ get u.names d) where
-  faults_alike : make_faults u d name ≡ make_faults t d name
-  faults_alike =
-      ap (λ o. faults_in d name o (get u.names d)) (sym nodes) ∙ ap (λ o. faults_in d name (get t.nodes d) o) (sym names)
-
-  above_alike : Alike (file_tree now new t d name) (file_tree now new u d name) d
-  above_alike =
-      retimed_alike (with_file now new t d name) (with_file now new u d name) d (modified now)
-      (insert_alike t.nodes u.nodes new _ d nodes)
-
-  made_alike : Alike (file_tree now new t d name) (file_tree now new u d name) new
-  made_alike =
-      here_or_other (λ q. get (file_tree now new t d name).nodes q ≡ get (file_tree now new u d name).nodes q) d new above_alike
-      (λ other.
-      (retimed_reworks (with_file now new t d name) d (modified now)).others new other ∙ get-insert-same t.nodes new _
-      ∙ sym (get-insert-same u.nodes new _) ∙ sym ((retimed_reworks (with_file now new u d name) d (modified now)).others new other))
-
-  names_alike : get (file_tree now new t d name).names d ≡ get (file_tree now new u d name).names d
-  names_alike =
-      ap (λ m. get m d) (retimed_reworks (with_file now new t d name) d (modified now)).names ∙ get-insert-same t.names d _
-      ∙ ap (λ o. Some (insert (names_in o) name new)) names
-      ∙ sym (get-insert-same u.names d _) ∙ sym (ap (λ m. get m d) (retimed_reworks (with_file now new u d name) d (modified now)).names)
-
-  file_alike : change_updates (with_node (kind.File []) now new u d name) ≡ change_updates (with_node (kind.File []) now new t d name)
-  file_alike =
-      ap (λ o. file_updates d new o (get (file_tree now new u d name).nodes new) (get (file_tree now new u d name).names d)) (sym above_alike)
-      ∙ ap (λ o. file_updates d new (get (file_tree now new t d name).nodes d) o (get (file_tree now new u d name).names d)) (sym made_alike)
-      ∙ ap (file_updates d new (get (file_tree now new t d name).nodes d) (get (file_tree now new t d name).nodes new)) (sym names_alike)
-
   make_alike : (fault : Option TreeFault) → OpensAlike (make_file flags now new u d name fault) (make_file flags now new t d name fault)
-  make_alike None = (with_node (kind.File []) now new t d name, refl, file_alike)
+  make_alike None = (with_node (kind.File []) now new t d name, refl, with_node_alike now new t u d name nodes names (kind.File []))
   make_alike (Some fault) = refl
 
   absent_alike : (oflags : ℕ) → OpensAlike (open_absent oflags flags now new u d name) (open_absent oflags flags now new t d name)
   absent_alike oflags =
-      either_opens (creates oflags) (make_file flags now new u d name (first_fault (make_faults u d name)))
-      (make_file flags now new t d name (first_fault (make_faults t d name))) _ _
-      (subst
-      (λ faults. OpensAlike (make_file flags now new u d name (first_fault faults)) (make_file flags now new t d name (first_fault (make_faults t d name))))
-      (sym faults_alike) (make_alike (first_fault (make_faults t d name)))) refl
+      let fault = first_fault (make_faults t d name) in
+      either_opens (creates oflags) (make_file flags now new u d name (first_fault (make_faults u d name))) (make_file flags now new t d name fault) _ _
+      (subst (λ o. OpensAlike (make_file flags now new u d name o) (make_file flags now new t d name fault))
+      (sym (make_faults_alike now new t u d name nodes names)) (make_alike fault)) refl
 
 -- ---- where a path leads
 
@@ -202,12 +156,10 @@ abbrev FaultAmong : Option TreeFault → Type 0
 FaultAmong None = ⊤
 FaultAmong (Some fault) = IsAmong (errno_of fault) open_errors
 
-fault_among : (a b c e : Bool) → FaultAmong (first_fault ((a, Absent) ∷ (b, NotDirectory) ∷ (c, Absent) ∷ (e, Taken) ∷ []))
-fault_among true b c e = path_among Noent noent_among
-fault_among false true c e = path_among Notdir notdir_among
-fault_among false false true e = path_among Noent noent_among
-fault_among false false false true = exist_among
-fault_among false false false false = tt
+fault_among : (t : Tree) (d : ℕ) (name : List ℕ) → FaultAmong (first_fault (make_faults t d name))
+fault_among t d name =
+    let absent = path_among Noent noent_among in
+    first_holds FaultAmong (make_faults t d name) tt (absent, (path_among Notdir notdir_among, (absent, (exist_among, tt))))
 
 -- What holds of each of these, by the path's end, holds of what it comes to: a refusal; a file that is there, or a directory; and
 -- a file that is made in a directory that may have it.
@@ -241,10 +193,11 @@ module _ (oflags flags : ℕ) (path : List ℕ) (now new : ℕ) (t : Tree) (P : 
   made_holds d from len made (Some fault) is among = refuses (end.Absent d from len) (errno_of fault) among
 
   absent_holds : (d from len : ℕ) (b : Bool) → creates oflags ≡ b
-      → P (end.Absent d from len) (cond b (make_file flags now new t d (name_at path from len) (first_fault (make_faults t d (name_at path from len)))) (NotOpened Noent))
+      → P (end.Absent d from len)
+      (cond b (make_file flags now new t d (name_at path from len) (first_fault (make_faults t d (name_at path from len)))) (NotOpened Noent))
   absent_holds d from len true made =
       made_holds d from len made (first_fault (make_faults t d (name_at path from len))) refl
-      (fault_among (is_absent t d) (not (is_directory t d)) (is_removed t d) (not (lacks_name t d (name_at path from len))))
+      (fault_among t d (name_at path from len))
   absent_holds d from len false unmade = refuses (end.Absent d from len) Noent (path_among Noent noent_among)
 
   pub opened_holds : (end : PathEnd) → P end (open_end oflags flags path now new t end)
@@ -269,14 +222,6 @@ opens_plainly oflags flags path now new t end =
 abbrev pub Unset : List Update → Part → Type 0
 Unset us q = has_part (map part_of us) q ≡ false
 
-node_unset : (n : ℕ) (o : Option Node) (q : Part) → same_part (at_node n) q ≡ false → Unset (node_update n o) q
-node_unset n None q apart = refl
-node_unset n (Some node) q apart = ap (λ b. b || false) apart
-
-names_unset : (d : ℕ) (o : Option Names) (q : Part) → same_part (at_names d) q ≡ false → Unset (names_update d o) q
-names_unset d None q apart = refl
-names_unset d (Some names) q apart = ap (λ b. b || false) apart
-
 -- at most one node is made
 abbrev pub IsFew : ℕ → Type 0
 IsFew makes = (makes ≡ 0) ⊎ (makes ≡ 1)
@@ -293,35 +238,31 @@ end_changes oflags end = parts_where (creates oflags) (absent_end_parts end) ++ 
 
 truncated_unset : (b : Bool) (t u : Tree) (n : ℕ) (q : Part) → has_part (parts_where b (at_node n ∷ [])) q ≡ false
     → Unset (change_updates (cond b (record { tree = u; nodes = n ∷ []; directories = [] }) (no_change t))) q
-truncated_unset true t u n q h =
-    both_unset (node_update n (get u.nodes n) ++ []) [] q
-    (both_unset (node_update n (get u.nodes n)) [] q (node_unset n (get u.nodes n) q (outside_cons (at_node n) [] q h).0) refl) refl
+truncated_unset true t u n q h = updates_unset u q (n ∷ []) [] ((outside_cons (at_node n) [] q h).0, tt) tt
 truncated_unset false t u n q h = refl
 
-file_unset : (now new : ℕ) (t : Tree) (d : ℕ) (name : List ℕ) (q : Part) → same_part (at_node new) q ≡ false → has_part (at_node d ∷ at_names d ∷ []) q ≡ false
-    → Unset (change_updates (with_node (kind.File []) now new t d name)) q
-file_unset now new t d name q apart h =
-    let u : Tree = file_tree now new t d name in
-    let above = outside_cons (at_node d) (at_names d ∷ []) q h in
-    both_unset (node_update d (get u.nodes d) ++ (node_update new (get u.nodes new) ++ [])) (names_update d (get u.names d) ++ []) q
-    (both_unset (node_update d (get u.nodes d)) (node_update new (get u.nodes new) ++ []) q (node_unset d (get u.nodes d) q above.0)
-    (both_unset (node_update new (get u.nodes new)) [] q (node_unset new (get u.nodes new) q apart) refl))
-    (both_unset (names_update d (get u.names d)) [] q (names_unset d (get u.names d) q (outside_cons (at_names d) [] q above.1).0) refl)
+-- a part that is neither the directory nor the names in it
+directory_apart : (d : ℕ) (q : Part) → has_part (at_node d ∷ at_names d ∷ []) q ≡ false → (same_part (at_node d) q ≡ false) × (same_part (at_names d) q ≡ false)
+directory_apart d q h =
+    let first = outside_cons (at_node d) (at_names d ∷ []) q h in
+    (first.0, (outside_cons (at_names d) [] q first.1).0)
 
-pub opens_beside : (oflags flags : ℕ) (path : List ℕ) (now new : ℕ) (t : Tree) (q : Part) → same_part (at_node new) q ≡ false
+pub opens_beside : (oflags flags : ℕ) (path : List ℕ) (now new : ℕ) (t : Tree) (q : Part) → has_part (object_parts new) q ≡ false
     → (end : PathEnd) → has_part (end_changes oflags end) q ≡ false → OpensBeside q (open_end oflags flags path now new t end)
 opens_beside oflags flags path now new t q apart =
     opened_holds oflags flags path now new t (λ end o. has_part (end_changes oflags end) q ≡ false → OpensBeside q o) (λ end errno here h. tt)
     (λ n file h. (
-    inl refl,
-    truncated_unset (truncates oflags) t (sized t n now 0) n q (of_second (parts_where (creates oflags) []) (parts_where (truncates oflags) (at_node n ∷ [])) q h),
+      inl refl,
+      truncated_unset (truncates oflags) t (sized t n now 0) n q
+          (of_second (parts_where (creates oflags) []) (parts_where (truncates oflags) (at_node n ∷ [])) q h),
     ))
     (λ n is h. (inl refl, refl))
     (λ d from len made free h. (
-    inr refl,
-    file_unset now new t d (name_at path from len) q apart
-    (sym (ap (λ b. has_part (parts_where b (at_node d ∷ at_names d ∷ [])) q) made)
-    ∙ of_first (parts_where (creates oflags) (at_node d ∷ at_names d ∷ [])) (parts_where (truncates oflags) []) q h),
+      inr refl,
+      with_node_unset (kind.File []) now new t d (name_at path from len) q apart
+          (directory_apart d q
+          (sym (ap (λ b. has_part (parts_where b (at_node d ∷ at_names d ∷ [])) q) made)
+          ∙ of_first (parts_where (creates oflags) (at_node d ∷ at_names d ∷ [])) (parts_where (truncates oflags) []) q h)),
     ))
 
 -- ---- the tree after it
@@ -377,11 +318,8 @@ module _ (flags now new : ℕ) (t : Tree) (tree : IsTree t) where
       → IsChangeOf t new 1 (with_node (kind.File []) now new t d name) × IsThere (with_node (kind.File []) now new t d name).tree (File new 0 flags)
   made_well d name none free =
       let apart : new ≢ d = two_kinds t d new (can_make t d name free).directory (absent_no_directory t new none) in (
-        retimed_change t new 1 (record { tree = with_file now new t d name; nodes = d ∷ new ∷ []; directories = d ∷ [] }) d (modified now)
-        (first_is_member d (new ∷ []))
-        (made_change t d name new (node_of (kind.File []) now) none 1 (d ∷ new ∷ []) (d ∷ []) tree free (λ e. absurd (omega (arith, e)))
-        (later_is_member new d (new ∷ []) (first_is_member new [])) (first_is_member d []) (λ q lacks. refl)),
-        ap is_file_node ((retimed_reworks (with_file now new t d name) d (modified now)).others new apart ∙ get-insert-same t.nodes new _),
+        with_node_change (kind.File []) now new t d name 1 tree free none (λ e. absurd (omega (arith, e))),
+        ap is_file_node ((retimed_reworks (made t d name new (node_of (kind.File []) now)) d (modified now)).others new apart ∙ get-insert-same t.nodes new _),
       )
 
 pub opens_well : (oflags flags : ℕ) (path : List ℕ) (now new : ℕ) (t : Tree) → IsTree t → get t.nodes new ≡ None → (end : PathEnd)

@@ -1,10 +1,13 @@
 -- The meaning of the call that opens is proper.
-use Rattle.std.proofs.Common.{◌≡◌, ◌≢◌, ◌⊎◌, inl, inr, ℕ, zero, suc, ◌+◌, ◌^◌, ◌<◌, ◌==◌, ◌||◌, Bool, true, false, cond, List, [], ◌∷◌, ◌++◌, map, Option, Some, None, refl, sym, ap, subst, ◌∙◌, arith}
-use Rattle.std.specs.Prelude.{⊤}
+--     opened_by, open_by      what holds of each reply, and of what is set where something is opened, holds of the outcome
+--     at_alike, at_plain      the outcome hangs on what is opened;  its reply is plain
+--     open_unset, open_others, changes_reached      what it sets, and that it sees what it changes
+--     open_reads, walk_seen      what it sees
+--     open_threads, open_valid      the state after it
+--     file_open_is_proper      all of it
+use Rattle.std.proofs.Common.{◌≡◌, ◌≢◌, inl, inr, ℕ, zero, suc, ◌+◌, ◌^◌, ◌<◌, ◌||◌, Bool, true, false, cond, List, [], ◌∷◌, ◌++◌, map, Option, Some, None, refl, sym, ap, subst, ◌∙◌, arith}
 use Rattle.std.specs.FinMap.{get, insert}
 use Rattle.std.specs.List.{AllByRecursion}
-use Rattle.std.specs.Option.{option_map}
-use Rattle.abi_base.specs.declared.errno.Errno.{Errno}
 use Rattle.abi_base.specs.declared.errno.Errno.TheVariants.{Again, Badf, Exist, Isdir, Mfile, Nomem}
 use Rattle.abi_structures.specs.declared.structures.FdStat.{FdStat}
 use Rattle.abi_types.specs.declared.call.Lookup.{Lookup}
@@ -21,7 +24,7 @@ use Rattle.tree_model.specs.Tree.{IsTree}
 use Rattle.kernel_model.specs.ClockCalls.{real_time}
 use Rattle.kernel_model.specs.DescriptorCalls.{lowest_free}
 use Rattle.kernel_model.specs.FileMeaning.{open_of}
-use Rattle.kernel_model.specs.FilePaths.{Walked, Ends, Fails, LeadsOutside, end_part, found_part, outside_of, path_errors, walked}
+use Rattle.kernel_model.specs.FilePaths.{Walked, Ends, Fails, LeadsOutside, found_part, outside_of, path_errors, walked}
 use Rattle.kernel_model.specs.LastNames.{StandsIn}
 use Rattle.kernel_model.specs.Numbers.{can_number, next_object, new_parts, object_of, object_parts, own_updates}
 use Rattle.kernel_model.specs.Opening.{Opened, NotOpened, OpenedOutside, Opens, absent_end_parts, absent_parts, creates, file_open, open_at, open_mode, open_row, open_walked, opened_descriptor, opened_outcome, parts_where, truncates, where_free}
@@ -34,24 +37,25 @@ use Rattle.kernel_model.specs.Step.{tick}
 use Rattle.kernel_model.specs.TreeUpdates.{Change, change_updates}
 use Rattle.kernel_model.specs.Valid.{HasBehind, IsNamed, IsNearlyValid, fits, fits_inheriting}
 use Rattle.kernel_model.specs.View.{View, restrict, whole}
-use Rattle.kernel_model.proofs.Branches.{IsSeen, behind_is_seen}
+use Rattle.kernel_model.proofs.Branches.{IsSeen}
 use Rattle.kernel_model.proofs.DescriptorCalls.{met_within}
 use Rattle.kernel_model.proofs.FileMeanings.{IsOfTree, tree_threads, tree_unset}
 use Rattle.kernel_model.proofs.FilePaths.{FailsPlainly, found_is_seen, path_errors_lack, walked_plainly, walked_reads}
 use Rattle.kernel_model.proofs.LastNames.{EndsBelow, WalksBelow, all_both, directory_seen, walks_below}
 use Rattle.kernel_model.proofs.Lists.{all_weaker}
 use Rattle.kernel_model.proofs.NameMeanings.{IsChangeOf}
+use Rattle.kernel_model.proofs.NameProper.{HasReached, behind_is_reached, sees_behind, sees_open}
 use Rattle.kernel_model.proofs.NewOpens.{IsBeside, new_descriptor_nearly_valid, new_open_nearly_valid, put_last}
 use Rattle.kernel_model.proofs.ObjectNumbers.{fewer_fit, next_is_absent}
-use Rattle.kernel_model.proofs.Opened.{IsFew, IsThere, OpensAlike, OpensBeside, OpensPlainly, OpensWell, Unset, again_among, end_changes, mfile_among, open_errors, opens_alike, opens_beside, opens_plainly, opens_well, path_among}
-use Rattle.kernel_model.proofs.Parts.{KeepsThreads, beyond_own, has_of_both, number_apart, of_first, of_second, outside_cons, same_part_is}
-use Rattle.kernel_model.proofs.Sights.{first_seen, open_seen}
-use Rattle.kernel_model.proofs.Tests.{either_true, not_true, or_false, or_true}
-use Rattle.kernel_model.proofs.TreeUpdates.{both_unset, change_nearly_valid, change_of_tree, counted, counted_holds, counted_more, one_object, put_both, put_counted, with_tree}
+use Rattle.kernel_model.proofs.Opened.{IsFew, IsThere, OpensAlike, OpensBeside, OpensPlainly, OpensWell, Unset, again_among, mfile_among, open_errors, opens_alike, opens_beside, opens_plainly, opens_well, path_among}
+use Rattle.kernel_model.proofs.Parts.{KeepsThreads, beyond_own, has_left, has_of_both, has_right, number_apart, of_first, of_second, outside_cons}
+use Rattle.kernel_model.proofs.Sights.{first_seen}
+use Rattle.kernel_model.proofs.Tests.{either_true, not_true}
+use Rattle.kernel_model.proofs.TreeUpdates.{both_unset, change_nearly_valid, change_of_tree, counted, counted_holds, counted_more, counted_threads, one_object, put_both, put_counted, with_tree}
 
 -- ---- the outcome where something is opened
 
--- what is set beside the tree, before it
+-- the updates, before those of the tree
 abbrev open_updates : ℕ → Option Own → Table → FdStat → ℕ → OpenKind → ℕ → List Update → List Update
 open_updates p own table stat fd kind makes us =
     set_open (next_object p own (makes + 1)) kind
@@ -67,7 +71,7 @@ either_outcome Q true x y first second = first refl
 either_outcome Q false x y first second = second
 
 module _ (p : ℕ) (own : Option Own) (table : Table) (stat : FdStat) where
-  -- What holds of each reply with nothing set, and of what is set where something is opened, holds of the outcome.
+  -- what holds of each reply with nothing set, and of what is set where something is opened, holds of the outcome
   module _ (Q : Outcome → Type 0) (answers : (reply : Reply) → Q (replies reply)) where
     opened_by : (fd : ℕ) (o : Opened)
         → ((kind : OpenKind) (c : Change) (makes : ℕ) → o ≡ Opens kind c makes → can_number p (makes + 1) own ≡ true
@@ -134,36 +138,35 @@ opening_unset p own table stat fd kind makes us q apart proc change =
     ap (λ b. b || (same_part (at_proc p) q || has_part (map part_of rest) q)) apart ∙ ap (λ b. b || has_part (map part_of rest) q) proc
     ∙ both_unset (own_updates p (makes + 1) own) us q (own_unset p (makes + 1) own q proc) change
 
-object_apart : (o : ℕ) (q : Part) → has_part (object_parts o) q ≡ false → (same_part (at_open o) q ≡ false) × (same_part (at_node o) q ≡ false)
-object_apart o q h =
-    let first = outside_cons (at_open o) (at_node o ∷ at_names o ∷ []) q h in
-    (first.0, (outside_cons (at_node o) (at_names o ∷ []) q first.1).0)
+open_apart : (o : ℕ) (q : Part) → has_part (object_parts o) q ≡ false → same_part (at_open o) q ≡ false
+open_apart o q h = (outside_cons (at_open o) (at_node o ∷ at_names o ∷ []) q h).0
 
 -- a part apart from those of two new objects
 apart_from_new : (p : ℕ) (own : Option Own) (q : Part) → has_part (new_parts p 2 own) q ≡ false
-    → (same_part (at_node (next_object p own 1)) q ≡ false) × ((makes : ℕ) → IsFew makes → same_part (at_open (next_object p own (makes + 1))) q ≡ false)
+    → (has_part (object_parts (next_object p own 1)) q ≡ false) × (has_part (object_parts (next_object p own 2)) q ≡ false)
 apart_from_new p own q h =
     let second : List Part = object_parts (next_object p own 2) in
     let first : List Part = object_parts (next_object p own 1) in
-    let two = object_apart (next_object p own 2) q (of_first second (first ++ []) q h) in
-    let one = object_apart (next_object p own 1) q (of_first first [] q (of_second second (first ++ []) q h)) in
-    (one.1, few two.0 one.0) where
-  few : same_part (at_open (next_object p own 2)) q ≡ false → same_part (at_open (next_object p own 1)) q ≡ false
-      → (makes : ℕ) → IsFew makes → same_part (at_open (next_object p own (makes + 1))) q ≡ false
-  few second first makes (inl is) = subst (λ m. same_part (at_open (next_object p own (m + 1))) q ≡ false) (sym is) first
-  few second first makes (inr is) = subst (λ m. same_part (at_open (next_object p own (m + 1))) q ≡ false) (sym is) second
+    (of_first first [] q (of_second second (first ++ []) q h), of_first second (first ++ []) q h)
+
+-- so it is none of the open's that comes behind at most one node
+few_apart : (p : ℕ) (own : Option Own) (q : Part) (makes : ℕ) → IsFew makes → has_part (object_parts (next_object p own 1)) q ≡ false
+    → has_part (object_parts (next_object p own 2)) q ≡ false → has_part (object_parts (next_object p own (makes + 1))) q ≡ false
+few_apart p own q makes (inl is) first second = subst (λ m. has_part (object_parts (next_object p own (m + 1))) q ≡ false) (sym is) first
+few_apart p own q makes (inr is) first second = subst (λ m. has_part (object_parts (next_object p own (m + 1))) q ≡ false) (sym is) second
 
 -- what it may change, by where the path leads
 abbrev open_changes : ℕ → Walked → List Part
 open_changes oflags w = parts_where (creates oflags) (absent_parts w) ++ parts_where (truncates oflags) (found_part w)
 
-walk_beside : (oflags flags : ℕ) (path : List ℕ) (now new : ℕ) (t : Tree) (q : Part) → same_part (at_node new) q ≡ false
+walk_beside : (oflags flags : ℕ) (path : List ℕ) (now new : ℕ) (t : Tree) (q : Part) → has_part (object_parts new) q ≡ false
     → (w : Walked) → has_part (open_changes oflags w) q ≡ false → OpensBeside q (open_walked oflags flags path now new t w)
 walk_beside oflags flags path now new t q apart (Ends end) h = opens_beside oflags flags path now new t q apart end h
 walk_beside oflags flags path now new t q apart (Fails errno) h = tt
 walk_beside oflags flags path now new t q apart (LeadsOutside component) h = tt
 
-open_unset : (p : ℕ) (own : Option Own) (table : Table) (stat : FdStat) (free : Option ℕ) (oflags : ℕ) (path : List ℕ) (now : ℕ) (t : Tree) (w : Walked) (q : Part)
+open_unset : (p : ℕ) (own : Option Own) (table : Table) (stat : FdStat) (free : Option ℕ) (oflags : ℕ) (path : List ℕ) (now : ℕ) (t : Tree)
+    (w : Walked) (q : Part)
     → has_part (own_parts p ++ (new_parts p 2 own ++ open_changes oflags w)) q ≡ false
     → IsUnset (open_at p own table stat (open_walked oflags stat.flags path now (next_object p own 1) t w) free) q
 open_unset p own table stat free oflags path now t w q h =
@@ -175,7 +178,8 @@ open_unset p own table stat free oflags path now t w q h =
     open_by p own table stat (λ o. IsUnset o q) (λ reply. refl) free (open_walked oflags stat.flags path now (next_object p own 1) t w)
     (λ fd kind c makes is can. (
     let sets : OpensBeside q (Opens kind c makes) = subst (OpensBeside q) is beside in
-    opening_unset p own table stat fd kind makes (change_updates c) q (apart.1 makes sets.0) proc.0 sets.1))
+    opening_unset p own table stat fd kind makes (change_updates c) q
+    (open_apart (next_object p own (makes + 1)) q (few_apart p own q makes sets.0 apart.0 apart.1)) proc.0 sets.1))
 
 -- nothing that another process has
 open_others : (p : ℕ) (own : Option Own) (table : Table) (stat : FdStat) (free : Option ℕ) (o : Opened) (q : ℕ) → q ≢ p
@@ -220,10 +224,8 @@ changes_seen S oflags mode path kind q h =
 
 changes_reached : (S : State) (oflags : ℕ) (mode : WalkMode) (path : List ℕ) (o : Option Descriptor) (q : Part)
     → has_part (open_changes oflags (walked (tree_of S) mode path (open_of (whole S) o))) q ≡ true → has_part (reached_by S o ++ []) q ≡ true
-changes_reached S oflags mode path None q h = changes_seen S oflags mode path None q h
-changes_reached S oflags mode path (Some d) q h =
-    has_of_both (reached_by S (Some d)) [] q ∙ or_false (has_part (reached_by S (Some d)) q)
-    ∙ ap (λ b. same_part (at_open d.id) q || b) (changes_seen S oflags mode path (get S.opens d.id) q h) ∙ or_true (same_part (at_open d.id) q)
+changes_reached S oflags mode path o q h =
+    has_left (reached_by S o) [] q (behind_is_reached S o q (changes_seen S oflags mode path (open_of (whole S) o) q h))
 
 -- ---- what it sees
 
@@ -235,13 +237,14 @@ module _ (S : State) (p : ℕ) where
   own_seen : (o : Option Descriptor) → (sight_by S p o).own p ≡ get S.own p
   own_seen o = first_seen p (has_part (at_status p ∷ (reached_by S o ++ [])) (at_proc p)) (get S.own p)
 
+  all_seen : (o : Option Descriptor) → HasReached S (own_parts p ++ (reached_by S o ++ [])) o
+  all_seen o q h = has_right (own_parts p) (reached_by S o ++ []) q (has_left (reached_by S o) [] q h)
+
   opening_seen : (o : Option Descriptor) → open_of (sight_by S p o) o ≡ open_of (whole S) o
-  opening_seen None = refl
-  opening_seen (Some d) = open_seen S p d
+  opening_seen o = sees_open S (own_parts p ++ (reached_by S o ++ [])) o (all_seen o)
 
   branch_seen : (o : Option Descriptor) → IsSeen (tree_of S) (sight_by S p o).branch (open_of (whole S) o)
-  branch_seen None = tt
-  branch_seen (Some d) = behind_is_seen S p d.id (get S.opens d.id)
+  branch_seen o = sees_behind S (own_parts p ++ (reached_by S o ++ [])) o (all_seen o)
 
   walk_seen : (mode : WalkMode) (path : List ℕ) (o : Option Descriptor)
       → walked (sight_by S p o).branch mode path (open_of (sight_by S p o) o) ≡ walked (tree_of S) mode path (open_of (whole S) o)
@@ -258,7 +261,8 @@ abbrev opens_by : ℕ → Table → FdStat → ℕ → WalkMode → List ℕ →
 opens_by p table stat oflags mode path now free own t kind =
     open_at p own table stat (opened_from p stat oflags mode path now own t kind) free
 
-open_reads : (S : State) (p : ℕ) (table : Table) (stat : FdStat) (oflags : ℕ) (mode : WalkMode) (path : List ℕ) (now : ℕ) (free : Option ℕ) (o : Option Descriptor)
+open_reads : (S : State) (p : ℕ) (table : Table) (stat : FdStat) (oflags : ℕ) (mode : WalkMode) (path : List ℕ) (now : ℕ) (free : Option ℕ)
+    (o : Option Descriptor)
     → opens_by p table stat oflags mode path now free ((sight_by S p o).own p) (sight_by S p o).branch (open_of (sight_by S p o) o)
     ≡ opens_by p table stat oflags mode path now free (get S.own p) (tree_of S) (open_of (whole S) o)
 open_reads S p table stat oflags mode path now free o =
@@ -272,7 +276,7 @@ open_reads S p table stat oflags mode path now free o =
 
 -- ---- the state after it
 
--- updates of a change of the tree, behind those of what the process has of its own
+-- updates of what the process has of its own, and of the tree, are beside the open and the table
 own_beside : (p count : ℕ) (own : Option Own) → AllByRecursion IsBeside (own_updates p count own)
 own_beside p zero own = tt
 own_beside p (suc count) None = tt
@@ -288,11 +292,6 @@ rest_beside p count own c =
     all_both IsBeside (own_updates p count own) (change_updates c) (own_beside p count own)
     (all_weaker IsOfTree IsBeside tree_beside (change_updates c) (change_of_tree c))
 
-counted_threads : (S : State) (p count : ℕ) → threads_of (counted p count S) p ≡ threads_of S p
-counted_threads S p count =
-    counted_holds (λ (T : State). threads_of T p ≡ threads_of S p) S p count refl
-    (λ own there. ap (option_map (λ (o : Own). o.threads)) (get-insert-same S.own p _) ∙ sym (ap (option_map (λ (o : Own). o.threads)) there))
-
 open_threads : (S : State) (p : ℕ) (table : Table) (stat : FdStat) (free : Option ℕ) (o : Opened)
     → KeepsThreads S p (open_at p (get S.own p) table stat o free)
 open_threads S p table stat free o =
@@ -301,7 +300,7 @@ open_threads S p table stat free o =
     let us : List Update = own_updates p (makes + 1) (get S.own p) ++ change_updates c in
     ap (λ (T : State). threads_of T p) (put_last (next_object p (get S.own p) (makes + 1)) kind p _ us S (rest_beside p (makes + 1) (get S.own p) c))
     ∙ ap (λ (T : State). threads_of T p) (put_both (own_updates p (makes + 1) (get S.own p)) (change_updates c) S)
-    ∙ tree_threads (change_updates c) (counted p (makes + 1) S) p (change_of_tree c) ∙ counted_threads S p (makes + 1)))
+    ∙ tree_threads (change_updates c) (counted p (makes + 1) S) p (change_of_tree c) ∙ counted_threads S p (makes + 1) p))
 
 there_behind : (S : State) (u : Tree) (kind : OpenKind) → IsThere u kind → HasBehind (with_tree u S) kind
 there_behind S u (File n offset flags) h = h
@@ -347,7 +346,8 @@ module _ (S : State) (p : ℕ) (table : Table) (has_table : get S.tables p ≡ S
       absurd (omega (arith, number, total, past))
 
   opened_valid : IsNearlyValid (put_one (set_open new_open kind) changed)
-  opened_valid = new_open_nearly_valid changed new_open kind new_open_absent changed_valid (there_behind (counted p (makes + 1) S) c.tree kind there) new_open_apart
+  opened_valid =
+      new_open_nearly_valid changed new_open kind new_open_absent changed_valid (there_behind (counted p (makes + 1) S) c.tree kind there) new_open_apart
 
   new_descriptor_named : (stat : FdStat) → IsNamed (get (insert changed.opens new_open kind) new_open) (opened_descriptor new_open kind stat)
   new_descriptor_named stat =
@@ -379,8 +379,8 @@ open_valid S p table stat oflags mode path now free fd None there here v =
     open_by p (get S.own p) table stat (λ (x : Outcome). IsNearlyValid (put_all x.updates S)) (λ reply. v) free
     (opened_from p stat oflags mode path now (get S.own p) (tree_of S) None)
     (λ number kind c makes is can. absurd (not_opened kind c makes is)) where
-  not_opened : (kind : OpenKind) (c : Change) (makes : ℕ) → NotOpened Badf ≢ Opens kind c makes
-  not_opened kind c makes e = cc
+      not_opened : (kind : OpenKind) (c : Change) (makes : ℕ) → NotOpened Badf ≢ Opens kind c makes
+      not_opened kind c makes e = cc
 open_valid S p table stat oflags mode path now free fd (Some d) there here v =
     let new : ℕ = next_object p (get S.own p) 1 in
     let w : Walked = walked (tree_of S) mode path (get S.opens d.id) in
@@ -418,7 +418,8 @@ file_open_is_proper lookup path oflags stat = record {
   lacks = λ _. open_errors_lack;
   others = λ constants v who table q apart.
       open_others who.pid (v.own who.pid) table stat (lowest_free table)
-      (opened_from who.pid stat oflags (open_mode oflags lookup.flags) path (real_time constants v.clock) (v.own who.pid) v.branch (open_of v (get table lookup.fd)))
+      (opened_from who.pid stat oflags (open_mode oflags lookup.flags) path (real_time constants v.clock) (v.own who.pid) v.branch
+      (open_of v (get table lookup.fd)))
       q apart;
   threads = λ constants S who table.
       open_threads S who.pid table stat (lowest_free table)

@@ -38,9 +38,13 @@ has_left xs ys q h = has_of_both xs ys q ∙ ap (λ b. b || has_part ys q) h
 pub has_right : (xs ys : List Part) (q : Part) → has_part ys q ≡ true → has_part (xs ++ ys) q ≡ true
 has_right xs ys q h = has_of_both xs ys q ∙ ap (λ b. has_part xs q || b) h ∙ or_true (has_part xs q)
 
+-- a part that neither has
+pub outside_both : (xs ys : List Part) (q : Part) → has_part (xs ++ ys) q ≡ false → (has_part xs q ≡ false) × (has_part ys q ≡ false)
+outside_both xs ys q h = either_false (has_part xs q) (has_part ys q) (sym (has_of_both xs ys q) ∙ h)
+
 -- a part that is neither the process's own nor among these
 pub beyond_own : (p : ℕ) (parts : List Part) (q : Part) → has_part (own_parts p ++ parts) q ≡ false → (has_part (own_parts p) q ≡ false) × (has_part parts q ≡ false)
-beyond_own p parts q h = either_false (has_part (own_parts p) q) (has_part parts q) (sym (has_of_both (own_parts p) parts q) ∙ h)
+beyond_own p parts q h = outside_both (own_parts p) parts q h
 
 -- ---- the same values
 
@@ -110,7 +114,7 @@ put_keeps (u ∷ us) S q h =
     let apart = outside_cons (part_of u) (map part_of us) q h in
     agree_through (put_all us (put_one u S)) (put_one u S) S q (put_keeps us (put_one u S) q apart.1) (put_one_keeps u S q apart.0)
 
-pub insert_alike : {X : Type 0} (m n : FinMap nat_cmp X) (k : ℕ) (x : X) (q : ℕ) → get m q ≡ get n q → get (insert m k x) q ≡ get (insert n k x) q
+insert_alike : {X : Type 0} (m n : FinMap nat_cmp X) (k : ℕ) (x : X) (q : ℕ) → get m q ≡ get n q → get (insert m k x) q ≡ get (insert n k x) q
 insert_alike m n k x q e =
     elim (eqb_tells q k) [
       | inl is ↦ subst (λ j. get (insert m k x) j ≡ get (insert n k x) j) (sym is.1) (get-insert-same m k x ∙ sym (get-insert-same n k x))

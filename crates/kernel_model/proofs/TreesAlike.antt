@@ -3,22 +3,17 @@
 --     changed_node_alike, changed_names_alike      so they have after the same change of one node
 --     retimed-changes      other times of a node are such a change
 --     put_name_alike, drop_name_alike      and after the same name came, or went
-use Rattle.std.proofs.Common.{◌≡◌, ◌≢◌, ℕ, Bool, true, false, List, Option, Some, None, is_some, refl, sym, ap, ◌∙◌}
+use Rattle.std.proofs.Common.{◌≡◌, ℕ, List, Some, None, refl, sym, ap, ◌∙◌}
 use Rattle.std.specs.FinMap.{get, insert, remove}
 use Rattle.std.specs.Option.{option_map}
 use Rattle.abi_types.specs.declared.node.Node.{Node}
-use Rattle.abi_types.specs.declared.node.NodeKind.{NodeKind}
 use Rattle.abi_types.specs.declared.node.Times.{Times}
-use Rattle.number_map.specs.Closure.{member}
 use Rattle.number_map.specs.Maps.{get-insert-same, get-insert-other}
-use Rattle.tree_model.specs.Changes.{drop_name, is_file, is_file_kind, is_file_node, put_name}
+use Rattle.tree_model.specs.Changes.{drop_name, put_name}
 use Rattle.tree_model.specs.Entries.{ChangesNode, here_or_other, with_times-changes}
-use Rattle.tree_model.specs.Tree.{IsTree, is_directory, is_directory_kind, is_directory_node, names_in, names_of}
+use Rattle.tree_model.specs.Tree.{names_in, names_of}
 use Rattle.kernel_model.specs.FileChanges.{retimed_in, retimed}
 use Rattle.kernel_model.specs.State.{Names, Tree}
-use Rattle.kernel_model.specs.TreeUpdates.{Change}
-use Rattle.kernel_model.proofs.NameMeanings.{IsChangeOf}
-use Rattle.kernel_model.proofs.Tests.{none_is_no, not_true}
 
 -- ---- nodes
 

@@ -61,10 +61,6 @@ unbuilt_naming fds = unbuilt fds [] []
 abbrev pub unbuilt_row : Needed → Meaning
 unbuilt_row row = unbuilt (row.fd ∷ []) (row ∷ []) (row.fd ∷ [])
 
--- one that needs this of two
-abbrev pub unbuilt_rows : Needed → Needed → Meaning
-unbuilt_rows first second = unbuilt (first.fd ∷ second.fd ∷ []) (first ∷ second ∷ []) (first.fd ∷ second.fd ∷ [])
-
 -- one that needs this of one descriptor, and names others behind it
 abbrev pub unbuilt_listing : Needed → List ℕ → Meaning
 unbuilt_listing row fds = unbuilt (row.fd ∷ fds) (row ∷ []) (row.fd ∷ [])

@@ -17,9 +17,8 @@ pub fn named_fds(call: &Call) -> Option<(u32, Option<u32>)>
     ensures { result ≡ model.named_fds call.now }
 {
     match call {
-        Call::FileCreate { fd, .. } | Call::FileSymlink { fd, .. } | Call::FileUnlink { fd, .. } => {
-            Some((*fd, None))
-        }
+        Call::FileCreate { fd, .. } | Call::FileSymlink { fd, .. } | Call::FileUnlink { fd, .. } =>
+            { Some((*fd, None)) }
         Call::FileLink { lookup, new_fd, .. } => Some((lookup.fd, Some(*new_fd))),
         Call::FileRename { fd, new_fd, .. } => Some((*fd, Some(*new_fd))),
         _ => None,
@@ -70,7 +69,15 @@ pub fn on_names(
             file_rename(tree, here, there, now, path.as_slice(), new_path.as_slice())
         }
         Call::FileSymlink { text, path, .. } => {
-            file_symlink(alloc, tree, here, now, new, text.as_slice(), path.as_slice())
+            file_symlink(
+                alloc,
+                tree,
+                here,
+                now,
+                new,
+                text.as_slice(),
+                path.as_slice(),
+            )
         }
         Call::FileUnlink { path, flags, .. } => {
             file_unlink(tree, here, now, path.as_slice(), *flags)

@@ -47,7 +47,14 @@ fn make_by_path(
     ensures { IsDone ((model.making kind path.now).does now new tree.old (Some here.now) None) tree.old tree.new result }
 {
     let place: NamePlace = last_name(tree, path, here)?;
-    make_in(tree, place.dir, name_at(path, place.from, place.len), kind, now, new)
+    make_in(
+        tree,
+        place.dir,
+        name_at(path, place.from, place.len),
+        kind,
+        now,
+        new,
+    )
 }
 
 /// Makes a directory.

@@ -25,13 +25,7 @@ fn link_failed(fault: TreeFault) -> Failure
 }
 
 // One more name of a node.
-fn link_in(
-    tree: &mut Tree,
-    node: ObjId,
-    dir: ObjId,
-    name: &[u8],
-    now: u64,
-) -> Result<(), Failure>
+fn link_in(tree: &mut Tree, node: ObjId, dir: ObjId, name: &[u8], now: u64) -> Result<(), Failure>
     ensures { IsDone (model.link_in now tree.old node dir name.now) tree.old tree.new result }
 {
     match tree.link(dir, name, node) {
@@ -60,7 +54,13 @@ pub fn file_link(
 {
     let node = found(tree, lookup_mode(lookup_flags), path, here)?;
     let place = last_name_in(tree, new_path, there)?;
-    link_in(tree, node, place.dir, name_at(new_path, place.from, place.len), now)
+    link_in(
+        tree,
+        node,
+        place.dir,
+        name_at(new_path, place.from, place.len),
+        now,
+    )
 }
 
 // Whether both entries are there and of one node.

@@ -90,12 +90,7 @@ fn plan_node(oflags: u32, id: ObjId, node: Option<&Node>) -> Result<OpenPlan, Re
 }
 
 // A name that isn't there is given to a new file, or is none.
-fn plan_absent(
-    tree: &Tree,
-    oflags: u32,
-    path: &[u8],
-    place: NamePlace,
-) -> Result<OpenPlan, Refusal>
+fn plan_absent(tree: &Tree, oflags: u32, path: &[u8], place: NamePlace) -> Result<OpenPlan, Refusal>
     ensures { Plans path.now tree.now result
         (λ flags now new. model.open_absent oflags flags now new tree.now place.dir (names.name_at path.now place.from place.len)) }
 {

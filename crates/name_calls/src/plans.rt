@@ -83,8 +83,14 @@ fn make_file(
     ensures err { OnErr result (tree.new ≡ tree.old) }
 {
     let kind = NodeKind::File(Bytes::new(alloc));
-    let Ok(()) = make_in(tree, place.dir, name_at(path, place.from, place.len), kind, now, new)
-    else {
+    let Ok(()) = make_in(
+        tree,
+        place.dir,
+        name_at(path, place.from, place.len),
+        kind,
+        now,
+        new,
+    ) else {
         return Err(AllocError);
     };
     Ok(())
@@ -111,7 +117,8 @@ pub fn apply_plan(
         } => truncate(tree, *node, now),
         OpenPlan::New { place } => make_file(alloc, tree, place, path, now, new),
         OpenPlan::File {
-            truncates: false, ..
+            truncates: false,
+            ..
         }
         | OpenPlan::Directory { .. } => Ok(()),
     }

@@ -62,22 +62,35 @@ fn remove_name(
     Ok(())
 }
 
-// A name in a directory is taken away.
-fn unlink_in(
+// The same where the flags are those for the node.
+fn unlink_node(
     tree: &mut Tree,
     dir: ObjId,
     name: &[u8],
+    node: ObjId,
     flags: u32,
     now: u64,
 ) -> Result<(), Failure>
+    requires { first_fault (unlink_faults tree.old dir name.now) ≡ None }
+    ensures { IsDone (model.unlink_node flags now tree.old dir name.now (Some node)) tree.old tree.new result }
+{
+    let removes = removes_directory(flags);
+    if is_directory(tree, node) == removes {
+        return remove_name(tree, dir, name, node, now);
+    }
+    if removes {
+        Err(refused_with(Errno::Notdir))
+    } else {
+        Err(refused_with(Errno::Perm))
+    }
+}
+
+// A name in a directory is taken away.
+fn unlink_in(tree: &mut Tree, dir: ObjId, name: &[u8], flags: u32, now: u64) -> Result<(), Failure>
     ensures { IsDone (model.unlink_in flags now tree.old dir name.now) tree.old tree.new result }
 {
     match tree.check_unlink(dir, name) {
-        Ok(node) => match (is_directory(tree, node), removes_directory(flags)) {
-            (true, false) => Err(refused_with(Errno::Perm)),
-            (false, true) => Err(refused_with(Errno::Notdir)),
-            _ => remove_name(tree, dir, name, node, now),
-        },
+        Ok(node) => unlink_node(tree, dir, name, node, flags, now),
         Err(fault) => Err(unlink_failed(flags, fault)),
     }
 }
@@ -93,5 +106,11 @@ pub fn file_unlink(
     ensures { (new : ℕ) → IsDone ((model.unlinking flags path.now).does now new tree.old (Some here.now) None) tree.old tree.new result }
 {
     let place = last_name(tree, path, here)?;
-    unlink_in(tree, place.dir, name_at(path, place.from, place.len), flags, now)
+    unlink_in(
+        tree,
+        place.dir,
+        name_at(path, place.from, place.len),
+        flags,
+        now,
+    )
 }
