@@ -1,5 +1,5 @@
 //! The calls that make names of files, move them or take them away.
-ghost use Rattle.std.specs.Prelude.{◌≡◌, ◌×◌, ◌+◌, ◌<◌, ◌^◌, true, Some, None, IsSome, IfOk, OnErr, option_copied};
+ghost use Rattle.std.specs.Prelude.{◌≡◌, ◌+◌, ◌<◌, ◌^◌, true, Some, None, IsSome, IfOk, OnErr, option_copied};
 ghost use Rattle.std.specs.FinMap as map;
 ghost use Rattle.kernel_core.specs.Names.{IsDone, name_outcome, open_in};
 ghost use Rattle.kernel_model.specs.NameCalls as model;
@@ -31,6 +31,7 @@ pub fn opened<'a>(objects: &'a Objects, table: &FdTable, fd: u32) -> Option<&'a 
 }
 
 // Who does a call, and at which time in nanoseconds since 1970.
+#[derive(Clone, Copy)]
 struct Caller {
     pid: Pid,
     now: u64,

@@ -1,5 +1,5 @@
 //! The call that opens what a path leads to.
-ghost use Rattle.std.specs.Prelude.{◌≡◌, ◌×◌, ◌+◌, ◌<◌, ◌^◌, ℕ, Some, None, IsSome, IfOk, IfErr, OnOk, OnErr};
+ghost use Rattle.std.specs.Prelude.{◌≡◌, ◌+◌, ◌<◌, ◌^◌, ℕ, Some, None, IsSome, IfOk, IfErr, OnOk, OnErr};
 ghost use Rattle.std.specs.FinMap as map;
 ghost use Rattle.number_map.specs.Maps.{number};
 ghost use Rattle.kernel_core.specs.Changes.{IsMoved};
@@ -28,6 +28,7 @@ use std::alloc::{AllocError, Global};
 
 /// What is opened: the number in the table, the descriptor and its open, and what is done to the tree, where a node that is made
 /// has the number `new`.
+#[derive(Clone, Copy)]
 pub struct Opening {
     fd: u32,
     descriptor: Descriptor,
