@@ -16,6 +16,7 @@ pub use plans::{OpenPlan, apply_plan};
 mod checking;
 mod descriptors;
 mod dispatch;
+mod entries;
 mod failure;
 mod making;
 mod moving;

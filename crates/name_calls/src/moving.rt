@@ -6,6 +6,7 @@ ghost use Rattle.kernel_model.specs.NameMaking.{with_new_names};
 ghost use Rattle.kernel_model.specs.NameMoving as model;
 ghost use Rattle.name_calls.specs.Done.{IsDone, failure_of};
 
+use crate::entries::names_lead;
 use crate::failure::{Failure, failed, refused_with};
 use crate::places::{last_name, last_name_in, name_at};
 use crate::times::set_recounted;
@@ -95,6 +96,7 @@ fn rename_in(
 ) -> Result<(), Failure>
     ensures { IsDone (model.rename_in now tree.old from name.now to new_name.now) tree.old tree.new result }
 {
+    names_lead(tree);
     let stays = is_same(&tree.entry(from, name), &tree.entry(to, new_name));
     match tree.rename(from, name, to, new_name) {
         Ok(replaced) => {

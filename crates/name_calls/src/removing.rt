@@ -6,6 +6,7 @@ ghost use Rattle.kernel_model.specs.NameMeaning.{Changes};
 ghost use Rattle.kernel_model.specs.NameRemoving as model;
 ghost use Rattle.name_calls.specs.Done.{IsDone, failure_of};
 
+use crate::entries::names_lead;
 use crate::failure::{Failure, failed, refused_with};
 use crate::places::{last_name, name_at};
 use crate::times::set_recounted;
@@ -89,6 +90,7 @@ fn unlink_node(
 fn unlink_in(tree: &mut Tree, dir: ObjId, name: &[u8], flags: u32, now: u64) -> Result<(), Failure>
     ensures { IsDone (model.unlink_in flags now tree.old dir name.now) tree.old tree.new result }
 {
+    names_lead(tree);
     match tree.check_unlink(dir, name) {
         Ok(node) => unlink_node(tree, dir, name, node, flags, now),
         Err(fault) => Err(unlink_failed(flags, fault)),
