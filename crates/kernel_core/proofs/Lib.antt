@@ -14,3 +14,4 @@ pub mod Steps
 pub mod Uses
 pub mod Releases
 pub mod FileCalls
+pub mod Forgetting

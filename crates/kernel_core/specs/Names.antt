@@ -24,16 +24,16 @@ abbrev pub open_in : FinMap nat_cmp OpenKind → Option Descriptor → Option Op
 open_in opens None = None
 open_in opens (Some d) = get opens d.id
 
--- the open of the second descriptor, where a call names two
-abbrev pub second_open : FinMap nat_cmp OpenKind → Table → Option ℕ → Option OpenKind
-second_open opens table None = None
-second_open opens table (Some fd) = open_in opens (get table fd)
+-- the open of the descriptor with this number in a table, where a number is named
+abbrev pub open_at : FinMap nat_cmp OpenKind → Table → Option ℕ → Option OpenKind
+open_at opens table None = None
+open_at opens table (Some fd) = open_in opens (get table fd)
 
 -- what a call on names comes to, of process p, whose table is this, by the opens of these descriptors
 abbrev pub names_come : Constants → State → ℕ → Table → ℕ → Option ℕ → Call → Comes
 names_come constants S p table fd other call =
     (name_meaning call).does (real_time constants S.clock) (next_object p (get S.own p) 1) (tree_of S) (open_in S.opens (get table fd))
-    (second_open S.opens table other)
+    (open_at S.opens table other)
 
 abbrev pub name_outcome : Constants → State → ℕ → Table → ℕ → Option ℕ → Call → Outcome
 name_outcome constants S p table fd other call =
@@ -51,8 +51,8 @@ tree_left p makes own t (Refuses errno) = t
 tree_left p makes own t (LeadsOut component) = t
 tree_left p makes own t (Changes change) = if can_number p makes (Some own) then change.tree else t
 
--- that is done: the reply, what the process has of its own, and the tree
-pub record IsDone (p makes : ℕ) (own new : Own) (t u : Tree) (comes : Comes) (reply : Reply) : Type 0 where
+-- a call that comes to this is done: its reply, and what the process has of its own and the tree after it
+pub record IsLeftBy (p makes : ℕ) (own new : Own) (t u : Tree) (comes : Comes) (reply : Reply) : Type 0 where
   pub answered : answer.Reply reply ≡ (outcome_of p (Some own) makes comes).answer
   pub numbered : new ≡ own_left p makes own comes
   pub changed : u ≡ tree_left p makes own t comes

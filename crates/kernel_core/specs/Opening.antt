@@ -1,10 +1,9 @@
 -- What the call that opens comes to, by what was planned for it.
-use Rattle.std.specs.Prelude.{◌≡◌, ℕ, ◌+◌, true, List, Option, Some}
+use Rattle.std.specs.Prelude.{◌≡◌, ℕ, ◌+◌, true, List}
 use Rattle.std.specs.FinMap.{get}
 use Rattle.abi_structures.specs.declared.structures.FdStat.{FdStat}
 use Rattle.abi_types.specs.declared.call.Lookup.{Lookup}
-use Rattle.abi_types.specs.declared.constants.Constants.{Constants}
-use Rattle.kernel_model.specs.ClockCalls.{real_time}
+use Rattle.fd_table.specs.Table.{IsLowestFree}
 use Rattle.kernel_model.specs.DescriptorCalls.{lowest_free}
 use Rattle.kernel_model.specs.FilePaths.{walked}
 use Rattle.kernel_model.specs.Numbers.{can_number, next_object}
@@ -28,7 +27,7 @@ open_outcome now S p table lookup path oflags stat =
 
 -- that is opened: under the lowest free number, by a plan for the path, with the numbers that the process makes next
 pub record IsOpening (S : State) (p : ℕ) (table : Table) (lookup : Lookup) (path : List ℕ) (oflags : ℕ) (stat : FdStat) (o : Opening) : Type 0 where
-  pub free : lowest_free table ≡ Some o.fd
+  pub free : IsLowestFree table o.fd
   pub can : can_number p (makes_of o.plan + 1) (get S.own p) ≡ true
   pub new : o.new ≡ next_object p (get S.own p) 1
   pub kind : o.kind ≡ kind_of o.plan stat.flags o.new

@@ -55,12 +55,13 @@ fn add_open(
     ensures same_table { OnErr result (table.new ≡ table.old) }
     ensures same_objects { OnErr result (objects.new ≡ objects.old) }
 {
+    let id = descriptor.id;
     table.insert_at(fd, descriptor)?;
-    if let Err(error) = objects.add(descriptor.id, kind) {
+    if let Err(error) = objects.add(id, kind) {
         table.remove(fd);
         return Err(error);
     }
-    objects.hold(descriptor.id);
+    objects.hold(id);
     Ok(())
 }
 
@@ -119,10 +120,13 @@ impl Kernel {
         let Some(fd) = table.lowest() else {
             return Err(refused(Errno::Mfile));
         };
-        let Some(here) = opened(&self.objects, table, lookup.fd) else {
+        let Some(here) = opened(&self.objects, table, Some(lookup.fd)) else {
             return Err(refused(Errno::Badf));
         };
-        let plan = plan_open(&self.tree, here, oflags, lookup.flags, path).map_err(reply_of)?;
+        let plan = match plan_open(&self.tree, here, oflags, lookup.flags, path) {
+            Ok(plan) => plan,
+            Err(refusal) => return Err(reply_of(refusal)),
+        };
         let Some(id) = own.numbered(pid, plan.makes() + 1) else {
             return Err(refused(Errno::Again));
         };
