@@ -15,3 +15,5 @@ pub mod Uses
 pub mod Releases
 pub mod FileCalls
 pub mod Forgetting
+pub mod Leaving
+pub mod NameCalls
