@@ -71,8 +71,8 @@ pub fn file_create(
     make_by_path(tree, here, path, NodeKind::Directory, now, new)
 }
 
-// Why a text can't be a symlink's: it is no path, or it is empty.
-fn text_error(text: &[u8]) -> Option<Errno>
+/// Why a text can't be a symlink's: it is no path, or it is empty.
+pub fn text_error(text: &[u8]) -> Option<Errno>
     ensures { result ≡ model.text_error text.now }
 {
     if let Some(errno) = path_error(text) {
