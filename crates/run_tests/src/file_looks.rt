@@ -1,6 +1,9 @@
 //! What guests are told of files, directories and symlinks: file_stat_get and the walk of its path, file_readlink, file_readdir
 //! and file_stat_fget.
-use crate::file_runs::{Ask, Left, Node, Path, Row, Run, WITH_HISTORY, check_run};
+use crate::file_runs::Ask::{Other, Readdir, Readlink, StatFget, StatGet};
+use crate::file_runs::Path::{Is, Repeated, Unmapped};
+use crate::file_runs::Told::{Done, Read, Refused, Stat};
+use crate::file_runs::{Node, Row, Run, WITH_HISTORY, check_run};
 use std::alloc::{AllocError, Global};
 use std::test::Fail;
 
@@ -9,10 +12,12 @@ const TREE: &[u8] = b"dir d\nlink 5 d/a\n/d/ff\ndir d/e\nlink 8 d/e/u\n../../..\
     hard 4 d/g\nd/ff\nlink 1 d/h\n.\nlink 2 d/l\nff\nlink 4 d/n\nnone\n";
 
 // The same, as the report ends with it.
-const UNCHANGED: &[u8] = b"== tree 9\ndir d\nlink 5 d/a\n/d/ff\ndir d/e\nlink 8 d/e/u\n../../..\nfile 3 d/ff\nabc\n\
+const UNCHANGED: &[u8] =
+    b"== tree 9\ndir d\nlink 5 d/a\n/d/ff\ndir d/e\nlink 8 d/e/u\n../../..\nfile 3 d/ff\nabc\n\
     hard 4 d/g\nd/ff\nlink 1 d/h\n.\nlink 2 d/l\nff\nlink 4 d/n\nnone\n";
 
-const TEXT: &str = "[!fd stdout, !file {path: d}, !file {path: d/ff}, !file {path: d, rights: [FILE_READDIR]}]";
+const TEXT: &str =
+    "[!fd stdout, !file {path: d}, !file {path: d/ff}, !file {path: d, rights: [FILE_READDIR]}]";
 
 // The descriptors of the text: standard output, the directory, the file, and the directory again, which can only be listed. There
 // is no descriptor 9.
@@ -93,72 +98,93 @@ const TERMINAL: Node = Node {
 };
 
 const LOOKUPS: &[Row] = &[
-    (Ask::StatGet(DIR, Path::Is(b"ff")), "SUCCESS", 0, Left::Stat(FF, 3, BEGUN)),
-    (Ask::StatGet(DIR, Path::Is(b"g")), "SUCCESS", 0, Left::Stat(FF, 3, BEGUN)),
-    (Ask::StatGet(DIR, Path::Is(b"e")), "SUCCESS", 0, Left::Stat(E, 0, BEGUN)),
-    (Ask::StatGet(DIR, Path::Is(b"e/")), "SUCCESS", 0, Left::Stat(E, 0, BEGUN)),
-    (Ask::StatGet(DIR, Path::Is(b".")), "SUCCESS", 0, Left::Stat(D, 0, BEGUN)),
-    (Ask::StatGet(DIR, Path::Is(b"e/..")), "SUCCESS", 0, Left::Stat(D, 0, BEGUN)),
-    (Ask::StatGet(DIR, Path::Is(b"e//.././/ff")), "SUCCESS", 0, Left::Stat(FF, 3, BEGUN)),
+    (StatGet(DIR, Is(b"ff")), Stat(FF, 3, BEGUN)),
+    (StatGet(DIR, Is(b"g")), Stat(FF, 3, BEGUN)),
+    (StatGet(DIR, Is(b"e")), Stat(E, 0, BEGUN)),
+    (StatGet(DIR, Is(b"e/")), Stat(E, 0, BEGUN)),
+    (StatGet(DIR, Is(b".")), Stat(D, 0, BEGUN)),
+    (StatGet(DIR, Is(b"e/..")), Stat(D, 0, BEGUN)),
+    (StatGet(DIR, Is(b"e//.././/ff")), Stat(FF, 3, BEGUN)),
     // a symlink at the end is followed where the lookup says so, one before the end always
-    (Ask::StatGet(DIR, Path::Is(b"l")), "SUCCESS", 0, Left::Stat(L, 2, BEGUN)),
-    (Ask::StatGet(FOLLOW, Path::Is(b"l")), "SUCCESS", 0, Left::Stat(FF, 3, BEGUN)),
-    (Ask::StatGet(DIR, Path::Is(b"h")), "SUCCESS", 0, Left::Stat(H, 1, BEGUN)),
-    (Ask::StatGet(FOLLOW, Path::Is(b"h")), "SUCCESS", 0, Left::Stat(D, 0, BEGUN)),
-    (Ask::StatGet(DIR, Path::Is(b"h/ff")), "SUCCESS", 0, Left::Stat(FF, 3, BEGUN)),
-    (Ask::StatGet(DIR, Path::Is(b"h/")), "SUCCESS", 0, Left::Stat(D, 0, BEGUN)),
-    (Ask::StatGet(DIR, Path::Is(b"n")), "SUCCESS", 0, Left::Stat(N, 4, BEGUN)),
-    (Ask::StatGet(FOLLOW, Path::Is(b"n")), "NOENT", 0, Left::Nothing),
-    (Ask::StatGet(DIR, Path::Is(b"a")), "SUCCESS", 0, Left::Stat(A, 5, BEGUN)),
-    (Ask::StatGet(DIR, Path::Is(b"e/u")), "SUCCESS", 0, Left::Stat(U, 8, BEGUN)),
+    (StatGet(DIR, Is(b"l")), Stat(L, 2, BEGUN)),
+    (StatGet(FOLLOW, Is(b"l")), Stat(FF, 3, BEGUN)),
+    (StatGet(DIR, Is(b"h")), Stat(H, 1, BEGUN)),
+    (StatGet(FOLLOW, Is(b"h")), Stat(D, 0, BEGUN)),
+    (StatGet(DIR, Is(b"h/ff")), Stat(FF, 3, BEGUN)),
+    (StatGet(DIR, Is(b"h/")), Stat(D, 0, BEGUN)),
+    (StatGet(DIR, Is(b"n")), Stat(N, 4, BEGUN)),
+    (StatGet(FOLLOW, Is(b"n")), Refused("NOENT")),
+    (StatGet(DIR, Is(b"a")), Stat(A, 5, BEGUN)),
+    (StatGet(DIR, Is(b"e/u")), Stat(U, 8, BEGUN)),
     // nothing is there
-    (Ask::StatGet(DIR, Path::Is(b"")), "NOENT", 0, Left::Nothing),
-    (Ask::StatGet(DIR, Path::Is(b"x")), "NOENT", 0, Left::Nothing),
-    (Ask::StatGet(DIR, Path::Is(b"x/..")), "NOENT", 0, Left::Nothing),
-    (Ask::StatGet(DIR, Path::Is(b"\xc3\xa4")), "NOENT", 0, Left::Nothing),
-    (Ask::StatGet(DIR, Path::Is(b"ff/x")), "NOTDIR", 0, Left::Nothing),
-    (Ask::StatGet(DIR, Path::Is(b"ff/")), "NOTDIR", 0, Left::Nothing),
-    (Ask::StatGet(DIR, Path::Is(b"ff/..")), "NOTDIR", 0, Left::Nothing),
-    (Ask::StatGet(DIR, Path::Is(b"l/")), "NOTDIR", 0, Left::Nothing),
+    (StatGet(DIR, Is(b"")), Refused("NOENT")),
+    (StatGet(DIR, Is(b"x")), Refused("NOENT")),
+    (StatGet(DIR, Is(b"x/..")), Refused("NOENT")),
+    (StatGet(DIR, Is(b"\xc3\xa4")), Refused("NOENT")),
+    (StatGet(DIR, Is(b"ff/x")), Refused("NOTDIR")),
+    (StatGet(DIR, Is(b"ff/")), Refused("NOTDIR")),
+    (StatGet(DIR, Is(b"ff/..")), Refused("NOTDIR")),
+    (StatGet(DIR, Is(b"l/")), Refused("NOTDIR")),
     // outside: the components of a symlink count as the symlink's, `.` counts, and what is empty doesn't
-    (Ask::StatGet(DIR, Path::Is(b"..")), "NOTCAPABLE", 0, Left::Nothing),
-    (Ask::StatGet(DIR, Path::Is(b"e/../..")), "NOTCAPABLE", 0, Left::Nothing),
-    (Ask::StatGet(DIR, Path::Is(b"e//./../..")), "NOTCAPABLE", 0, Left::Nothing),
-    (Ask::StatGet(DIR, Path::Is(b"/")), "NOTCAPABLE", 0, Left::Nothing),
-    (Ask::StatGet(DIR, Path::Is(b"/d/ff")), "NOTCAPABLE", 0, Left::Nothing),
-    (Ask::StatGet(FOLLOW, Path::Is(b"a")), "NOTCAPABLE", 0, Left::Nothing),
-    (Ask::StatGet(FOLLOW, Path::Is(b"e/u")), "NOTCAPABLE", 0, Left::Nothing),
-    (Ask::StatGet(DIR, Path::Is(b"./e/u/x")), "NOTCAPABLE", 0, Left::Nothing),
+    (StatGet(DIR, Is(b"..")), Refused("NOTCAPABLE")),
+    (StatGet(DIR, Is(b"e/../..")), Refused("NOTCAPABLE")),
+    (StatGet(DIR, Is(b"e//./../..")), Refused("NOTCAPABLE")),
+    (StatGet(DIR, Is(b"/")), Refused("NOTCAPABLE")),
+    (StatGet(DIR, Is(b"/d/ff")), Refused("NOTCAPABLE")),
+    (StatGet(FOLLOW, Is(b"a")), Refused("NOTCAPABLE")),
+    (StatGet(FOLLOW, Is(b"e/u")), Refused("NOTCAPABLE")),
+    (StatGet(DIR, Is(b"./e/u/x")), Refused("NOTCAPABLE")),
     // the bytes of the path are looked at before the walk, its length before its bytes
-    (Ask::StatGet(DIR, Path::Is(b"f\0")), "INVAL", 0, Left::Nothing),
-    (Ask::StatGet(DIR, Path::Is(b"/\0")), "INVAL", 0, Left::Nothing),
-    (Ask::StatGet(DIR, Path::Is(b"\xff")), "ILSEQ", 0, Left::Nothing),
-    (Ask::StatGet(DIR, Path::Is(b"\0\xff")), "ILSEQ", 0, Left::Nothing),
-    (Ask::StatGet(DIR, Path::Is(b"../\xed\xa0\x80")), "ILSEQ", 0, Left::Nothing),
-    (Ask::StatGet(DIR, Path::Repeated(b"./", 511, b"ff")), "SUCCESS", 0, Left::Stat(FF, 3, BEGUN)),
-    (Ask::StatGet(DIR, Path::Repeated(b"./", 512, b"g")), "NAMETOOLONG", 0, Left::Nothing),
-    (Ask::StatGet(DIR, Path::Repeated(b"\xff", 1025, b"")), "NAMETOOLONG", 0, Left::Nothing),
-    (Ask::StatGet(DIR, Path::Unmapped(1025)), "NAMETOOLONG", 0, Left::Nothing),
-    (Ask::StatGet(DIR, Path::Unmapped(1024)), "FAULT", 0, Left::Nothing),
-    (Ask::StatGet(DIR, Path::Repeated(b"x", 255, b"")), "NOENT", 0, Left::Nothing),
-    (Ask::StatGet(DIR, Path::Repeated(b"x", 256, b"")), "NAMETOOLONG", 0, Left::Nothing),
+    (StatGet(DIR, Is(b"f\0")), Refused("INVAL")),
+    (StatGet(DIR, Is(b"/\0")), Refused("INVAL")),
+    (StatGet(DIR, Is(b"\xff")), Refused("ILSEQ")),
+    (StatGet(DIR, Is(b"\0\xff")), Refused("ILSEQ")),
+    (StatGet(DIR, Is(b"../\xed\xa0\x80")), Refused("ILSEQ")),
+    (
+        StatGet(DIR, Repeated(b"./", 511, b"ff")),
+        Stat(FF, 3, BEGUN),
+    ),
+    (
+        StatGet(DIR, Repeated(b"./", 512, b"g")),
+        Refused("NAMETOOLONG"),
+    ),
+    (
+        StatGet(DIR, Repeated(b"\xff", 1025, b"")),
+        Refused("NAMETOOLONG"),
+    ),
+    (StatGet(DIR, Unmapped(1025)), Refused("NAMETOOLONG")),
+    (StatGet(DIR, Unmapped(1024)), Refused("FAULT")),
+    (StatGet(DIR, Repeated(b"x", 255, b"")), Refused("NOENT")),
+    (
+        StatGet(DIR, Repeated(b"x", 256, b"")),
+        Refused("NAMETOOLONG"),
+    ),
     // the 33rd symlink
-    (Ask::StatGet(DIR, Path::Repeated(b"h/", 32, b"ff")), "SUCCESS", 0, Left::Stat(FF, 3, BEGUN)),
-    (Ask::StatGet(DIR, Path::Repeated(b"h/", 33, b"ff")), "LOOP", 0, Left::Nothing),
-    (Ask::StatGet(DIR, Path::Repeated(b"h/", 32, b"l")), "SUCCESS", 0, Left::Stat(L, 2, BEGUN)),
-    (Ask::StatGet(FOLLOW, Path::Repeated(b"h/", 31, b"l")), "SUCCESS", 0, Left::Stat(FF, 3, BEGUN)),
-    (Ask::StatGet(FOLLOW, Path::Repeated(b"h/", 32, b"l")), "LOOP", 0, Left::Nothing),
+    (StatGet(DIR, Repeated(b"h/", 32, b"ff")), Stat(FF, 3, BEGUN)),
+    (StatGet(DIR, Repeated(b"h/", 33, b"ff")), Refused("LOOP")),
+    (StatGet(DIR, Repeated(b"h/", 32, b"l")), Stat(L, 2, BEGUN)),
+    (
+        StatGet(FOLLOW, Repeated(b"h/", 31, b"l")),
+        Stat(FF, 3, BEGUN),
+    ),
+    (StatGet(FOLLOW, Repeated(b"h/", 32, b"l")), Refused("LOOP")),
     // what the arguments show comes first, then memory, the descriptor, its rights, and the path
-    (Ask::StatGet(UNKNOWN, Path::Unmapped(1)), "INVAL", 0, Left::Nothing),
-    (Ask::Other("file_stat_get", [27, ABSENT, CODE, 1, 0, 0]), "FAULT", 0, Left::Nothing),
-    (Ask::Other("file_stat_get", [27, ABSENT, CODE, 1, CODE, 0]), "FAULT", 0, Left::Nothing),
-    (Ask::StatGet(ABSENT, Path::Unmapped(1)), "FAULT", 0, Left::Nothing),
-    (Ask::StatGet(ABSENT, Path::Unmapped(1025)), "BADF", 0, Left::Nothing),
-    (Ask::StatGet(ABSENT, Path::Is(b"..")), "BADF", 0, Left::Nothing),
-    (Ask::StatGet(LISTED, Path::Is(b"..")), "NOTCAPABLE", 0, Left::Nothing),
-    (Ask::StatGet(LISTED, Path::Unmapped(1025)), "NOTCAPABLE", 0, Left::Nothing),
-    (Ask::StatGet(FILE, Path::Is(b"")), "NOTCAPABLE", 0, Left::Nothing),
-    (Ask::StatGet(OUT, Path::Is(b"\xff")), "NOTCAPABLE", 0, Left::Nothing),
+    (StatGet(UNKNOWN, Unmapped(1)), Refused("INVAL")),
+    (
+        Other("file_stat_get", [27, ABSENT, CODE, 1, 0, 0]),
+        Refused("FAULT"),
+    ),
+    (
+        Other("file_stat_get", [27, ABSENT, CODE, 1, CODE, 0]),
+        Refused("FAULT"),
+    ),
+    (StatGet(ABSENT, Unmapped(1)), Refused("FAULT")),
+    (StatGet(ABSENT, Unmapped(1025)), Refused("BADF")),
+    (StatGet(ABSENT, Is(b"..")), Refused("BADF")),
+    (StatGet(LISTED, Is(b"..")), Refused("NOTCAPABLE")),
+    (StatGet(LISTED, Unmapped(1025)), Refused("NOTCAPABLE")),
+    (StatGet(FILE, Is(b"")), Refused("NOTCAPABLE")),
+    (StatGet(OUT, Is(b"\xff")), Refused("NOTCAPABLE")),
 ];
 
 const LOOKUP_DENIALS: &[&str] = &[
@@ -184,49 +210,60 @@ const FIRST_ENTRIES: &[u8] = b"\x01\0\0\0\0\0\0\0\x06\0\0\0\xff\xff\xff\xff\x01\
 const LATER_ENTRIES: &[u8] = b"\x04\0\0\0\0\0\0\0\x09\0\0\0\xff\xff\xff\xff\x01\0\0\0\x60\0\0\0g\
     \x05\0\0\0\0\0\0\0\x0a\0\0\0\xff\xff\xff\xff\x01\0\0\0\x90\0\0\0h\x06\0\0\0\0\0\0\0\x0b\0\0\0\xff\xff";
 
-const LAST_ENTRY: &[u8] =
-    b"\x07\0\0\0\0\0\0\0\x0c\0\0\0\xff\xff\xff\xff\x01\0\0\0\x90\0\0\0n";
+const LAST_ENTRY: &[u8] = b"\x07\0\0\0\0\0\0\0\x0c\0\0\0\xff\xff\xff\xff\x01\0\0\0\x90\0\0\0n";
 
 const READS: &[Row] = &[
-    (Ask::Readlink(DIR, Path::Is(b"l"), 64), "SUCCESS", 2, Left::Bytes(b"ff")),
-    (Ask::Readlink(DIR, Path::Is(b"l"), 70_000), "SUCCESS", 2, Left::Bytes(b"ff")),
-    (Ask::Readlink(DIR, Path::Is(b"l"), 2), "SUCCESS", 2, Left::Bytes(b"ff")),
-    (Ask::Readlink(DIR, Path::Is(b"l"), 1), "SUCCESS", 1, Left::Bytes(b"f")),
-    (Ask::Readlink(DIR, Path::Is(b"l"), 0), "SUCCESS", 0, Left::Nothing),
-    (Ask::Readlink(DIR, Path::Is(b"a"), 64), "SUCCESS", 5, Left::Bytes(b"/d/ff")),
-    (Ask::Readlink(DIR, Path::Is(b"e/u"), 3), "SUCCESS", 3, Left::Bytes(b"../")),
-    (Ask::Readlink(DIR, Path::Is(b"h/n"), 64), "SUCCESS", 4, Left::Bytes(b"none")),
-    (Ask::Readlink(DIR, Path::Repeated(b"h/", 32, b"l"), 64), "SUCCESS", 2, Left::Bytes(b"ff")),
-    (Ask::Readlink(DIR, Path::Repeated(b"h/", 33, b"l"), 64), "LOOP", 0, Left::Nothing),
-    (Ask::Readlink(DIR, Path::Is(b"ff"), 64), "INVAL", 0, Left::Nothing),
-    (Ask::Readlink(DIR, Path::Is(b"e"), 64), "INVAL", 0, Left::Nothing),
-    (Ask::Readlink(DIR, Path::Is(b"l/"), 64), "NOTDIR", 0, Left::Nothing),
-    (Ask::Readlink(DIR, Path::Is(b""), 64), "NOENT", 0, Left::Nothing),
-    (Ask::Readlink(DIR, Path::Is(b"x"), 64), "NOENT", 0, Left::Nothing),
-    (Ask::Readlink(DIR, Path::Is(b"e/../.."), 64), "NOTCAPABLE", 0, Left::Nothing),
-    (Ask::Readlink(DIR, Path::Is(b"/d/l"), 64), "NOTCAPABLE", 0, Left::Nothing),
-    (Ask::Readlink(DIR, Path::Is(b"\xff"), 64), "ILSEQ", 0, Left::Nothing),
-    (Ask::Readlink(DIR, Path::Unmapped(1025), 64), "NAMETOOLONG", 0, Left::Nothing),
-    (Ask::Other("file_readlink", [23, ABSENT, CODE, 1, CODE, 1]), "FAULT", 0, Left::Nothing),
-    (Ask::Readlink(ABSENT, Path::Is(b"l"), 64), "BADF", 0, Left::Nothing),
-    (Ask::Readlink(LISTED, Path::Is(b".."), 64), "NOTCAPABLE", 0, Left::Nothing),
-    (Ask::Readlink(FILE, Path::Is(b"l"), 64), "NOTCAPABLE", 0, Left::Nothing),
-    (Ask::Readdir(DIR, 64, 0), "SUCCESS", 64, Left::Bytes(FIRST_ENTRIES)),
-    (Ask::Readdir(LISTED, 64, 3), "SUCCESS", 64, Left::Bytes(LATER_ENTRIES)),
-    (Ask::Readdir(DIR, 70_000, 6), "SUCCESS", 25, Left::Bytes(LAST_ENTRY)),
-    (Ask::Readdir(DIR, 70_000, 7), "SUCCESS", 0, Left::Nothing),
-    (Ask::Other("file_readdir", [22, DIR, 0, 0, 0, 0]), "SUCCESS", 0, Left::Nothing),
-    (Ask::Other("file_readdir", [22, ABSENT, CODE, 1, 0, 0]), "FAULT", 0, Left::Nothing),
-    (Ask::Readdir(ABSENT, 64, 0), "BADF", 0, Left::Nothing),
-    (Ask::Readdir(FILE, 64, 0), "NOTCAPABLE", 0, Left::Nothing),
-    (Ask::StatFget(DIR), "SUCCESS", 0, Left::Stat(D, 0, BEGUN)),
-    (Ask::StatFget(FILE), "SUCCESS", 0, Left::Stat(FF, 3, BEGUN)),
+    (Readlink(DIR, Is(b"l"), 64), Read(b"ff")),
+    (Readlink(DIR, Is(b"l"), 70_000), Read(b"ff")),
+    (Readlink(DIR, Is(b"l"), 2), Read(b"ff")),
+    (Readlink(DIR, Is(b"l"), 1), Read(b"f")),
+    (Readlink(DIR, Is(b"l"), 0), Done),
+    (Readlink(DIR, Is(b"a"), 64), Read(b"/d/ff")),
+    (Readlink(DIR, Is(b"e/u"), 3), Read(b"../")),
+    (Readlink(DIR, Is(b"h/n"), 64), Read(b"none")),
+    (Readlink(DIR, Repeated(b"h/", 32, b"l"), 64), Read(b"ff")),
+    (
+        Readlink(DIR, Repeated(b"h/", 33, b"l"), 64),
+        Refused("LOOP"),
+    ),
+    (Readlink(DIR, Is(b"ff"), 64), Refused("INVAL")),
+    (Readlink(DIR, Is(b"e"), 64), Refused("INVAL")),
+    (Readlink(DIR, Is(b"l/"), 64), Refused("NOTDIR")),
+    (Readlink(DIR, Is(b""), 64), Refused("NOENT")),
+    (Readlink(DIR, Is(b"x"), 64), Refused("NOENT")),
+    (Readlink(DIR, Is(b"e/../.."), 64), Refused("NOTCAPABLE")),
+    (Readlink(DIR, Is(b"/d/l"), 64), Refused("NOTCAPABLE")),
+    (Readlink(DIR, Is(b"\xff"), 64), Refused("ILSEQ")),
+    (Readlink(DIR, Unmapped(1025), 64), Refused("NAMETOOLONG")),
+    (
+        Other("file_readlink", [23, ABSENT, CODE, 1, CODE, 1]),
+        Refused("FAULT"),
+    ),
+    (Readlink(ABSENT, Is(b"l"), 64), Refused("BADF")),
+    (Readlink(LISTED, Is(b".."), 64), Refused("NOTCAPABLE")),
+    (Readlink(FILE, Is(b"l"), 64), Refused("NOTCAPABLE")),
+    (Readdir(DIR, 64, 0), Read(FIRST_ENTRIES)),
+    (Readdir(LISTED, 64, 3), Read(LATER_ENTRIES)),
+    (Readdir(DIR, 70_000, 6), Read(LAST_ENTRY)),
+    (Readdir(DIR, 70_000, 7), Done),
+    (Other("file_readdir", [22, DIR, 0, 0, 0, 0]), Done),
+    (
+        Other("file_readdir", [22, ABSENT, CODE, 1, 0, 0]),
+        Refused("FAULT"),
+    ),
+    (Readdir(ABSENT, 64, 0), Refused("BADF")),
+    (Readdir(FILE, 64, 0), Refused("NOTCAPABLE")),
+    (StatFget(DIR), Stat(D, 0, BEGUN)),
+    (StatFget(FILE), Stat(FF, 3, BEGUN)),
     // the upper half of the register isn't looked at
-    (Ask::StatFget(0x7_0000_0002), "SUCCESS", 0, Left::Stat(FF, 3, BEGUN)),
-    (Ask::StatFget(OUT), "SUCCESS", 0, Left::Stat(TERMINAL, 0, BEGUN)),
-    (Ask::Other("file_stat_fget", [25, ABSENT, CODE, 0, 0, 0]), "FAULT", 0, Left::Nothing),
-    (Ask::StatFget(ABSENT), "BADF", 0, Left::Nothing),
-    (Ask::StatFget(LISTED), "NOTCAPABLE", 0, Left::Nothing),
+    (StatFget(0x7_0000_0002), Stat(FF, 3, BEGUN)),
+    (StatFget(OUT), Stat(TERMINAL, 0, BEGUN)),
+    (
+        Other("file_stat_fget", [25, ABSENT, CODE, 0, 0, 0]),
+        Refused("FAULT"),
+    ),
+    (StatFget(ABSENT), Refused("BADF")),
+    (StatFget(LISTED), Refused("NOTCAPABLE")),
 ];
 
 const READ_DENIALS: &[&str] = &[
@@ -260,8 +297,7 @@ fn tells_what_is_there(rt: HostRuntime) -> Result<(), Fail> {
 const ENTRIES: &[u8] = b"\x01\0\0\0\0\0\0\0\x06\0\0\0\xff\xff\xff\xff\x01\0\0\0\x60\0\0\0f\
     \x02\0\0\0\0\0\0\0\x07\0\0\0\xff\xff\xff\xff\x02\0\0\0\x90\0\0\0ll";
 
-const SECOND_ENTRY: &[u8] =
-    b"\x02\0\0\0\0\0\0\0\x07\0\0\0\xff\xff\xff\xff\x02\0\0\0\x90\0\0\0ll";
+const SECOND_ENTRY: &[u8] = b"\x02\0\0\0\0\0\0\0\x07\0\0\0\xff\xff\xff\xff\x02\0\0\0\x90\0\0\0ll";
 
 // A cookie, and what comes from there on.
 const FROM: &[(u64, &[u8])] = &[
@@ -279,8 +315,7 @@ const MOST: usize = 52;
 fn push_cuts(rows: &mut Vec<Row>, cookie: u64, entries: &'static [u8]) -> Result<(), AllocError> {
     for length in 0..=MOST {
         let used = length.min(entries.len());
-        let ask = Ask::Readdir(DIR, length as u64, cookie);
-        rows.push((ask, "SUCCESS", used as u64, Left::Bytes(&entries[..used])))?;
+        rows.push((Readdir(DIR, length as u64, cookie), Read(&entries[..used])))?;
     }
     Ok(())
 }

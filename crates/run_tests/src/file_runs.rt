@@ -8,6 +8,7 @@ use std::process::Abort;
 use std::test::Fail;
 
 /// A path that a guest gives.
+#[derive(Drop)]
 pub(crate) enum Path {
     // These bytes.
     Is(&'static [u8]),
@@ -21,6 +22,7 @@ pub(crate) enum Path {
 pub(crate) type Put = [u64; 3];
 
 /// A call that a guest makes.
+#[derive(Drop)]
 pub(crate) enum Ask {
     // The descriptor, the offset, the length and the advice.
     Advise(u64, u64, u64, u64),
@@ -43,24 +45,31 @@ pub(crate) enum Ask {
 }
 
 /// What of a node no call of these tests changes.
+#[derive(Drop)]
 pub(crate) struct Node {
     pub(crate) ino: u64,
     pub(crate) kind: u8,
     pub(crate) nlink: u32,
 }
 
-/// What a call leaves in its output, before zeros.
-pub(crate) enum Left {
-    Nothing,
-    Bytes(&'static [u8]),
+/// What a call must tell.
+#[derive(Drop)]
+pub(crate) enum Told {
+    // Nothing but that it is done.
+    Done,
+    // These bytes, and how many they are.
+    Read(&'static [u8]),
     // A filestat: its node, its size, and its atim, mtim and ctim. Its device is 0.
     Stat(Node, u64, [u64; 3]),
+    // The name of its error.
+    Refused(&'static str),
 }
 
-/// A call, the name of its error, its first result, and what it leaves.
-pub(crate) type Row = (Ask, &'static str, u64, Left);
+/// A call, and what it must tell.
+pub(crate) type Row = (Ask, Told);
 
 /// The options of a run, its launch text and tree document, its calls, the lines of its denials, and its tree at the end.
+#[derive(Drop)]
 pub(crate) struct Run<'a> {
     pub(crate) words: &'static [&'static str],
     pub(crate) text: &'static str,
@@ -144,7 +153,7 @@ fn call_of(list: &mut CallList, ask: &Ask, output: u64) -> Result<[u64; 6], Allo
 fn program_for(alloc: Global, rows: &[Row]) -> Result<Vec<u8>, AllocError> {
     let mut list = CallList::new(alloc);
     let mut end = OUTPUT;
-    for (ask, _, _, _) in rows {
+    for (ask, _) in rows {
         let call = call_of(&mut list, ask, end)?;
         list.push(call)?;
         end = end.wrapping_add(ROOM as u64);
@@ -188,13 +197,13 @@ fn push_stat(
     Ok(())
 }
 
-// What a call leaves in its output.
-fn output_of(alloc: Global, left: &Left) -> Result<Vec<u8>, AllocError> {
+// A call's output: what it tells, and zeros.
+fn output_of(alloc: Global, told: &Told) -> Result<Vec<u8>, AllocError> {
     let mut bytes = Vec::new(alloc);
-    match left {
-        Left::Nothing => {}
-        Left::Bytes(first) => bytes.extend_from_slice(first)?,
-        Left::Stat(node, size, times) => push_stat(&mut bytes, node, *size, times)?,
+    match told {
+        Told::Read(read) => bytes.extend_from_slice(read)?,
+        Told::Stat(node, size, times) => push_stat(&mut bytes, node, *size, times)?,
+        Told::Done | Told::Refused(_) => {}
     }
     for _ in bytes.len()..ROOM {
         bytes.push(0)?;
@@ -205,8 +214,8 @@ fn output_of(alloc: Global, left: &Left) -> Result<Vec<u8>, AllocError> {
 // What the guest writes.
 fn written(alloc: Global, rows: &[Row]) -> Result<Vec<u8>, AllocError> {
     let mut bytes = Vec::new(alloc);
-    for (_, _, _, left) in rows {
-        bytes.extend_from_slice(&output_of(alloc, left)?)?;
+    for (_, told) in rows {
+        bytes.extend_from_slice(&output_of(alloc, told)?)?;
     }
     Ok(bytes)
 }
@@ -220,14 +229,23 @@ fn denial_lines(alloc: Global, denials: &[&str]) -> Result<String, AllocError> {
     Ok(lines)
 }
 
+// The name of the error, and the first result.
+fn answer_of(told: &Told) -> (&'static str, usize) {
+    match told {
+        Told::Done | Told::Stat(..) => ("SUCCESS", 0),
+        Told::Read(bytes) => ("SUCCESS", bytes.len()),
+        Told::Refused(errno) => (errno, 0),
+    }
+}
+
 // The history's lines: those of the calls, of the write of so many bytes, and of the exit.
 fn history_lines(alloc: Global, rows: &[Row], count: usize) -> Result<String, AllocError> {
     let mut lines = format!(in alloc; "== history {}\n", rows.len().wrapping_add(2))?;
     let mut moment = 1_u64;
-    for (ask, errno, result, _) in rows {
+    for (ask, told) in rows {
         let name = name_of(ask);
-        let line =
-            format!(in alloc; "{moment}000 00000000.1 1 call {name} {errno} {result} 0\n")?;
+        let (errno, result) = answer_of(told);
+        let line = format!(in alloc; "{moment}000 00000000.1 1 call {name} {errno} {result} 0\n")?;
         lines.push_str(&line)?;
         moment = moment.wrapping_add(1);
     }

@@ -12,11 +12,7 @@ pub(crate) fn program_of(alloc: Global, guest: &str) -> Result<Vec<u8>, AllocErr
 }
 
 // The same with these bytes behind the code.
-pub(crate) fn program_with(
-    alloc: Global,
-    guest: &str,
-    data: &[u8],
-) -> Result<Vec<u8>, AllocError> {
+pub(crate) fn program_with(alloc: Global, guest: &str, data: &[u8]) -> Result<Vec<u8>, AllocError> {
     let code = assemble(alloc, guest).map_err(|_| AllocError)?;
     let mut program = HELLO_FILE[..120].to_vec(alloc)?;
     program.extend_from_slice(code.as_slice())?;
