@@ -4,6 +4,7 @@ use crate::file_runs::Path::Is;
 use crate::file_runs::Told::{Done, FdStat, Opened, Read, Refused, Stat};
 use crate::file_runs::{FROM_FIVE, Node, Row, Run, WITH_HISTORY, check_run};
 use crate::name_asks::Naming::{Create, Link, Open, Rename, Symlink, Unlink};
+use std::alloc::{AllocError, Global};
 use std::test::Fail;
 
 // The flags of opening, and the flag with which a directory is unlinked.
@@ -560,6 +561,72 @@ fn opens_makes_and_links(rt: HostRuntime) -> Result<(), Fail> {
         rows: WHOLE,
         denials: &["file_open fd 2 base FILE_OPEN inheriting -"],
         left: WHOLE_LEFT,
+    };
+    check_run(&rt, rt.alloc(), &run)
+}
+
+// ---- as many names as a file can have
+
+// The first and the last of the file's names besides `f`, of which there are 65,534.
+const FIRST_NAME: u32 = 10_000;
+
+const LAST_NAME: u32 = 75_533;
+
+// Records of those names from one on to another, for a file whose record has this path.
+fn push_names(
+    text: &mut String,
+    from: u32,
+    to: u32,
+    length: u32,
+    path: &str,
+) -> Result<(), AllocError> {
+    for name in from..=to {
+        write!(text, "hard {length} {name}\n{path}\n")?;
+    }
+    Ok(())
+}
+
+// The file with 65,535 names, as a tree document.
+fn crowded(alloc: Global) -> Result<String, AllocError> {
+    let mut text = String::from_str(alloc, "file 0 f\n\n")?;
+    push_names(&mut text, FIRST_NAME, LAST_NAME, 1, "f")?;
+    Ok(text)
+}
+
+// The report's tree: its last name is gone, and `g` has come.
+fn crowded_left(alloc: Global) -> Result<String, AllocError> {
+    let mut text = String::from_str(alloc, "== tree 65535\nfile 0 10000\n\n")?;
+    push_names(&mut text, FIRST_NAME + 1, LAST_NAME - 1, 5, "10000")?;
+    text.push_str("hard 5 f\n10000\nhard 5 g\n10000\n")?;
+    Ok(text)
+}
+
+const CROWDED: Node = Node {
+    ino: 0xffff_ffff_0000_0005,
+    kind: 96,
+    nlink: 65_535,
+};
+
+const MOST_NAMES: &[Row] = &[
+    (StatGet(DIR, Is(b"f")), Stat(CROWDED, 0, [0; 3])),
+    (Names(Link(DIR, b"f", DIR, b"g")), Refused("MLINK")),
+    (Names(Link(DIR, b"f", DIR, b"10000")), Refused("EXIST")),
+    (Names(Unlink(DIR, b"75533", 0)), Done),
+    (Names(Link(DIR, b"f", DIR, b"g")), Done),
+    (Names(Link(DIR, b"f", DIR, b"h")), Refused("MLINK")),
+];
+
+#[test]
+fn links_up_to_the_limit(rt: HostRuntime) -> Result<(), Fail> {
+    let tree = crowded(rt.alloc())?;
+    let left = crowded_left(rt.alloc())?;
+    let run = Run {
+        words: WITH_HISTORY,
+        text: "[!fd stdout, !file {path: ''}]",
+        tree: tree.as_bytes(),
+        rows: MOST_NAMES,
+        denials: &[],
+        left: left.as_bytes(),
     };
     check_run(&rt, rt.alloc(), &run)
 }

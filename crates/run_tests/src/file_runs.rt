@@ -82,10 +82,10 @@ pub(crate) type Row = (Ask, Told);
 pub(crate) struct Run<'a> {
     pub(crate) words: &'static [&'static str],
     pub(crate) text: &'a str,
-    pub(crate) tree: &'static [u8],
+    pub(crate) tree: &'a [u8],
     pub(crate) rows: &'a [Row],
     pub(crate) denials: &'static [&'static str],
-    pub(crate) left: &'static [u8],
+    pub(crate) left: &'a [u8],
 }
 
 /// The words of a run that begins at the epoch.
