@@ -1,32 +1,39 @@
--- What the walk of a path gives: an end or a node, or the reply of a call that goes no further.
+-- What the walk of a path gives: an end or a node, or why a call goes no further.
 use Rattle.std.specs.Prelude.{ℕ, Result, Ok, Err}
 use Rattle.abi_base.specs.declared.errno.Errno.TheVariants.{Noent}
-use Rattle.abi_types.specs.declared.descriptor.Denial.TheVariants.{Outside}
+use Rattle.abi_types.specs.declared.descriptor.Denial.TheVariants as denial
 use Rattle.abi_types.specs.declared.reply.Reply.{Reply}
 use Rattle.path_lookup.specs.declared.ends.End.{End}
 use Rattle.path_lookup.specs.declared.ends.End.TheVariants as end
 use Rattle.kernel_model.specs.FilePaths.{Walked, Ends, Fails, LeadsOutside}
 use Rattle.kernel_model.specs.Outcome.{Outcome, replies}
 use Rattle.kernel_model.specs.Reply.{denied, refused}
+use Rattle.file_calls.specs.declared.refusal.Refusal.{Refusal}
+use Rattle.file_calls.specs.declared.refusal.Refusal.TheVariants.{Errno, Outside}
+
+-- what a call answers that is refused
+abbrev pub reply_of : Refusal → Reply
+reply_of (Errno errno) = refused errno
+reply_of (Outside component) = denied (denial.Outside component)
 
 -- the end of a walk
-abbrev pub end_or_reply : Walked → Result End Reply
-end_or_reply (Ends end) = Ok end
-end_or_reply (Fails errno) = Err (refused errno)
-end_or_reply (LeadsOutside component) = Err (denied (Outside component))
+abbrev pub end_or_refusal : Walked → Result End Refusal
+end_or_refusal (Ends end) = Ok end
+end_or_refusal (Fails errno) = Err (Errno errno)
+end_or_refusal (LeadsOutside component) = Err (Outside component)
 
 -- the node at which a walk ends
-abbrev pub node_at : End → Result ℕ Reply
+abbrev pub node_at : End → Result ℕ Refusal
 node_at (end.Found n) = Ok n
-node_at (end.Absent dir from len) = Err (refused Noent)
-node_at (end.Last dir from len) = Err (refused Noent)
+node_at (end.Absent dir from len) = Err (Errno Noent)
+node_at (end.Last dir from len) = Err (Errno Noent)
 
-abbrev pub node_or_reply : Walked → Result ℕ Reply
-node_or_reply (Ends end) = node_at end
-node_or_reply (Fails errno) = Err (refused errno)
-node_or_reply (LeadsOutside component) = Err (denied (Outside component))
+abbrev pub node_or_refusal : Walked → Result ℕ Refusal
+node_or_refusal (Ends end) = node_at end
+node_or_refusal (Fails errno) = Err (Errno errno)
+node_or_refusal (LeadsOutside component) = Err (Outside component)
 
 -- a call that goes on so at the node
-abbrev pub going_on : (ℕ → Outcome) → Result ℕ Reply → Outcome
+abbrev pub going_on : (ℕ → Outcome) → Result ℕ Refusal → Outcome
 going_on goes (Ok n) = goes n
-going_on goes (Err reply) = replies reply
+going_on goes (Err refusal) = replies (reply_of refusal)

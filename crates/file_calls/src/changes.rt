@@ -10,6 +10,7 @@ ghost use Rattle.file_calls.specs.Done.{HasSameNodes, IsDone};
 ghost use Rattle.file_calls.specs.Opens.{IsThere};
 
 use crate::paths::{found, lookup_mode};
+use crate::refusal::reply_of;
 use abi_structures::FileStat;
 use abi_types::{Errno, ObjId, OpenKind, Reply, Times};
 use file_tree::Tree;
@@ -32,8 +33,8 @@ const SIZE: u32 = 16;
 
 // ---- parts of changes
 
-// The file's bytes have changed now. Nothing changes where there is no such node.
-fn set_modified(tree: &mut Tree, node: ObjId, now: u64)
+/// The bytes of a file, or the names in a directory, have changed now. Nothing changes where there is no such node.
+pub fn set_modified(tree: &mut Tree, node: ObjId, now: u64)
     ensures { tree.new ≡ model.retimed tree.old node (model.modified now) }
 {
     if let Some(found) = tree.node(node) {
@@ -49,8 +50,8 @@ fn set_modified(tree: &mut Tree, node: ObjId, now: u64)
     }
 }
 
-// The file has this size. One that it has already changes nothing. `Err` changes nothing.
-fn set_size(tree: &mut Tree, node: ObjId, now: u64, size: u64) -> Result<(), AllocError>
+/// The file has this size. One that it has already changes nothing. `Err` changes nothing.
+pub fn set_size(tree: &mut Tree, node: ObjId, now: u64, size: u64) -> Result<(), AllocError>
     requires file { is_file tree.old node ≡ true }
     requires small { size ≤ MOST_FILE_BYTES }
     ensures ok { OnOk result (tree.new ≡ model.sized tree.old node now size) }
@@ -263,6 +264,6 @@ pub(crate) fn file_stat_put(
             put_times(tree, node, now, stat, flags);
             done(tree, node)
         }
-        Err(reply) => reply,
+        Err(refusal) => reply_of(refusal),
     }
 }

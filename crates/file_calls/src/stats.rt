@@ -8,6 +8,7 @@ ghost use Rattle.kernel_model.specs.Start.{launch_object};
 ghost use Rattle.file_calls.specs.Opens.{IsThere};
 
 use crate::paths::{found, lookup_mode};
+use crate::refusal::reply_of;
 use abi_structures::FileStat;
 use abi_types::{Errno, Node, NodeKind, ObjId, OpenKind, Payload, Reply};
 use file_tree::Tree;
@@ -145,6 +146,6 @@ pub(crate) fn file_stat_get(tree: &Tree, kind: &OpenKind, flags: u32, path: &[u8
 {
     match found(tree, lookup_mode(flags), path, kind) {
         Ok(node) => tell_node(tree, node),
-        Err(reply) => reply,
+        Err(refusal) => reply_of(refusal),
     }
 }

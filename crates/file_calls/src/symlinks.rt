@@ -7,6 +7,7 @@ ghost use Rattle.kernel_model.specs.Outcome.{replies};
 
 use crate::listings::{content, room_of};
 use crate::paths::found;
+use crate::refusal::reply_of;
 use abi_types::{Bytes, Errno, NodeKind, ObjId, OpenKind, Reply};
 use file_tree::Tree;
 use path_lookup::WalkMode;
@@ -50,6 +51,6 @@ pub(crate) fn file_readlink(
 {
     match found(tree, WalkMode::NoFollow, path, kind) {
         Ok(node) => read_node(alloc, tree, most, node),
-        Err(reply) => Ok(reply),
+        Err(refusal) => Ok(reply_of(refusal)),
     }
 }

@@ -1,10 +1,13 @@
 -- Calls that do no more than answer.
-use Rattle.std.proofs.Common.{◌≡◌, ◌≢◌, ℕ, List, None, sym, refl}
+use Rattle.std.proofs.Common.{◌≡◌, ◌≢◌, ℕ, List, None, Some, sym, refl}
 use Rattle.abi_structures.specs.declared.structures.FdStat.{FdStat}
 use Rattle.abi_types.specs.declared.call.Call.{Call}
+use Rattle.abi_types.specs.declared.call.Lookup.{Lookup}
 use Rattle.abi_types.specs.declared.call.Call.TheVariants.{FdClose, FdDup, FdRead, FdReplace, FdStatGet, FdStatPut, FdWrite, ProcExit}
 use Rattle.abi_types.specs.declared.call.Call.TheVariants.{FileAllocate, FileReaddir, FileReadlink, FileStatFget, FileStatFput, FileStatGet, FileStatPut}
+use Rattle.abi_types.specs.declared.call.Call.TheVariants.{FileCreate, FileLink, FileOpen, FileRename, FileSymlink, FileUnlink}
 use Rattle.kernel_model.specs.FileCalls.{opened_fd}
+use Rattle.kernel_model.specs.NameCalls.{named_fds}
 use Rattle.kernel_model.proofs.Tests.{none_is_no}
 use Rattle.kernel_core.specs.Answering.{DoesMore}
 
@@ -18,6 +21,8 @@ pub record IsOther (call : Call) : Type 0 where
   pub stat_put : (fd : ℕ) (stat : FdStat) (flags : ℕ) → call ≢ FdStatPut fd stat flags
   pub write : (fd : ℕ) (bytes : List ℕ) → call ≢ FdWrite fd bytes
   pub file : opened_fd call ≡ None
+  pub names : named_fds call ≡ None
+  pub opens : (lookup : Lookup) (path : List ℕ) (oflags : ℕ) (stat : FdStat) → call ≢ FileOpen lookup path oflags stat
   pub exit : (code : ℕ) → call ≢ ProcExit code
 
 pub no_more : (call : Call) → IsOther call → ¬ DoesMore call
@@ -29,11 +34,17 @@ no_more (FdStatGet fd) other h = other.stat_get fd refl
 no_more (FdStatPut fd stat flags) other h = other.stat_put fd stat flags refl
 no_more (FdWrite fd bytes) other h = other.write fd bytes refl
 no_more (FileAllocate fd offset length) other h = none_is_no fd (sym other.file)
+no_more (FileCreate fd path type) other h = none_is_no (fd, None) (sym other.names)
+no_more (FileLink lookup path new_fd new_path) other h = none_is_no (lookup.fd, Some new_fd) (sym other.names)
+no_more (FileOpen lookup path oflags stat) other h = other.opens lookup path oflags stat refl
 no_more (FileReaddir fd length cookie) other h = none_is_no fd (sym other.file)
 no_more (FileReadlink fd path length) other h = none_is_no fd (sym other.file)
+no_more (FileRename fd path new_fd new_path) other h = none_is_no (fd, Some new_fd) (sym other.names)
 no_more (FileStatFget fd) other h = none_is_no fd (sym other.file)
 no_more (FileStatFput fd stat flags) other h = none_is_no fd (sym other.file)
 no_more (FileStatGet lookup path) other h = none_is_no lookup.fd (sym other.file)
 no_more (FileStatPut lookup path stat flags) other h = none_is_no lookup.fd (sym other.file)
+no_more (FileSymlink text fd path) other h = none_is_no (fd, None) (sym other.names)
+no_more (FileUnlink fd path flags) other h = none_is_no (fd, None) (sym other.names)
 no_more (ProcExit code) other h = other.exit code refl
 no_more _ other h = h

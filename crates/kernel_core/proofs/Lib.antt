@@ -14,3 +14,6 @@ pub mod Steps
 pub mod Uses
 pub mod Releases
 pub mod FileCalls
+pub mod Forgetting
+pub mod Leaving
+pub mod NameCalls

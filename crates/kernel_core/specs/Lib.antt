@@ -3,3 +3,5 @@ pub mod Start
 pub mod Answering
 pub mod Changes
 pub mod Files
+pub mod Names
+pub mod Opening

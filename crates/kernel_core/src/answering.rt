@@ -53,12 +53,18 @@ pub fn answer_of(call: &Call) -> Reply
         | Call::FdStatPut { .. }
         | Call::FdWrite { .. }
         | Call::FileAllocate { .. }
+        | Call::FileCreate { .. }
+        | Call::FileLink { .. }
+        | Call::FileOpen { .. }
         | Call::FileReaddir { .. }
         | Call::FileReadlink { .. }
+        | Call::FileRename { .. }
         | Call::FileStatFget { .. }
         | Call::FileStatFput { .. }
         | Call::FileStatGet { .. }
         | Call::FileStatPut { .. }
+        | Call::FileSymlink { .. }
+        | Call::FileUnlink { .. }
         | Call::ProcExit { .. } => unreachable!(),
         Call::ClockResGet { .. }
         | Call::ClockTimeGet { .. }
@@ -68,12 +74,6 @@ pub fn answer_of(call: &Call) -> Reply
         | Call::FdPread { .. }
         | Call::FdPwrite { .. }
         | Call::FdSeek { .. }
-        | Call::FileCreate { .. }
-        | Call::FileLink { .. }
-        | Call::FileOpen { .. }
-        | Call::FileRename { .. }
-        | Call::FileSymlink { .. }
-        | Call::FileUnlink { .. }
         | Call::LockUnlock { .. }
         | Call::Poll { .. }
         | Call::ProcExec { .. }

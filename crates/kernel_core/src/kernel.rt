@@ -38,6 +38,7 @@ use abi_types::{
 use fd_table::FdTable;
 use file_calls::{on_open, opened_fd, type_number};
 use file_tree::Tree;
+use name_calls::named_fds;
 use number_map::NumMap;
 use object_store::Objects;
 use right_rules::{refusal, refused, success, success_with};
@@ -51,14 +52,14 @@ const STEP_TIME: u64 = 1000;
 /// The state of the kernel, in contracts a `State` (docs/MODEL.md), which is always valid.
 #[derive(Drop)]
 pub struct Kernel {
-    clock: u64,
-    tables: NumMap<FdTable>,
-    own: NumMap<Own>,
-    statuses: NumMap<Status>,
-    objects: Objects,
-    tree: Tree,
-    terms: NumMap<Terminal>,
-    alloc: Global,
+    pub(crate) clock: u64,
+    pub(crate) tables: NumMap<FdTable>,
+    pub(crate) own: NumMap<Own>,
+    pub(crate) statuses: NumMap<Status>,
+    pub(crate) objects: Objects,
+    pub(crate) tree: Tree,
+    pub(crate) terms: NumMap<Terminal>,
+    pub(crate) alloc: Global,
 }
 
 impl Model for Kernel {
@@ -313,6 +314,9 @@ impl Kernel {
         if let Some(fd) = opened_fd(call) {
             return self.file_call(constants, who.pid, fd, call);
         }
+        if let Some((fd, other)) = named_fds(call) {
+            return self.name_call(constants, who.pid, fd, other, call);
+        }
         match call {
             Call::FdClose { fd } => self.change_descriptors(who.pid, &TableChange::Close(*fd)),
             Call::FdDup { fd } => self.change_descriptors(who.pid, &TableChange::Dup(*fd)),
@@ -334,6 +338,12 @@ impl Kernel {
                 self.change_descriptors(who.pid, &change)
             }
             Call::FdWrite { fd, bytes } => self.fd_write(who.pid, *fd, bytes),
+            Call::FileOpen {
+                lookup,
+                path,
+                oflags,
+                stat,
+            } => self.file_open(constants, who.pid, lookup, path.as_slice(), *oflags, stat),
             Call::ProcExit { code } => {
                 self.end_process(who.pid, Status::Exit(*code));
                 Ok(Answer::Reply(success(0, 0)))

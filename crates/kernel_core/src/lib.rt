@@ -6,6 +6,8 @@ pub use run_types::{Act, Entry, History, Launch, Record};
 
 mod answering;
 mod kernel;
+mod names;
+mod opening;
 mod own;
 mod release;
 mod start;

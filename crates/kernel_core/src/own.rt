@@ -1,11 +1,13 @@
 //! What the kernel keeps of a process beside its descriptors and its status.
-ghost use Rattle.std.specs.Prelude.{◌≡◌, IfOk, Some};
+ghost use Rattle.std.specs.Prelude.{◌≡◌, ◌+◌, ◌<◌, ◌^◌, IfOk, IfSome, Some};
 ghost use Rattle.std.specs.FinMap as map;
+ghost use Rattle.kernel_core.specs.Names.{number_of};
+ghost use Rattle.kernel_model.specs.Numbers.{made_more};
 ghost use Rattle.kernel_model.specs.ProcessCalls.{ended_own};
 ghost use Rattle.kernel_model.specs.Start.{first_own};
 
-use crate::start::single;
-use abi_types::{Counts, Thread, Tid};
+use crate::start::{LAUNCH_PROCESS, single};
+use abi_types::{Counts, ObjId, Pid, Thread, Tid};
 use number_map::NumMap;
 use std::alloc::{AllocError, Global};
 use std::marker::Model;
@@ -57,5 +59,25 @@ impl Own {
         ensures { result ≡ map.get self.now.threads tid }
     {
         self.threads.get(u64::from(tid.0)).copied()
+    }
+
+    /// The number of the last of so many objects that the process makes next. `None` where it can't make so many more.
+    pub fn numbered(&self, pid: Pid, count: u32) -> Option<ObjId>
+        ensures number { result ≡ number_of pid count (Some self.now) }
+        ensures few { IfSome result (λ _. self.now.counts.objects + count < 2 ^ 32) }
+    {
+        if count > 0 && u64::from(pid.0) == LAUNCH_PROCESS {
+            return None;
+        }
+        let last = self.counts.objects.checked_add(count)?;
+        Some(ObjId(u64::from(pid.0) * 0x1_0000_0000 + u64::from(last)))
+    }
+
+    /// The process has made so many objects more.
+    pub fn make(&mut self, count: u32)
+        requires { self.old.counts.objects + count < 2 ^ 32 }
+        ensures { self.new ≡ made_more count self.old }
+    {
+        self.counts.objects += count;
     }
 }

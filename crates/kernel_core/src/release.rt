@@ -40,3 +40,15 @@ pub fn release(objects: &mut Objects, tree: &mut Tree)
         }
     }
 }
+
+/// Takes each node away that has neither a name nor an open. Looks at the nodes without a name alone. Takes no memory.
+pub fn forget_nameless(tree: &mut Tree, objects: &Objects)
+    requires { IsTree tree.old }
+    ensures { tree.new ≡ retained tree.old (is_used objects.now.kinds tree.old) }
+{
+    let mut last: Option<ObjId> = None;
+    while let Some(node) = tree.nameless(last) {
+        forget_unused(tree, objects, node);
+        last = Some(node);
+    }
+}

@@ -13,8 +13,8 @@ use number_map::NumMap;
 use object_store::Objects;
 use std::alloc::{AllocError, Global};
 
-// The process number that stands in the numbers of the objects that the launch makes.
-const LAUNCH_PROCESS: u64 = 0xffff_ffff;
+/// The process number that stands in the numbers of the objects that the launch makes.
+pub const LAUNCH_PROCESS: u64 = 0xffff_ffff;
 
 // The count of the tree's root among the launch's objects: 1 to 3 are the standard streams, and behind the root come the
 // tree's other nodes, and then the opens of the granted descriptors.

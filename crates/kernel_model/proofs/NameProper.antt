@@ -22,7 +22,7 @@ use Rattle.kernel_model.specs.Valid.{IsNearlyValid}
 use Rattle.kernel_model.specs.View.{only, restrict, whole}
 use Rattle.kernel_model.proofs.Branches.{IsSeen, all_behind_is_seen}
 use Rattle.kernel_model.proofs.DescriptorCalls.{other_table, own_table}
-use Rattle.kernel_model.proofs.FileMeanings.{open_has_behind, tree_threads, tree_unset}
+use Rattle.kernel_model.proofs.FileMeanings.{open_has_behind, tree_tables, tree_threads, tree_unset}
 use Rattle.kernel_model.proofs.NameMeanings.{IsGood, IsPlainly, IsUnsetBy, NamesWell, SetsAlike, new_node_parts}
 use Rattle.kernel_model.proofs.ObjectNumbers.{fewer_fit, next_is_absent}
 use Rattle.kernel_model.proofs.Parts.{beyond_own, has_left, has_of_both, has_right}
@@ -65,14 +65,16 @@ own_others p (suc count) None q apart = (refl, refl)
 own_others p (suc count) (Some own) q apart = (other_table p q apart, refl)
 
 -- the first of the objects that it makes is one of them
-first_is_new : (p count : ℕ) (own : Option Own) (q : Part) → has_part (new_parts p (suc count) own) q ≡ false → has_part (object_parts (next_object p own 1)) q ≡ false
+first_is_new : (p count : ℕ) (own : Option Own) (q : Part) → has_part (new_parts p (suc count) own) q ≡ false
+    → has_part (object_parts (next_object p own 1)) q ≡ false
 first_is_new p zero own q h = (either_false _ _ (sym (has_of_both (object_parts (next_object p own 1)) [] q) ∙ h)).0
 first_is_new p (suc count) own q h =
     let first = object_parts (next_object p own (suc (suc count))) in
     let rest = new_parts p (suc count) own in
     first_is_new p count own q (either_false (has_part first q) (has_part rest q) (sym (has_of_both first rest q) ∙ h)).1
 
-new_node_unset : (p count : ℕ) (own : Option Own) (q : Part) → has_part (new_parts p count own) q ≡ false → has_part (new_node_parts count (next_object p own 1)) q ≡ false
+new_node_unset : (p count : ℕ) (own : Option Own) (q : Part) → has_part (new_parts p count own) q ≡ false
+    → has_part (new_node_parts count (next_object p own 1)) q ≡ false
 new_node_unset p zero own q h = refl
 new_node_unset p (suc count) own q h = first_is_new p count own q h
 
@@ -113,7 +115,10 @@ outcome_others p makes own (Changes c) q apart =
     let mine = own_others p makes own q apart in
     let tree = tree_unset (change_updates c) q (change_of_tree c) in
     change_holds (λ o. IsUnset o (at_proc q) × IsUnset o (at_status q)) p makes own c (λ _. (refl, refl))
-    (λ _. (both_unset (own_updates p makes own) (change_updates c) (at_proc q) mine.0 tree.0, both_unset (own_updates p makes own) (change_updates c) (at_status q) mine.1 tree.1))
+    (λ _. (
+      both_unset (own_updates p makes own) (change_updates c) (at_proc q) mine.0 tree.0,
+      both_unset (own_updates p makes own) (change_updates c) (at_status q) mine.1 tree.1,
+    ))
 
 outcome_threads : (S : State) (p makes : ℕ) (comes : Comes) → threads_of (put_all (outcome_of p (get S.own p) makes comes).updates S) p ≡ threads_of S p
 outcome_threads S p makes (Refuses errno) = refl
@@ -122,6 +127,19 @@ outcome_threads S p makes (Changes c) =
     change_holds (λ (o : Outcome). threads_of (put_all o.updates S) p ≡ threads_of S p) p makes (get S.own p) c (λ _. refl)
     (λ _. ap (λ (T : State). threads_of T p) (put_both (own_updates p makes (get S.own p)) (change_updates c) S)
     ∙ tree_threads (change_updates c) (counted p makes S) p (change_of_tree c) ∙ counted_threads S p makes p)
+
+own_tables : (S : State) (p count : ℕ) (own : Option Own) → (put_all (own_updates p count own) S).tables ≡ S.tables
+own_tables S p zero own = refl
+own_tables S p (suc count) None = refl
+own_tables S p (suc count) (Some own) = refl
+
+pub outcome_tables : (S : State) (p makes : ℕ) (own : Option Own) (comes : Comes) → (put_all (outcome_of p own makes comes).updates S).tables ≡ S.tables
+outcome_tables S p makes own (Refuses errno) = refl
+outcome_tables S p makes own (LeadsOut component) = refl
+outcome_tables S p makes own (Changes c) =
+    change_holds (λ (o : Outcome). (put_all o.updates S).tables ≡ S.tables) p makes own c (λ _. refl)
+    (λ _. ap (λ (T : State). T.tables) (put_both (own_updates p makes own) (change_updates c) S)
+    ∙ tree_tables (change_updates c) (put_all (own_updates p makes own) S) (change_of_tree c) ∙ own_tables S p makes own)
 
 -- where it can make no more it makes something
 makes_some : (P : Type 0) (p makes : ℕ) (own : Option Own) → can_number p makes own ≡ false → (makes ≡ 0) ⊎ P → P

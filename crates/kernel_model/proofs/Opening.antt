@@ -287,7 +287,7 @@ tree_beside (set_node n node) h = tt
 tree_beside (set_names d names) h = tt
 tree_beside u h = absurd h
 
-rest_beside : (p count : ℕ) (own : Option Own) (c : Change) → AllByRecursion IsBeside (own_updates p count own ++ change_updates c)
+pub rest_beside : (p count : ℕ) (own : Option Own) (c : Change) → AllByRecursion IsBeside (own_updates p count own ++ change_updates c)
 rest_beside p count own c =
     all_both IsBeside (own_updates p count own) (change_updates c) (own_beside p count own)
     (all_weaker IsOfTree IsBeside tree_beside (change_updates c) (change_of_tree c))
@@ -366,7 +366,7 @@ module _ (S : State) (p : ℕ) (table : Table) (has_table : get S.tables p ≡ S
       (new_descriptor_nearly_valid (put_one (set_open new_open kind) changed) p table (ap (λ m. get m p) counted_tables ∙ has_table) opened_valid fd
       (opened_descriptor new_open kind stat) (new_descriptor_named stat) n d here)
 
-walk_well : (oflags flags : ℕ) (path : List ℕ) (now new : ℕ) (t : Tree) (w : Walked) → IsTree t → get t.nodes new ≡ None
+pub walk_well : (oflags flags : ℕ) (path : List ℕ) (now new : ℕ) (t : Tree) (w : Walked) → IsTree t → get t.nodes new ≡ None
     → OpensWell t new (open_walked oflags flags path now new t w)
 walk_well oflags flags path now new t (Ends end) tree none = opens_well oflags flags path now new t tree none end
 walk_well oflags flags path now new t (Fails errno) tree none = tt

@@ -52,7 +52,7 @@ no_refusal true lack h = absurd (none_is_no (refused Badf) (sym h))
 no_refusal false None h = (refl, refl)
 no_refusal false (Some denial) h = absurd (none_is_no (denied denial) (sym h))
 
-all_met : (call : Call) (table : Table) → refusal table call ≡ None → AllByRecursion (IsMet table) (need call)
+pub all_met : (call : Call) (table : Table) → refusal table call ≡ None → AllByRecursion (IsMet table) (need call)
 all_met call table h =
     let both = no_refusal (some_absent table (named call)) (first_lack table (need call)) h in
     rows_met table (need call) (rows_there call table (all_present table (named call) both.0)) both.1
@@ -132,7 +132,8 @@ either_of false b c more h = more h
 
 changed_is_reached : (S : State) (call : Call) (t : Option Table) (q : Part) → has_part (changed S call t) q ≡ true → has_part (reach S call t) q ≡ true
 changed_is_reached S call None q h = h
-changed_is_reached S call (Some table) q h = unless_more (refusal table call) ((meaning_of call).changes S table) (reached S table (seen call)) q ((proper call).changes S table q) h
+changed_is_reached S call (Some table) q h =
+    unless_more (refusal table call) ((meaning_of call).changes S table) (reached S table (seen call)) q ((proper call).changes S table q) h
 
 -- what is among three lists is among the second, or among the first and the third
 around : (xs ys zs : List Part) (q : Part) → has_part (xs ++ (ys ++ zs)) q ≡ true → ((has_part xs q || has_part zs q) ≡ true) ⊎ (has_part ys q ≡ true)

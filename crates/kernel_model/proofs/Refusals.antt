@@ -179,7 +179,7 @@ refused_first : (S : State) (who : Who) (call : Call) (table : Table) (reply : R
 refused_first S who call table reply own refuses lacks = none_is_no reply (sym lacks.1 ∙ ap (refusal_of call) own ∙ refuses)
 
 -- the answer of a call that is refused is the refusal
-refused_answer : (constants : Constants) (S : State) (who : Who) (call : Call) (given : Answer) (T : State) (table : Table) (reply : Reply)
+pub refused_answer : (constants : Constants) (S : State) (who : Who) (call : Call) (given : Answer) (T : State) (table : Table) (reply : Reply)
     → IsStep constants S who call given T → get S.tables who.pid ≡ Some table → refusal table call ≡ Some reply → given ≡ answer.Reply reply
 refused_answer constants S who call given T table reply (inl done) own refuses =
     done.0 ∙ refused_step_answer constants S who call table reply own refuses

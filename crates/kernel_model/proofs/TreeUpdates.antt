@@ -1,6 +1,6 @@
 -- States whose file tree is another one.
 --     change_of_tree, put_both      updates of a change are of the tree alone;  updates after others
---     with_tree u S      the state S with the tree u
+--     with_tree u S, tree_same      the state S with the tree u;  updates of the tree lead to such a state
 --     put_change      the updates of a change of the state's tree give it the tree that the change leads to
 --     own_nearly_valid      a nearly valid state in which a process has made more is so
 --     with_tree_nearly_valid      and so is one with another tree in which no file and no directory is missing
@@ -74,6 +74,16 @@ change_of_tree c =
 abbrev pub with_tree : Tree → State → State
 with_tree u S = record S { nodes = u.nodes; names = u.names }
 
+-- updates of the tree change nothing else
+one_same : (u : Update) (w : Tree) (S : State) → IsOfTree u → with_tree w (put_one u S) ≡ with_tree w S
+one_same (set_node n node) w S h = refl
+one_same (set_names n names) w S h = refl
+one_same u w S h = absurd h
+
+pub tree_same : (us : List Update) (S : State) → AllByRecursion IsOfTree us → put_all us S ≡ with_tree (tree_of (put_all us S)) S
+tree_same [] S h = refl
+tree_same (u ∷ us) S h = tree_same us (put_one u S) h.1 ∙ one_same u (tree_of (put_all us (put_one u S))) S h.0
+
 -- a value put, where there is one
 abbrev put_some : {X : Type 0} → FinMap nat_cmp X → ℕ → Option X → FinMap nat_cmp X
 put_some m n None = m
@@ -88,7 +98,8 @@ put_node_updates : (t : Tree) (ns : List ℕ) (us : List Update) (S : State)
     → put_all (nodes_updates t ns ++ us) S ≡ put_all us (record S { nodes = put_from t.nodes ns S.nodes })
 put_node_updates t [] us S = refl
 put_node_updates t (n ∷ ns) us S =
-    elim (get t.nodes n) as (λ o. put_all ((node_update n o ++ nodes_updates t ns) ++ us) S ≡ put_all us (record S { nodes = put_from t.nodes ns (put_some S.nodes n o) })) [
+    elim (get t.nodes n) as (λ o. put_all ((node_update n o ++ nodes_updates t ns) ++ us) S
+    ≡ put_all us (record S { nodes = put_from t.nodes ns (put_some S.nodes n o) })) [
       | None ↦ put_node_updates t ns us S
       | Some node ↦ put_node_updates t ns us (put_one (set_node n node) S)
     ]
@@ -141,7 +152,8 @@ put_change S new makes c tree change =
     let nodes : put_from c.tree.nodes c.nodes S.nodes ≡ c.tree.nodes =
     put_from_is c.tree.nodes c.nodes S.nodes (record { same = λ q apart. sym (change.nodes q apart); none = change.stays }) in
     let names : put_from c.tree.names c.directories S.names ≡ c.tree.names =
-    put_from_is c.tree.names c.directories S.names (record { same = λ q apart. sym (change.names q apart); none = names_stay (tree_of S) new makes c tree change }) in
+    put_from_is c.tree.names c.directories S.names
+    (record { same = λ q apart. sym (change.names q apart); none = names_stay (tree_of S) new makes c tree change }) in
     put_node_updates c.tree c.nodes (names_updates c.tree c.directories) S
     ∙ put_names_updates c.tree c.directories (record S { nodes = put_from c.tree.nodes c.nodes S.nodes })
     ∙ (λ i. record S { nodes = nodes i; names = names i })

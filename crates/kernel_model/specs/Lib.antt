@@ -25,6 +25,7 @@ pub mod NameMeaning
 pub mod NameMaking
 pub mod NameRemoving
 pub mod NameMoving
+pub mod NameCalls
 pub mod Opening
 pub mod SocketCalls
 pub mod WaitCalls

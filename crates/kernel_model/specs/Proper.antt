@@ -60,7 +60,8 @@ pub record IsProper (m : Meaning) : Type 0 where
   -- it sets no part beside its process's own, the objects that it makes and what it says that it changes, and it sees what it
   -- changes
   pub sets : (constants : Constants) (S : State) (who : Who) (table : Table) (part : Part)
-      → has_part (own_parts who.pid ++ (new_parts who.pid m.numbers (get S.own who.pid) ++ m.changes S table)) part ≡ false → IsUnset (m.does constants (whole (tick S)) who table) part
+      → has_part (own_parts who.pid ++ (new_parts who.pid m.numbers (get S.own who.pid) ++ m.changes S table)) part ≡ false
+      → IsUnset (m.does constants (whole (tick S)) who table) part
   pub changes : (S : State) (table : Table) (part : Part) → has_part (m.changes S table) part ≡ true → has_part (reached S table m.seen) part ≡ true
   -- where its path leads outside it is denied for that alone; else its reply is a success, or one of its errors with nothing
   -- set; and of these none is want of memory where that may be

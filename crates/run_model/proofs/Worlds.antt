@@ -28,7 +28,7 @@ acted_valid w who guest ts (act.Trap signal) fits valid = end_valid w.state who.
 acted_valid w who guest ts act.Expire fits valid = end_valid w.state who.pid (Killed Xcpu) valid
 acted_valid w who guest ts act.Idle fits valid = absurd fits
 
-apply_valid : (w : World) (e : Entry) → Fits w e → IsValid w.state → IsValid (apply w e).state
+pub apply_valid : (w : World) (e : Entry) → Fits w e → IsValid w.state → IsValid (apply w e).state
 apply_valid w e fits valid =
     subst (λ (v : World). IsValid v.state) (sym (apply_is w e))
     (acted_valid (turned w e.pid e.turns) (who_of e) (guest_of w e.pid) e.turns e.act fits.act valid)

@@ -1,7 +1,8 @@
 use Rattle.std.proofs.Common.{Some, ap, ◌∙◌}
 use Rattle.kernel_model.specs.FileLooks.{tell_in}
 use Rattle.kernel_model.specs.FilePaths.{walked}
-use Rattle.file_calls.specs.Walks.{node_or_reply}
+use Rattle.kernel_model.specs.Outcome.{replies}
+use Rattle.file_calls.specs.Walks.{node_or_refusal}
 use Rattle.file_calls.proofs.Walks.{found_goes_on, lost_replies}
 use Rattle.file_calls.proofs.stats.file_stat_get.Goals as goal
 
@@ -9,9 +10,10 @@ pub returns-in-Ok : goal.returns-in-Ok
 returns-in-Ok c =
     c.tell_node.ensures
     ∙ found_goes_on (tell_in c.args.tree.now) _ c.in-Ok.node
-    (c.in-Ok.ensures ∙ ap (λ mode. node_or_reply (walked c.args.tree.now mode c.args.path.now (Some c.args.kind.now))) c.lookup_mode.ensures)
+    (c.in-Ok.ensures ∙ ap (λ mode. node_or_refusal (walked c.args.tree.now mode c.args.path.now (Some c.args.kind.now))) c.lookup_mode.ensures)
 
 pub returns-in-Err : goal.returns-in-Err
 returns-in-Err c =
-    lost_replies (tell_in c.args.tree.now) _ c.in-Err.reply
-    (c.in-Err.ensures ∙ ap (λ mode. node_or_reply (walked c.args.tree.now mode c.args.path.now (Some c.args.kind.now))) c.lookup_mode.ensures)
+    ap replies c.reply_of.ensures
+    ∙ lost_replies (tell_in c.args.tree.now) _ c.in-Err.refusal
+    (c.in-Err.ensures ∙ ap (λ mode. node_or_refusal (walked c.args.tree.now mode c.args.path.now (Some c.args.kind.now))) c.lookup_mode.ensures)

@@ -121,6 +121,8 @@ answer_of-requires c =
       stat_put = c.in_default-call.not-FdStatPut;
       write = c.in_default-call.not-FdWrite;
       file = sym c.opened_fd.ensures ∙ c.in_default-opened_fd.is;
+      names = sym c.named_fds.ensures ∙ c.in_default-named_fds.is;
+      opens = c.in_default-call.not-FileOpen;
       exit = c.in_default-call.not-ProcExit;
     })
 

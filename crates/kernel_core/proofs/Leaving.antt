@@ -1,0 +1,109 @@
+-- The state that a call leaves that has changed the tree and what its process has of its own.
+--     counted_is      a process that has made so many more
+--     left_of      the state that what a call on names comes to leaves
+--     none_holds      nothing holds an open that isn't there
+--     released_is      the release of a state whose opens are all held: the nodes go that aren't used
+use Rattle.std.proofs.Common.{◌≡◌, ◌≢◌, ℕ, zero, suc, ◌+◌, ◌<◌, ◌==◌, Bool, true, false, cond, ◌++◌, Option, None, Some, IsSome, inl, inr, refl, sym, ap, subst, ◌∙◌, arith}
+use Rattle.std.proofs.lemmas.Bool.Decides.{eqb_tells}
+use Rattle.std.specs.FinMap.{get, insert}
+use Rattle.abi_base.specs.declared.errno.Errno.TheVariants.{Again}
+use Rattle.abi_types.specs.declared.descriptor.Descriptor.{Descriptor}
+use Rattle.abi_types.specs.declared.reply.Answer.TheVariants as answer
+use Rattle.number_map.specs.Maps.{insert_self, total_none, weight}
+use Rattle.tree_model.specs.Opens.{is_used}
+use Rattle.tree_model.specs.Retained.{retained}
+use Rattle.kernel_model.specs.NameMeaning.{Comes, Refuses, LeadsOut, Changes, outcome_of}
+use Rattle.kernel_model.specs.Numbers.{can_number, made_more, next_object, own_updates}
+use Rattle.kernel_model.specs.Outcome.{Outcome, replies}
+use Rattle.kernel_model.specs.Reply.{refused, success}
+use Rattle.kernel_model.specs.Release.{count_in, holders, names_open, release, without_nodes}
+use Rattle.kernel_model.specs.State.{State, Own, Table, Tree, tree_of, put_all}
+use Rattle.kernel_model.specs.TreeUpdates.{Change, change_updates}
+use Rattle.kernel_model.specs.Valid.{IsNamed, IsNearlyValid}
+use Rattle.kernel_model.proofs.NameMeanings.{IsChangeOf, IsGood}
+use Rattle.kernel_model.proofs.TreeUpdates.{counted, put_counted, with_tree}
+use Rattle.kernel_model.proofs.Valids.{ended_held}
+use Rattle.kernel_core.specs.Names.{own_left, tree_left}
+
+-- ---- what a process has made
+
+no_more : (own : Own) → made_more 0 own ≡ own
+no_more own =
+    let same : own.counts.objects + 0 ≡ own.counts.objects = omega arith in
+    λ i. record own { counts = record own.counts { objects = same i } }
+
+abbrev pub with_own : State → ℕ → Own → State
+with_own S p own = record S { own = insert S.own p own }
+
+-- a process that has what it had
+pub own_again : (S : State) (p : ℕ) (own : Own) → get S.own p ≡ Some own → with_own S p own ≡ S
+own_again S p own there = (let same = insert_self S.own p own there in λ i. record S { own = same i })
+
+counted_some : (S : State) (p count : ℕ) (own : Own) → get S.own p ≡ Some own → put_all (own_updates p count (Some own)) S ≡ with_own S p (made_more count own)
+counted_some S p zero own there = sym (ap (with_own S p) (no_more own) ∙ own_again S p own there)
+counted_some S p (suc count) own there = refl
+
+pub counted_is : (S : State) (p count : ℕ) (own : Own) → get S.own p ≡ Some own → counted p count S ≡ with_own S p (made_more count own)
+counted_is S p count own there = ap (λ o. put_all (own_updates p count o) S) there ∙ counted_some S p count own there
+
+-- ---- what a call on names leaves
+
+module _ (S : State) (p : ℕ) (own : Own) (there : get S.own p ≡ Some own) (makes : ℕ) where
+  abbrev pub left : Comes → State
+  left comes =
+      let u : Tree = tree_left p makes own (tree_of S) comes in
+      record S { own = insert S.own p (own_left p makes own comes); nodes = u.nodes; names = u.names }
+
+  -- what a change leaves, by whether the process can make so many
+  abbrev change_left : Change → Bool → Type 0
+  change_left c b =
+      let u : Tree = cond b c.tree (tree_of S) in
+      put_all (cond b (record { answer = answer.Reply (success 0 0); updates = own_updates p makes (Some own) ++ change_updates c }) (replies (refused Again))).updates S
+      ≡ record S { own = insert S.own p (cond b (made_more makes own) own); nodes = u.nodes; names = u.names }
+
+  change_left_is : (c : Change) (b : Bool) → can_number p makes (Some own) ≡ b
+      → (can_number p makes (get S.own p) ≡ true → IsChangeOf (tree_of S) (next_object p (get S.own p) 1) makes c) → IsNearlyValid S → change_left c b
+  change_left_is c true can good v =
+      let here : can_number p makes (get S.own p) ≡ true = ap (can_number p makes) there ∙ can in
+      ap (λ o. put_all (own_updates p makes o ++ change_updates c) S) (sym there)
+      ∙ put_counted S p makes (next_object p (get S.own p) 1) makes c here (good here) (λ _. refl) (omega arith) v
+      ∙ ap (with_tree c.tree) (counted_is S p makes own there)
+  change_left_is c false can good v = sym (own_again S p own there)
+
+  left_by : (comes : Comes) → (can_number p makes (get S.own p) ≡ true → IsGood (tree_of S) (next_object p (get S.own p) 1) makes comes) → IsNearlyValid S
+      → put_all (outcome_of p (Some own) makes comes).updates S ≡ left comes
+  left_by (Refuses errno) good v = sym (own_again S p own there)
+  left_by (LeadsOut component) good v = sym (own_again S p own there)
+  left_by (Changes c) good v = change_left_is c (can_number p makes (Some own)) refl good v
+
+  pub left_of : (comes : Comes) → (can_number p makes (get S.own p) ≡ true → IsGood (tree_of S) (next_object p (get S.own p) 1) makes comes) → IsNearlyValid S
+      → put_all (outcome_of p (get S.own p) makes comes).updates S ≡ left comes
+  left_of comes good v = ap (λ o. put_all (outcome_of p o makes comes).updates S) there ∙ left_by comes good v
+
+-- ---- holders
+
+-- a descriptor doesn't name an open that isn't there
+names_none : (S : State) (o : ℕ) (d : Descriptor) → get S.opens o ≡ None → IsNamed (get S.opens d.id) d → names_open o d ≡ 0
+names_none S o d none named =
+    elim (eqb_tells d.id o) [
+      | inl is ↦ absurd (subst (λ x. IsNamed x d) (ap (get S.opens) is.1 ∙ none) named)
+      | inr other ↦ ap (λ b. cond b 1 0) other.0
+    ]
+
+descriptor_none : (S : State) (o p n : ℕ) (table : Table) → get S.opens o ≡ None → get S.tables p ≡ Some table → IsNearlyValid S
+    → (x : Option Descriptor) → get table n ≡ x → weight (names_open o) x ≡ 0
+descriptor_none S o p n table none there v None is = refl
+descriptor_none S o p n table none there v (Some d) is = names_none S o d none (v.named p n table d there is)
+
+table_none : (S : State) (o p : ℕ) → get S.opens o ≡ None → IsNearlyValid S → (x : Option Table) → get S.tables p ≡ x → weight (count_in o) x ≡ 0
+table_none S o p none v None is = refl
+table_none S o p none v (Some table) is = total_none (names_open o) table (λ n. descriptor_none S o p n table none is v (get table n) refl)
+
+pub none_holds : (S : State) (o : ℕ) → get S.opens o ≡ None → IsNearlyValid S → holders S o ≡ 0
+none_holds S o none v = total_none (count_in o) S.tables (λ p. table_none S o p none v (get S.tables p) refl)
+
+-- ---- the release
+
+pub released_is : (T : State) → ((o : ℕ) → IsSome (get T.opens o) → 0 < holders T o)
+    → (let u : Tree = retained (tree_of T) (is_used T.opens (tree_of T)) in record T { nodes = u.nodes; names = u.names }) ≡ release T
+released_is T held = sym (ap without_nodes (ended_held T held))
