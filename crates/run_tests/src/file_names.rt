@@ -1,5 +1,7 @@
 //! Guests that make, move and take away names: file_create, file_symlink, file_link, file_rename and file_unlink.
-use crate::file_runs::Ask::{Allocate, FdStatGet, Names, Other, Readdir, Readlink, StatFget, StatGet};
+use crate::file_runs::Ask::{
+    Allocate, FdStatGet, Names, Other, Readdir, Readlink, StatFget, StatGet,
+};
 use crate::file_runs::Path::Is;
 use crate::file_runs::Told::{Done, FdStat, Opened, Read, Refused, Stat};
 use crate::file_runs::{FROM_FIVE, Node, Row, Run, WITH_HISTORY, check_run};
@@ -149,7 +151,10 @@ const MAKES: &[Row] = &[
     (Names(Symlink(b"", DIR, b"m")), Refused("NOENT")),
     (Names(Symlink(b"x\0", DIR, b"m")), Refused("INVAL")),
     (Names(Symlink(b"\xff", DIR, b"m")), Refused("ILSEQ")),
-    (Names(Symlink(&[b'x'; 1025], DIR, b"m")), Refused("NAMETOOLONG")),
+    (
+        Names(Symlink(&[b'x'; 1025], DIR, b"m")),
+        Refused("NAMETOOLONG"),
+    ),
     (Names(Symlink(&[b'x'; 1024], DIR, b"t")), Done),
     (StatGet(DIR, Is(b"t")), Stat(T, 1024, [40_005; 3])),
     (Names(Unlink(DIR, b"t", 0)), Done),
@@ -167,7 +172,10 @@ const MAKES: &[Row] = &[
     (Names(Link(DIR, b"e", DIR, b"f")), Refused("PERM")),
     (Names(Link(DIR, b"q", DIR, b"..")), Refused("NOENT")),
     (Names(Link(DIR, b"..", DIR, b"")), Refused("NOTCAPABLE")),
-    (Names(Link(DIR, b"e/../..", DIR, b"/x")), Refused("NOTCAPABLE")),
+    (
+        Names(Link(DIR, b"e/../..", DIR, b"/x")),
+        Refused("NOTCAPABLE"),
+    ),
     (Names(Link(DIR, b"f", DIR, b"/x")), Refused("NOTCAPABLE")),
     (Names(Link(DIR, b"f", DIR, b"..")), Refused("INVAL")),
     (Names(Link(DIR, b"e", DIR, b"q/x")), Refused("NOENT")),
@@ -192,7 +200,8 @@ const MAKES_DENIALS: &[&str] = &[
     "file_link outside 0",
 ];
 
-const MADE: &[u8] = b"== tree 13\ndir d\nlink 8 d/a\n/no/such\ndir d/e\nfile 3 d/e/h\nabc\nhard 5 d/f\nd/e/h\n\
+const MADE: &[u8] =
+    b"== tree 13\ndir d\nlink 8 d/a\n/no/such\ndir d/e\nfile 3 d/e/h\nabc\nhard 5 d/f\nd/e/h\n\
     hard 5 d/g\nd/e/h\nlink 1 d/l\nf\nlink 1 d/l2\nf\nlink 1 d/m\nf\ndir d/n\ndir d/n/m\ndir d/u\nfile 1 d/u/w\nw\n";
 
 const REMOVES: &[Row] = &[
@@ -210,7 +219,10 @@ const REMOVES: &[Row] = &[
     (Names(Unlink(DIR, b"q/", 0)), Refused("NOENT")),
     (Names(Unlink(DIR, b"", 0)), Refused("NOENT")),
     (Names(Unlink(DIR, b"/f", 0)), Refused("NOTCAPABLE")),
-    (Names(Unlink(DIR, b"../d", REMOVEDIR)), Refused("NOTCAPABLE")),
+    (
+        Names(Unlink(DIR, b"../d", REMOVEDIR)),
+        Refused("NOTCAPABLE"),
+    ),
     (Names(Unlink(DIR, b"f", 2)), Refused("INVAL")),
     (StatFget(DIR), Stat(D, 0, [5; 3])),
     // a file goes with its last name, once nothing has it open
@@ -237,7 +249,10 @@ const REMOVES: &[Row] = &[
     (Names(Create(E, b"x")), Refused("NOENT")),
     (Names(Symlink(b"f", E, b"x")), Refused("NOENT")),
     (Names(Open(E, Is(b"x"), CREAT, [0; 3])), Refused("NOENT")),
-    (Names(Open(E, Is(b"x"), CREAT | 4, [0; 3])), Refused("NOENT")),
+    (
+        Names(Open(E, Is(b"x"), CREAT | 4, [0; 3])),
+        Refused("NOENT"),
+    ),
     (Names(Create(E, b".")), Refused("INVAL")),
     (Names(Create(E, b"..")), Refused("INVAL")),
     (Names(Create(DIR, b"k")), Done),
@@ -264,9 +279,10 @@ const REMOVED: &[u8] = b"== tree 3\ndir d\nfile 0 d/f\n\ndir d/k\n";
 
 #[test]
 fn makes_and_removes_names(rt: HostRuntime) -> Result<(), Fail> {
-    for (rows, denials, left) in
-        [(MAKES, MAKES_DENIALS, MADE), (REMOVES, REMOVES_DENIALS, REMOVED)]
-    {
+    for (rows, denials, left) in [
+        (MAKES, MAKES_DENIALS, MADE),
+        (REMOVES, REMOVES_DENIALS, REMOVED),
+    ] {
         let run = Run {
             words: FROM_FIVE,
             text: TEXT,
@@ -283,7 +299,8 @@ fn makes_and_removes_names(rt: HostRuntime) -> Result<(), Fail> {
 // ---- names that move
 
 // The nodes are numbered in this order: 5 is `d`, 6 is `a`, 7 is `b`, 8 is `e`, 9 is `f`, 10 is `g`, 11 is `l`, 12 is `u`, 13 is `w`.
-const MOVING: &[u8] = b"dir d\ndir d/a\ndir d/a/b\ndir d/e\nfile 3 d/f\nabc\nfile 1 d/g\ng\nhard 3 d/h\nd/f\n\
+const MOVING: &[u8] =
+    b"dir d\ndir d/a\ndir d/a/b\ndir d/e\nfile 3 d/f\nabc\nfile 1 d/g\ng\nhard 3 d/h\nd/f\n\
     link 1 d/l\nf\ndir d/u\nfile 1 d/u/w\nw\n";
 
 // The descriptor of `a`.
@@ -353,7 +370,10 @@ const MOVES: &[Row] = &[
     (Names(Rename(DIR, b"q", DIR, b"f/x")), Refused("NOTDIR")),
     (Names(Rename(DIR, b"q", DIR, b"..")), Refused("INVAL")),
     (Names(Rename(DIR, b"q", DIR, b"/x")), Refused("NOTCAPABLE")),
-    (Names(Rename(DIR, b"../q", DIR, b"..")), Refused("NOTCAPABLE")),
+    (
+        Names(Rename(DIR, b"../q", DIR, b"..")),
+        Refused("NOTCAPABLE"),
+    ),
     (Names(Rename(DIR, b"e/", DIR, b"k")), Refused("INVAL")),
     (Names(Rename(DIR, b"f/", DIR, b"k")), Refused("NOTDIR")),
     (Names(Rename(DIR, b"e", DIR, b"k/")), Refused("NOENT")),
@@ -381,7 +401,10 @@ const MOVES: &[Row] = &[
     (Names(Rename(DIR, b"m", DIR, b"h")), Done),
     (StatGet(DIR, Is(b"h")), Stat(TO_F, 1, [5; 3])),
     (Names(Rename(DIR, b"e/w", DIR, b"h")), Done),
-    (StatGet(DIR, Is(b"e")), Stat(U_MOVED, 0, [5, 37_005, 37_005])),
+    (
+        StatGet(DIR, Is(b"e")),
+        Stat(U_MOVED, 0, [5, 37_005, 37_005]),
+    ),
     (StatGet(DIR, Is(b"h")), Stat(W, 1, [5; 3])),
     (StatFget(DIR), Stat(D, 0, [5, 37_005, 37_005])),
     // from one directory to another
@@ -401,7 +424,8 @@ const MOVES: &[Row] = &[
     (StatGet(DIR, Is(b"b")), Stat(B, 0, [5, 50_005, 50_005])),
 ];
 
-const MOVED: &[u8] = b"== tree 6\ndir d\ndir d/a\nfile 1 d/a/g\ng\ndir d/b\ndir d/b/e\nfile 1 d/h\nw\n";
+const MOVED: &[u8] =
+    b"== tree 6\ndir d\ndir d/a\nfile 1 d/a/g\ng\ndir d/b\ndir d/b/e\nfile 1 d/h\nw\n";
 
 #[test]
 fn moves_names(rt: HostRuntime) -> Result<(), Fail> {
@@ -458,16 +482,46 @@ const RIGHTS: &[Row] = &[
     (Names(Link(ABSENT, b"f", 1, b"x")), Refused("BADF")),
     (Names(Rename(1, b"f", ABSENT, b"x")), Refused("BADF")),
     (Names(Rename(ABSENT, b"f", 1, b"x")), Refused("BADF")),
-    (Other("file_create", [19, ABSENT, 0, 1, 96, 0]), Refused("INVAL")),
-    (Other("file_create", [19, ABSENT, 0, 1, 32, 0]), Refused("FAULT")),
-    (Other("file_create", [19, 4, 0, 1025, 32, 0]), Refused("NAMETOOLONG")),
-    (Other("file_link", [20, 0x2_0000_0063, 0, 1, ABSENT, 0]), Refused("INVAL")),
-    (Other("file_link", [20, ABSENT, 0, 1, ABSENT, 0]), Refused("FAULT")),
-    (Other("file_rename", [24, ABSENT, 0, 1, ABSENT, 0]), Refused("FAULT")),
-    (Other("file_symlink", [29, 0, 1, ABSENT, 0, 0]), Refused("FAULT")),
-    (Other("file_symlink", [29, 0, 0, ABSENT, 0, 1]), Refused("FAULT")),
-    (Other("file_unlink", [30, ABSENT, 0, 1, 2, 0]), Refused("INVAL")),
-    (Other("file_unlink", [30, ABSENT, 0, 1, 0, 0]), Refused("FAULT")),
+    (
+        Other("file_create", [19, ABSENT, 0, 1, 96, 0]),
+        Refused("INVAL"),
+    ),
+    (
+        Other("file_create", [19, ABSENT, 0, 1, 32, 0]),
+        Refused("FAULT"),
+    ),
+    (
+        Other("file_create", [19, 4, 0, 1025, 32, 0]),
+        Refused("NAMETOOLONG"),
+    ),
+    (
+        Other("file_link", [20, 0x2_0000_0063, 0, 1, ABSENT, 0]),
+        Refused("INVAL"),
+    ),
+    (
+        Other("file_link", [20, ABSENT, 0, 1, ABSENT, 0]),
+        Refused("FAULT"),
+    ),
+    (
+        Other("file_rename", [24, ABSENT, 0, 1, ABSENT, 0]),
+        Refused("FAULT"),
+    ),
+    (
+        Other("file_symlink", [29, 0, 1, ABSENT, 0, 0]),
+        Refused("FAULT"),
+    ),
+    (
+        Other("file_symlink", [29, 0, 0, ABSENT, 0, 1]),
+        Refused("FAULT"),
+    ),
+    (
+        Other("file_unlink", [30, ABSENT, 0, 1, 2, 0]),
+        Refused("INVAL"),
+    ),
+    (
+        Other("file_unlink", [30, ABSENT, 0, 1, 0, 0]),
+        Refused("FAULT"),
+    ),
     // nothing has changed until here; what follows has its rights
     (StatFget(1), Stat(D, 0, [0; 3])),
     (Names(Create(4, b"e")), Done),
@@ -549,7 +603,8 @@ const WHOLE: &[Row] = &[
     (FdStatGet(5), FdStat(96, 0, 0x42, 0)),
 ];
 
-const WHOLE_LEFT: &[u8] = b"== tree 8\ndir d\ndir d/e\nfile 8 d/f\nabc\0\0\0\0\0\nhard 3 d/g\nd/f\nlink 1 d/l\nf\n\
+const WHOLE_LEFT: &[u8] =
+    b"== tree 8\ndir d\ndir d/e\nfile 8 d/f\nabc\0\0\0\0\0\nhard 3 d/g\nd/f\nlink 1 d/l\nf\n\
     link 1 d/m\nf\ndir k\nhard 3 k/f\nd/f\n";
 
 #[test]

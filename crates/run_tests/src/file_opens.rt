@@ -52,7 +52,8 @@ const UNCHANGED: &[u8] =
 const TRUNCATED: &[u8] =
     b"== tree 5\ndir d\ndir d/e\nfile 0 d/f\n\nlink 1 d/l\nf\nlink 4 d/n\nnone\n";
 
-const CREATED: &[u8] = b"== tree 7\ndir d\ndir d/e\nfile 3 d/f\nabc\nlink 1 d/l\nf\nlink 4 d/n\nnone\n\
+const CREATED: &[u8] =
+    b"== tree 7\ndir d\ndir d/e\nfile 3 d/f\nabc\nlink 1 d/l\nf\nlink 4 d/n\nnone\n\
     file 0 d/x\n\nfile 0 d/y\n\n";
 
 const BOTH: &[u8] = b"== tree 7\ndir d\ndir d/e\nfile 0 d/f\n\nlink 1 d/l\nf\nlink 4 d/n\nnone\n\
@@ -79,37 +80,54 @@ const SUCCESS: &str = "SUCCESS";
 const BY_FLAGS: &[(&[u64], [&str; 10], &[u8])] = &[
     (
         &[0, EXCL],
-        ["NOENT", "NOENT", SUCCESS, SUCCESS, SUCCESS, SUCCESS, "LOOP", SUCCESS, "LOOP", "NOENT"],
+        [
+            "NOENT", "NOENT", SUCCESS, SUCCESS, SUCCESS, SUCCESS, "LOOP", SUCCESS, "LOOP", "NOENT",
+        ],
         UNCHANGED,
     ),
     (
         &[DIRECTORY, DIRECTORY | EXCL],
-        ["NOENT", "NOENT", "NOTDIR", "NOTDIR", SUCCESS, SUCCESS, "LOOP", "NOTDIR", "LOOP", "NOENT"],
+        [
+            "NOENT", "NOENT", "NOTDIR", "NOTDIR", SUCCESS, SUCCESS, "LOOP", "NOTDIR", "LOOP",
+            "NOENT",
+        ],
         UNCHANGED,
     ),
     (
         &[TRUNC, EXCL | TRUNC],
-        ["NOENT", "NOENT", SUCCESS, SUCCESS, "ISDIR", "ISDIR", "LOOP", SUCCESS, "LOOP", "NOENT"],
+        [
+            "NOENT", "NOENT", SUCCESS, SUCCESS, "ISDIR", "ISDIR", "LOOP", SUCCESS, "LOOP", "NOENT",
+        ],
         TRUNCATED,
     ),
     (
         &[DIRECTORY | TRUNC, DIRECTORY | EXCL | TRUNC],
-        ["NOENT", "NOENT", "NOTDIR", "NOTDIR", "ISDIR", "ISDIR", "LOOP", "NOTDIR", "LOOP", "NOENT"],
+        [
+            "NOENT", "NOENT", "NOTDIR", "NOTDIR", "ISDIR", "ISDIR", "LOOP", "NOTDIR", "LOOP",
+            "NOENT",
+        ],
         UNCHANGED,
     ),
     (
         &[CREAT],
-        [SUCCESS, SUCCESS, SUCCESS, SUCCESS, "ISDIR", "ISDIR", "LOOP", SUCCESS, "LOOP", "NOENT"],
+        [
+            SUCCESS, SUCCESS, SUCCESS, SUCCESS, "ISDIR", "ISDIR", "LOOP", SUCCESS, "LOOP", "NOENT",
+        ],
         CREATED,
     ),
     (
         &[CREAT | TRUNC],
-        [SUCCESS, SUCCESS, SUCCESS, SUCCESS, "ISDIR", "ISDIR", "LOOP", SUCCESS, "LOOP", "NOENT"],
+        [
+            SUCCESS, SUCCESS, SUCCESS, SUCCESS, "ISDIR", "ISDIR", "LOOP", SUCCESS, "LOOP", "NOENT",
+        ],
         BOTH,
     ),
     (
         &[CREAT | EXCL, CREAT | EXCL | TRUNC],
-        [SUCCESS, SUCCESS, "EXIST", "EXIST", "EXIST", "EXIST", "EXIST", "EXIST", "EXIST", "EXIST"],
+        [
+            SUCCESS, SUCCESS, "EXIST", "EXIST", "EXIST", "EXIST", "EXIST", "EXIST", "EXIST",
+            "EXIST",
+        ],
         CREATED,
     ),
     (&[3, 7, 11, 15], ["INVAL"; 10], UNCHANGED),
@@ -154,7 +172,8 @@ fn opens_by_flags(rt: HostRuntime) -> Result<(), Fail> {
 
 // The nodes are numbered in this order: 5 is `d`, 6 is `a`, 7 is `a/l`, 8 is `bb`, 9 is `e`, 10 is `f`, 11 is `l`, 12 is `p`, 13 is
 // `q`. What the process makes is numbered from 1 on.
-const LARGER: &[u8] = b"dir d\ndir d/a\nlink 2 d/a/l\n/b\nfile 1 d/bb\nb\ndir d/e\nfile 3 d/f\nabc\n\
+const LARGER: &[u8] =
+    b"dir d\ndir d/a\nlink 2 d/a/l\n/b\nfile 1 d/bb\nb\ndir d/e\nfile 3 d/f\nabc\n\
     link 5 d/l\n../..\nlink 1 d/p\nq\nlink 1 d/q\np\n";
 
 // Descriptors 1 to 4 and 6 are of the directory: with all rights; with FD_SEEK alone to hand on; without FILE_CREATE_FILE; without
@@ -216,23 +235,51 @@ const Y: Node = Node {
 
 const NUMBERS: &[Row] = &[
     // 1 is the file, and 2 its open; an open of what is there is 3
-    (Names(Open(DIR, Is(b"x"), CREAT, [5, FD_READ | FD_SEEK | FILE_STAT_FGET, FD_WRITE])), Opened(7)),
-    (FdStatGet(7), FdStat(96, 5, FD_READ | FD_SEEK | FILE_STAT_FGET, 0)),
+    (
+        Names(Open(
+            DIR,
+            Is(b"x"),
+            CREAT,
+            [5, FD_READ | FD_SEEK | FILE_STAT_FGET, FD_WRITE],
+        )),
+        Opened(7),
+    ),
+    (
+        FdStatGet(7),
+        FdStat(96, 5, FD_READ | FD_SEEK | FILE_STAT_FGET, 0),
+    ),
     (StatFget(7), Stat(X, 0, [1005; 3])),
     (StatGet(DIR, Is(b"x")), Stat(X, 0, [1005; 3])),
     (StatFget(DIR), Stat(D, 0, [5, 1005, 1005])),
     (Names(Open(DIR, Is(b"x"), 0, NOTHING)), Opened(8)),
     // rights that a directory does not have are left out, and kept for what is opened through it
-    (Names(Open(DIR, Is(b"e"), DIRECTORY, [4, FD_READ | FILE_OPEN | FILE_READDIR, FD_READ | FILE_OPEN])), Opened(9)),
-    (FdStatGet(9), FdStat(32, 4, FILE_OPEN | FILE_READDIR, FD_READ | FILE_OPEN)),
+    (
+        Names(Open(
+            DIR,
+            Is(b"e"),
+            DIRECTORY,
+            [4, FD_READ | FILE_OPEN | FILE_READDIR, FD_READ | FILE_OPEN],
+        )),
+        Opened(9),
+    ),
+    (
+        FdStatGet(9),
+        FdStat(32, 4, FILE_OPEN | FILE_READDIR, FD_READ | FILE_OPEN),
+    ),
     // what is refused takes no number, and a link none
     (Names(Create(DIR, b"n")), Done),
     (Names(Create(DIR, b"n")), Refused("EXIST")),
     (Names(Open(DIR, Is(b"n"), CREAT, NOTHING)), Refused("ISDIR")),
     (Names(Symlink(b"f", DIR, b"s")), Done),
-    (Names(Open(DIR, Is(b"z"), CREAT | EXCL, NOTHING)), Opened(10)),
+    (
+        Names(Open(DIR, Is(b"z"), CREAT | EXCL, NOTHING)),
+        Opened(10),
+    ),
     (Names(Link(DIR, b"z", DIR, b"zz")), Done),
-    (Names(Open(DIR, Is(b"y"), CREAT | TRUNC, NOTHING)), Opened(11)),
+    (
+        Names(Open(DIR, Is(b"y"), CREAT | TRUNC, NOTHING)),
+        Opened(11),
+    ),
     (StatGet(DIR, Is(b"n")), Stat(N, 0, [9005; 3])),
     (StatGet(DIR, Is(b"s")), Stat(S, 1, [12_005; 3])),
     (StatGet(DIR, Is(b"z")), Stat(Z, 0, [13_005, 13_005, 14_005])),
@@ -241,70 +288,167 @@ const NUMBERS: &[Row] = &[
     // a size that the file has already changes no time; another does, of the file alone
     (Names(Open(DIR, Is(b"y"), TRUNC, NOTHING)), Opened(12)),
     (StatGet(DIR, Is(b"y")), Stat(Y, 0, [15_005; 3])),
-    (Names(Open(DIR, Is(b"f"), TRUNC, [0, FILE_STAT_FGET, 0])), Opened(13)),
+    (
+        Names(Open(DIR, Is(b"f"), TRUNC, [0, FILE_STAT_FGET, 0])),
+        Opened(13),
+    ),
     (StatFget(13), Stat(F, 0, [5, 23_005, 23_005])),
     (StatFget(DIR), Stat(D, 0, [5, 15_005, 15_005])),
     (Allocate(FILE, 0, 2), Done),
     (StatFget(13), Stat(F, 2, [5, 26_005, 26_005])),
     // the lowest number that is free
     (Other("fd_close", [3, 8, 0, 0, 0, 0]), Done),
-    (Names(Open(DIR, Is(b"."), 0, [0, FILE_STAT_FGET, 0])), Opened(8)),
+    (
+        Names(Open(DIR, Is(b"."), 0, [0, FILE_STAT_FGET, 0])),
+        Opened(8),
+    ),
     (StatFget(8), Stat(D, 0, [5, 15_005, 15_005])),
     // a slash at the end
     (Names(Open(DIR, Is(b"e/"), DIRECTORY, NOTHING)), Opened(14)),
     (Names(Open(DIR, Is(b"x/"), 0, NOTHING)), Refused("NOTDIR")),
-    (Names(Open(DIR, Is(b"w/"), CREAT, NOTHING)), Refused("NOENT")),
+    (
+        Names(Open(DIR, Is(b"w/"), CREAT, NOTHING)),
+        Refused("NOENT"),
+    ),
     (Names(Open(DIR, Is(b""), CREAT, NOTHING)), Refused("NOENT")),
-    (Names(Open(DIR, Is(b".."), CREAT, NOTHING)), Refused("NOTCAPABLE")),
+    (
+        Names(Open(DIR, Is(b".."), CREAT, NOTHING)),
+        Refused("NOTCAPABLE"),
+    ),
 ];
 
-const NUMBERED: &[u8] = b"== tree 15\ndir d\ndir d/a\nlink 2 d/a/l\n/b\nfile 1 d/bb\nb\ndir d/e\nfile 2 d/f\n\0\0\n\
+const NUMBERED: &[u8] =
+    b"== tree 15\ndir d\ndir d/a\nlink 2 d/a/l\n/b\nfile 1 d/bb\nb\ndir d/e\nfile 2 d/f\n\0\0\n\
     link 5 d/l\n../..\ndir d/n\nlink 1 d/p\nq\nlink 1 d/q\np\nlink 1 d/s\nf\nfile 0 d/x\n\nfile 0 d/y\n\n\
     file 0 d/z\n\nhard 3 d/zz\nd/z\n";
 
 const REFUSALS: &[Row] = &[
     // paths that lead outside, and symlinks
-    (Names(Open(DIR, Is(b"a/../../x"), 0, NOTHING)), Refused("NOTCAPABLE")),
-    (Names(Open(DIR, Is(b"/etc"), 0, NOTHING)), Refused("NOTCAPABLE")),
-    (Names(Open(FOLLOW, Is(b"l"), 0, NOTHING)), Refused("NOTCAPABLE")),
-    (Names(Open(FOLLOW, Is(b"a/l"), 0, NOTHING)), Refused("NOTCAPABLE")),
-    (Names(Open(DIR, Is(b"../x"), CREAT, NOTHING)), Refused("NOTCAPABLE")),
+    (
+        Names(Open(DIR, Is(b"a/../../x"), 0, NOTHING)),
+        Refused("NOTCAPABLE"),
+    ),
+    (
+        Names(Open(DIR, Is(b"/etc"), 0, NOTHING)),
+        Refused("NOTCAPABLE"),
+    ),
+    (
+        Names(Open(FOLLOW, Is(b"l"), 0, NOTHING)),
+        Refused("NOTCAPABLE"),
+    ),
+    (
+        Names(Open(FOLLOW, Is(b"a/l"), 0, NOTHING)),
+        Refused("NOTCAPABLE"),
+    ),
+    (
+        Names(Open(DIR, Is(b"../x"), CREAT, NOTHING)),
+        Refused("NOTCAPABLE"),
+    ),
     (Names(Open(DIR, Is(b"a/../bb"), 0, NOTHING)), Opened(7)),
     (Names(Open(DIR, Is(b"k/.."), 0, NOTHING)), Refused("NOENT")),
     (Names(Open(FOLLOW, Is(b"p"), 0, NOTHING)), Refused("LOOP")),
     (Names(Open(DIR, Is(b"p"), 0, NOTHING)), Refused("LOOP")),
-    (Names(Open(DIR, Is(b"p/x"), CREAT, NOTHING)), Refused("LOOP")),
-    (Names(Open(DIR, Repeated(b"./", 511, b"bb"), 0, NOTHING)), Opened(8)),
-    (Names(Open(DIR, Repeated(b"./", 512, b"b"), 0, NOTHING)), Refused("NAMETOOLONG")),
-    (Names(Open(DIR, Repeated(b"x", 256, b""), CREAT, NOTHING)), Refused("NAMETOOLONG")),
-    (Names(Open(DIR, Is(b"\xff"), CREAT, NOTHING)), Refused("ILSEQ")),
-    (Names(Open(DIR, Is(b"x\0"), CREAT, NOTHING)), Refused("INVAL")),
+    (
+        Names(Open(DIR, Is(b"p/x"), CREAT, NOTHING)),
+        Refused("LOOP"),
+    ),
+    (
+        Names(Open(DIR, Repeated(b"./", 511, b"bb"), 0, NOTHING)),
+        Opened(8),
+    ),
+    (
+        Names(Open(DIR, Repeated(b"./", 512, b"b"), 0, NOTHING)),
+        Refused("NAMETOOLONG"),
+    ),
+    (
+        Names(Open(DIR, Repeated(b"x", 256, b""), CREAT, NOTHING)),
+        Refused("NAMETOOLONG"),
+    ),
+    (
+        Names(Open(DIR, Is(b"\xff"), CREAT, NOTHING)),
+        Refused("ILSEQ"),
+    ),
+    (
+        Names(Open(DIR, Is(b"x\0"), CREAT, NOTHING)),
+        Refused("INVAL"),
+    ),
     // what is asked, of what may be handed on: FD_SEEK is no FD_TELL
-    (Names(Open(2, Is(b"f"), 0, [0, FD_TELL, 0])), Refused("NOTCAPABLE")),
-    (Names(Open(2, Is(b"e"), 0, [0, 0, FD_TELL])), Refused("NOTCAPABLE")),
-    (Names(Open(2, Is(b"f"), 0, [0, FD_SEEK, FD_SEEK])), Opened(9)),
+    (
+        Names(Open(2, Is(b"f"), 0, [0, FD_TELL, 0])),
+        Refused("NOTCAPABLE"),
+    ),
+    (
+        Names(Open(2, Is(b"e"), 0, [0, 0, FD_TELL])),
+        Refused("NOTCAPABLE"),
+    ),
+    (
+        Names(Open(2, Is(b"f"), 0, [0, FD_SEEK, FD_SEEK])),
+        Opened(9),
+    ),
     (FdStatGet(9), FdStat(96, 0, FD_SEEK, 0)),
-    (Names(Open(2, Is(b"f"), TRUNC, [0, FD_SEEK, 0])), Refused("NOTCAPABLE")),
-    (Names(Open(2, Is(b"f"), TRUNC, [0, FD_READ | FD_TELL, FD_WRITE])), Refused("NOTCAPABLE")),
-    (Names(Open(6, Is(b"f"), 0, [0, FD_READ | FD_WRITE, 0])), Refused("NOTCAPABLE")),
+    (
+        Names(Open(2, Is(b"f"), TRUNC, [0, FD_SEEK, 0])),
+        Refused("NOTCAPABLE"),
+    ),
+    (
+        Names(Open(2, Is(b"f"), TRUNC, [0, FD_READ | FD_TELL, FD_WRITE])),
+        Refused("NOTCAPABLE"),
+    ),
+    (
+        Names(Open(6, Is(b"f"), 0, [0, FD_READ | FD_WRITE, 0])),
+        Refused("NOTCAPABLE"),
+    ),
     (Names(Open(6, Is(b"f"), 0, [0, FD_READ, 0])), Opened(10)),
     (FdStatGet(10), FdStat(96, 0, FD_READ, 0)),
     // what opening needs, also where the file is there
-    (Names(Open(3, Is(b"f"), CREAT, NOTHING)), Refused("NOTCAPABLE")),
+    (
+        Names(Open(3, Is(b"f"), CREAT, NOTHING)),
+        Refused("NOTCAPABLE"),
+    ),
     (Names(Open(3, Is(b"f"), 0, NOTHING)), Opened(11)),
     (Names(Open(4, Is(b"f"), 0, NOTHING)), Refused("NOTCAPABLE")),
-    (Names(Open(4, Is(b"f"), CREAT, NOTHING)), Refused("NOTCAPABLE")),
-    (Names(Open(FILE, Is(b"f"), CREAT | TRUNC, [0, FD_READ, 0])), Refused("NOTCAPABLE")),
+    (
+        Names(Open(4, Is(b"f"), CREAT, NOTHING)),
+        Refused("NOTCAPABLE"),
+    ),
+    (
+        Names(Open(FILE, Is(b"f"), CREAT | TRUNC, [0, FD_READ, 0])),
+        Refused("NOTCAPABLE"),
+    ),
     (Names(Open(0, Is(b""), 0, NOTHING)), Refused("NOTCAPABLE")),
     // arguments, then memory, then what it shows, the descriptor, its rights, and the path
-    (Other("file_open", [21, ABSENT, 0, 1, 3, 0]), Refused("INVAL")),
-    (Other("file_open", [21, ABSENT, 0, 1, 16, 0]), Refused("INVAL")),
-    (Other("file_open", [21, 0x2_0000_0063, 0, 1, 0, 0]), Refused("INVAL")),
-    (Other("file_open", [21, ABSENT, 0, 1, 0, 0]), Refused("FAULT")),
-    (Other("file_open", [21, ABSENT, 0, 1025, 0, 0]), Refused("FAULT")),
-    (Names(Open(ABSENT, Is(b"f"), 0, [32, 0, 0])), Refused("INVAL")),
-    (Names(Open(ABSENT, Is(b"f"), 0, [0, 0x800, 0])), Refused("INVAL")),
-    (Names(Open(ABSENT, Is(b"f"), 0, [0, 0, 1 << 63])), Refused("INVAL")),
+    (
+        Other("file_open", [21, ABSENT, 0, 1, 3, 0]),
+        Refused("INVAL"),
+    ),
+    (
+        Other("file_open", [21, ABSENT, 0, 1, 16, 0]),
+        Refused("INVAL"),
+    ),
+    (
+        Other("file_open", [21, 0x2_0000_0063, 0, 1, 0, 0]),
+        Refused("INVAL"),
+    ),
+    (
+        Other("file_open", [21, ABSENT, 0, 1, 0, 0]),
+        Refused("FAULT"),
+    ),
+    (
+        Other("file_open", [21, ABSENT, 0, 1025, 0, 0]),
+        Refused("FAULT"),
+    ),
+    (
+        Names(Open(ABSENT, Is(b"f"), 0, [32, 0, 0])),
+        Refused("INVAL"),
+    ),
+    (
+        Names(Open(ABSENT, Is(b"f"), 0, [0, 0x800, 0])),
+        Refused("INVAL"),
+    ),
+    (
+        Names(Open(ABSENT, Is(b"f"), 0, [0, 0, 1 << 63])),
+        Refused("INVAL"),
+    ),
     (Names(Open(ABSENT, Is(b".."), 0, NOTHING)), Refused("BADF")),
     (Names(Open(4, Is(b".."), 0, NOTHING)), Refused("NOTCAPABLE")),
 ];
@@ -328,7 +472,8 @@ const REFUSAL_DENIALS: &[&str] = &[
     "file_open fd 4 base FILE_OPEN inheriting -",
 ];
 
-const SAME: &[u8] = b"== tree 9\ndir d\ndir d/a\nlink 2 d/a/l\n/b\nfile 1 d/bb\nb\ndir d/e\nfile 3 d/f\nabc\n\
+const SAME: &[u8] =
+    b"== tree 9\ndir d\ndir d/a\nlink 2 d/a/l\n/b\nfile 1 d/bb\nb\ndir d/e\nfile 3 d/f\nabc\n\
     link 5 d/l\n../..\nlink 1 d/p\nq\nlink 1 d/q\np\n";
 
 #[test]
@@ -368,12 +513,21 @@ fn full_text(alloc: Global) -> Result<String, AllocError> {
 const FULL: &[Row] = &[
     // rights before the table, and the table before the path
     (Names(Open(1024, Is(b"f"), 0, NOTHING)), Refused("BADF")),
-    (Names(Open(1023, Is(b"f"), 0, [0, FD_READ, 0])), Refused("NOTCAPABLE")),
+    (
+        Names(Open(1023, Is(b"f"), 0, [0, FD_READ, 0])),
+        Refused("NOTCAPABLE"),
+    ),
     (Names(Open(1023, Is(b"f"), 0, NOTHING)), Refused("MFILE")),
     (Names(Open(1023, Is(b".."), 0, NOTHING)), Refused("MFILE")),
     (Names(Open(1023, Is(b"\xff"), 0, NOTHING)), Refused("MFILE")),
-    (Names(Open(1023, Unmapped(1025), 0, NOTHING)), Refused("MFILE")),
-    (Names(Open(1023, Is(b"x"), CREAT, NOTHING)), Refused("MFILE")),
+    (
+        Names(Open(1023, Unmapped(1025), 0, NOTHING)),
+        Refused("MFILE"),
+    ),
+    (
+        Names(Open(1023, Is(b"x"), CREAT, NOTHING)),
+        Refused("MFILE"),
+    ),
     (Other("fd_close", [3, 7, 0, 0, 0, 0]), Done),
     (Names(Open(1023, Is(b"y"), 0, NOTHING)), Refused("NOENT")),
     (Names(Open(1023, Is(b"y"), CREAT, NOTHING)), Opened(7)),

@@ -42,10 +42,7 @@ fn place_asked(list: &mut CallList, asked: &Asked) -> Result<u64, AllocError> {
 }
 
 /// The number and the arguments of such a call.
-pub(crate) fn call_on_names(
-    list: &mut CallList,
-    naming: &Naming,
-) -> Result<[u64; 7], AllocError> {
+pub(crate) fn call_on_names(list: &mut CallList, naming: &Naming) -> Result<[u64; 7], AllocError> {
     match naming {
         Naming::Create(fd, path) => {
             let (address, count) = place(list, path)?;
@@ -58,7 +55,15 @@ pub(crate) fn call_on_names(
         }
         Naming::Open(lookup, path, oflags, asked) => {
             let (address, count) = place_path(list, path)?;
-            Ok([21, *lookup, address, count, *oflags, place_asked(list, asked)?, 0])
+            Ok([
+                21,
+                *lookup,
+                address,
+                count,
+                *oflags,
+                place_asked(list, asked)?,
+                0,
+            ])
         }
         Naming::Rename(fd, path, new_fd, new_path) => {
             let (address, count) = place(list, path)?;
