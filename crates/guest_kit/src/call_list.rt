@@ -1,7 +1,7 @@
 //! Guests that do the calls of a list. The list stands behind the code, with the bytes that its calls name.
 use std::alloc::{AllocError, Global};
 
-/// Does the calls of a list, each a number and its first five arguments, 64 bits each, and exits with the last one's error. The
+/// Does the calls of a list, each a number and its six arguments, 64 bits each, and exits with the last one's error. The
 /// addresses of the list and of its end stand behind the code, at 0x100b8.
 pub const CALL_LIST: &str = "la s4, places
 ld s2, 0(s4)
@@ -12,12 +12,12 @@ ld a1, 16(s2)
 ld a2, 24(s2)
 ld a3, 32(s2)
 ld a4, 40(s2)
+ld a5, 48(s2)
 ecall
-addi s2, s2, 48
+addi s2, s2, 56
 bltu s2, s3, next
 addi a7, zero, 39
 ecall
-.zero 4
 places: .zero 0";
 
 // Where the bytes stand that the calls name, behind the two addresses.
@@ -51,8 +51,8 @@ impl CallList {
         Ok(address)
     }
 
-    /// A call with this number and these arguments comes last.
-    pub fn push(&mut self, call: [u64; 6]) -> Result<(), AllocError> {
+    /// A call comes last: its number, and then its arguments.
+    pub fn push(&mut self, call: [u64; 7]) -> Result<(), AllocError> {
         for number in call {
             self.calls.extend_from_slice(&number.to_le_bytes())?;
         }

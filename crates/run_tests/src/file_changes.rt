@@ -5,11 +5,8 @@ use crate::file_runs::Ask::{
 };
 use crate::file_runs::Path::Is;
 use crate::file_runs::Told::{Done, Read, Refused, Stat};
-use crate::file_runs::{Node, Row, Run, WITH_HISTORY, check_run};
+use crate::file_runs::{FROM_FIVE, Node, Row, Run, WITH_HISTORY, check_run};
 use std::test::Fail;
-
-// The run begins 5 nanoseconds after the epoch: so row k, from 1 on, is at 1000 k + 5.
-const FROM_FIVE: &[&str] = &["run", "--history", "--tree=tree", "--epoch=5", "p"];
 
 // 5 is `d`, 6 is `f`, 7 is `l`.
 const TREE: &[u8] = b"dir d\nfile 3 d/f\nabc\nlink 1 d/l\nf\n";

@@ -2,6 +2,7 @@
 //! the end the guest writes all of them to descriptor 0, which is standard output. `--history` shows each answer.
 use crate::calls::{Given, check};
 use crate::guests::program_with;
+use crate::name_asks::{Naming, call_on_names, name_on_names};
 use guest_kit::{CALL_LIST, CallList};
 use std::alloc::{AllocError, Global};
 use std::process::Abort;
@@ -40,7 +41,11 @@ pub(crate) enum Ask {
     StatGet(u64, Path),
     // The lookup, the path, what is put, and the flags.
     StatPut(u64, Path, Put, u64),
-    // The name, the number and the arguments of any call.
+    // The descriptor.
+    FdStatGet(u64),
+    // A call on names.
+    Names(Naming),
+    // The name, the number and the first arguments of any call.
     Other(&'static str, [u64; 6]),
 }
 
@@ -61,6 +66,10 @@ pub(crate) enum Told {
     Read(&'static [u8]),
     // A filestat: its node, its size, and its atim, mtim and ctim. Its device is 0.
     Stat(Node, u64, [u64; 3]),
+    // The number of a new descriptor.
+    Opened(usize),
+    // An fdstat: its kind, its flags, and its base and inheriting rights.
+    FdStat(u8, u16, u64, u64),
     // The name of its error.
     Refused(&'static str),
 }
@@ -72,15 +81,18 @@ pub(crate) type Row = (Ask, Told);
 #[derive(Drop)]
 pub(crate) struct Run<'a> {
     pub(crate) words: &'static [&'static str],
-    pub(crate) text: &'static str,
-    pub(crate) tree: &'static [u8],
+    pub(crate) text: &'a str,
+    pub(crate) tree: &'a [u8],
     pub(crate) rows: &'a [Row],
     pub(crate) denials: &'static [&'static str],
-    pub(crate) left: &'static [u8],
+    pub(crate) left: &'a [u8],
 }
 
 /// The words of a run that begins at the epoch.
 pub(crate) const WITH_HISTORY: &[&str] = &["run", "--history", "--tree=tree", "p"];
+
+/// The words of a run that begins 5 nanoseconds after the epoch: so row k, from 1 on, is at 1000 k + 5.
+pub(crate) const FROM_FIVE: &[&str] = &["run", "--history", "--tree=tree", "--epoch=5", "p"];
 
 // Where the first call's output begins, at the stack's start, and how many bytes each call has.
 const OUTPUT: u64 = 0x3e_ffe0_0000;
@@ -90,7 +102,7 @@ const ROOM: usize = 64;
 // ---- the guest
 
 // The address and the length of a path.
-fn place_path(list: &mut CallList, path: &Path) -> Result<(u64, u64), AllocError> {
+pub(crate) fn place_path(list: &mut CallList, path: &Path) -> Result<(u64, u64), AllocError> {
     match path {
         Path::Is(bytes) => Ok((list.place(bytes)?, bytes.len() as u64)),
         Path::Repeated(part, count, last) => place_repeated(list, part, *count, last),
@@ -125,27 +137,29 @@ fn place_put(list: &mut CallList, put: &Put) -> Result<u64, AllocError> {
 }
 
 // The number and the arguments of a call whose output has this address.
-fn call_of(list: &mut CallList, ask: &Ask, output: u64) -> Result<[u64; 6], AllocError> {
+fn call_of(list: &mut CallList, ask: &Ask, output: u64) -> Result<[u64; 7], AllocError> {
     match ask {
-        Ask::Advise(fd, offset, length, advice) => Ok([17, *fd, *offset, *length, *advice, 0]),
-        Ask::Allocate(fd, offset, length) => Ok([18, *fd, *offset, *length, 0, 0]),
-        Ask::Readdir(fd, length, cookie) => Ok([22, *fd, output, *length, *cookie, 0]),
+        Ask::Advise(fd, offset, length, advice) => Ok([17, *fd, *offset, *length, *advice, 0, 0]),
+        Ask::Allocate(fd, offset, length) => Ok([18, *fd, *offset, *length, 0, 0, 0]),
+        Ask::Readdir(fd, length, cookie) => Ok([22, *fd, output, *length, *cookie, 0, 0]),
         Ask::Readlink(fd, path, length) => {
             let (address, count) = place_path(list, path)?;
-            Ok([23, *fd, address, count, output, *length])
+            Ok([23, *fd, address, count, output, *length, 0])
         }
-        Ask::StatFget(fd) => Ok([25, *fd, output, 0, 0, 0]),
-        Ask::StatFput(fd, put, flags) => Ok([26, *fd, place_put(list, put)?, *flags, 0, 0]),
+        Ask::StatFget(fd) => Ok([25, *fd, output, 0, 0, 0, 0]),
+        Ask::StatFput(fd, put, flags) => Ok([26, *fd, place_put(list, put)?, *flags, 0, 0, 0]),
         Ask::StatGet(lookup, path) => {
             let (address, count) = place_path(list, path)?;
-            Ok([27, *lookup, address, count, output, 0])
+            Ok([27, *lookup, address, count, output, 0, 0])
         }
         Ask::StatPut(lookup, path, put, flags) => {
             let (address, count) = place_path(list, path)?;
             let stat = place_put(list, put)?;
-            Ok([28, *lookup, address, count, stat, *flags])
+            Ok([28, *lookup, address, count, stat, *flags, 0])
         }
-        Ask::Other(_, call) => Ok(*call),
+        Ask::FdStatGet(fd) => Ok([13, *fd, output, 0, 0, 0, 0]),
+        Ask::Names(naming) => call_on_names(list, naming),
+        Ask::Other(_, [number, a0, a1, a2, a3, a4]) => Ok([*number, *a0, *a1, *a2, *a3, *a4, 0]),
     }
 }
 
@@ -160,7 +174,7 @@ fn program_for(alloc: Global, rows: &[Row]) -> Result<Vec<u8>, AllocError> {
     }
     let range = list.place(&OUTPUT.to_le_bytes())?;
     list.place(&end.wrapping_sub(OUTPUT).to_le_bytes())?;
-    list.push([16, 0, range, 1, 0, 0])?;
+    list.push([16, 0, range, 1, 0, 0, 0])?;
     program_with(alloc, CALL_LIST, &list.data(alloc)?)
 }
 
@@ -176,6 +190,8 @@ fn name_of(ask: &Ask) -> &'static str {
         Ask::StatFput(..) => "file_stat_fput",
         Ask::StatGet(..) => "file_stat_get",
         Ask::StatPut(..) => "file_stat_put",
+        Ask::FdStatGet(..) => "fd_stat_get",
+        Ask::Names(naming) => name_on_names(naming),
         Ask::Other(name, _) => name,
     }
 }
@@ -197,13 +213,31 @@ fn push_stat(
     Ok(())
 }
 
+fn push_fdstat(
+    bytes: &mut Vec<u8>,
+    kind: u8,
+    flags: u16,
+    rights: &[u64; 2],
+) -> Result<(), AllocError> {
+    bytes.extend_from_slice(&[kind, 0])?;
+    bytes.extend_from_slice(&flags.to_le_bytes())?;
+    bytes.extend_from_slice(&[0; 4])?;
+    for right in rights {
+        bytes.extend_from_slice(&right.to_le_bytes())?;
+    }
+    Ok(())
+}
+
 // A call's output: what it tells, and zeros.
 fn output_of(alloc: Global, told: &Told) -> Result<Vec<u8>, AllocError> {
     let mut bytes = Vec::new(alloc);
     match told {
         Told::Read(read) => bytes.extend_from_slice(read)?,
         Told::Stat(node, size, times) => push_stat(&mut bytes, node, *size, times)?,
-        Told::Done | Told::Refused(_) => {}
+        Told::FdStat(kind, flags, base, inheriting) => {
+            push_fdstat(&mut bytes, *kind, *flags, &[*base, *inheriting])?;
+        }
+        Told::Done | Told::Opened(_) | Told::Refused(_) => {}
     }
     for _ in bytes.len()..ROOM {
         bytes.push(0)?;
@@ -232,8 +266,9 @@ fn denial_lines(alloc: Global, denials: &[&str]) -> Result<String, AllocError> {
 // The name of the error, and the first result.
 fn answer_of(told: &Told) -> (&'static str, usize) {
     match told {
-        Told::Done | Told::Stat(..) => ("SUCCESS", 0),
+        Told::Done | Told::Stat(..) | Told::FdStat(..) => ("SUCCESS", 0),
         Told::Read(bytes) => ("SUCCESS", bytes.len()),
+        Told::Opened(number) => ("SUCCESS", *number),
         Told::Refused(errno) => (errno, 0),
     }
 }

@@ -10,11 +10,17 @@ mod file_changes;
 #[cfg(test)]
 mod file_looks;
 #[cfg(test)]
+mod file_names;
+#[cfg(test)]
+mod file_opens;
+#[cfg(test)]
 mod file_runs;
 #[cfg(test)]
 mod guests;
 #[cfg(test)]
 mod memory_calls;
+#[cfg(test)]
+mod name_asks;
 #[cfg(test)]
 mod programs;
 #[cfg(test)]
