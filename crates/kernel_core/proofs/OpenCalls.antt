@@ -7,7 +7,7 @@
 --     open_changes, open_answer, open_left      the change of the tree;  the reply;  the state before the release
 --     open_held, open_released      each open is held;  the state after the release
 --     open_does, open_valid      the call means what its outcome is;  what it leaves is nearly valid
-use Rattle.std.proofs.Common.{◌≡◌, ◌≢◌, ℕ, zero, suc, ◌+◌, ◌-◌, ◌<◌, ◌^◌, Bool, true, false, cond, eq-eqb, List, [], ◌∷◌, ◌++◌, Option, None, Some, Ok, Err, IsSome, inl, inr, is_none, is_some, refl, sym, ap, subst, ◌∙◌, arith}
+use Rattle.std.proofs.Common.{◌≡◌, ℕ, zero, suc, ◌+◌, ◌-◌, ◌<◌, ◌^◌, false, cond, eq-eqb, List, ◌∷◌, ◌++◌, Option, None, Some, Err, IsSome, inl, inr, is_none, is_some, refl, sym, ap, subst, ◌∙◌, arith}
 use Rattle.std.proofs.lemmas.Bool.Decides.{eqb_tells}
 use Rattle.std.specs.FinMap.{get, insert}
 use Rattle.abi_base.specs.declared.errno.Errno.TheVariants.{Again, Mfile}
@@ -30,7 +30,7 @@ use Rattle.kernel_model.specs.ClockCalls.{real_time}
 use Rattle.kernel_model.specs.DescriptorCalls.{lowest_free}
 use Rattle.kernel_model.specs.FilePaths.{walked}
 use Rattle.kernel_model.specs.Numbers.{can_number, made_more, next_object, own_updates}
-use Rattle.kernel_model.specs.Opening.{Opened, NotOpened, OpenedOutside, Opens, file_open, open_at, open_mode, open_walked, opened_descriptor, opened_outcome}
+use Rattle.kernel_model.specs.Opening.{Opened, file_open, open_at, open_mode, open_walked, opened_descriptor, opened_outcome}
 use Rattle.kernel_model.specs.Outcome.{Outcome, replies}
 use Rattle.kernel_model.specs.Release.{count_in, holders, names_open, release}
 use Rattle.kernel_model.specs.Reply.{refused, success}

@@ -1,4 +1,4 @@
-use Rattle.std.proofs.Common.{◌≡◌, ◌+◌, is_some, ap, ◌∙◌, arith}
+use Rattle.std.proofs.Common.{◌≡◌, is_some, ap, ◌∙◌, arith}
 use Rattle.std.specs.FinMap.{get, remove}
 use Rattle.number_map.specs.Maps.{number, get-insert-same, remove-inserted, total-insert_new}
 use Rattle.object_store.specs.Objects.{Held}

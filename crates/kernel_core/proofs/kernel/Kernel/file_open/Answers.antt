@@ -1,4 +1,4 @@
-use Rattle.std.proofs.Common.{◌≡◌, ℕ, ◌+◌, ◌<◌, ◌^◌, Some, is_some, refl, sym, ap, subst, ◌∙◌, arith}
+use Rattle.std.proofs.Common.{◌≡◌, ℕ, ◌+◌, ◌^◌, Some, is_some, sym, ap, subst, ◌∙◌, arith}
 use Rattle.std.specs.FinMap.{get, insert}
 use Rattle.abi_base.specs.declared.limits.TheConstants.{MOST_DESCRIPTORS}
 use Rattle.abi_types.specs.declared.reply.Answer.TheVariants as answer
@@ -110,7 +110,7 @@ pub make-requires : goal.make-requires
 make-requires d =
     let S = the_view d.self.inside in
     let fits = open_fits S d.args.pid d.get_mut-table.result.now d.args.lookup.now d.args.path.now d.args.oflags d.args.stat.now d.in-Ok.opening
-        (planned (goal.at.make-requires d).After-get_mut-table) d.self.invariant.valid in
+    (planned (goal.at.make-requires d).After-get_mut-table) d.self.invariant.valid in
     let own : get S.own d.args.pid ≡ Some d.get_mut.result.now =
     ap (get S.own) (sym (d.from-p.ensures ∙ d.pid.view_is)) ∙ sym d.get_mut.ensures.value in
     let made = ap (λ o. (counts_in o).objects) own in

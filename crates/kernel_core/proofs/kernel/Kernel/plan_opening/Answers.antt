@@ -1,12 +1,11 @@
-use Rattle.std.proofs.Common.{◌≡◌, ℕ, ◌+◌, ◌-◌, Option, None, Some, Ok, Err, option_copied, refl, sym, ap, subst, ◌∙◌}
+use Rattle.std.proofs.Common.{◌≡◌, ℕ, ◌+◌, ◌-◌, None, Some, option_copied, refl, sym, ap, subst, ◌∙◌}
 use Rattle.std.specs.FinMap.{get}
 use Rattle.abi_base.specs.declared.errno.Errno.TheVariants.{Badf}
-use Rattle.abi_types.specs.declared.open_kind.OpenKind.{OpenKind}
 use Rattle.file_calls.specs.declared.refusal.Refusal.TheVariants as refusal
 use Rattle.kernel_model.specs.Numbers.{can_number, next_object}
 use Rattle.kernel_model.specs.Opening.{opened_descriptor}
 use Rattle.kernel_model.specs.Outcome.{replies}
-use Rattle.kernel_model.specs.State.{State, Own, Table, tree_of}
+use Rattle.kernel_model.specs.State.{State, Table, tree_of}
 use Rattle.kernel_model.proofs.Valids.{same_value}
 use Rattle.name_calls.specs.Plans.{makes_of, opened_by, opened_of}
 use Rattle.kernel_core.specs.Names.{number_of, open_in}
