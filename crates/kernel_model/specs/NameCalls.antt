@@ -1,5 +1,5 @@
 -- The calls that make names of files, move them or take them away: each by its meaning on the opens of its descriptors.
-use Rattle.std.specs.Prelude.{ℕ, List, [], ◌∷◌, Option, None, Some}
+use Rattle.std.specs.Prelude.{ℕ, [], ◌∷◌, Option, None, Some}
 use Rattle.abi_base.specs.declared.errno.Errno.TheVariants.{Nosys}
 use Rattle.abi_types.specs.declared.call.Call.{Call}
 use Rattle.abi_types.specs.declared.call.Call.TheVariants as call
