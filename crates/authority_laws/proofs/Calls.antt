@@ -1,5 +1,5 @@
 -- What each call leaves of its process's table is what its line of `granted_row` says.
-use Rattle.std.proofs.Common.{◌≡◌, ◌≢◌, ℕ, ◌==◌, Bool, true, false, cond, List, [], ◌∷◌, ◌++◌, Option, Some, None, refl, sym, ap, subst, ◌∙◌}
+use Rattle.std.proofs.Common.{◌≡◌, ℕ, ◌==◌, Bool, true, false, cond, List, [], ◌∷◌, ◌++◌, Option, Some, None, refl, sym, ap, subst, ◌∙◌}
 use Rattle.std.specs.Prelude.{bit_and, option_map}
 use Rattle.std.specs.FinMap.{get, insert, remove}
 use Rattle.abi_base.specs.declared.errno.Errno.{Errno}
@@ -9,10 +9,12 @@ use Rattle.abi_types.specs.declared.reply.Answer.{Answer}
 use Rattle.abi_types.specs.declared.reply.Answer.TheVariants as answer
 use Rattle.abi_types.specs.declared.call.Call.{Call}
 use Rattle.abi_types.specs.declared.call.Call.TheVariants as call
-use Rattle.abi_types.specs.declared.call.Call.TheVariants.{FdClose, FdDup, FdRead, FdReplace, FdStatGet, FdStatPut, FdWrite, MemMap, ProcExit}
+use Rattle.abi_types.specs.declared.call.Call.TheVariants.{FdClose, FdDup, FdRead, FdReplace, FdStatGet, FdStatPut, FdWrite, FileOpen, MemMap, ProcExit}
+use Rattle.abi_types.specs.declared.call.Lookup.{Lookup}
 use Rattle.abi_types.specs.declared.reply.Reply.{Reply}
 use Rattle.abi_types.specs.declared.constants.Constants.{Constants}
 use Rattle.abi_types.specs.declared.descriptor.Descriptor.{Descriptor}
+use Rattle.abi_types.specs.declared.node.NodeKind.TheVariants.{Link}
 use Rattle.abi_types.specs.declared.open_kind.OpenKind.{OpenKind}
 use Rattle.abi_types.specs.declared.open_kind.OpenKind.TheVariants.{File, Directory, End, Terminal, Process}
 use Rattle.abi_types.specs.declared.place.Place.{Place}
@@ -24,22 +26,26 @@ use Rattle.kernel_model.specs.DescriptorCalls.{with_table, lowest_free, dup_at, 
 use Rattle.kernel_model.specs.ClockCalls.{real_time}
 use Rattle.kernel_model.specs.FileCalls.{file_meaning, opened_fd}
 use Rattle.kernel_model.specs.FileMeaning.{on_open, open_of}
+use Rattle.kernel_model.specs.FilePaths.{walked}
 use Rattle.kernel_model.specs.Meaning.{Meaning}
+use Rattle.kernel_model.specs.NameMaking.{making, making_unless, text_error}
+use Rattle.kernel_model.specs.NameMeaning.{Comes, outcome_of}
+use Rattle.kernel_model.specs.Numbers.{next_object}
+use Rattle.kernel_model.specs.Opening.{open_mode, open_walked}
 use Rattle.kernel_model.specs.Outcome.{Outcome, replies}
 use Rattle.kernel_model.specs.Reply.{refused, success}
-use Rattle.kernel_model.specs.State.{State, Table, put_all, set_open, set_table}
+use Rattle.kernel_model.specs.State.{State, Own, Table, put_all, put_one, set_open, set_table}
 use Rattle.kernel_model.specs.StreamCalls.{write_term, write_open, write_to, read_term, read_open, read_from}
 use Rattle.kernel_model.specs.MemoryCalls.{map_file, map_zeros, mem_map}
 use Rattle.kernel_model.specs.View.{View}
 use Rattle.kernel_model.proofs.FileCalls.{on_open_of}
 use Rattle.kernel_model.proofs.FileMeanings.{tree_tables}
+use Rattle.kernel_model.proofs.FilePaths.{walked_plainly}
+use Rattle.kernel_model.proofs.NameProper.{outcome_tables}
 use Rattle.kernel_model.proofs.Refusals.{refusal_is_other}
-use Rattle.authority_laws.specs.Ledger.{Row, with_held, lowered_row, granted_row, by_success, answered_row}
-use Rattle.authority_laws.proofs.Rows.{row_in, row_of, row_emptied, row_inserted, row_removed, by_error, by_either}
-
--- after the outcome's updates its process has what the ledger says after this answer
-abbrev pub LeavesRow : State → ℕ → Call → Outcome → Type 0
-LeavesRow S p call o = row_of (put_all o.updates S) p ≡ answered_row (row_of S p) call o.answer
+use Rattle.authority_laws.specs.Ledger.{Row, Made, with_held, last_made, lowered_row, granted_row, by_success, answered_row}
+use Rattle.authority_laws.proofs.Openings.{open_told, walk_by_error}
+use Rattle.authority_laws.proofs.Rows.{LeavesRow, row_in, row_of, row_emptied, row_inserted, row_removed, by_error, by_either, refused_told, badf_is_error, mfile_is_error}
 
 -- each outcome of the call of a process with this table, once it is not refused, is such
 abbrev IsTold : Call → Type 0
@@ -53,14 +59,15 @@ abbrev KeepsTables : State → Outcome → Type 0
 KeepsTables S o = (put_all o.updates S).tables ≡ S.tables
 
 abbrev GrantsNothing : Call → Type 0
-GrantsNothing call = (row : Row) (reply : Reply) → granted_row row call reply ≡ row
+GrantsNothing call = (made : Made) (row : Row) (reply : Reply) → granted_row made row call reply ≡ row
 
-same_answered : (row : Row) (call : Call) (given : Answer) → GrantsNothing call → row ≡ answered_row row call given
-same_answered row call (answer.Reply reply) nothing =
-    sym (ap (λ granted. by_success reply.errno granted row) (nothing row reply) ∙ by_either reply.errno row)
+same_answered : (made : Made) (row : Row) (call : Call) (given : Answer) → GrantsNothing call → row ≡ answered_row made row call given
+same_answered made row call (answer.Reply reply) nothing =
+    sym (ap (λ granted. by_success reply.errno granted row) (nothing made row reply) ∙ by_either reply.errno row)
 
 kept : (S : State) (p : ℕ) (call : Call) (o : Outcome) → GrantsNothing call → KeepsTables S o → LeavesRow S p call o
-kept S p call o nothing same = ap (λ tables. row_in (get tables p)) same ∙ same_answered (row_of S p) call o.answer nothing
+kept S p call o nothing same =
+    ap (λ tables. row_in (get tables p)) same ∙ same_answered (last_made (put_all o.updates S) p) (row_of S p) call o.answer nothing
 
 term_kept : (S : State) (bytes : List ℕ) (which : ℕ) (stream : Option Stream) → KeepsTables S (write_term bytes which stream)
 term_kept S bytes which None = refl
@@ -80,7 +87,7 @@ write_kept S v bytes (Some d) = open_kept S v bytes (v.opened d.id)
 
 fd_write_told : (fd : ℕ) (bytes : List ℕ) → IsTold (FdWrite fd bytes)
 fd_write_told fd bytes constants S v who table there =
-    kept S who.pid (FdWrite fd bytes) (write_to v bytes (get table fd)) (λ row reply. refl) (write_kept S v bytes (get table fd))
+    kept S who.pid (FdWrite fd bytes) (write_to v bytes (get table fd)) (λ made row reply. refl) (write_kept S v bytes (get table fd))
 
 read_term_kept : (S : State) (n which : ℕ) (stream : Option Stream) → KeepsTables S (read_term n which stream)
 read_term_kept S n which None = refl
@@ -100,7 +107,7 @@ read_kept S v n (Some d) = read_open_kept S v n (v.opened d.id)
 
 fd_read_told : (fd n : ℕ) → IsTold (FdRead fd n)
 fd_read_told fd n constants S v who table there =
-    kept S who.pid (FdRead fd n) (read_from v n (get table fd)) (λ row reply. refl) (read_kept S v n (get table fd))
+    kept S who.pid (FdRead fd n) (read_from v n (get table fd)) (λ made row reply. refl) (read_kept S v n (get table fd))
 
 stat_open_kept : (S : State) (d : Descriptor) (kind : Option OpenKind) → KeepsTables S (stat_open d kind)
 stat_open_kept S d None = refl
@@ -112,7 +119,7 @@ stat_kept S v (Some d) = stat_open_kept S d (v.opened d.id)
 
 fd_stat_get_told : (fd : ℕ) → IsTold (FdStatGet fd)
 fd_stat_get_told fd constants S v who table there =
-    kept S who.pid (FdStatGet fd) (stat_get v (get table fd)) (λ row reply. refl) (stat_kept S v (get table fd))
+    kept S who.pid (FdStatGet fd) (stat_get v (get table fd)) (λ made row reply. refl) (stat_kept S v (get table fd))
 
 -- a call that succeeds, and does no more
 nothing_told : (call : Call) → GrantsNothing call
@@ -127,7 +134,7 @@ map_kept S constants v who table false place fd prot = refl
 
 mem_map_told : (place : Place) (length prot flags fd offset : ℕ) → IsTold (MemMap place length prot flags fd offset)
 mem_map_told place length prot flags fd offset constants S v who table there =
-    kept S who.pid (MemMap place length prot flags fd offset) ((mem_map place prot flags fd).does constants v who table) (λ row reply. refl)
+    kept S who.pid (MemMap place length prot flags fd offset) ((mem_map place prot flags fd).does constants v who table) (λ made row reply. refl)
     (map_kept S constants v who table (bit_and flags 1 == 1) place fd prot)
 
 -- a call that works on the open of a descriptor: it changes the file tree alone
@@ -138,6 +145,25 @@ file_told called fd nothing is constants S v who table there =
     subst (λ (m : Meaning). LeavesRow S who.pid called (m.does constants v who table)) (sym on.means)
     (kept S who.pid called o nothing
     (tree_tables o.updates S (on.well.tree (real_time constants v.clock) v.branch (open_of v (get table on.row.fd)))))
+
+-- a call that makes, moves or takes away names: it changes the tree and what its process has made alone
+named_told : (call : Call) → GrantsNothing call
+    → ((constants : Constants) (v : View) (who : Who) (table : Table) → (makes : ℕ) × (own : Option Own) × (comes : Comes)
+    × ((meaning_of call).does constants v who table ≡ outcome_of who.pid own makes comes)) → IsTold call
+named_told call nothing is constants S v who table there =
+    let comes = is constants v who table in
+    subst (LeavesRow S who.pid call) (sym comes.3)
+    (kept S who.pid call (outcome_of who.pid comes.1 comes.0 comes.2) nothing (outcome_tables S who.pid comes.0 comes.1 comes.2))
+
+-- file_open
+file_open_told : (lookup : Lookup) (path : List ℕ) (oflags : ℕ) (stat : FdStat) → IsTold (FileOpen lookup path oflags stat)
+file_open_told lookup path oflags stat constants S v who table there =
+    open_told S who.pid table lookup path oflags stat there (v.own who.pid) (lowest_free table)
+    (open_walked oflags stat.flags path (real_time constants v.clock) (next_object who.pid (v.own who.pid) 1) v.branch
+    (walked v.branch (open_mode oflags lookup.flags) path (open_of v (get table lookup.fd))))
+    (walk_by_error oflags stat.flags path (real_time constants v.clock) (next_object who.pid (v.own who.pid) 1) v.branch
+    (walked v.branch (open_mode oflags lookup.flags) path (open_of v (get table lookup.fd)))
+    (walked_plainly v.branch (open_mode oflags lookup.flags) path (open_of v (get table lookup.fd))))
 
 -- a call that answers this error, and nothing else
 decided_told : (call : Call) (errno : Errno) (S : State) (p : ℕ) → GrantsNothing call → LeavesRow S p call (replies (refused errno))
@@ -154,24 +180,15 @@ unbuilt_told call nothing is constants S v who table there =
 proc_exit_told : (code : ℕ) → IsTold (ProcExit code)
 proc_exit_told code constants S v who table there = row_emptied S.tables who.pid
 
--- an error, after which its process has the table that it had
-refused_told : (S : State) (p : ℕ) (call : Call) (errno : Errno) → errno ≢ Success → LeavesRow S p call (replies (refused errno))
-refused_told S p call errno other = sym (by_error errno (granted_row (row_of S p) call (refused errno)) (row_of S p) other)
-
-badf_is_error : Badf ≢ Success
-badf_is_error e = cc
-
-mfile_is_error : Mfile ≢ Success
-mfile_is_error e = cc
-
 -- a table that has what the call's line says
 set_told : (S : State) (p : ℕ) (call : Call) (table new : Table) (result : ℕ) → get S.tables p ≡ Some table
-    → row_in (Some new) ≡ granted_row (row_in (Some table)) call (success result 0) → LeavesRow S p call (with_table p result new)
+    → ((made : Made) → row_in (Some new) ≡ granted_row made (row_in (Some table)) call (success result 0)) → LeavesRow S p call (with_table p result new)
 set_told S p call table new result there is =
-    ap row_in (get-insert-same S.tables p new) ∙ is ∙ ap (λ row. granted_row row call (success result 0)) (sym (ap row_in there))
+    let made : Made = last_made (put_one (set_table p new) S) p in
+    ap row_in (get-insert-same S.tables p new) ∙ is made ∙ ap (λ row. granted_row made row call (success result 0)) (sym (ap row_in there))
 
 fd_close_told : (fd : ℕ) → IsTold (FdClose fd)
-fd_close_told fd constants S v who table there = set_told S who.pid (FdClose fd) table (remove table fd) 0 there (row_removed table fd)
+fd_close_told fd constants S v who table there = set_told S who.pid (FdClose fd) table (remove table fd) 0 there (λ made. row_removed table fd)
 
 -- fd_dup
 number_told : (S : State) (p fd : ℕ) (table : Table) (d : Descriptor) (number : Option ℕ) → get S.tables p ≡ Some table → get table fd ≡ Some d
@@ -179,7 +196,7 @@ number_told : (S : State) (p fd : ℕ) (table : Table) (d : Descriptor) (number 
 number_told S p fd table d None there here = refused_told S p (FdDup fd) Mfile mfile_is_error
 number_told S p fd table d (Some number) there here =
     set_told S p (FdDup fd) table (insert table number d) number there
-    (row_inserted table number d ∙ ap (with_held (row_in (Some table)) number) (sym here))
+    (λ made. row_inserted table number d ∙ ap (with_held (row_in (Some table)) number) (sym here))
 
 dup_told : (S : State) (p fd : ℕ) (table : Table) (o : Option Descriptor) → get S.tables p ≡ Some table → get table fd ≡ o
     → LeavesRow S p (FdDup fd) (dup_of p table o)
@@ -195,7 +212,7 @@ replaced_told : (S : State) (p from to : ℕ) (table : Table) (o : Option Descri
 replaced_told S p from to table None there here = refused_told S p (FdReplace from to) Badf badf_is_error
 replaced_told S p from to table (Some d) there here =
     set_told S p (FdReplace from to) table (insert table to d) 0 there
-    (row_inserted table to d ∙ ap (with_held (row_in (Some table)) to) (sym here))
+    (λ made. row_inserted table to d ∙ ap (with_held (row_in (Some table)) to) (sym here))
 
 fd_replace_told : (from to : ℕ) → IsTold (FdReplace from to)
 fd_replace_told from to constants S v who table there = replaced_told S who.pid from to table (get table from) there refl
@@ -233,56 +250,62 @@ fd_stat_put_told fd stat flags constants S v who table there = put_told S v who.
 -- ---- all of them
 
 pub told : (call : Call) → IsTold call
-told (call.ClockResGet clock) = unbuilt_told (call.ClockResGet clock) (λ row reply. refl) (λ constants v who table. refl)
-told (call.ClockTimeGet clock precision) = unbuilt_told (call.ClockTimeGet clock precision) (λ row reply. refl) (λ constants v who table. refl)
-told (call.CondvarSignal condvar word scope n) = unbuilt_told (call.CondvarSignal condvar word scope n) (λ row reply. refl) (λ constants v who table. refl)
+told (call.ClockResGet clock) = unbuilt_told (call.ClockResGet clock) (λ made row reply. refl) (λ constants v who table. refl)
+told (call.ClockTimeGet clock precision) = unbuilt_told (call.ClockTimeGet clock precision) (λ made row reply. refl) (λ constants v who table. refl)
+told (call.CondvarSignal condvar word scope n) = unbuilt_told (call.CondvarSignal condvar word scope n) (λ made row reply. refl) (λ constants v who table. refl)
 told (call.FdClose fd) = fd_close_told fd
-told (call.FdCreate1 kind) = unbuilt_told (call.FdCreate1 kind) (λ row reply. refl) (λ constants v who table. refl)
-told (call.FdCreate2 kind) = unbuilt_told (call.FdCreate2 kind) (λ row reply. refl) (λ constants v who table. refl)
-told (call.FdDatasync fd) = nothing_told (call.FdDatasync fd) (λ row reply. refl) (λ constants v who table. refl)
+told (call.FdCreate1 kind) = unbuilt_told (call.FdCreate1 kind) (λ made row reply. refl) (λ constants v who table. refl)
+told (call.FdCreate2 kind) = unbuilt_told (call.FdCreate2 kind) (λ made row reply. refl) (λ constants v who table. refl)
+told (call.FdDatasync fd) = nothing_told (call.FdDatasync fd) (λ made row reply. refl) (λ constants v who table. refl)
 told (call.FdDup fd) = fd_dup_told fd
-told (call.FdPread fd length offset) = unbuilt_told (call.FdPread fd length offset) (λ row reply. refl) (λ constants v who table. refl)
-told (call.FdPwrite fd bytes offset) = unbuilt_told (call.FdPwrite fd bytes offset) (λ row reply. refl) (λ constants v who table. refl)
+told (call.FdPread fd length offset) = unbuilt_told (call.FdPread fd length offset) (λ made row reply. refl) (λ constants v who table. refl)
+told (call.FdPwrite fd bytes offset) = unbuilt_told (call.FdPwrite fd bytes offset) (λ made row reply. refl) (λ constants v who table. refl)
 told (call.FdRead fd length) = fd_read_told fd length
 told (call.FdReplace from to) = fd_replace_told from to
-told (call.FdSeek fd offset whence) = unbuilt_told (call.FdSeek fd offset whence) (λ row reply. refl) (λ constants v who table. refl)
+told (call.FdSeek fd offset whence) = unbuilt_told (call.FdSeek fd offset whence) (λ made row reply. refl) (λ constants v who table. refl)
 told (call.FdStatGet fd) = fd_stat_get_told fd
 told (call.FdStatPut fd stat flags) = fd_stat_put_told fd stat flags
-told (call.FdSync fd) = nothing_told (call.FdSync fd) (λ row reply. refl) (λ constants v who table. refl)
+told (call.FdSync fd) = nothing_told (call.FdSync fd) (λ made row reply. refl) (λ constants v who table. refl)
 told (call.FdWrite fd bytes) = fd_write_told fd bytes
-told (call.FileAdvise fd offset length advice) = nothing_told (call.FileAdvise fd offset length advice) (λ row reply. refl) (λ constants v who table. refl)
-told (call.FileAllocate fd offset length) = file_told (call.FileAllocate fd offset length) fd (λ row reply. refl) refl
-told (call.FileCreate fd path kind) = unbuilt_told (call.FileCreate fd path kind) (λ row reply. refl) (λ constants v who table. refl)
-told (call.FileLink lookup path new_fd new_path) = unbuilt_told (call.FileLink lookup path new_fd new_path) (λ row reply. refl) (λ constants v who table. refl)
-told (call.FileOpen lookup path oflags stat) = unbuilt_told (call.FileOpen lookup path oflags stat) (λ row reply. refl) (λ constants v who table. refl)
-told (call.FileReaddir fd length cookie) = file_told (call.FileReaddir fd length cookie) fd (λ row reply. refl) refl
-told (call.FileReadlink fd path length) = file_told (call.FileReadlink fd path length) fd (λ row reply. refl) refl
-told (call.FileRename fd path new_fd new_path) = unbuilt_told (call.FileRename fd path new_fd new_path) (λ row reply. refl) (λ constants v who table. refl)
-told (call.FileStatFget fd) = file_told (call.FileStatFget fd) fd (λ row reply. refl) refl
-told (call.FileStatFput fd stat flags) = file_told (call.FileStatFput fd stat flags) fd (λ row reply. refl) refl
-told (call.FileStatGet lookup path) = file_told (call.FileStatGet lookup path) lookup.fd (λ row reply. refl) refl
-told (call.FileStatPut lookup path stat flags) = file_told (call.FileStatPut lookup path stat flags) lookup.fd (λ row reply. refl) refl
-told (call.FileSymlink text fd path) = unbuilt_told (call.FileSymlink text fd path) (λ row reply. refl) (λ constants v who table. refl)
-told (call.FileUnlink fd path flags) = unbuilt_told (call.FileUnlink fd path flags) (λ row reply. refl) (λ constants v who table. refl)
-told (call.LockUnlock lock word scope) = unbuilt_told (call.LockUnlock lock word scope) (λ row reply. refl) (λ constants v who table. refl)
+told (call.FileAdvise fd offset length advice) = nothing_told (call.FileAdvise fd offset length advice) (λ made row reply. refl) (λ constants v who table. refl)
+told (call.FileAllocate fd offset length) = file_told (call.FileAllocate fd offset length) fd (λ made row reply. refl) refl
+told (call.FileCreate fd path kind) =
+    named_told (call.FileCreate fd path kind) (λ made row reply. refl) (λ constants v who table. (1, v.own who.pid, _, refl))
+told (call.FileLink lookup path new_fd new_path) =
+    named_told (call.FileLink lookup path new_fd new_path) (λ made row reply. refl) (λ constants v who table. (0, v.own who.pid, _, refl))
+told (call.FileOpen lookup path oflags stat) = file_open_told lookup path oflags stat
+told (call.FileReaddir fd length cookie) = file_told (call.FileReaddir fd length cookie) fd (λ made row reply. refl) refl
+told (call.FileReadlink fd path length) = file_told (call.FileReadlink fd path length) fd (λ made row reply. refl) refl
+told (call.FileRename fd path new_fd new_path) =
+    named_told (call.FileRename fd path new_fd new_path) (λ made row reply. refl) (λ constants v who table. (0, v.own who.pid, _, refl))
+told (call.FileStatFget fd) = file_told (call.FileStatFget fd) fd (λ made row reply. refl) refl
+told (call.FileStatFput fd stat flags) = file_told (call.FileStatFput fd stat flags) fd (λ made row reply. refl) refl
+told (call.FileStatGet lookup path) = file_told (call.FileStatGet lookup path) lookup.fd (λ made row reply. refl) refl
+told (call.FileStatPut lookup path stat flags) = file_told (call.FileStatPut lookup path stat flags) lookup.fd (λ made row reply. refl) refl
+told (call.FileSymlink text fd path) =
+    named_told (call.FileSymlink text fd path) (λ made row reply. refl)
+    (λ constants v who table. ((making_unless (text_error text) (making (Link text) path)).makes, v.own who.pid, _, refl))
+told (call.FileUnlink fd path flags) =
+    named_told (call.FileUnlink fd path flags) (λ made row reply. refl) (λ constants v who table. (0, v.own who.pid, _, refl))
+told (call.LockUnlock lock word scope) = unbuilt_told (call.LockUnlock lock word scope) (λ made row reply. refl) (λ constants v who table. refl)
 told (call.MemMap place length prot flags fd offset) = mem_map_told place length prot flags fd offset
-told (call.Memory number errno) = λ constants S v who table there. decided_told (call.Memory number errno) errno S who.pid (λ row reply. refl)
-told (call.Poll subscriptions) = unbuilt_told (call.Poll subscriptions) (λ row reply. refl) (λ constants v who table. refl)
-told (call.ProcExec fd bytes fds) = unbuilt_told (call.ProcExec fd bytes fds) (λ row reply. refl) (λ constants v who table. refl)
+told (call.Memory number errno) = λ constants S v who table there. decided_told (call.Memory number errno) errno S who.pid (λ made row reply. refl)
+told (call.Poll subscriptions) = unbuilt_told (call.Poll subscriptions) (λ made row reply. refl) (λ constants v who table. refl)
+told (call.ProcExec fd bytes fds) = unbuilt_told (call.ProcExec fd bytes fds) (λ made row reply. refl) (λ constants v who table. refl)
 told (call.ProcExit code) = proc_exit_told code
-told (call.ProcFork left) = unbuilt_told (call.ProcFork left) (λ row reply. refl) (λ constants v who table. refl)
-told (call.ProcRaise signal) = unbuilt_told (call.ProcRaise signal) (λ row reply. refl) (λ constants v who table. refl)
-told (call.RandomGet length) = unbuilt_told (call.RandomGet length) (λ row reply. refl) (λ constants v who table. refl)
-told (call.SockRecv fd length fds flags) = unbuilt_told (call.SockRecv fd length fds flags) (λ row reply. refl) (λ constants v who table. refl)
-told (call.SockSend fd bytes fds flags) = unbuilt_told (call.SockSend fd bytes fds flags) (λ row reply. refl) (λ constants v who table. refl)
-told (call.SockShutdown fd how) = unbuilt_told (call.SockShutdown fd how) (λ row reply. refl) (λ constants v who table. refl)
-told (call.ThreadCreate attributes) = unbuilt_told (call.ThreadCreate attributes) (λ row reply. refl) (λ constants v who table. refl)
-told (call.ThreadExit lock word scope) = unbuilt_told (call.ThreadExit lock word scope) (λ row reply. refl) (λ constants v who table. refl)
-told call.ThreadYield = unbuilt_told call.ThreadYield (λ row reply. refl) (λ constants v who table. refl)
-told (call.Refused number errno) = λ constants S v who table there. decided_told (call.Refused number errno) errno S who.pid (λ row reply. refl)
+told (call.ProcFork left) = unbuilt_told (call.ProcFork left) (λ made row reply. refl) (λ constants v who table. refl)
+told (call.ProcRaise signal) = unbuilt_told (call.ProcRaise signal) (λ made row reply. refl) (λ constants v who table. refl)
+told (call.RandomGet length) = unbuilt_told (call.RandomGet length) (λ made row reply. refl) (λ constants v who table. refl)
+told (call.SockRecv fd length fds flags) = unbuilt_told (call.SockRecv fd length fds flags) (λ made row reply. refl) (λ constants v who table. refl)
+told (call.SockSend fd bytes fds flags) = unbuilt_told (call.SockSend fd bytes fds flags) (λ made row reply. refl) (λ constants v who table. refl)
+told (call.SockShutdown fd how) = unbuilt_told (call.SockShutdown fd how) (λ made row reply. refl) (λ constants v who table. refl)
+told (call.ThreadCreate attributes) = unbuilt_told (call.ThreadCreate attributes) (λ made row reply. refl) (λ constants v who table. refl)
+told (call.ThreadExit lock word scope) = unbuilt_told (call.ThreadExit lock word scope) (λ made row reply. refl) (λ constants v who table. refl)
+told call.ThreadYield = unbuilt_told call.ThreadYield (λ made row reply. refl) (λ constants v who table. refl)
+told (call.Refused number errno) = λ constants S v who table there. decided_told (call.Refused number errno) errno S who.pid (λ made row reply. refl)
 
 -- ---- refusals for want of a descriptor or of rights
 
 pub refusal_told : (S : State) (p : ℕ) (call : Call) (t : Option Table) (reply : Reply) → refusal_of call t ≡ Some reply
     → LeavesRow S p call (replies reply)
-refusal_told S p call t reply is = sym (by_error reply.errno (granted_row (row_of S p) call reply) (row_of S p) (refusal_is_other Success (λ e. cc) (λ e. cc) call t reply is))
+refusal_told S p call t reply is = sym (by_error reply.errno (granted_row (last_made S p) (row_of S p) call reply) (row_of S p) (refusal_is_other Success (λ e. cc) (λ e. cc) call t reply is))

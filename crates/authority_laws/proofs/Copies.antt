@@ -4,8 +4,7 @@ use Rattle.std.proofs.lemmas.Bool.Decides.{eqb_tells}
 use Rattle.std.specs.Prelude.{bit_and, option_map}
 use Rattle.std.specs.FinMap.{get}
 use Rattle.abi_base.proofs.Bits.{has-meet}
-use Rattle.abi_base.specs.declared.errno.Errno.{Errno}
-use Rattle.abi_base.specs.declared.errno.Errno.TheVariants.{Success, Badf, Mfile, Nomem}
+use Rattle.abi_base.specs.declared.errno.Errno.TheVariants.{Success, Badf}
 use Rattle.abi_structures.specs.declared.structures.FdStat.{FdStat}
 use Rattle.abi_types.specs.declared.reply.Answer.TheVariants as answer
 use Rattle.abi_types.specs.declared.call.Call.{Call}
@@ -20,47 +19,23 @@ use Rattle.kernel_model.specs.Calls.{named}
 use Rattle.kernel_model.specs.DescriptorCalls.{free_from, lowest_free, dup_at, dup_of, lowered_to}
 use Rattle.kernel_model.specs.Outcome.{Outcome, OnReply}
 use Rattle.kernel_model.specs.Proper.{IsIn}
-use Rattle.kernel_model.specs.Reply.{refused}
 use Rattle.kernel_model.specs.State.{State, Table}
-use Rattle.kernel_model.specs.Step.{tick, act_on, outcome, step_answer, IsStep}
-use Rattle.kernel_model.specs.View.{whole}
-use Rattle.kernel_model.proofs.Outcomes.{outcome_reads, outcome_holds}
-use Rattle.kernel_model.proofs.Refusals.{same_reply, on_reply, absent_is_badf, refusal_is_other}
+use Rattle.kernel_model.specs.Step.{outcome, step_answer, IsStep}
+use Rattle.kernel_model.proofs.Outcomes.{outcome_holds}
+use Rattle.kernel_model.proofs.Refusals.{on_reply, absent_is_badf, refusal_is_other}
 use Rattle.kernel_model.proofs.Tests.{none_is_no, same_some}
 use Rattle.run_model.specs.Legal.{FitsAct, Legal}
 use Rattle.run_model.specs.World.{guest_of, called_state, who_of, world}
 use Rattle.run_model.proofs.Histories.{legal_front, legal_next}
-use Rattle.authority_laws.specs.Laws.{Succeeds}
-use Rattle.authority_laws.specs.Ledger.{Row, with_held, lowered_row, granted_row, by_success}
+use Rattle.authority_laws.specs.Laws.{made_at, Succeeds}
+use Rattle.authority_laws.specs.Ledger.{Row, Made, with_held, lowered_row, granted_row, by_success}
 use Rattle.authority_laws.specs.Origins.{IsCopied, IsLowered}
 use Rattle.authority_laws.specs.Recorded.{acted_row, ledger}
 use Rattle.authority_laws.proofs.Histories.{own_after, world_rows}
-use Rattle.authority_laws.proofs.Rows.{row_in, row_of, held_here, held_elsewhere}
+use Rattle.authority_laws.proofs.Rows.{row_in, row_of, held_here, held_elsewhere, badf_is_error, mfile_is_error}
+use Rattle.authority_laws.proofs.Successes.{has_table, no_memory, no_success}
 
 -- ---- a call that succeeds names descriptors that are there
-
-badf_is_error : Badf ≢ Success
-badf_is_error e = cc
-
-mfile_is_error : Mfile ≢ Success
-mfile_is_error e = cc
-
-nomem_is_error : Nomem ≢ Success
-nomem_is_error e = cc
-
-no_success : {X : Type 0} (reply : Reply) (errno : Errno) → answer.Reply reply ≡ answer.Reply (refused errno) → errno ≢ Success → reply.errno ≡ Success → X
-no_success reply errno is other success = absurd (other (sym (ap (λ (r : Reply). r.errno) (same_reply reply (refused errno) is)) ∙ success))
-
-without_table : (constants : Constants) (S : State) (who : Who) (call : Call) → get S.tables who.pid ≡ None
-    → step_answer constants S who call ≡ answer.Reply (refused Badf)
-without_table constants S who call own =
-    ap (λ (o : Outcome). o.answer) (outcome_reads constants S who call ∙ ap (act_on constants (whole (tick S)) who call) own)
-
-has_table : (constants : Constants) (S : State) (who : Who) (call : Call) (reply : Reply) (T : State) {X : Type 0}
-    → IsStep constants S who call (answer.Reply reply) T → reply.errno ≡ Success → get S.tables who.pid ≡ None → X
-has_table constants S who call reply T (inl done) success own =
-    no_success reply Badf (done.0 ∙ without_table constants S who call own) badf_is_error success
-has_table constants S who call reply T (inr lacking) success own = no_success reply Nomem lacking.1 nomem_is_error success
 
 named_in : (constants : Constants) (S : State) (who : Who) (call : Call) (reply : Reply) (T : State) (fd : ℕ) (table : Table) (o : Option Descriptor)
     → IsStep constants S who call (answer.Reply reply) T → reply.errno ≡ Success → IsIn fd (named call) → get S.tables who.pid ≡ Some table → get table fd ≡ o
@@ -78,7 +53,7 @@ named_by constants S who call reply T fd (Some table) step success asked own =
 
 -- ---- the number that fd_dup gives was free
 
-free_is_absent : (table : Table) (n k m : ℕ) → free_from table n k ≡ Some m → get table m ≡ None
+pub free_is_absent : (table : Table) (n k m : ℕ) → free_from table n k ≡ Some m → get table m ≡ None
 unfolding free_from
 free_is_absent table zero k m is = absurd (none_is_no m is)
 free_is_absent table (suc n) k m is =
@@ -111,12 +86,12 @@ result_free : (constants : Constants) (S : State) (who : Who) (fd : ℕ) (reply 
 result_free constants S who fd reply T (inl done) success =
     on_reply (λ (r : Reply). r.errno ≡ Success → row_of S who.pid r.r1 ≡ None) (step_answer constants S who (FdDup fd)) reply
     (outcome_free constants S who fd) (sym done.0) success
-result_free constants S who fd reply T (inr lacking) success = no_success reply Nomem lacking.1 nomem_is_error success
+result_free constants S who fd reply T (inr lacking) success = no_memory reply lacking.1 success
 
 -- ---- entries of a legal history
 
 -- the kernel's step
-stepped : (launch : Launch) (front : List Entry) (e : Entry) (rest : List Entry) (call : Call) (reply : Reply) → Legal launch (front ++ e ∷ rest) → Succeeds e call reply
+pub stepped : (launch : Launch) (front : List Entry) (e : Entry) (rest : List Entry) (call : Call) (reply : Reply) → Legal launch (front ++ e ∷ rest) → Succeeds e call reply
     → IsStep (world launch front).constants (world launch front).state (who_of e) call (answer.Reply reply)
     (called_state (world launch front).constants (world launch front).state (who_of e) call (answer.Reply reply))
 stepped launch front e rest call reply legal done =
@@ -125,7 +100,7 @@ stepped launch front e rest call reply legal done =
     (subst (FitsAct w.constants w.state (who_of e) (guest_of w e.pid) e.turns) done.is fits).2
 
 -- what the process of an entry held before it
-before_is : (launch : Launch) (front : List Entry) (e : Entry) (rest : List Entry) → Legal launch (front ++ e ∷ rest)
+pub before_is : (launch : Launch) (front : List Entry) (e : Entry) (rest : List Entry) → Legal launch (front ++ e ∷ rest)
     → row_of (world launch front).state e.pid ≡ (ledger launch front).held e.pid
 before_is launch front e rest legal = world_rows launch front (legal_front launch front (e ∷ rest) legal) e.pid
 
@@ -139,11 +114,12 @@ named_held launch front e rest call reply fd legal done asked =
     (found.0, (λ i. sym (before_is launch front e rest legal) i fd) ∙ found.1)
 
 -- what the process holds after it is what the call's line says
-granted_after : (launch : Launch) (front : List Entry) (e : Entry) (call : Call) (reply : Reply) → Succeeds e call reply
-    → (ledger launch (front ++ e ∷ [])).held e.pid ≡ granted_row ((ledger launch front).held e.pid) call reply
+pub granted_after : (launch : Launch) (front : List Entry) (e : Entry) (call : Call) (reply : Reply) → Succeeds e call reply
+    → (ledger launch (front ++ e ∷ [])).held e.pid ≡ granted_row (made_at launch front e) ((ledger launch front).held e.pid) call reply
 granted_after launch front e call reply done =
     let row = (ledger launch front).held e.pid in
-    own_after launch front e ∙ ap (acted_row row) done.is ∙ ap (λ errno. by_success errno (granted_row row call reply) row) done.success
+    let made : Made = made_at launch front e in
+    own_after launch front e ∙ ap (acted_row made row) done.is ∙ ap (λ errno. by_success errno (granted_row made row call reply) row) done.success
 
 -- ---- copies
 

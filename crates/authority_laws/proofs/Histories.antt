@@ -21,36 +21,42 @@ use Rattle.kernel_model.specs.Valid.{IsValid}
 use Rattle.kernel_model.proofs.Reaches.{sight_is_reached}
 use Rattle.run_model.specs.Legal.{FitsAct, Fits, FollowsFrom, Legal}
 use Rattle.run_model.specs.World.{World, Guest, start_world, guest_of, called_state, turned, acted, who_of, apply, apply_all, world}
-use Rattle.run_model.proofs.Histories.{legal_front, apply_is, first_state}
-use Rattle.run_model.proofs.Worlds.{world_is_valid}
-use Rattle.authority_laws.specs.Laws.{Tells, IsReachedByHeld, IsReachedByNamed, SeesByHeld, IsRecordedAt, IsRecorded}
-use Rattle.authority_laws.specs.Ledger.{Ledger, with_row, launch_ledger}
+use Rattle.kernel_model.proofs.Starts.{start_valid}
+use Rattle.run_model.proofs.Histories.{legal_front, legal_next, apply_is, first_state, world_more}
+use Rattle.run_model.proofs.Worlds.{apply_valid, world_is_valid}
+use Rattle.authority_laws.specs.Laws.{made_at, Tells, IsReachedByHeld, IsReachedByNamed, SeesByHeld, IsRecordedAt, IsRecorded}
+use Rattle.authority_laws.specs.Ledger.{Ledger, Made, last_made, with_row, launch_ledger}
 use Rattle.authority_laws.specs.Origins.{Change, ComesFrom, ComesFromGrant, AllComeFromGrants}
-use Rattle.authority_laws.specs.Recorded.{acted_row, noted, noted_all, ledger}
+use Rattle.authority_laws.specs.Recorded.{acted_row, made_in, noted, noted_all, ledger}
 use Rattle.authority_laws.proofs.Changes.{acted_change}
-use Rattle.authority_laws.proofs.Origins.{noted_from, noted_granted, launch_granted}
+use Rattle.authority_laws.proofs.Origins.{ActIsWithin, noted_from, noted_granted, launch_granted}
 use Rattle.authority_laws.proofs.Rows.{row_in}
 use Rattle.authority_laws.proofs.States.{HasRows, step_rows, end_rows, start_rows, ended_row, row_is_held}
+use Rattle.authority_laws.proofs.Successes.{act_is_within}
 
 -- ---- the ledger of one more entry
 
-all_more : (l : Ledger) (history : List Entry) (e : Entry) → noted_all l (history ++ e ∷ []) ≡ noted (noted_all l history) e
-unfolding noted_all
-all_more l [] e = refl
-all_more l (first ∷ history) e = all_more (noted l first) history e
+all_more : (w : World) (l : Ledger) (history : List Entry) (e : Entry)
+    → noted_all w l (history ++ e ∷ []) ≡ noted (made_in (apply (apply_all w history) e) e) (noted_all w l history) e
+unfolding noted_all apply_all
+all_more w l [] e = refl
+all_more w l (first ∷ history) e = all_more (apply w first) (noted (made_in (apply w first) first) l first) history e
 
 pub ledger_none : (launch : Launch) → ledger launch [] ≡ launch_ledger launch.tree launch.grants
 unfolding ledger noted_all
 ledger_none launch = refl
 
-pub ledger_more : (launch : Launch) (history : List Entry) (e : Entry) → ledger launch (history ++ e ∷ []) ≡ noted (ledger launch history) e
-unfolding ledger
-ledger_more launch history e = all_more (launch_ledger launch.tree launch.grants) history e
+pub ledger_more : (launch : Launch) (history : List Entry) (e : Entry)
+    → ledger launch (history ++ e ∷ []) ≡ noted (made_at launch history e) (ledger launch history) e
+unfolding ledger world
+ledger_more launch history e =
+    all_more (start_world launch) (launch_ledger launch.tree launch.grants) history e
+    ∙ ap (λ (v : World). noted (made_in v e) (ledger launch history) e) (sym (world_more launch history e))
 
 -- ---- the tables
 
 acted_rows : (w : World) (who : Who) (guest : Guest) (ts : List ℕ) (a : Act) (l : Ledger) → FitsAct w.constants w.state who guest ts a → HasRows w.state l
-    → HasRows (acted w who a).state (with_row l who.pid (acted_row (l.held who.pid) a))
+    → HasRows (acted w who a).state (with_row l who.pid (acted_row (last_made (acted w who a).state who.pid) (l.held who.pid) a))
 acted_rows w who guest ts (act.Call call given) l fits before =
     step_rows w.constants w.state who call given (called_state w.constants w.state who call given) l fits.2 before
 acted_rows w who guest ts (act.Wake call given answered) l fits before = absurd fits
@@ -58,22 +64,26 @@ acted_rows w who guest ts (act.Trap signal) l fits before = end_rows w.state who
 acted_rows w who guest ts act.Expire l fits before = end_rows w.state who.pid (Killed Xcpu) l before
 acted_rows w who guest ts act.Idle l fits before = absurd fits
 
-apply_rows : (w : World) (e : Entry) (l : Ledger) → Fits w e → HasRows w.state l → HasRows (apply w e).state (noted l e)
+apply_rows : (w : World) (e : Entry) (l : Ledger) → Fits w e → HasRows w.state l → HasRows (apply w e).state (noted (made_in (apply w e) e) l e)
 apply_rows w e l fits before =
-    subst (λ (v : World). HasRows v.state (noted l e)) (sym (apply_is w e))
+    subst (λ (v : World). HasRows v.state (noted (made_in v e) l e)) (sym (apply_is w e))
     (acted_rows (turned w e.pid e.turns) (who_of e) (guest_of w e.pid) e.turns e.act l fits.act before)
 
 follows_rows : (w : World) (history : List Entry) (l : Ledger) → FollowsFrom w history → HasRows w.state l
-    → HasRows (apply_all w history).state (noted_all l history)
+    → HasRows (apply_all w history).state (noted_all w l history)
 unfolding FollowsFrom apply_all noted_all
 follows_rows w [] l follows before = before
-follows_rows w (e ∷ history) l follows before = follows_rows (apply w e) history (noted l e) follows.1 (apply_rows w e l follows.0 before)
+follows_rows w (e ∷ history) l follows before =
+    follows_rows (apply w e) history (noted (made_in (apply w e) e) l e) follows.1 (apply_rows w e l follows.0 before)
+
+start_has_rows : (launch : Launch) → HasRows (start_world launch).state (launch_ledger launch.tree launch.grants)
+start_has_rows launch =
+    subst (λ (S : State). HasRows S (launch_ledger launch.tree launch.grants)) (sym (first_state launch)) (start_rows launch.tree launch.grants)
 
 pub world_rows : (launch : Launch) (history : List Entry) → Legal launch history → HasRows (world launch history).state (ledger launch history)
 unfolding Legal world ledger
 world_rows launch history legal =
-    follows_rows (start_world launch) history (launch_ledger launch.tree launch.grants) legal
-    (subst (λ (S : State). HasRows S (launch_ledger launch.tree launch.grants)) (sym (first_state launch)) (start_rows launch.tree launch.grants))
+    follows_rows (start_world launch) history (launch_ledger launch.tree launch.grants) legal (start_has_rows launch)
 
 rows_tell : (S : State) (l : Ledger) → IsValid S → HasRows S l → Tells S l
 rows_tell S l valid rows = record {
@@ -91,10 +101,11 @@ ledger_tells launch history begins legal =
 
 -- what the entry's process holds
 pub own_after : (launch : Launch) (front : List Entry) (e : Entry)
-    → (ledger launch (front ++ e ∷ [])).held e.pid ≡ acted_row ((ledger launch front).held e.pid) e.act
+    → (ledger launch (front ++ e ∷ [])).held e.pid ≡ acted_row (made_at launch front e) ((ledger launch front).held e.pid) e.act
 own_after launch front e =
     let row = (ledger launch front).held e.pid in
-    ap (λ (l : Ledger). l.held e.pid) (ledger_more launch front e) ∙ ap (λ b. cond b (acted_row row e.act) row) (eq-eqb e.pid e.pid refl)
+    ap (λ (l : Ledger). l.held e.pid) (ledger_more launch front e)
+    ∙ ap (λ b. cond b (acted_row (made_at launch front e) row e.act) row) (eq-eqb e.pid e.pid refl)
 
 -- what another process holds
 others_after : (launch : Launch) (front : List Entry) (e : Entry) (q : ℕ) → q ≢ e.pid
@@ -103,30 +114,52 @@ others_after launch front e q apart =
     elim (eqb_tells q e.pid) [
       | inl is ↦ absurd (apart is.1)
       | inr other ↦ ap (λ (l : Ledger). l.held q) (ledger_more launch front e)
-          ∙ ap (λ b. cond b (acted_row ((ledger launch front).held e.pid) e.act) ((ledger launch front).held q)) other.0
+          ∙ ap (λ b. cond b (acted_row (made_at launch front e) ((ledger launch front).held e.pid) e.act) ((ledger launch front).held q)) other.0
     ]
 
 pub entry_changes_one : (launch : Launch) (front : List Entry) (e : Entry)
-    → Change ((ledger launch front).held e.pid) ((ledger launch (front ++ e ∷ [])).held e.pid)
+    → Change (made_at launch front e) ((ledger launch front).held e.pid) ((ledger launch (front ++ e ∷ [])).held e.pid)
     × ((q : ℕ) → q ≢ e.pid → (ledger launch (front ++ e ∷ [])).held q ≡ (ledger launch front).held q)
 entry_changes_one launch front e = (
-  subst (Change ((ledger launch front).held e.pid)) (sym (own_after launch front e)) (acted_change ((ledger launch front).held e.pid) e.act),
+  subst (Change (made_at launch front e) ((ledger launch front).held e.pid)) (sym (own_after launch front e))
+      (acted_change (made_at launch front e) ((ledger launch front).held e.pid) e.act),
   others_after launch front e,
 )
 
 -- ---- where descriptors come from
 
-pub rights_never_grow : (launch : Launch) (front : List Entry) (e : Entry) → ComesFrom (ledger launch front) (ledger launch (front ++ e ∷ []))
-rights_never_grow launch front e = subst (ComesFrom (ledger launch front)) (sym (ledger_more launch front e)) (noted_from (ledger launch front) e)
+-- what an entry that fits opens is opened through what its process held
+fits_within : (w : World) (e : Entry) (made : Made) (l : Ledger) → Fits w e → IsValid w.state → HasRows w.state l → ActIsWithin made l e.pid e.act
+fits_within w e made l fits valid rows = act_is_within w.constants w.state (who_of e) (guest_of w e.pid) e.turns made l e.act fits.act valid rows
 
-follows_granted : (tree : Tree) (grants : List Grant) (l : Ledger) (history : List Entry) → AllComeFromGrants tree grants l → AllComeFromGrants tree grants (noted_all l history)
-unfolding noted_all
-follows_granted tree grants l [] before = before
-follows_granted tree grants l (e ∷ history) before = follows_granted tree grants (noted l e) history (noted_granted tree grants l e before)
+pub rights_never_grow : (launch : Launch) (front : List Entry) (e : Entry) (rest : List Entry) → MayBegin launch.tree launch.grants
+    → Legal launch (front ++ e ∷ rest) → ComesFrom (made_at launch front e) (ledger launch front) (ledger launch (front ++ e ∷ []))
+rights_never_grow launch front e rest begins legal =
+    let before = legal_front launch front (e ∷ rest) legal in
+    let made : Made = made_at launch front e in
+    subst (ComesFrom made (ledger launch front)) (sym (ledger_more launch front e))
+    (noted_from made (ledger launch front) e
+    (fits_within (world launch front) e made (ledger launch front) (legal_next launch front e rest legal) (world_is_valid launch front begins before)
+    (world_rows launch front before)))
 
-pub held_is_granted : (launch : Launch) (history : List Entry) → AllComeFromGrants launch.tree launch.grants (ledger launch history)
-unfolding ledger
-held_is_granted launch history = follows_granted launch.tree launch.grants (launch_ledger launch.tree launch.grants) history (launch_granted launch.tree launch.grants)
+follows_granted : (tree : Tree) (grants : List Grant) (w : World) (l : Ledger) (history : List Entry) → FollowsFrom w history → IsValid w.state
+    → HasRows w.state l → AllComeFromGrants tree grants l → AllComeFromGrants tree grants (noted_all w l history)
+unfolding FollowsFrom noted_all
+follows_granted tree grants w l [] follows valid rows before = before
+follows_granted tree grants w l (e ∷ history) follows valid rows before =
+    let made : Made = made_in (apply w e) e in
+    follows_granted tree grants (apply w e) (noted made l e) history follows.1 (apply_valid w e follows.0 valid) (apply_rows w e l follows.0 rows)
+    (noted_granted tree grants made l e (fits_within w e made l follows.0 valid rows) before)
+
+start_is_valid : (launch : Launch) → MayBegin launch.tree launch.grants → IsValid (start_world launch).state
+start_is_valid launch begins = subst IsValid (sym (first_state launch)) (start_valid launch.tree launch.grants launch.stdin begins)
+
+pub held_is_granted : (launch : Launch) (history : List Entry) → MayBegin launch.tree launch.grants → Legal launch history
+    → AllComeFromGrants launch.tree launch.grants (ledger launch history)
+unfolding Legal ledger
+held_is_granted launch history begins legal =
+    follows_granted launch.tree launch.grants (start_world launch) (launch_ledger launch.tree launch.grants) history legal (start_is_valid launch begins)
+    (start_has_rows launch) (launch_granted launch.tree launch.grants)
 
 -- a table's descriptor is there by the ledger
 pub tables_are_recorded : (launch : Launch) (history : List Entry) → MayBegin launch.tree launch.grants → Legal launch history → (p n : ℕ) (table : Table) (d : Descriptor)
@@ -134,7 +167,7 @@ pub tables_are_recorded : (launch : Launch) (history : List Entry) → MayBegin 
     → ((ledger launch history).held p n ≡ Some d) × ComesFromGrant launch.tree launch.grants d
 tables_are_recorded launch history begins legal p n table d there here =
     let recorded : (ledger launch history).held p n ≡ Some d = sym ((ledger_tells launch history begins legal).tables p table there n) ∙ here in
-    (recorded, held_is_granted launch history p n d recorded)
+    (recorded, held_is_granted launch history begins legal p n d recorded)
 
 -- ---- what a call may read
 
@@ -168,7 +201,7 @@ sight_is_recorded launch history begins legal who call part seen =
 recorded_at : (launch : Launch) (front : List Entry) → Legal launch front → MayBegin launch.tree launch.grants → IsRecordedAt launch front
 recorded_at launch front legal begins = record {
   tells = ledger_tells launch front begins legal;
-  granted = held_is_granted launch front;
+  granted = held_is_granted launch front begins legal;
   sees = sight_is_recorded launch front begins legal;
 }
 

@@ -1,7 +1,10 @@
 pub mod Rows
+pub mod Openings
 pub mod Calls
 pub mod States
 pub mod Changes
 pub mod Origins
+pub mod Successes
 pub mod Histories
 pub mod Copies
+pub mod Bounds

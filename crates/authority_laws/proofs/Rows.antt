@@ -5,11 +5,14 @@ use Rattle.std.proofs.lemmas.Bool.Decides.{eqb_tells}
 use Rattle.std.specs.Ordering.{nat_cmp}
 use Rattle.std.specs.FinMap.{FinMap, get, get-empty, insert, remove, empty}
 use Rattle.abi_base.specs.declared.errno.Errno.{Errno}
-use Rattle.abi_base.specs.declared.errno.Errno.TheVariants.{Success}
+use Rattle.abi_base.specs.declared.errno.Errno.TheVariants.{Success, Badf, Mfile}
+use Rattle.abi_types.specs.declared.call.Call.{Call}
 use Rattle.abi_types.specs.declared.descriptor.Descriptor.{Descriptor}
 use Rattle.number_map.specs.Maps.{get-insert-same, get-insert-other, get-remove-same, get-remove-other}
-use Rattle.kernel_model.specs.State.{State, Table}
-use Rattle.authority_laws.specs.Ledger.{Row, no_row, with_held, by_success}
+use Rattle.kernel_model.specs.Outcome.{Outcome, replies}
+use Rattle.kernel_model.specs.Reply.{refused}
+use Rattle.kernel_model.specs.State.{State, Table, put_all}
+use Rattle.authority_laws.specs.Ledger.{Row, no_row, with_held, last_made, granted_row, by_success, answered_row}
 
 -- what is under each number of a table, where there is a table
 abbrev pub row_in : Option Table → Row
@@ -70,3 +73,19 @@ by_error _ granted row other = refl
 pub by_either : (errno : Errno) (row : Row) → by_success errno row row ≡ row
 by_either Success row = refl
 by_either _ row = refl
+
+-- ---- what an outcome leaves
+
+-- after the outcome's updates its process has what the ledger says after this answer
+abbrev pub LeavesRow : State → ℕ → Call → Outcome → Type 0
+LeavesRow S p call o = row_of (put_all o.updates S) p ≡ answered_row (last_made (put_all o.updates S) p) (row_of S p) call o.answer
+
+-- an error, after which its process has the table that it had
+pub refused_told : (S : State) (p : ℕ) (call : Call) (errno : Errno) → errno ≢ Success → LeavesRow S p call (replies (refused errno))
+refused_told S p call errno other = sym (by_error errno (granted_row (last_made S p) (row_of S p) call (refused errno)) (row_of S p) other)
+
+pub badf_is_error : Badf ≢ Success
+badf_is_error e = cc
+
+pub mfile_is_error : Mfile ≢ Success
+mfile_is_error e = cc

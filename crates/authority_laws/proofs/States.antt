@@ -1,32 +1,43 @@
 -- An entry leaves in the kernel's tables what it leaves in the ledger.
-use Rattle.std.proofs.Common.{◌≡◌, ◌≢◌, inl, inr, ℕ, false, cond, List, Option, Some, None, is_some, refl, sym, ap, ◌∙◌, arith}
+use Rattle.std.proofs.Common.{◌≡◌, ◌≢◌, inl, inr, ℕ, Bool, true, false, not, cond, List, Option, Some, None, is_some, refl, sym, ap, subst, ◌∙◌, arith}
+use Rattle.std.specs.Prelude.{option_map}
 use Rattle.std.proofs.lemmas.Bool.Decides.{eqb_tells}
 use Rattle.std.specs.Ordering.{nat_cmp}
 use Rattle.std.specs.Cmp.{nat_cmp_total}
 use Rattle.std.specs.FinMap.{FinMap, get, get-empty, get-from_entries, empty, insert}
+use Rattle.abi_base.specs.declared.errno.Errno.{Errno}
+use Rattle.abi_base.specs.declared.errno.Errno.TheVariants.{Success}
 use Rattle.abi_base.specs.declared.grant.Grant.{Grant}
+use Rattle.abi_structures.specs.declared.structures.FdStat.{FdStat}
 use Rattle.abi_base.specs.declared.signal.Signal.{Signal}
 use Rattle.abi_types.specs.declared.reply.Answer.{Answer}
 use Rattle.abi_types.specs.declared.call.Call.{Call}
 use Rattle.abi_types.specs.declared.constants.Constants.{Constants}
+use Rattle.abi_types.specs.declared.call.Call.TheVariants.{FileOpen}
 use Rattle.abi_types.specs.declared.descriptor.Descriptor.{Descriptor}
+use Rattle.abi_types.specs.declared.open_kind.OpenKind.{OpenKind}
+use Rattle.abi_types.specs.declared.reply.Answer.TheVariants as answer
+use Rattle.abi_types.specs.declared.reply.Reply.{Reply}
 use Rattle.abi_types.specs.declared.status.Status.{Status}
 use Rattle.abi_types.specs.declared.status.Status.TheVariants.{Live, Exit, Killed}
 use Rattle.abi_types.specs.declared.who.Who.{Who}
 use Rattle.number_map.specs.Maps.{get-insert-same, get-insert-other}
+use Rattle.kernel_model.specs.Opening.{opened_descriptor}
+use Rattle.kernel_model.specs.Release.{is_ending, release}
 use Rattle.kernel_model.specs.Start.{granted_descriptor, granted_table}
 use Rattle.kernel_model.specs.State.{State, Table, Tree}
-use Rattle.kernel_model.specs.Step.{tick, outcome, IsStep, end_state}
+use Rattle.kernel_model.specs.Step.{tick, outcome, step_answer, unreleased, IsStep, end_state}
 use Rattle.kernel_model.specs.Valid.{IsValid}
 use Rattle.kernel_model.specs.View.{whole}
 use Rattle.kernel_model.proofs.Outcomes.{outcome_holds}
 use Rattle.kernel_model.proofs.Starts.{find_numbered}
 use Rattle.kernel_model.proofs.Steps.{step_moves_only, end_ends_only}
 use Rattle.kernel_model.proofs.Tests.{not_true, none_is_no}
-use Rattle.authority_laws.specs.Ledger.{Row, no_row, Ledger, with_row, launch_row, launch_ledger, answered_row}
+use Rattle.kernel_model.proofs.Valids.{get_released, held_stays, named_is_held, released_stays}
+use Rattle.authority_laws.specs.Ledger.{Row, no_row, with_held, Ledger, last_made, with_row, launch_row, launch_ledger, granted_row, by_success, answered_row}
 use Rattle.authority_laws.specs.Laws.{Holds}
-use Rattle.authority_laws.proofs.Calls.{LeavesRow, told, refusal_told}
-use Rattle.authority_laws.proofs.Rows.{row_in, row_of, row_in_empty, row_emptied}
+use Rattle.authority_laws.proofs.Calls.{told, refusal_told}
+use Rattle.authority_laws.proofs.Rows.{LeavesRow, held_here, row_in, row_of, row_in_empty, row_emptied}
 
 -- the ledger has each process's row of the state
 abbrev pub HasRows : State → Ledger → Type 0
@@ -40,13 +51,60 @@ outcome_told constants S who call =
     (λ reply is. refusal_told (tick S) who.pid call (get S.tables who.pid) reply is)
     (λ table there. told call constants (tick S) (whole (tick S)) who table there)
 
+-- ---- the open that was made is still there after the release
+
+table_by : (n : ℕ) (d : Descriptor) (t : Option Table) → row_in t n ≡ Some d → (table : Table) × (t ≡ Some table) × (get table n ≡ Some d)
+table_by n d None here = absurd (none_is_no d here)
+table_by n d (Some table) here = (table, refl, here)
+
+-- an open that a process's row names isn't released
+named_stays : (U : State) (p n : ℕ) (d : Descriptor) → row_of U p n ≡ Some d → get (release U).opens d.id ≡ get U.opens d.id
+named_stays U p n d here =
+    let at = table_by n d (get U.tables p) here in
+    released_stays U d.id (held_stays U d.id (named_is_held U p n at.0 d at.1 at.2))
+
+none_stays : {X : Type 0} (b : Bool) (o : Option X) → o ≡ None → cond b o None ≡ None
+none_stays true o none = none
+none_stays false o none = refl
+
+-- where the row has the open that was made it is the same after the release
+opened_stays : (U : State) (p n : ℕ) (row : Row) (stat : FdStat) (o : Option OpenKind) → get U.opens (last_made U p).number ≡ o
+    → row_of U p ≡ with_held row n (option_map (λ (kind : OpenKind). opened_descriptor (last_made U p).number kind stat) o)
+    → (last_made (release U) p).kind ≡ o
+opened_stays U p n row stat None there is =
+    get_released U (last_made U p).number ∙ none_stays (not (is_ending U (last_made U p).number)) (get U.opens (last_made U p).number) there
+opened_stays U p n row stat (Some kind) there is =
+    let d : Descriptor = opened_descriptor (last_made U p).number kind stat in
+    named_stays U p n d ((λ i. is i n) ∙ held_here row n (Some d)) ∙ there
+
+granted_stays : (U : State) (p : ℕ) (row : Row) (call : Call) (reply : Reply) → row_of U p ≡ granted_row (last_made U p) row call reply
+    → granted_row (last_made U p) row call reply ≡ granted_row (last_made (release U) p) row call reply
+granted_stays U p row (FileOpen lookup path oflags stat) reply is =
+    ap (λ o. with_held row reply.r1 (option_map (λ (kind : OpenKind). opened_descriptor (last_made U p).number kind stat) o))
+    (sym (opened_stays U p reply.r1 row stat (last_made U p).kind refl is))
+granted_stays U p row call reply is = refl
+
+errno_stays : (U : State) (p : ℕ) (row : Row) (call : Call) (reply : Reply) (errno : Errno)
+    → row_of U p ≡ by_success errno (granted_row (last_made U p) row call reply) row
+    → by_success errno (granted_row (last_made U p) row call reply) row ≡ by_success errno (granted_row (last_made (release U) p) row call reply) row
+errno_stays U p row call reply Success is = granted_stays U p row call reply is
+errno_stays U p row call reply _ is = refl
+
+answered_stays : (U : State) (p : ℕ) (row : Row) (call : Call) (given : Answer) → row_of U p ≡ answered_row (last_made U p) row call given
+    → answered_row (last_made U p) row call given ≡ answered_row (last_made (release U) p) row call given
+answered_stays U p row call (answer.Reply reply) is = errno_stays U p row call reply reply.errno is
+
 step_row : (constants : Constants) (S : State) (who : Who) (call : Call) (given : Answer) (T : State) → IsStep constants S who call given T
-    → row_of T who.pid ≡ answered_row (row_of S who.pid) call given
+    → row_of T who.pid ≡ answered_row (last_made T who.pid) (row_of S who.pid) call given
 step_row constants S who call given T (inl done) =
-    ap (λ (U : State). row_of U who.pid) done.1 ∙ outcome_told constants S who call
-    ∙ ap (answered_row (row_of S who.pid) call) (sym done.0)
+    let U = unreleased constants S who call in
+    let told : row_of U who.pid ≡ answered_row (last_made U who.pid) (row_of S who.pid) call (step_answer constants S who call) =
+    outcome_told constants S who call in
+    subst (λ (V : State). row_of V who.pid ≡ answered_row (last_made V who.pid) (row_of S who.pid) call given) (sym done.1)
+    (told ∙ answered_stays U who.pid (row_of S who.pid) call (step_answer constants S who call) told
+    ∙ ap (answered_row (last_made (release U) who.pid) (row_of S who.pid) call) (sym done.0))
 step_row constants S who call given T (inr lacking) =
-    ap (λ (U : State). row_of U who.pid) lacking.2 ∙ ap (answered_row (row_of S who.pid) call) (sym lacking.1)
+    ap (λ (U : State). row_of U who.pid) lacking.2 ∙ ap (answered_row (last_made T who.pid) (row_of S who.pid) call) (sym lacking.1)
 
 end_row : (S : State) (p : ℕ) (status : Status) → row_of (end_state S p status) p ≡ no_row
 unfolding end_state
@@ -64,10 +122,10 @@ changed S T l p row before own others q =
     ]
 
 pub step_rows : (constants : Constants) (S : State) (who : Who) (call : Call) (given : Answer) (T : State) (l : Ledger) → IsStep constants S who call given T
-    → HasRows S l → HasRows T (with_row l who.pid (answered_row (l.held who.pid) call given))
+    → HasRows S l → HasRows T (with_row l who.pid (answered_row (last_made T who.pid) (l.held who.pid) call given))
 step_rows constants S who call given T l step before =
-    changed S T l who.pid (answered_row (l.held who.pid) call given) before
-    (step_row constants S who call given T step ∙ ap (λ row. answered_row row call given) (before who.pid))
+    changed S T l who.pid (answered_row (last_made T who.pid) (l.held who.pid) call given) before
+    (step_row constants S who call given T step ∙ ap (λ row. answered_row (last_made T who.pid) row call given) (before who.pid))
     (λ q apart. ap row_in ((step_moves_only constants S who call given T step).others q apart).0)
 
 pub end_rows : (S : State) (p : ℕ) (status : Status) (l : Ledger) → HasRows S l → HasRows (end_state S p status) (with_row l p no_row)
@@ -124,10 +182,6 @@ live_by S p n d (Some Live) valid is here = refl
 live_by S p n d None valid is here = ended_has_none S p n d valid (λ live. none_is_no Live (sym is ∙ live)) here
 live_by S p n d (Some (Exit code)) valid is here = ended_has_none S p n d valid (λ live. exit_is_not_live code (sym is ∙ live)) here
 live_by S p n d (Some (Killed signal)) valid is here = ended_has_none S p n d valid (λ live. killed_is_not_live signal (sym is ∙ live)) here
-
-table_by : (n : ℕ) (d : Descriptor) (t : Option Table) → row_in t n ≡ Some d → (table : Table) × (t ≡ Some table) × (get table n ≡ Some d)
-table_by n d None here = absurd (none_is_no d here)
-table_by n d (Some table) here = (table, refl, here)
 
 -- what a row of a valid state has stands in a live process's table
 pub row_is_held : (S : State) (p n : ℕ) (d : Descriptor) → IsValid S → row_of S p n ≡ Some d → Holds S p n d

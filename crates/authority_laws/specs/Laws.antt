@@ -6,7 +6,8 @@ use Rattle.abi_base.specs.declared.grant.Grant.{Grant}
 use Rattle.tree_model.specs.Grants.{MayBegin}
 use Rattle.abi_structures.specs.declared.structures.FdStat.{FdStat}
 use Rattle.abi_types.specs.declared.call.Call.{Call}
-use Rattle.abi_types.specs.declared.call.Call.TheVariants.{FdDup, FdReplace, FdStatPut}
+use Rattle.abi_types.specs.declared.call.Call.TheVariants.{FdDup, FdReplace, FdStatPut, FileOpen}
+use Rattle.abi_types.specs.declared.call.Lookup.{Lookup}
 use Rattle.abi_types.specs.declared.descriptor.Descriptor.{Descriptor}
 use Rattle.abi_types.specs.declared.needed.Needed.{Needed}
 use Rattle.abi_types.specs.declared.reply.Answer.TheVariants as answer
@@ -24,9 +25,9 @@ use Rattle.kernel_model.specs.State.{State, Table, Tree, Part, at_open, has_part
 use Rattle.kernel_model.specs.Step.{sight}
 use Rattle.run_model.specs.Legal.{Legal}
 use Rattle.run_model.specs.World.{world}
-use Rattle.authority_laws.specs.Ledger.{Ledger, launch_ledger}
-use Rattle.authority_laws.specs.Origins.{ComesFrom, ComesFromGrant, AllComeFromGrants, Change, IsCopied, IsLowered}
-use Rattle.authority_laws.specs.Recorded.{noted, ledger}
+use Rattle.authority_laws.specs.Ledger.{Ledger, Made, launch_ledger}
+use Rattle.authority_laws.specs.Origins.{ComesFrom, ComesFromGrant, AllComeFromGrants, Change, IsCopied, IsLowered, IsOpened}
+use Rattle.authority_laws.specs.Recorded.{made_in, noted, ledger}
 
 -- ---- the ledger of one more entry
 
@@ -34,9 +35,15 @@ use Rattle.authority_laws.specs.Recorded.{noted, ledger}
 abbrev pub LedgerBegins : Type 0
 LedgerBegins = (launch : Launch) → ledger launch [] ≡ launch_ledger launch.tree launch.grants
 
+-- what the entry's process has made last in the world after it
+abbrev pub made_at : Launch → List Entry → Entry → Made
+made_at launch front e = made_in (world launch (front ++ e ∷ [])) e
+
 -- The ledger of one more entry is the ledger before it, with that entry noted.
 abbrev pub LedgerGoesOn : Type 0
-LedgerGoesOn = (launch : Launch) (history : List Entry) (e : Entry) → ledger launch (history ++ e ∷ []) ≡ noted (ledger launch history) e
+LedgerGoesOn =
+    (launch : Launch) (history : List Entry) (e : Entry)
+    → ledger launch (history ++ e ∷ []) ≡ noted (made_at launch history e) (ledger launch history) e
 
 -- ---- the kernel's tables
 
@@ -59,17 +66,18 @@ LedgerTells =
 -- ---- where descriptors come from
 
 -- Each descriptor that a process holds after an entry of a legal history names the open of one that it held before that entry,
--- with no right that this one lacked.
+-- with no right that this one lacked; or it names an open that the process made at that entry, with no right but those that a
+-- descriptor passes on which it held before.
 abbrev pub RightsNeverGrow : Type 0
 RightsNeverGrow =
     (launch : Launch) (front : List Entry) (e : Entry) (rest : List Entry) → MayBegin launch.tree launch.grants → Legal launch (front ++ e ∷ rest)
-    → ComesFrom (ledger launch front) (ledger launch (front ++ e ∷ []))
+    → ComesFrom (made_at launch front e) (ledger launch front) (ledger launch (front ++ e ∷ []))
 
 -- An entry changes what its process holds in one of the few ways of `Change`, and leaves what each other process holds.
 abbrev pub EntryChangesOne : Type 0
 EntryChangesOne =
     (launch : Launch) (front : List Entry) (e : Entry)
-    → Change ((ledger launch front).held e.pid) ((ledger launch (front ++ e ∷ [])).held e.pid)
+    → Change (made_at launch front e) ((ledger launch front).held e.pid) ((ledger launch (front ++ e ∷ [])).held e.pid)
     × ((q : ℕ) → q ≢ e.pid → (ledger launch (front ++ e ∷ [])).held q ≡ (ledger launch front).held q)
 
 -- the entry is this call, which succeeded with this reply
@@ -100,13 +108,20 @@ RightsAreLowered =
     → Legal launch (front ++ e ∷ rest) → Succeeds e (FdStatPut fd stat flags) reply → bit_and flags 2 ≢ 0
     → IsLowered ((ledger launch front).held e.pid) ((ledger launch (front ++ e ∷ [])).held e.pid) fd stat
 
--- What the ledger of a legal history says is held is no more than one of the launch's grants.
+-- After file_open of a legal history there stands under its result, under which nothing stood, the open that it made, with exactly
+-- those of the rights asked that are of its type, each among those that the directory's descriptor passed on at that entry.
+abbrev pub OpensAreBounded : Type 0
+OpensAreBounded =
+    (launch : Launch) (front : List Entry) (e : Entry) (rest : List Entry) (lookup : Lookup) (path : List ℕ) (oflags : ℕ) (stat : FdStat) (reply : Reply)
+    → MayBegin launch.tree launch.grants → Legal launch (front ++ e ∷ rest) → Succeeds e (FileOpen lookup path oflags stat) reply
+    → IsOpened (made_at launch front e) ((ledger launch front).held e.pid) ((ledger launch (front ++ e ∷ [])).held e.pid) lookup.fd reply.r1 stat
+
+-- What the ledger of a legal history says is held comes from one of the launch's grants.
 abbrev pub HeldIsGranted : Type 0
 HeldIsGranted =
     (launch : Launch) (history : List Entry) → MayBegin launch.tree launch.grants → Legal launch history → AllComeFromGrants launch.tree launch.grants (ledger launch history)
 
--- Each descriptor in a table of a legal history's world is there by the ledger, and is no more than one of the launch's
--- grants.
+-- Each descriptor in a table of a legal history's world is there by the ledger, and comes from one of the launch's grants.
 abbrev pub TablesAreRecorded : Type 0
 TablesAreRecorded =
     (launch : Launch) (history : List Entry) → MayBegin launch.tree launch.grants → Legal launch history
@@ -116,7 +131,7 @@ TablesAreRecorded =
 -- ---- what a call may read
 
 -- the part is the open of a descriptor which the ledger says that process p holds, which has all rights that a row of the
--- call's needs asks of it, and which is no more than one of the grants; or it stands behind that open
+-- call's needs asks of it, and which comes from one of the grants; or it stands behind that open
 pub record IsReachedByHeld (S : State) (l : Ledger) (tree : Tree) (grants : List Grant) (p : ℕ) (rows : List Needed) (part : Part) : Type 0 where
   pub row : Needed
   pub asked : IsIn row rows
@@ -127,7 +142,7 @@ pub record IsReachedByHeld (S : State) (l : Ledger) (tree : Tree) (grants : List
   pub reached : has_part (at_open d.id ∷ behind S (get S.opens d.id)) part ≡ true
 
 -- the call needs no right at all, and the part is the open of a descriptor that it names, which the ledger says that process p
--- holds, and which is no more than one of the grants; or it stands behind that open
+-- holds, and which comes from one of the grants; or it stands behind that open
 pub record IsReachedByNamed (S : State) (l : Ledger) (tree : Tree) (grants : List Grant) (p : ℕ) (call : Call) (part : Part) : Type 0 where
   pub none : need call ≡ []
   pub fd : ℕ
@@ -152,8 +167,8 @@ SightIsRecorded =
 
 -- ---- all of it, at each point of a history
 
--- after these entries the ledger tells who holds what, all that is held is no more than one of the launch's grants, and what
--- a call may read is reached by it
+-- after these entries the ledger tells who holds what, all that is held comes from one of the launch's grants, and what a call may
+-- read is reached by it
 pub record IsRecordedAt (launch : Launch) (front : List Entry) : Type 0 where
   pub tells : Tells (world launch front).state (ledger launch front)
   pub granted : AllComeFromGrants launch.tree launch.grants (ledger launch front)

@@ -1,5 +1,5 @@
 //! Laws of the ledger. The statements are in `specs/Laws.antt`, and each holds of every launch and history.
-ghost use Rattle.authority_laws.specs.Laws.{LedgerBegins, LedgerGoesOn, LedgerTells, RightsNeverGrow, EntryChangesOne, DuplicatesAreEqual, ReplacementsAreEqual, RightsAreLowered, HeldIsGranted, TablesAreRecorded, SightIsRecorded, LegalIsRecorded};
+ghost use Rattle.authority_laws.specs.Laws.{LedgerBegins, LedgerGoesOn, LedgerTells, RightsNeverGrow, EntryChangesOne, DuplicatesAreEqual, ReplacementsAreEqual, RightsAreLowered, OpensAreBounded, HeldIsGranted, TablesAreRecorded, SightIsRecorded, LegalIsRecorded};
 
 /// The ledger of no entry is the launch's, and that of one more entry is the ledger before it with the entry noted.
 pub fn ledger_goes_on()
@@ -15,13 +15,15 @@ pub fn ledger_tells()
 {}
 
 /// Rights never grow: each descriptor that a process holds after an entry of a legal history names the open of one that the
-/// same process held before that entry, with no right that this one lacked.
+/// same process held before that entry, with no right that this one lacked. Or it names an open that the process made at that
+/// entry, with no right but those that a descriptor passes on which the process held before.
 pub fn rights_never_grow()
     ensures { RightsNeverGrow }
 {}
 
 /// An entry leaves what each process but its own holds. What that holds stays; or it holds nothing any more; or what stands
-/// under one number changes, to nothing, to what stood under another number, or to the same open with no right more.
+/// under one number changes, to nothing, to what stood under another number, to the same open with no right more, or to the
+/// open that it made, with rights of its type that were asked.
 pub fn entry_changes_one()
     ensures { EntryChangesOne }
 {}
@@ -40,8 +42,16 @@ pub fn rights_are_lowered()
     ensures { RightsAreLowered }
 {}
 
+/// After a `file_open` of a legal history that succeeded there stands under its result, under which nothing stood, the open
+/// that it made, with exactly those of the rights asked that are of its type. Each is among those that the directory's
+/// descriptor passed on at that entry. Under each other number stands what stood there.
+pub fn opens_are_bounded()
+    ensures { OpensAreBounded }
+{}
+
 /// Each descriptor that the ledger of a legal history says is held names the open of one of the launch's grants, with no
-/// right that this grant lacks. The same holds of each descriptor in a table of its world, which is there by the ledger.
+/// right that this grant lacks, or it was opened, and has no right but those which one of the grants passes on. The same
+/// holds of each descriptor in a table of its world, which is there by the ledger.
 pub fn held_is_granted()
     ensures ledger { HeldIsGranted }
     ensures tables { TablesAreRecorded }
@@ -49,7 +59,7 @@ pub fn held_is_granted()
 
 /// What a call may read in the world of a legal history is the clock, what is its process's own and its status, or it is
 /// reached by a descriptor which the ledger says that its process holds. That has the rights needed, or the call names it and
-/// needs no right at all; and it is no more than one of the launch's grants.
+/// needs no right at all; and it comes from one of the launch's grants.
 pub fn sight_is_recorded()
     ensures { SightIsRecorded }
 {}

@@ -4,7 +4,7 @@ use Rattle.std.proofs.lemmas.Bool.Decides.{eqb_tells}
 use Rattle.std.specs.Ordering.{nat_cmp}
 use Rattle.std.specs.FinMap.{FinMap, get, insert, remove}
 use Rattle.abi_types.specs.declared.descriptor.Descriptor.{Descriptor}
-use Rattle.number_map.specs.Maps.{number, weight, get-insert-same, get-insert-other, total-insert, total-insert_new, total-remove, total_at_least}
+use Rattle.number_map.specs.Maps.{number, weight, get-insert-same, get-insert-other, get-remove-same, get-remove-other, total-insert, total-insert_new, total-remove, total_at_least}
 use Rattle.kernel_model.specs.Release.{names_open, count_in}
 use Rattle.kernel_model.specs.State.{Table}
 use Rattle.kernel_core.specs.Changes.{IsMoved}
@@ -112,3 +112,27 @@ count_there (Some k) some = refl
 pub counted_there : (table : Table) (n : ℕ) (d : Descriptor) (counts : FinMap nat_cmp ℕ) → get table n ≡ Some d
     → ((o : ℕ) → count_in o table ≤ number (get counts o)) → IsSome (get counts d.id)
 counted_there table n d counts there covered = count_there (get counts d.id) (some_count table n d counts there covered)
+
+-- ---- an open that comes, and goes again
+
+-- a count of 0 is the same as none
+pub zero_added : (counts : FinMap nat_cmp ℕ) (n o : ℕ) → number (get counts n) ≡ 0 → number (get (insert counts n 0) o) ≡ number (get counts o)
+zero_added counts n o none =
+    elim (eqb_tells o n) [
+      | inl h ↦ ap (λ k. number (get (insert counts n 0) k)) h.1 ∙ ap number (get-insert-same counts n 0) ∙ sym none ∙ ap (λ k. number (get counts k)) (sym h.1)
+      | inr h ↦ ap number (get-insert-other counts n 0 o h.1)
+    ]
+
+-- a descriptor that came to a free number, and its open, go again
+pub number-back : (table : Table) (n : ℕ) (d : Descriptor) (before after : FinMap nat_cmp ℕ) → get table n ≡ None → number (get before d.id) ≡ 0
+    → IsMoved table (insert table n d) before after → (o : ℕ) → number (get (remove after d.id) o) ≡ number (get before o)
+number-back table n d before after free none moved o =
+    elim (eqb_tells d.id o) [
+      | inl h ↦ ap (λ k. number (get (remove after d.id) k)) (sym h.1) ∙ ap number (get-remove-same after d.id) ∙ sym none ∙ ap (λ k. number (get before k)) h.1
+      | inr h ↦ (
+          let apart : names_open o d ≡ 0 = ap (λ b. cond b 1 0) h.0 in
+          let grown = total-insert_new (names_open o) table n d free in
+          let same = moved o in
+          let gone = ap number (get-remove-other after d.id o (λ e. h.1 (sym e))) in
+          omega (arith, apart, grown, same, gone))
+    ]

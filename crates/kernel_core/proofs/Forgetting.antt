@@ -2,7 +2,7 @@
 --     IsForgetting kinds old t last      of the tree old nodes are gone that aren't used, and those that are left up to the last are used
 --     forgetting_starts, forgetting_goes_on, forgetting_ends      at first;  one node further;  where there is no node further
 --     ahead, fewer_ahead      how many nodes are left to look at;  behind the next one fewer;  others_stay      only that one may go
-use Rattle.std.proofs.Common.{◌≡◌, ◌≢◌, ℕ, cond, ◌+◌, ◌<◌, ◌≤◌, ◌==◌, ◌&&◌, ◌||◌, Bool, true, false, not, inl, inr, Option, Some, None, IsSome, is_some, refl, sym, ap, subst, ◌∙◌, arith}
+use Rattle.std.proofs.Common.{◌≡◌, ◌≢◌, ℕ, cond, ◌<◌, ◌≤◌, ◌==◌, ◌&&◌, ◌||◌, Bool, true, false, not, inl, inr, Option, Some, None, IsSome, is_some, refl, sym, ap, subst, ◌∙◌, arith}
 use Rattle.std.proofs.lemmas.Bool.{lt-ltb, ltb-true}
 use Rattle.std.proofs.lemmas.Bool.Decides.{eqb_tells}
 use Rattle.std.specs.Prelude.{nat_lt}
@@ -14,9 +14,9 @@ use Rattle.number_map.specs.Closure.{total_below}
 use Rattle.number_map.specs.Maps.{get-remove-same, get-remove-other, get-retain, total, total-remove, weight, least_key-entry, least_key-least, least_key-none, passes}
 use Rattle.tree_model.specs.Changes.{forgotten, is_above, nameless_after}
 use Rattle.tree_model.specs.Opens.{is_used, opens_of_node}
-use Rattle.tree_model.specs.Releasing.{IsReleasing, releasing_end, retained-forgotten}
+use Rattle.tree_model.specs.Releasing.{releasing_end, retained-forgotten}
 use Rattle.tree_model.specs.Retained.{retained}
-use Rattle.tree_model.specs.Tree.{Tree, IsTree, links_in, links_of}
+use Rattle.tree_model.specs.Tree.{Tree, IsTree, links_in}
 use Rattle.tree_model.specs.declared.limits.TheConstants.{ROOT}
 use Rattle.kernel_model.proofs.Tests.{not_true}
 
@@ -89,34 +89,34 @@ module _ (kinds : FinMap nat_cmp OpenKind) (old t : Tree) (last : Option ℕ) (n
             let is : u ≡ forgotten t node = gone unused there in
             subst (λ w. IsForgetting kinds old w (Some node)) (sym is) (without_it unused there (subst IsTree is tree)))
       ] refl where
-    up_to : (n : ℕ) → n ≢ node → nat_lt node n ≡ false → n < node
-    up_to n other above =
-        elim (nat_lt n node) as (λ b. nat_lt n node ≡ b → n < node) [
-          | true ↦ λ less. ltb-true n node less
-          | false ↦ λ not_less. absurd (past not_less)
-        ] refl where
-      past : nat_lt n node ≡ false → ⊥
-      past not_less =
-          let up : n < node → ⊥ = λ less. not_true (sym not_less ∙ lt-ltb n node less) in
-          let down : node < n → ⊥ = λ less. not_true (sym above ∙ lt-ltb node n less) in
-          down (by_order up) where
-        by_order : (n < node → ⊥) → node < n
-        by_order up = omega (arith, up, other)
+        up_to : (n : ℕ) → n ≢ node → nat_lt node n ≡ false → n < node
+        up_to n other above =
+            elim (nat_lt n node) as (λ b. nat_lt n node ≡ b → n < node) [
+              | true ↦ λ less. ltb-true n node less
+              | false ↦ λ not_less. absurd (past not_less)
+            ] refl where
+              past : nat_lt n node ≡ false → ⊥
+              past not_less =
+                  let up : n < node → ⊥ = λ less. not_true (sym not_less ∙ lt-ltb n node less) in
+                  let down : node < n → ⊥ = λ less. not_true (sym above ∙ lt-ltb node n less) in
+                  down (by_order up) where
+                    by_order : (n < node → ⊥) → node < n
+                    by_order up = omega (arith, up, other)
 
-    without_it : is_used kinds t node ≡ false → IsSome (get t.nodes node) → IsTree (forgotten t node) → IsForgetting kinds old (forgotten t node) (Some node)
-    without_it unused there tree = record {
-      before = λ n some. (let apart = other_is n some in get-remove-other t.nodes node n apart ∙ f.before n (was n some));
-      same = retained-forgotten t (is_used kinds old) node (ap (λ o. (node == ROOT) || (nat_lt 0 (links_in o) || nat_lt 0 (opens_of_node kinds node))) (sym (f.before node there)) ∙ unused) ∙ f.same;
-      used = λ n some above.
-          ap (λ o. (n == ROOT) || (nat_lt 0 (links_in o) || nat_lt 0 (opens_of_node kinds n))) (get-remove-other t.nodes node n (other_is n some))
-          ∙ used_before n (was n some) (up_to n (other_is n some) above);
-      tree = tree;
-    } where
-      other_is : (n : ℕ) → IsSome (get (remove t.nodes node) n) → n ≢ node
-      other_is n some is = not_true (sym (ap (λ k. is_some (get (remove t.nodes node) k)) is ∙ ap is_some (get-remove-same t.nodes node)) ∙ some)
+        without_it : is_used kinds t node ≡ false → IsSome (get t.nodes node) → IsTree (forgotten t node) → IsForgetting kinds old (forgotten t node) (Some node)
+        without_it unused there tree = record {
+          before = λ n some. (let apart = other_is n some in get-remove-other t.nodes node n apart ∙ f.before n (was n some));
+          same = retained-forgotten t (is_used kinds old) node (ap (λ o. (node == ROOT) || (nat_lt 0 (links_in o) || nat_lt 0 (opens_of_node kinds node))) (sym (f.before node there)) ∙ unused) ∙ f.same;
+          used = λ n some above.
+              ap (λ o. (n == ROOT) || (nat_lt 0 (links_in o) || nat_lt 0 (opens_of_node kinds n))) (get-remove-other t.nodes node n (other_is n some))
+              ∙ used_before n (was n some) (up_to n (other_is n some) above);
+          tree = tree;
+        } where
+          other_is : (n : ℕ) → IsSome (get (remove t.nodes node) n) → n ≢ node
+          other_is n some is = not_true (sym (ap (λ k. is_some (get (remove t.nodes node) k)) is ∙ ap is_some (get-remove-same t.nodes node)) ∙ some)
 
-      was : (n : ℕ) → IsSome (get (remove t.nodes node) n) → IsSome (get t.nodes n)
-      was n some = sym (ap is_some (get-remove-other t.nodes node n (other_is n some))) ∙ some
+          was : (n : ℕ) → IsSome (get (remove t.nodes node) n) → IsSome (get t.nodes n)
+          was n some = sym (ap is_some (get-remove-other t.nodes node n (other_is n some))) ∙ some
 
 -- ---- no node further
 

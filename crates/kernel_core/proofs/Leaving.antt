@@ -3,7 +3,7 @@
 --     left_of      the state that what a call on names comes to leaves
 --     none_holds      nothing holds an open that isn't there
 --     released_is      the release of a state whose opens are all held: the nodes go that aren't used
-use Rattle.std.proofs.Common.{◌≡◌, ◌≢◌, ℕ, zero, suc, ◌+◌, ◌<◌, ◌==◌, Bool, true, false, cond, ◌++◌, Option, None, Some, IsSome, inl, inr, refl, sym, ap, subst, ◌∙◌, arith}
+use Rattle.std.proofs.Common.{◌≡◌, ℕ, zero, suc, ◌+◌, ◌<◌, Bool, true, false, cond, ◌++◌, Option, None, Some, IsSome, inl, inr, refl, sym, ap, subst, ◌∙◌, arith}
 use Rattle.std.proofs.lemmas.Bool.Decides.{eqb_tells}
 use Rattle.std.specs.FinMap.{get, insert}
 use Rattle.abi_base.specs.declared.errno.Errno.TheVariants.{Again}
@@ -14,7 +14,7 @@ use Rattle.tree_model.specs.Opens.{is_used}
 use Rattle.tree_model.specs.Retained.{retained}
 use Rattle.kernel_model.specs.NameMeaning.{Comes, Refuses, LeadsOut, Changes, outcome_of}
 use Rattle.kernel_model.specs.Numbers.{can_number, made_more, next_object, own_updates}
-use Rattle.kernel_model.specs.Outcome.{Outcome, replies}
+use Rattle.kernel_model.specs.Outcome.{replies}
 use Rattle.kernel_model.specs.Reply.{refused, success}
 use Rattle.kernel_model.specs.Release.{count_in, holders, names_open, release, without_nodes}
 use Rattle.kernel_model.specs.State.{State, Own, Table, Tree, tree_of, put_all}

@@ -17,3 +17,4 @@ pub mod FileCalls
 pub mod Forgetting
 pub mod Leaving
 pub mod NameCalls
+pub mod OpenCalls

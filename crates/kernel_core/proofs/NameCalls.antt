@@ -7,7 +7,7 @@
 --     next_is_new      nothing in the tree has it;  numbered_is, unnumbered      it was found, or not
 --     refused_left, counted_out, changed_left      how it is done that is refused;  that can't number its node;  that changes the tree
 --     names_valid, names_after      what it leaves is nearly valid;  the state after it
-use Rattle.std.proofs.Common.{◌≡◌, ◌≢◌, ℕ, zero, suc, Bool, true, false, cond, ◌++◌, List, Option, None, Some, Ok, Err, IsSome, is_none, is_some, refl, sym, ap, subst, ◌∙◌, arith}
+use Rattle.std.proofs.Common.{◌≡◌, ◌≢◌, ℕ, zero, suc, Bool, true, false, cond, ◌++◌, List, Option, None, Some, Err, IsSome, is_none, is_some, refl, sym, ap, subst, ◌∙◌, arith}
 use Rattle.std.specs.FinMap.{get, insert}
 use Rattle.abi_base.specs.declared.errno.Errno.{Errno}
 use Rattle.abi_base.specs.declared.errno.Errno.TheVariants.{Again}
@@ -55,7 +55,7 @@ use Rattle.kernel_model.proofs.Tests.{none_is_no, not_true, same_some}
 use Rattle.name_calls.specs.Checks.{IsTold}
 use Rattle.name_calls.specs.Done.{FailsAs, IsNew}
 use Rattle.name_calls.specs.declared.failure.Failure.TheVariants.{Refused}
-use Rattle.kernel_core.specs.Names.{IsLeftBy, name_outcome, names_come, number_of, open_at, open_in, own_left, tree_left}
+use Rattle.kernel_core.specs.Names.{IsLeftBy, name_outcome, names_come, number_of, open_at, open_in}
 use Rattle.kernel_core.proofs.Leaving.{left_of, released_is}
 
 -- ---- the opens of descriptors

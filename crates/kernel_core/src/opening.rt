@@ -164,7 +164,15 @@ impl Kernel {
         let p = u64::from(pid.0);
         let now = self.clock + constants.epoch;
         let table = self.tables.get_mut(p);
-        put_opening(self.alloc, table, &mut self.objects, &mut self.tree, &opening, path, now)?;
+        put_opening(
+            self.alloc,
+            table,
+            &mut self.objects,
+            &mut self.tree,
+            &opening,
+            path,
+            now,
+        )?;
         self.own.get_mut(p).make(opening.plan.makes() + 1);
         forget_nameless(&mut self.tree, &self.objects);
         Ok(Answer::Reply(success(u64::from(opening.fd), 0)))

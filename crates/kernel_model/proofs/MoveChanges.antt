@@ -82,7 +82,8 @@ module _ (t : Tree) (from : ℕ) (name : List ℕ) (to : ℕ) (new : List ℕ) w
   -- the names in each other directory are as they were
   renamed_names : (q : ℕ) → q ≢ from → q ≢ to → get (renamed t from name to new).names q ≡ get t.names q
   renamed_names q off away =
-      elim (is_same (entry_of t from name) (entry_of t to new)) as (λ b. get (if b then t else moved_to t from name to new (entry_of t from name)).names q ≡ get t.names q) [
+      elim (is_same (entry_of t from name) (entry_of t to new)) as
+      (λ b. get (if b then t else moved_to t from name to new (entry_of t from name)).names q ≡ get t.names q) [
         | true ↦ refl
         | false ↦ elim (entry_of t from name) as (λ o. get (moved_to t from name to new o).names q ≡ get t.names q) [
           | None ↦ refl
@@ -142,7 +143,8 @@ module _ (t : Tree) (from : ℕ) (name : List ℕ) (to : ℕ) (new : List ℕ) w
 
     pub move_change : (now number makes : ℕ) → IsChangeOf t number makes (move_or_stay now t from name to new)
     move_change now number makes =
-        elim (is_same (entry_of t from name) (entry_of t to new)) as (λ b. IsChangeOf t number makes (if b then no_change t else with_move now t from name to new)) [
+        elim (is_same (entry_of t from name) (entry_of t to new)) as
+        (λ b. IsChangeOf t number makes (if b then no_change t else with_move now t from name to new)) [
           | true ↦ kept_change t number makes (no_change t) tree (KeepsNodes-itself t) (λ q file. file) (λ q _. refl) (λ q _. refl)
           | false ↦ with_move_change now number makes
         ]

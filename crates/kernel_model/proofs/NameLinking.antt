@@ -38,7 +38,7 @@ use Rattle.kernel_model.proofs.NameProper.{by_names_is_proper}
 use Rattle.kernel_model.proofs.Parts.{has_left, has_of_both, has_right, outside_both, outside_cons}
 use Rattle.kernel_model.proofs.Tests.{either_true}
 use Rattle.kernel_model.proofs.TreeChanges.{updates_alike, updates_unset}
-use Rattle.kernel_model.proofs.TreesAlike.{NamesAlike, NodeAlike, changed_names_alike, changed_node_alike, put_name_alike, retimed-changes}
+use Rattle.kernel_model.proofs.TreesAlike.{NamesAlike, NodeAlike, changed_names_alike, changed_node_alike, put_name_alike, retimed_names_alike, retimed_node_alike}
 
 -- ---- at the node that a path leads to
 
@@ -105,18 +105,14 @@ module _ (now : ℕ) (t u : Tree) (n d : ℕ) (name : List ℕ) (node : NodeAlik
 
   linked_node_alike : (q : ℕ) → NodeAlike t u q → NodeAlike (with_link now t n d name).tree (with_link now u n d name).tree q
   linked_node_alike q same =
-      changed_node_alike (with_new_names now (linked t d name n) d) (with_new_names now (linked u d name n) d) _ _ n _
-      (retimed-changes (with_new_names now (linked t d name n) d) n (recounted now)) (retimed-changes (with_new_names now (linked u d name n) d) n (recounted now)) q
-      (changed_node_alike (linked t d name n) (linked u d name n) _ _ d _
-      (retimed-changes (linked t d name n) d (modified now)) (retimed-changes (linked u d name n) d (modified now)) q
+      retimed_node_alike (with_new_names now (linked t d name n) d) (with_new_names now (linked u d name n) d) n (recounted now) q
+      (retimed_node_alike (linked t d name n) (linked u d name n) d (modified now) q
       (changed_node_alike t u (one_more t n) (one_more u n) n _ (one_more-changes t n) (one_more-changes u n) q same))
 
   linked_names_alike : (q : ℕ) → NamesAlike t u q → NamesAlike (with_link now t n d name).tree (with_link now u n d name).tree q
   linked_names_alike q same =
-      changed_names_alike (with_new_names now (linked t d name n) d) (with_new_names now (linked u d name n) d) _ _ n _
-      (retimed-changes (with_new_names now (linked t d name n) d) n (recounted now)) (retimed-changes (with_new_names now (linked u d name n) d) n (recounted now)) q
-      (changed_names_alike (linked t d name n) (linked u d name n) _ _ d _
-      (retimed-changes (linked t d name n) d (modified now)) (retimed-changes (linked u d name n) d (modified now)) q
+      retimed_names_alike (with_new_names now (linked t d name n) d) (with_new_names now (linked u d name n) d) n (recounted now) q
+      (retimed_names_alike (linked t d name n) (linked u d name n) d (modified now) q
       (put_name_alike (one_more t n) (one_more u n) d name n q
       (changed_names_alike t u (one_more t n) (one_more u n) n _ (one_more-changes t n) (one_more-changes u n) q same)))
 
@@ -155,7 +151,8 @@ link_plain now t n d name =
           ),
         ),
       ),
-    ) (λ free. tt)
+    )
+    (λ free. tt)
 
 link_good : (now new : ℕ) (t : Tree) (n d : ℕ) (name : List ℕ) → IsTree t → IsGood t new 0 (link_in now t n d name)
 link_good now new t n d name tree =

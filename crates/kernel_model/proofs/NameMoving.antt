@@ -4,7 +4,7 @@
 --     LedAlike t u o      the node of a name, if there is one, is alike as far as a move looks at it
 --     rename_alike, rename_unset, rename_plain, rename_good      what a move comes to
 --     renaming_well, file_rename_is_proper      the meaning;  the call is proper
-use Rattle.std.proofs.Common.{◌≡◌, ◌≢◌, ℕ, ◌==◌, ◌&&◌, true, false, not, cond, List, [], ◌∷◌, ◌++◌, Option, Some, None, inl, inr, IsSome, is_none, is_some, refl, sym, ap, subst, ◌∙◌}
+use Rattle.std.proofs.Common.{◌≡◌, ◌≢◌, ℕ, ◌==◌, ◌&&◌, Bool, true, false, not, cond, List, [], ◌∷◌, ◌++◌, Option, Some, None, inl, inr, IsSome, is_none, is_some, refl, sym, ap, subst, ◌∙◌}
 use Rattle.std.specs.Prelude.{nat_lt, if◌then◌else◌}
 use Rattle.std.specs.FinMap.{get, len}
 use Rattle.std.specs.List.{AllByRecursion}
@@ -43,7 +43,7 @@ use Rattle.kernel_model.proofs.NameRemoving.{named_is_seen}
 use Rattle.kernel_model.proofs.Parts.{has_of_both, outside_both, outside_cons}
 use Rattle.kernel_model.proofs.Tests.{either_true, none_is_no, not_true, same_some}
 use Rattle.kernel_model.proofs.TreeChanges.{updates_alike, updates_unset}
-use Rattle.kernel_model.proofs.TreesAlike.{NamesAlike, NodeAlike, changed_names_alike, changed_node_alike, drop_name_alike, put_name_alike, retimed-changes}
+use Rattle.kernel_model.proofs.TreesAlike.{NamesAlike, NodeAlike, changed_names_alike, changed_node_alike, drop_name_alike, put_name_alike, retimed_names_alike, retimed_node_alike}
 
 -- ---- the nodes of names
 
@@ -88,8 +88,8 @@ pub record LedAlike (t u : Tree) (o : Option ℕ) : Type 0 where
   pub full : is_full u o ≡ is_full t o
 
 -- so it is of a name in a directory below the open's, where it is there
-pub led_alike : (t u : Tree) (kind : Option OpenKind) (d : ℕ) (name : List ℕ) (o : Option ℕ) → IsSeen t u kind → HasBelow t kind d → entry_of t d name ≡ o → IsLed t o
-    → LedAlike t u o
+pub led_alike : (t u : Tree) (kind : Option OpenKind) (d : ℕ) (name : List ℕ) (o : Option ℕ) → IsSeen t u kind → HasBelow t kind d
+    → entry_of t d name ≡ o → IsLed t o → LedAlike t u o
 led_alike t u kind d name None seen under is led = record { below = λ q. refl; directory = refl; full = refl }
 led_alike t u kind d name (Some n) seen under is led =
     let inside = entry_below t kind d name n under is (led n refl) in
@@ -175,36 +175,28 @@ module _ (from : ℕ) (name : List ℕ) (to : ℕ) (new : List ℕ) where
             | false ↦ moved_names_alike moved old q same
           ]
 
-    new_names_node_alike : (t u : Tree) (d q : ℕ) → NodeAlike t u q → NodeAlike (with_new_names now t d) (with_new_names now u d) q
-    new_names_node_alike t u d q same =
-        changed_node_alike t u (with_new_names now t d) (with_new_names now u d) d _ (retimed-changes t d (modified now)) (retimed-changes u d (modified now)) q same
-
-    new_names_names_alike : (t u : Tree) (d q : ℕ) → NamesAlike t u q → NamesAlike (with_new_names now t d) (with_new_names now u d) q
-    new_names_names_alike t u d q same =
-        changed_names_alike t u (with_new_names now t d) (with_new_names now u d) d _ (retimed-changes t d (modified now)) (retimed-changes u d (modified now)) q same
-
     new_count_node_alike : (t u : Tree) (o : Option ℕ) (q : ℕ) → NodeAlike t u q → NodeAlike (with_new_count_of now t o) (with_new_count_of now u o) q
     new_count_node_alike t u None q same = same
     new_count_node_alike t u (Some n) q same =
-        changed_node_alike t u _ _ n _ (retimed-changes t n (recounted now)) (retimed-changes u n (recounted now)) q same
+        retimed_node_alike t u n (recounted now) q same
 
     new_count_names_alike : (t u : Tree) (o : Option ℕ) (q : ℕ) → NamesAlike t u q → NamesAlike (with_new_count_of now t o) (with_new_count_of now u o) q
     new_count_names_alike t u None q same = same
     new_count_names_alike t u (Some n) q same =
-        changed_names_alike t u _ _ n _ (retimed-changes t n (recounted now)) (retimed-changes u n (recounted now)) q same
+        retimed_names_alike t u n (recounted now) q same
 
     module _ (t u : Tree) (moved old : Option ℕ) where
       after_node_alike : (q : ℕ) → NodeAlike t u q → NodeAlike (after_by t moved old) (after_by u moved old) q
       after_node_alike q same =
-          let one = new_names_node_alike (renamed_by t moved old) (renamed_by u moved old) from q (renamed_node_alike t u moved old q same) in
-          let both = new_names_node_alike (with_new_names now (renamed_by t moved old) from) (with_new_names now (renamed_by u moved old) from) to q one in
-          new_count_node_alike (timed_by t moved old) (timed_by u moved old) (replaced_by moved old) q both
+          new_count_node_alike (timed_by t moved old) (timed_by u moved old) (replaced_by moved old) q
+          (retimed_node_alike (with_new_names now (renamed_by t moved old) from) (with_new_names now (renamed_by u moved old) from) to (modified now) q
+          (retimed_node_alike (renamed_by t moved old) (renamed_by u moved old) from (modified now) q (renamed_node_alike t u moved old q same)))
 
       after_names_alike : (q : ℕ) → NamesAlike t u q → NamesAlike (after_by t moved old) (after_by u moved old) q
       after_names_alike q same =
-          let one = new_names_names_alike (renamed_by t moved old) (renamed_by u moved old) from q (renamed_names_alike t u moved old q same) in
-          let both = new_names_names_alike (with_new_names now (renamed_by t moved old) from) (with_new_names now (renamed_by u moved old) from) to q one in
-          new_count_names_alike (timed_by t moved old) (timed_by u moved old) (replaced_by moved old) q both
+          new_count_names_alike (timed_by t moved old) (timed_by u moved old) (replaced_by moved old) q
+          (retimed_names_alike (with_new_names now (renamed_by t moved old) from) (with_new_names now (renamed_by u moved old) from) to (modified now) q
+          (retimed_names_alike (renamed_by t moved old) (renamed_by u moved old) from (modified now) q (renamed_names_alike t u moved old q same)))
 
       -- what loses its name is alike, where what has the new name is
       replaced_alike : ((m : ℕ) → old ≡ Some m → NodeAlike t u m)
@@ -226,9 +218,11 @@ module _ (from : ℕ) (name : List ℕ) (to : ℕ) (new : List ℕ) where
             (after_names_alike from source_names, (after_names_alike to target_names, tt))
 
         changes_alike : ((m : ℕ) → old ≡ Some m → NodeAlike t u m)
-            → SetsAlike (Changes (if is_same moved old then no_change u else move_by u moved old)) (Changes (if is_same moved old then no_change t else move_by t moved old))
+            → SetsAlike (Changes (if is_same moved old then no_change u else move_by u moved old))
+            (Changes (if is_same moved old then no_change t else move_by t moved old))
         changes_alike nodes =
-            elim (is_same moved old) as (λ b. SetsAlike (Changes (if b then no_change u else move_by u moved old)) (Changes (if b then no_change t else move_by t moved old))) [
+            elim (is_same moved old) as
+            (λ b. SetsAlike (Changes (if b then no_change u else move_by u moved old)) (Changes (if b then no_change t else move_by t moved old))) [
               | true ↦ (no_change t, refl, refl)
               | false ↦ (move_by t moved old, refl, move_alike nodes)
             ]
@@ -296,12 +290,14 @@ module _ (now : ℕ) (t : Tree) (from : ℕ) (name : List ℕ) (to : ℕ) (new :
   replaced_unset : (q : Part) → IsLed t (entry_of t to new) → has_part (node_parts_of t (entry_of t to new)) q ≡ false
       → AllByRecursion (λ n. same_part (at_node n) q ≡ false) (node_of_name (replaced t from name to new))
   replaced_unset q led h =
-      elim (is_same (entry_of t from name) (entry_of t to new)) as (λ b. AllByRecursion (λ n. same_part (at_node n) q ≡ false) (node_of_name (if b then None else entry_of t to new))) [
+      elim (is_same (entry_of t from name) (entry_of t to new)) as
+      (λ b. AllByRecursion (λ n. same_part (at_node n) q ≡ false) (node_of_name (if b then None else entry_of t to new))) [
         | true ↦ tt
-        | false ↦ elim (entry_of t to new) as (λ o. IsLed t o → has_part (node_parts_of t o) q ≡ false → AllByRecursion (λ n. same_part (at_node n) q ≡ false) (node_of_name o)) [
-          | None ↦ λ _ _. tt
-          | Some m ↦ λ there apart. (led_unset t m q (there m refl) apart, tt)
-        ] led h
+        | false ↦ elim (entry_of t to new) as
+            (λ o. IsLed t o → has_part (node_parts_of t o) q ≡ false → AllByRecursion (λ n. same_part (at_node n) q ≡ false) (node_of_name o)) [
+              | None ↦ λ _ _. tt
+              | Some m ↦ λ there apart. (led_unset t m q (there m refl) apart, tt)
+            ] led h
       ]
 
   rename_unset : (q : Part) → (same_part (at_node from) q ≡ false) × (same_part (at_names from) q ≡ false)
@@ -319,39 +315,25 @@ module _ (now : ℕ) (t : Tree) (from : ℕ) (name : List ℕ) (to : ℕ) (new :
   rename_good : (number : ℕ) → IsTree t → IsGood t number 0 (rename_in now t from name to new)
   rename_good number tree = rename_holds (IsGood t number 0) (λ _. tt) (λ led free. move_change t from name to new tree free now number 0)
 
+  -- the errors of what is looked at where the names differ in their nodes
+  replace_errors : (same : Bool) → AllByRecursion (λ f. IsIn (errno_of f.1) (path_errors ++ rename_errors))
+      (if same then [] else replace_faults t (entry_of t from name) to (entry_of t to new))
+  replace_errors true = tt
+  replace_errors false = (
+    in_front _ path_errors rename_errors inval_among,
+    (in_front _ path_errors rename_errors notdir_among, ((path_errors, Notempty ∷ [], refl), ((path_errors ++ Isdir ∷ [], [], refl), tt))),
+  )
+
   rename_plain : IsPlainly (path_errors ++ rename_errors) None (rename_in now t from name to new)
   rename_plain =
       let plainly : Comes → Type 0 = IsPlainly (path_errors ++ rename_errors) None in
       let absent : IsIn Noent (path_errors ++ rename_errors) = in_front Noent path_errors rename_errors noent_among in
       let notdir = in_front _ path_errors rename_errors notdir_among in
+      let differ = replace_errors (is_same (entry_of t from name) (entry_of t to new)) in
       unless_lost_holds plainly t (entry_of t from name) _ absent (λ _.
       unless_lost_holds plainly t (entry_of t to new) _ absent (λ _.
-      table_holds plainly errno_of (rename_faults t from name to new) (Changes (move_or_stay now t from name to new)) (
-        absent,
-        (
-          notdir,
-          (
-            absent,
-            (
-              absent,
-              (
-                notdir,
-                (
-                  absent,
-                  elim (is_same (entry_of t from name) (entry_of t to new)) as
-                      (λ b. AllByRecursion (λ f. plainly (Refuses (errno_of f.1))) (if b then [] else replace_faults t (entry_of t from name) to (entry_of t to new))) [
-                        | true ↦ tt
-                        | false ↦ (
-                          in_front _ path_errors rename_errors inval_among,
-                          (notdir, ((path_errors, Notempty ∷ [], refl), ((path_errors ++ Isdir ∷ [], [], refl), tt))),
-                        )
-                      ],
-                ),
-              ),
-            ),
-          ),
-        ),
-      ) (λ free. tt)))
+      table_holds plainly errno_of (rename_faults t from name to new) (Changes (move_or_stay now t from name to new))
+      (absent, (notdir, (absent, (absent, (notdir, (absent, differ)))))) (λ free. tt)))
 
 -- ---- the meaning
 
@@ -397,9 +379,10 @@ module _ (path new_path : List ℕ) where
 
   second_is_seen : (S : State) (there : Option OpenKind) (q : Part) → has_part (second_parts (tree_of S) there) q ≡ true → has_part (behind S there) q ≡ true
   second_is_seen S there q h =
-      elim (either_true (has_part (directory_parts (last_name (tree_of S) new_path there)) q) (has_part (named_parts (tree_of S) (last_name (tree_of S) new_path there)) q)
-      (sym (has_of_both (directory_parts (last_name (tree_of S) new_path there)) (named_parts (tree_of S) (last_name (tree_of S) new_path there)) q) ∙ h)) [
-        | inl directory ↦ directory_is_seen S new_path there q directory
+      let directory = directory_parts (last_name (tree_of S) new_path there) in
+      let node = named_parts (tree_of S) (last_name (tree_of S) new_path there) in
+      elim (either_true (has_part directory q) (has_part node q) (sym (has_of_both directory node q) ∙ h)) [
+        | inl first ↦ directory_is_seen S new_path there q first
         | inr named ↦ named_is_seen S new_path there q named
       ]
 
@@ -410,7 +393,8 @@ module _ (path new_path : List ℕ) where
       (last_name t path here) (last_plainly t path here)
       (λ from name. at_name_plain rename_errors (rename_in now t from name) t new_path there (λ to new. rename_plain now t from name to new))
 
-  renaming_good : (now number : ℕ) (t : Tree) (here there : Option OpenKind) → IsTree t → IsGood t number 0 ((renaming path new_path).does now number t here there)
+  renaming_good : (now number : ℕ) (t : Tree) (here there : Option OpenKind) → IsTree t
+      → IsGood t number 0 ((renaming path new_path).does now number t here there)
   renaming_good now number t here there tree =
       at_name_holds (IsGood t number 0) (λ from name. at_name (rename_in now t from name) (last_name t new_path there)) (λ _. tt) (λ _. tt)
       (last_name t path here)

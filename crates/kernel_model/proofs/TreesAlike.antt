@@ -1,7 +1,7 @@
 -- Changes of trees hang on a node, or on the names in a directory, alone.
 --     NodeAlike t u q, NamesAlike t u d      the trees have the same node of this number;  the same names in this directory
 --     changed_node_alike, changed_names_alike      so they have after the same change of one node
---     retimed-changes      other times of a node are such a change
+--     retimed-changes, retimed_node_alike, retimed_names_alike      other times of a node are such a change;  so they have after that
 --     put_name_alike, drop_name_alike      and after the same name came, or went
 use Rattle.std.proofs.Common.{◌≡◌, ℕ, List, Some, None, refl, sym, ap, ◌∙◌}
 use Rattle.std.specs.FinMap.{get, insert, remove}
@@ -26,14 +26,16 @@ abbrev pub NamesAlike : Tree → Tree → ℕ → Type 0
 NamesAlike t u d = get t.names d ≡ get u.names d
 
 -- after the same change of one node they have the same node where they had it before
-pub changed_node_alike : (t u t' u' : Tree) (n : ℕ) (f : Node → Node) → ChangesNode t t' n f → ChangesNode u u' n f → (q : ℕ) → NodeAlike t u q → NodeAlike t' u' q
+pub changed_node_alike : (t u t' u' : Tree) (n : ℕ) (f : Node → Node) → ChangesNode t t' n f → ChangesNode u u' n f → (q : ℕ)
+    → NodeAlike t u q → NodeAlike t' u' q
 changed_node_alike t u t' u' n f one other q =
     here_or_other (λ x. NodeAlike t u x → NodeAlike t' u' x) n q
     (λ same. one.node ∙ ap (option_map f) same ∙ sym other.node)
     (λ away same. one.others q away ∙ same ∙ sym (other.others q away))
 
 -- and the same names
-pub changed_names_alike : (t u t' u' : Tree) (n : ℕ) (f : Node → Node) → ChangesNode t t' n f → ChangesNode u u' n f → (d : ℕ) → NamesAlike t u d → NamesAlike t' u' d
+pub changed_names_alike : (t u t' u' : Tree) (n : ℕ) (f : Node → Node) → ChangesNode t t' n f → ChangesNode u u' n f → (d : ℕ)
+    → NamesAlike t u d → NamesAlike t' u' d
 changed_names_alike t u t' u' n f one other d same = ap (λ m. get m d) one.names ∙ same ∙ sym (ap (λ m. get m d) other.names)
 
 -- a node with other times
@@ -54,6 +56,14 @@ retimed-changes t n new =
       | None ↦ λ none. record { names = refl; node = none ∙ ap (option_map (timed new)) (sym none); others = λ q other. refl }
       | Some node ↦ λ there. timed_changes t _ n new node there (with_times-changes t n (new node.times))
     ] refl
+
+-- so they have with other times of a node
+module _ (t u : Tree) (n : ℕ) (new : Times → Times) where
+  pub retimed_node_alike : (q : ℕ) → NodeAlike t u q → NodeAlike (retimed t n new) (retimed u n new) q
+  retimed_node_alike = changed_node_alike t u (retimed t n new) (retimed u n new) n (timed new) (retimed-changes t n new) (retimed-changes u n new)
+
+  pub retimed_names_alike : (d : ℕ) → NamesAlike t u d → NamesAlike (retimed t n new) (retimed u n new) d
+  retimed_names_alike = changed_names_alike t u (retimed t n new) (retimed u n new) n (timed new) (retimed-changes t n new) (retimed-changes u n new)
 
 -- ---- names
 

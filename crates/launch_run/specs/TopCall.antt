@@ -161,7 +161,7 @@ pub record HasFailed (lines : Bool) (before after : Option (List ℕ)) (r : Reco
   pub prefix : GrewByPrefix before after (record_report lines r)
 
 -- What every record that is kept is: its history is legal, each entry is confined to what its process's descriptors
--- reach with the rights needed, who holds which descriptors is told by the entries, and no descriptor is more than one of the
+-- reach with the rights needed, who holds which descriptors is told by the entries, and each descriptor comes from one of the
 -- launch's grants; and its launch is the one that is spelled, where anything is told of it, and in any case one of these
 -- settings.
 pub record IsKept (given : Option Settings) (spelled : Spelled) (r : Record) : Type 0 where

@@ -1,4 +1,4 @@
-use Rattle.std.proofs.Common.{◌≡◌, None, Some, sym, ◌∙◌}
+use Rattle.std.proofs.Common.{◌≡◌, Some, sym, ◌∙◌}
 use Rattle.tree_model.specs.Changes.{nameless_after}
 use Rattle.kernel_core.proofs.Forgetting.{fewer_ahead, forgetting_ends, forgetting_goes_on, others_stay}
 use Rattle.kernel_core.proofs.release.forget_nameless.Goals as goal

@@ -9,10 +9,11 @@ pub returns-in-Ok : goal.returns-in-Ok
 returns-in-Ok c =
     let t = c.args.tree.now in
     let faults = first_fault (make_faults t c.args.dir c.args.name.now) in
-    let change = with_node c.args.kind c.args.now c.args.new t c.args.dir c.args.name.now in (
+    let change = with_node c.args.kind c.args.now c.args.new t c.args.dir c.args.name.now in
+    let is_made = c.in-Ok.ensures.ok ∙ ap (made t c.args.dir c.args.name.now c.args.new) c.node_of.ensures in (
       change,
       unless_none errno_of faults (Changes change) c.in-Ok.ensures.allowed,
-      c.set_modified.ensures ∙ ap (λ u. with_new_names c.args.now u c.args.dir) (c.in-Ok.ensures.ok ∙ ap (made t c.args.dir c.args.name.now c.args.new) c.node_of.ensures),
+      c.set_modified.ensures ∙ ap (λ u. with_new_names c.args.now u c.args.dir) is_made,
     )
 
 pub returns-in-Err : goal.returns-in-Err

@@ -15,13 +15,14 @@ returns-then-not-stays c =
     let t = c.args.tree.now in
     let name = c.args.name.now in
     let new = c.args.new_name.now in
+    let faults = first_fault (rename_faults t c.args.from name c.args.to new) in
     let move = with_move c.args.now t c.args.from name c.args.to new in
     let differ : false ≡ is_same (entry_of t c.args.from name) (entry_of t c.args.to new) =
     c.if-not-stays.ensures ∙ ap (λ e. is_same e c.entry-2.result) c.entry.ensures ∙ ap (is_same (entry_of t c.args.from name)) c.entry-2.ensures in (
       move,
       c.names_lead.ensures c.args.from name _ ∙ c.names_lead.ensures c.args.to new _
-          ∙ unless_none errno_of (first_fault (rename_faults t c.args.from name c.args.to new)) (Changes (move_or_stay c.args.now t c.args.from name c.args.to new))
-          c.in-Ok.ensures.allowed ∙ ap (λ (b : Bool). Changes (if b then no_change t else move)) (sym differ),
+          ∙ unless_none errno_of faults (Changes (move_or_stay c.args.now t c.args.from name c.args.to new)) c.in-Ok.ensures.allowed
+          ∙ ap (λ (b : Bool). Changes (if b then no_change t else move)) (sym differ),
       c.set_moved.ensures
           ∙ ap (λ (old : Option ℕ). with_new_count_of c.args.now
           (with_new_names c.args.now (with_new_names c.args.now c.rename.new.self c.args.from) c.args.to) old) c.in-Ok.ensures.replaced
@@ -35,12 +36,12 @@ returns-else-not-stays c =
     let t = c.args.tree.now in
     let name = c.args.name.now in
     let new = c.args.new_name.now in
+    let faults = first_fault (rename_faults t c.args.from name c.args.to new) in
     let same : true ≡ is_same (entry_of t c.args.from name) (entry_of t c.args.to new) =
     c.if-not-stays.ensures ∙ ap (λ e. is_same e c.entry-2.result) c.entry.ensures ∙ ap (is_same (entry_of t c.args.from name)) c.entry-2.ensures in (
       no_change t,
       c.names_lead.ensures c.args.from name _ ∙ c.names_lead.ensures c.args.to new _
-          ∙ unless_none errno_of (first_fault (rename_faults t c.args.from name c.args.to new)) (Changes (move_or_stay c.args.now t c.args.from name c.args.to new))
-          c.in-Ok.ensures.allowed
+          ∙ unless_none errno_of faults (Changes (move_or_stay c.args.now t c.args.from name c.args.to new)) c.in-Ok.ensures.allowed
           ∙ ap (λ (b : Bool). Changes (if b then no_change t else with_move c.args.now t c.args.from name c.args.to new)) (sym same),
       c.in-Ok.ensures.ok
           ∙ ap (λ (b : Bool). if b then t else moved_to t c.args.from name c.args.to new (entry_of t c.args.from name)) (sym same),

@@ -15,7 +15,9 @@ use Rattle.kernel_model.specs.StreamCalls.{read_from, write_to}
 use Rattle.kernel_model.specs.Valid.{IsValid}
 use Rattle.kernel_model.specs.View.{whole}
 use Rattle.kernel_model.proofs.Valids.{release_valid}
+use Rattle.kernel_core.specs.Names.{name_outcome}
 use Rattle.kernel_core.proofs.Answers.{no_more}
+use Rattle.kernel_core.proofs.NameCalls.{names_does}
 use Rattle.kernel_core.proofs.Acts.{act_refused, act_allowed, by_outcome, read_released, stat_get_sets_nothing, write_released}
 use Rattle.kernel_core.proofs.kernel.Kernel.act.Goals as goal
 use Rattle.kernel_core.proofs.kernel.Kernel.act.Goals.{After-refusal}
@@ -130,3 +132,18 @@ pub returns-in_default-call-clause-ok : goal.returns-in_default-call-clause-ok
 returns-in_default-call-clause-ok c =
     answered (goal.at.returns-in_default-call-clause-ok c).After-refusal c.answer_of.result c.answer_of.result c.in_default-refusal.is
     (c.answer_of.ensures c.args.constants.now (whole c.args.self.now) c.args.who.now c.in-Some.table.now) refl
+
+pub returns-in-Some-named_fds-clause-ok : goal.returns-in-Some-named_fds-clause-ok
+returns-in-Some-named_fds-clause-ok c =
+    let a = (goal.at.returns-in-Some-named_fds-clause-ok c).After-refusal in
+    let constants = c.args.constants.now in
+    let S = c.args.self.now in
+    let who = c.args.who.now in
+    let call = c.args.call.now in
+    let table = c.in-Some.table.now in
+    let fd = c.in-Some-named_fds.fd in
+    let other = c.in-Some-named_fds.other in
+    let allowed : act constants (whole S) who call ≡ name_outcome constants S who.pid table fd other call =
+    act_allowed constants S who call table (there a) (rows a ∙ c.in_default-refusal.is)
+    ∙ names_does constants S who table call fd other (sym c.named_fds.ensures ∙ c.in-Some-named_fds.is) in
+    IfOk-weaker _ _ _ (λ given done. by_outcome constants S c.name_call.new.self who call given _ allowed (done table (there a))) c.name_call.ensures.ok

@@ -1,0 +1,214 @@
+use Rattle.std.proofs.Common.{◌≡◌, ℕ, ◌+◌, ◌^◌, Some, is_some, sym, ap, subst, ◌∙◌, arith}
+use Rattle.std.specs.FinMap.{get, insert}
+use Rattle.abi_base.specs.declared.limits.TheConstants.{MOST_DESCRIPTORS}
+use Rattle.abi_types.specs.declared.reply.Answer.TheVariants as answer
+use Rattle.fd_table.specs.Sizes.{KeysBelow, below-insert, below-insert_again}
+use Rattle.fd_table.specs.Table.{IsTable}
+use Rattle.number_map.specs.Maps.{insert_self}
+use Rattle.tree_model.specs.Opens.{is_used}
+use Rattle.tree_model.specs.Retained.{retained}
+use Rattle.tree_model.specs.Tree.{IsTree}
+use Rattle.kernel_model.specs.Numbers.{made_more, next_object}
+use Rattle.kernel_model.specs.Outcome.{Outcome}
+use Rattle.kernel_model.specs.Release.{holders, release}
+use Rattle.kernel_model.specs.Reply.{success}
+use Rattle.kernel_model.specs.State.{State, Table, Tree, counts_in, put_all, tree_of}
+use Rattle.kernel_model.specs.Valid.{IsValid}
+use Rattle.kernel_model.proofs.Valids.{release_restores, release_valid, same_value}
+use Rattle.name_calls.specs.Plans.{change_of, makes_of}
+use Rattle.kernel_core.specs.Opening.{IsOpening, open_outcome}
+use Rattle.kernel_core.specs.contracts.kernel.Kernel.{the_view}
+use Rattle.kernel_core.proofs.Changes.{moved_holders}
+use Rattle.kernel_core.proofs.Kept.{AreSmall, small_set}
+use Rattle.kernel_core.proofs.OpenCalls.{none_holds_it, node_is_new, open_answer, open_changes, open_fits, open_is_new, open_released, open_valid, planned_before}
+use Rattle.kernel_core.proofs.Tests.{on_err}
+use Rattle.kernel_core.proofs.kernel.Kernel.file_open.Goals as goal
+use Rattle.kernel_core.proofs.kernel.Kernel.file_open.Goals.{After-get_mut-table, In_err-put_opening, After-success}
+
+-- ---- nothing is opened
+
+pub returns-in-Err-clause-ok : goal.returns-in-Err-clause-ok
+returns-in-Err-clause-ok c = λ table here.
+    let S = c.args.self.now in
+    let outcome = c.in-Err.ensures.refused table here (S.clock + c.args.constants.now.epoch) in (
+      sym (ap (λ (o : Outcome). o.answer) outcome),
+      sym (ap (λ (o : Outcome). release (put_all o.updates S)) outcome ∙ release_valid S (subst IsValid c.self.view_is c.self.invariant.valid)),
+    )
+
+-- ---- what is opened was planned for this state
+
+planned : (c : After-get_mut-table) → IsOpening (the_view c.self.inside) c.args.pid c.get_mut-table.result.now c.args.lookup.now c.args.path.now c.args.oflags
+    c.args.stat.now c.in-Ok.opening
+planned c =
+    planned_before (λ S t. IsOpening S c.args.pid t c.args.lookup.now c.args.path.now c.args.oflags c.args.stat.now c.in-Ok.opening) (the_view c.self.inside)
+    c.args.self.now c.args.pid c.from-p.result c.get_mut-table.result.now c.self.view_is (c.from-p.ensures ∙ c.pid.view_is) c.get_mut-table.ensures.value
+    c.in-Ok.ensures.ok
+
+pub put_opening-requires-clause-few : goal.put_opening-requires-clause-few
+put_opening-requires-clause-few d = (planned (goal.at.put_opening-requires-clause-few d).After-get_mut-table).free.0
+
+pub put_opening-requires-clause-free : goal.put_opening-requires-clause-free
+put_opening-requires-clause-free d = (planned (goal.at.put_opening-requires-clause-free d).After-get_mut-table).free.1
+
+pub put_opening-requires-clause-new : goal.put_opening-requires-clause-new
+put_opening-requires-clause-new d =
+    open_is_new (the_view d.self.inside) d.args.pid d.get_mut-table.result.now d.args.lookup.now d.args.path.now d.args.oflags d.args.stat.now d.in-Ok.opening
+    (planned (goal.at.put_opening-requires-clause-new d).After-get_mut-table) d.self.invariant.valid
+
+pub put_opening-requires-clause-unheld : goal.put_opening-requires-clause-unheld
+put_opening-requires-clause-unheld d =
+    d.self.invariant.counted d.in-Ok.opening.descriptor.id
+    ∙ none_holds_it (the_view d.self.inside) d.args.pid d.get_mut-table.result.now d.args.lookup.now d.args.path.now d.args.oflags d.args.stat.now d.in-Ok.opening
+    (planned (goal.at.put_opening-requires-clause-unheld d).After-get_mut-table) d.self.invariant.valid
+
+pub put_opening-requires-clause-made : goal.put_opening-requires-clause-made
+put_opening-requires-clause-made d =
+    node_is_new (the_view d.self.inside) d.args.pid d.get_mut-table.result.now d.args.lookup.now d.args.path.now d.args.oflags d.args.stat.now d.in-Ok.opening
+    (planned (goal.at.put_opening-requires-clause-made d).After-get_mut-table) d.self.invariant.valid
+
+-- ---- where memory is wanting nothing has changed
+
+abbrev unchanged : In_err-put_opening → State
+unchanged c = record (the_view c.self.inside) {
+  tables = insert c.self.inside.tables c.from-p.result c.put_opening.new.table;
+  opens = c.put_opening.new.objects.kinds;
+  nodes = c.put_opening.new.tree.nodes;
+  names = c.put_opening.new.tree.names;
+}
+
+as_before : (c : In_err-put_opening) → unchanged c ≡ the_view c.self.inside
+as_before c =
+    let tables : insert c.self.inside.tables c.from-p.result c.put_opening.new.table ≡ c.self.inside.tables =
+    ap (insert c.self.inside.tables c.from-p.result) c.in_err-put_opening.ensures.same_table
+    ∙ insert_self c.self.inside.tables c.from-p.result c.get_mut-table.result.now (sym c.get_mut-table.ensures.value) in
+    λ i. record (the_view c.self.inside) {
+      tables = tables i;
+      opens = c.in_err-put_opening.ensures.same_kinds i;
+      nodes = (c.in_err-put_opening.ensures.same_tree i).nodes;
+      names = (c.in_err-put_opening.ensures.same_tree i).names;
+    }
+
+pub invariant_of-self : goal.invariant_of-self
+invariant_of-self d =
+    let c = (goal.at.invariant_of-self d).In_err-put_opening in
+    let same = sym (as_before c) in
+    record {
+      valid = subst IsValid same d.self.invariant.valid;
+      counted = λ o. d.in_err-put_opening.ensures.same_counts o ∙ d.self.invariant.counted o ∙ ap (λ (S : State). holders S o) same;
+      small = subst (λ (S : State). AreSmall S.tables) same d.self.invariant.small;
+      processes = subst (λ (S : State). KeysBelow (2 ^ 32) S.tables) same d.self.invariant.processes;
+    }
+
+pub returns-in_err-put_opening-clause-err : goal.returns-in_err-put_opening-clause-err
+returns-in_err-put_opening-clause-err d =
+    on_err d.from_residual.result (as_before (goal.at.returns-in_err-put_opening-clause-err d).In_err-put_opening ∙ d.self.view_is)
+
+-- ---- something is opened
+
+-- the numbers of its process have room
+pub make-requires : goal.make-requires
+make-requires d =
+    let S = the_view d.self.inside in
+    let fits = open_fits S d.args.pid d.get_mut-table.result.now d.args.lookup.now d.args.path.now d.args.oflags d.args.stat.now d.in-Ok.opening
+    (planned (goal.at.make-requires d).After-get_mut-table) d.self.invariant.valid in
+    let own : get S.own d.args.pid ≡ Some d.get_mut.result.now =
+    ap (get S.own) (sym (d.from-p.ensures ∙ d.pid.view_is)) ∙ sym d.get_mut.ensures.value in
+    let made = ap (λ o. (counts_in o).objects) own in
+    let makes = d.makes.ensures in
+    omega (arith, fits.1, made, makes)
+
+pub forget_nameless-requires : goal.forget_nameless-requires
+forget_nameless-requires d =
+    let S = the_view d.self.inside in
+    let plan = planned (goal.at.forget_nameless-requires d).After-get_mut-table in
+    let now : ℕ = d.self.inside.clock + d.args.constants.now.epoch in
+    let changes = open_changes S d.args.pid d.get_mut-table.result.now d.args.lookup.now d.args.path.now d.args.oflags d.args.stat.now d.in-Ok.opening plan d.self.invariant.valid now in
+    subst IsTree (sym (d.in_ok-put_opening.ensures.tree ∙ ap (λ n. (change_of d.in-Ok.opening.plan d.args.path.now now n (tree_of S)).tree) plan.new)) changes.tree
+
+-- what its process had
+there : (c : After-success) → get c.self.inside.tables c.args.pid ≡ Some c.get_mut-table.result.now
+there c = ap (get c.self.inside.tables) (sym (c.from-p.ensures ∙ c.pid.view_is)) ∙ sym c.get_mut-table.ensures.value
+
+owned : (c : After-success) → get c.self.inside.own c.args.pid ≡ Some c.get_mut.result.now
+owned c = ap (get c.self.inside.own) (sym (c.from-p.ensures ∙ c.pid.view_is)) ∙ sym c.get_mut.ensures.value
+
+abbrev Plans : After-success → Type 0
+Plans c = IsOpening (the_view c.self.inside) c.args.pid c.get_mut-table.result.now c.args.lookup.now c.args.path.now c.args.oflags c.args.stat.now c.in-Ok.opening
+
+abbrev outcome : After-success → Outcome
+outcome c =
+    open_outcome (c.self.inside.clock + c.args.constants.now.epoch) (the_view c.self.inside) c.args.pid c.get_mut-table.result.now c.args.lookup.now c.args.path.now
+    c.args.oflags c.args.stat.now
+
+-- the fields as they are in the end
+abbrev fields : After-success → State
+fields c = record (the_view c.self.inside) {
+  tables = insert c.self.inside.tables c.from-p.result c.put_opening.new.table;
+  own = insert c.self.inside.own c.from-p.result c.make.new.self;
+  opens = c.put_opening.new.objects.kinds;
+  nodes = c.forget_nameless.new.tree.nodes;
+  names = c.forget_nameless.new.tree.names;
+}
+
+after : (c : After-success) → Plans c → fields c ≡ release (put_all (outcome c).updates (the_view c.self.inside))
+after c plan =
+    let S = the_view c.self.inside in
+    let p : ℕ = c.args.pid in
+    let o = c.in-Ok.opening in
+    let now : ℕ = c.self.inside.clock + c.args.constants.now.epoch in
+    let same : c.from-p.result ≡ p = c.from-p.ensures ∙ c.pid.view_is in
+    let tables : insert S.tables c.from-p.result c.put_opening.new.table ≡ insert S.tables p (insert c.get_mut-table.result.now o.fd o.descriptor) =
+    ap (insert S.tables c.from-p.result) c.in_ok-put_opening.ensures.table
+    ∙ ap (λ (q : ℕ). insert S.tables q (insert c.get_mut-table.result.now o.fd o.descriptor)) same in
+    let own : insert S.own c.from-p.result c.make.new.self ≡ insert S.own p (made_more (makes_of o.plan + 1) c.get_mut.result.now) =
+    ap (insert S.own c.from-p.result) (c.make.ensures ∙ ap (λ k. made_more (k + 1) c.get_mut.result.now) c.makes.ensures)
+    ∙ ap (λ (q : ℕ). insert S.own q (made_more (makes_of o.plan + 1) c.get_mut.result.now)) same in
+    let opens : c.put_opening.new.objects.kinds ≡ insert S.opens o.descriptor.id o.kind = c.in_ok-put_opening.ensures.kinds in
+    let u : Tree = (change_of o.plan c.args.path.now now (next_object p (get S.own p) 1) (tree_of S)).tree in
+    let changed : c.put_opening.new.tree ≡ u =
+    c.in_ok-put_opening.ensures.tree ∙ ap (λ n. (change_of o.plan c.args.path.now now n (tree_of S)).tree) plan.new in
+    let tree : c.forget_nameless.new.tree ≡ retained u (is_used (insert S.opens o.descriptor.id o.kind) u) =
+    c.forget_nameless.ensures ∙ (λ i. retained (changed i) (is_used (opens i) (changed i))) in
+    (λ i. record S { tables = tables i; own = own i; opens = opens i; nodes = (tree i).nodes; names = (tree i).names })
+    ∙ open_released S p c.get_mut-table.result.now c.args.lookup.now c.args.path.now c.args.oflags c.args.stat.now o plan c.self.invariant.valid (there c) now
+    c.get_mut.result.now (owned c)
+
+pub invariant_of-self-2 : goal.invariant_of-self-2
+invariant_of-self-2 d =
+    let c = (goal.at.invariant_of-self-2 d).After-success in
+    let plan = planned (goal.at.invariant_of-self-2 d).After-get_mut-table in
+    let table : Table = d.get_mut-table.result.now in
+    let o = d.in-Ok.opening in
+    let had : IsTable table = d.self.invariant.small d.args.pid table (there c) in
+    let fits : IsTable d.put_opening.new.table =
+    subst IsTable (sym d.in_ok-put_opening.ensures.table) (below-insert MOST_DESCRIPTORS table o.fd o.descriptor had plan.free.0) in
+    record {
+      valid = subst IsValid (sym (after c plan)) (release_restores _
+          (open_valid d.args.constants.now (the_view d.self.inside) d.args.pid table d.args.lookup.now d.args.path.now d.args.oflags d.args.stat.now (there c)
+          d.self.invariant.valid.nearly));
+      counted = moved_holders d.self.inside.tables d.from-p.result table d.put_opening.new.table d.self.inside.objects.counts d.put_opening.new.objects.counts
+          (sym d.get_mut-table.ensures.value) d.self.invariant.counted d.in_ok-put_opening.ensures.counts;
+      small = small_set d.self.inside.tables d.from-p.result d.put_opening.new.table d.self.invariant.small fits;
+      processes = below-insert_again (2 ^ 32) d.self.inside.tables d.from-p.result d.put_opening.new.table d.self.invariant.processes
+          (ap is_some (sym d.get_mut-table.ensures.value));
+    }
+
+pub returns-clause-ok : goal.returns-clause-ok
+returns-clause-ok d = λ table here.
+    let c = (goal.at.returns-clause-ok d).After-success in
+    let plan = planned (goal.at.returns-clause-ok d).After-get_mut-table in
+    let S = the_view d.self.inside in
+    let T = d.args.self.now in
+    let now : ℕ = d.self.inside.clock + d.args.constants.now.epoch in
+    let at : State → Table → Outcome = λ X t.
+    open_outcome (X.clock + d.args.constants.now.epoch) X d.args.pid t d.args.lookup.now d.args.path.now d.args.oflags d.args.stat.now in
+    let had : get T.tables d.args.pid ≡ Some d.get_mut-table.result.now = ap (λ (X : State). get X.tables d.args.pid) (sym d.self.view_is) ∙ there c in
+    let same : at S d.get_mut-table.result.now ≡ at T table =
+    ap (λ X. at X d.get_mut-table.result.now) d.self.view_is ∙ ap (at T) (same_value _ _ _ had here) in
+    let number : success d.from.result 0 ≡ success d.in-Ok.opening.fd 0 = ap (λ n. success n 0) d.from.ensures in (
+      ap answer.Reply (d.success.ensures ∙ number)
+          ∙ sym (open_answer S d.args.pid d.get_mut-table.result.now d.args.lookup.now d.args.path.now d.args.oflags d.args.stat.now d.in-Ok.opening plan
+          d.self.invariant.valid now)
+          ∙ ap (λ (o : Outcome). o.answer) same,
+      after c plan ∙ ap (λ (o : Outcome). release (put_all o.updates S)) same ∙ ap (λ X. release (put_all (at T table).updates X)) d.self.view_is,
+    )
