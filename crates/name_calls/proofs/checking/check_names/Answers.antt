@@ -1,4 +1,4 @@
-use Rattle.std.proofs.Common.{◌≡◌, None, Some, ap, sym, subst, ◌∙◌}
+use Rattle.std.proofs.Common.{◌≡◌, ℕ, None, Some, ap, sym, subst, ◌∙◌}
 use Rattle.abi_types.specs.declared.node.NodeKind.TheVariants as kind
 use Rattle.kernel_model.specs.NameCalls.{name_meaning}
 use Rattle.kernel_model.specs.NameMaking.{making, making_unless, text_error}
