@@ -9,16 +9,15 @@ use Rattle.abi_types.specs.declared.reply.Answer.{Answer}
 use Rattle.abi_types.specs.declared.reply.Answer.TheVariants as answer
 use Rattle.abi_types.specs.declared.call.Call.{Call}
 use Rattle.abi_types.specs.declared.call.Call.TheVariants as call
-use Rattle.abi_types.specs.declared.call.Call.TheVariants.{FdClose, FdDup, FdRead, FdReplace, FdStatGet, FdStatPut, FdWrite, FileOpen, MemMap, ProcExit}
+use Rattle.abi_types.specs.declared.call.Call.TheVariants.{FdClose, FdDup, FdReplace, FdStatGet, FdStatPut, FileOpen, MemMap, ProcExit}
 use Rattle.abi_types.specs.declared.call.Lookup.{Lookup}
 use Rattle.abi_types.specs.declared.reply.Reply.{Reply}
 use Rattle.abi_types.specs.declared.constants.Constants.{Constants}
 use Rattle.abi_types.specs.declared.descriptor.Descriptor.{Descriptor}
+use Rattle.abi_types.specs.declared.needed.Needed.{Needed}
 use Rattle.abi_types.specs.declared.node.NodeKind.TheVariants.{Link}
 use Rattle.abi_types.specs.declared.open_kind.OpenKind.{OpenKind}
-use Rattle.abi_types.specs.declared.open_kind.OpenKind.TheVariants.{File, Directory, End, Terminal, Process}
 use Rattle.abi_types.specs.declared.place.Place.{Place}
-use Rattle.abi_types.specs.declared.stream.Stream.{Stream}
 use Rattle.abi_types.specs.declared.who.Who.{Who}
 use Rattle.number_map.specs.Maps.{get-insert-same}
 use Rattle.kernel_model.specs.Calls.{meaning_of, refusal_of}
@@ -35,14 +34,17 @@ use Rattle.kernel_model.specs.Opening.{open_mode, open_walked}
 use Rattle.kernel_model.specs.Outcome.{Outcome, replies}
 use Rattle.kernel_model.specs.Reply.{refused, success}
 use Rattle.kernel_model.specs.State.{State, Own, Table, put_all, put_one, set_open, set_table}
-use Rattle.kernel_model.specs.StreamCalls.{write_term, write_open, write_to, read_term, read_open, read_from}
-use Rattle.kernel_model.specs.MemoryCalls.{map_file, map_zeros, mem_map}
+use Rattle.kernel_model.specs.StreamCalls.{reading, seeking, writing}
+use Rattle.kernel_model.specs.MemoryCalls.{is_anonymous, map_row, map_zeros, mapping}
+use Rattle.kernel_model.specs.OpenMeaning.{OpenMeaning, by_open}
 use Rattle.kernel_model.specs.View.{View}
 use Rattle.kernel_model.proofs.FileCalls.{on_open_of}
 use Rattle.kernel_model.proofs.FileMeanings.{tree_tables}
 use Rattle.kernel_model.proofs.FilePaths.{walked_plainly}
 use Rattle.kernel_model.proofs.NameProper.{outcome_tables}
+use Rattle.kernel_model.proofs.OpenMeanings.{OpensWell, apart_descriptor, apart_tables}
 use Rattle.kernel_model.proofs.Refusals.{refusal_is_other}
+use Rattle.kernel_model.proofs.StreamCalls.{read_opens_well, seek_opens_well, write_opens_well}
 use Rattle.authority_laws.specs.Ledger.{Row, Made, with_held, last_made, lowered_row, granted_row, by_success, answered_row}
 use Rattle.authority_laws.proofs.Openings.{open_told, walk_by_error}
 use Rattle.authority_laws.proofs.Rows.{LeavesRow, row_in, row_of, row_emptied, row_inserted, row_removed, by_error, by_either, refused_told, badf_is_error, mfile_is_error}
@@ -69,45 +71,13 @@ kept : (S : State) (p : ℕ) (call : Call) (o : Outcome) → GrantsNothing call 
 kept S p call o nothing same =
     ap (λ tables. row_in (get tables p)) same ∙ same_answered (last_made (put_all o.updates S) p) (row_of S p) call o.answer nothing
 
-term_kept : (S : State) (bytes : List ℕ) (which : ℕ) (stream : Option Stream) → KeepsTables S (write_term bytes which stream)
-term_kept S bytes which None = refl
-term_kept S bytes which (Some stream) = refl
-
-open_kept : (S : State) (v : View) (bytes : List ℕ) (kind : Option OpenKind) → KeepsTables S (write_open v bytes kind)
-open_kept S v bytes None = refl
-open_kept S v bytes (Some (Terminal which flags)) = term_kept S bytes which (v.term which)
-open_kept S v bytes (Some (File node offset flags)) = refl
-open_kept S v bytes (Some (Directory node flags)) = refl
-open_kept S v bytes (Some (End reads writes flags)) = refl
-open_kept S v bytes (Some (Process p)) = refl
-
-write_kept : (S : State) (v : View) (bytes : List ℕ) (d : Option Descriptor) → KeepsTables S (write_to v bytes d)
-write_kept S v bytes None = refl
-write_kept S v bytes (Some d) = open_kept S v bytes (v.opened d.id)
-
-fd_write_told : (fd : ℕ) (bytes : List ℕ) → IsTold (FdWrite fd bytes)
-fd_write_told fd bytes constants S v who table there =
-    kept S who.pid (FdWrite fd bytes) (write_to v bytes (get table fd)) (λ made row reply. refl) (write_kept S v bytes (get table fd))
-
-read_term_kept : (S : State) (n which : ℕ) (stream : Option Stream) → KeepsTables S (read_term n which stream)
-read_term_kept S n which None = refl
-read_term_kept S n which (Some stream) = refl
-
-read_open_kept : (S : State) (v : View) (n : ℕ) (kind : Option OpenKind) → KeepsTables S (read_open v n kind)
-read_open_kept S v n None = refl
-read_open_kept S v n (Some (Terminal which flags)) = read_term_kept S n which (v.term which)
-read_open_kept S v n (Some (File node offset flags)) = refl
-read_open_kept S v n (Some (Directory node flags)) = refl
-read_open_kept S v n (Some (End reads writes flags)) = refl
-read_open_kept S v n (Some (Process p)) = refl
-
-read_kept : (S : State) (v : View) (n : ℕ) (d : Option Descriptor) → KeepsTables S (read_from v n d)
-read_kept S v n None = refl
-read_kept S v n (Some d) = read_open_kept S v n (v.opened d.id)
-
-fd_read_told : (fd n : ℕ) → IsTold (FdRead fd n)
-fd_read_told fd n constants S v who table there =
-    kept S who.pid (FdRead fd n) (read_from v n (get table fd)) (λ made row reply. refl) (read_kept S v n (get table fd))
+-- a call that may make another open of that of a descriptor
+moved_told : (called : Call) (m : OpenMeaning) (row : Needed) → OpensWell m → GrantsNothing called → meaning_of called ≡ by_open row m → IsTold called
+moved_told called m row well nothing means constants S v who table there =
+    let o : Outcome = (by_open row m).does constants v who table in
+    subst (λ (x : Meaning). LeavesRow S who.pid called (x.does constants v who table)) (sym means)
+    (kept S who.pid called o nothing
+    (apart_tables o.updates S (apart_descriptor m well (real_time constants v.clock) v (get table row.fd))))
 
 stat_open_kept : (S : State) (d : Descriptor) (kind : Option OpenKind) → KeepsTables S (stat_open d kind)
 stat_open_kept S d None = refl
@@ -127,16 +97,6 @@ nothing_told : (call : Call) → GrantsNothing call
 nothing_told call nothing is constants S v who table there =
     subst (LeavesRow S who.pid call) (sym (is constants v who table)) (kept S who.pid call (replies (success 0 0)) nothing refl)
 
-map_kept : (S : State) (constants : Constants) (v : View) (who : Who) (table : Table) (zeros : Bool) (place : Place) (fd prot : ℕ)
-    → KeepsTables S ((cond zeros (map_zeros place) (map_file fd prot)).does constants v who table)
-map_kept S constants v who table true place fd prot = refl
-map_kept S constants v who table false place fd prot = refl
-
-mem_map_told : (place : Place) (length prot flags fd offset : ℕ) → IsTold (MemMap place length prot flags fd offset)
-mem_map_told place length prot flags fd offset constants S v who table there =
-    kept S who.pid (MemMap place length prot flags fd offset) ((mem_map place prot flags fd).does constants v who table) (λ made row reply. refl)
-    (map_kept S constants v who table (bit_and flags 1 == 1) place fd prot)
-
 -- a call that works on the open of a descriptor: it changes the file tree alone
 file_told : (called : Call) (fd : ℕ) → GrantsNothing called → opened_fd called ≡ Some fd → IsTold called
 file_told called fd nothing is constants S v who table there =
@@ -145,6 +105,23 @@ file_told called fd nothing is constants S v who table there =
     subst (λ (m : Meaning). LeavesRow S who.pid called (m.does constants v who table)) (sym on.means)
     (kept S who.pid called o nothing
     (tree_tables o.updates S (on.well.tree (real_time constants v.clock) v.branch (open_of v (get table on.row.fd)))))
+
+-- mem_map: with zeros it changes nothing, and else it works on an open
+zeros_kept : (S : State) (constants : Constants) (v : View) (who : Who) (table : Table) (place : Place)
+    → KeepsTables S ((map_zeros place).does constants v who table)
+zeros_kept S constants v who table place = refl
+
+mem_map_told : (place : Place) (length prot flags fd offset : ℕ) → IsTold (MemMap place length prot flags fd offset)
+mem_map_told place length prot flags fd offset =
+    elim (is_anonymous flags) as (λ b. is_anonymous flags ≡ b → IsTold (MemMap place length prot flags fd offset)) [
+      | true ↦ λ is constants S v who table there.
+          subst (λ (m : Meaning). LeavesRow S who.pid (MemMap place length prot flags fd offset) (m.does constants v who table))
+          (sym (ap (λ b. cond b (map_zeros place) (on_open (map_row fd prot) (mapping place length offset))) is))
+          (kept S who.pid (MemMap place length prot flags fd offset) ((map_zeros place).does constants v who table) (λ made row reply. refl)
+          (zeros_kept S constants v who table place))
+      | false ↦ λ is.
+          file_told (MemMap place length prot flags fd offset) fd (λ made row reply. refl) (ap (λ b. cond b None (Some fd)) is)
+    ] refl
 
 -- a call that makes, moves or takes away names: it changes the tree and what its process has made alone
 named_told : (call : Call) → GrantsNothing call
@@ -258,15 +235,16 @@ told (call.FdCreate1 kind) = unbuilt_told (call.FdCreate1 kind) (λ made row rep
 told (call.FdCreate2 kind) = unbuilt_told (call.FdCreate2 kind) (λ made row reply. refl) (λ constants v who table. refl)
 told (call.FdDatasync fd) = nothing_told (call.FdDatasync fd) (λ made row reply. refl) (λ constants v who table. refl)
 told (call.FdDup fd) = fd_dup_told fd
-told (call.FdPread fd length offset) = unbuilt_told (call.FdPread fd length offset) (λ made row reply. refl) (λ constants v who table. refl)
-told (call.FdPwrite fd bytes offset) = unbuilt_told (call.FdPwrite fd bytes offset) (λ made row reply. refl) (λ constants v who table. refl)
-told (call.FdRead fd length) = fd_read_told fd length
+told (call.FdPread fd length offset) = file_told (call.FdPread fd length offset) fd (λ made row reply. refl) refl
+told (call.FdPwrite fd bytes offset) = file_told (call.FdPwrite fd bytes offset) fd (λ made row reply. refl) refl
+told (call.FdRead fd length) = moved_told (call.FdRead fd length) (reading length) _ (read_opens_well length) (λ made row reply. refl) refl
 told (call.FdReplace from to) = fd_replace_told from to
-told (call.FdSeek fd offset whence) = unbuilt_told (call.FdSeek fd offset whence) (λ made row reply. refl) (λ constants v who table. refl)
+told (call.FdSeek fd offset whence) =
+    moved_told (call.FdSeek fd offset whence) (seeking offset whence) _ (seek_opens_well offset whence) (λ made row reply. refl) refl
 told (call.FdStatGet fd) = fd_stat_get_told fd
 told (call.FdStatPut fd stat flags) = fd_stat_put_told fd stat flags
 told (call.FdSync fd) = nothing_told (call.FdSync fd) (λ made row reply. refl) (λ constants v who table. refl)
-told (call.FdWrite fd bytes) = fd_write_told fd bytes
+told (call.FdWrite fd bytes) = moved_told (call.FdWrite fd bytes) (writing bytes) _ (write_opens_well bytes) (λ made row reply. refl) refl
 told (call.FileAdvise fd offset length advice) = nothing_told (call.FileAdvise fd offset length advice) (λ made row reply. refl) (λ constants v who table. refl)
 told (call.FileAllocate fd offset length) = file_told (call.FileAllocate fd offset length) fd (λ made row reply. refl) refl
 told (call.FileCreate fd path kind) =

@@ -133,10 +133,9 @@ protect_listed a prot =
 
 map_listed : (a bytes prot flags offset : ℕ) → IsListedIf (map_refusal a bytes prot flags offset)
 map_listed a bytes prot flags offset =
-    or_listed (not (has_bits flags 1)) Nosys _ tt
-    (or_listed (nat_lt 7 prot || nat_lt 15 flags || bytes == 0 || not (has_one flags 4 8) || not (is_aligned offset)) Inval _ tt
+    or_listed (nat_lt 7 prot || nat_lt 15 flags || bytes == 0 || not (has_one flags 4 8) || not (is_aligned offset)) Inval _ tt
     (or_listed (has_bits flags 8 || writes_and_executes prot) Notsup _ tt
-    (or_listed (has_bits flags 2 && not (is_aligned a && is_guests a (pages_in bytes))) Inval None tt tt)))
+    (or_listed (has_bits flags 2 && not (is_aligned a && is_guests a (pages_in bytes))) Inval None tt tt))
 
 args_listed : (m : Pages) (r : Registers) → IsListedCall (args_of m r)
 args_listed m r = args_hold IsListedCall m r (record {

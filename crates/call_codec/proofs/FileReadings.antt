@@ -1,7 +1,7 @@
 -- What registers and memory spell by a number of the calls about files: a call of its kind, or a refusal with an error that is
 -- listed.
 --     file_holds      what holds of each such call, and of each such refusal, holds of what they spell
-use Rattle.std.proofs.Common.{◌≡◌, ℕ, ◌+◌, ◌^◌, ◌==◌, ◌&&◌, not, min, nat_le, Bool, true, false, cond, List, Result, Ok, Err, refl, subst}
+use Rattle.std.proofs.Common.{◌≡◌, ℕ, ◌+◌, ◌^◌, ◌==◌, ◌&&◌, not, min, nat_le, Bool, true, false, cond, List, Result, Ok, Err, refl}
 use Rattle.std.specs.Prelude.{bit_and}
 use Rattle.abi_types.specs.declared.call.Call.{Call}
 use Rattle.abi_types.specs.declared.call.Call.TheVariants.{FileAdvise, FileAllocate, FileCreate, FileLink, FileOpen, FileReaddir, FileReadlink, FileRename, FileStatFget, FileStatFput, FileStatGet, FileStatPut, FileSymlink, FileUnlink, Refused}

@@ -1,4 +1,5 @@
 -- The memory that segments make.
+--     written      what a write left
 --     is_written, is_there, page_mapped      a page that is mapped, written and protected
 --     first_part, later_part      the part of a segment's bytes that its pages have
 use Rattle.std.proofs.Common.{◌≡◌, ℕ, zero, suc, ◌+◌, ◌-◌, ◌*◌, ◌/◌, ◌%◌, ◌^◌, ◌<◌, ◌≤◌, ◌≢◌, ◌⊎◌, inl, inr, true, false, cond, List, [], ◌++◌, min, length, replicate, take, drop, Some, option_map, Result, Ok, Err, sym, ap, ◌∙◌, arith, append_assoc}
@@ -64,7 +65,7 @@ behind p ys fits =
 -- ---- one page
 
 -- what a write that was done left
-written : (m n : Pages) (a : ℕ) (bs : List ℕ) (r : Result (List ℕ) MemFault) → written_over m a bs r ≡ Ok n → n ≡ set_bytes m a bs
+pub written : (m n : Pages) (a : ℕ) (bs : List ℕ) (r : Result (List ℕ) MemFault) → written_over m a bs r ≡ Ok n → n ≡ set_bytes m a bs
 written m n a bs (Ok before) e = cc
 written m n a bs (Err fault) e = absurd (cc)
 

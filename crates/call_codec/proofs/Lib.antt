@@ -6,6 +6,7 @@ pub mod Images
 pub mod MemoryCalls
 pub mod Puts
 pub mod Outputs
+pub mod Mappings
 pub mod Rooms
 pub mod SoundStarts
 pub mod Starts

@@ -8,7 +8,7 @@ use Rattle.abi_types.specs.declared.place.Place.TheVariants as place
 use Rattle.abi_types.specs.declared.place.Place.TheVariants.{At}
 use Rattle.abi_base.specs.declared.address_space.TheConstants.{GUEST_BEGIN, GUEST_END, PAGE_LIMIT}
 use Rattle.abi_base.specs.declared.errno.Errno.{Errno}
-use Rattle.abi_base.specs.declared.errno.Errno.TheVariants.{Success, Fault, Inval, Nobufs, Nosys, Notsup}
+use Rattle.abi_base.specs.declared.errno.Errno.TheVariants.{Success, Fault, Inval, Nobufs, Notsup}
 use Rattle.guest_memory.specs.Changes.{all_there, lowest_gap, without_pages}
 use Rattle.guest_memory.specs.Page.{Pages}
 use Rattle.guest_memory.proofs.Changes.{there_is}
@@ -153,37 +153,36 @@ no_gap : (gap : Option ℕ) → Decides (is_none gap) (gap ≡ None)
 no_gap None = (λ e. refl, λ e. refl)
 no_gap (Some a) = (λ e. cc, λ e. cc)
 
--- what mem_map answers, by its tests: the flags ANON, PRIVATE, SHARED and FIXED are x, p, q and f
-abbrev map_answer : (x p7 f15 b0 p q ao w f al g1 g2 r1 r2 : Bool) → Option ℕ → Errno
-map_answer x p7 f15 b0 p q ao w f al g1 g2 r1 r2 gap =
-    cond (not x) Nosys (cond p7 Inval (cond f15 Inval (cond b0 Inval (cond (p && q) Inval (cond (not p && not q) Inval
+-- what mem_map answers, by its tests: the flags PRIVATE, SHARED and FIXED are p, q and f
+abbrev map_answer : (p7 f15 b0 p q ao w f al g1 g2 r1 r2 : Bool) → Option ℕ → Errno
+map_answer p7 f15 b0 p q ao w f al g1 g2 r1 r2 gap =
+    cond p7 Inval (cond f15 Inval (cond b0 Inval (cond (p && q) Inval (cond (not p && not q) Inval
     (cond (not ao) Inval (cond q Notsup (cond w Notsup (cond (f && not al) Inval (cond (f && not g1) Inval (cond (f && not g2) Inval
-    (cond (f && not r1) Nobufs (cond (not f && not r2) Nobufs (cond (not f && is_none gap) Nobufs Success))))))))))))))
+    (cond (f && not r1) Nobufs (cond (not f && not r2) Nobufs (cond (not f && is_none gap) Nobufs Success)))))))))))))
 
-map_flat : (x p7 f15 b0 p q ao w f al g1 g2 r1 r2 : Bool) (gap : Option ℕ) (a bytes prot flags fd offset : ℕ)
+map_flat : (p7 f15 b0 p q ao w f al g1 g2 r1 r2 : Bool) (gap : Option ℕ) (a bytes prot flags fd offset : ℕ)
     → errno_of (unless_refused 33
-    (cond (not x) (Some Nosys) (cond (p7 || f15 || b0 || not (cond p (not q) q) || not ao) (Some Inval)
-    (cond (q || w) (Some Notsup) (cond (f && not (al && (g1 && g2))) (Some Inval) None))))
+    (cond (p7 || f15 || b0 || not (cond p (not q) q) || not ao) (Some Inval)
+    (cond (q || w) (Some Notsup) (cond (f && not (al && (g1 && g2))) (Some Inval) None)))
     (MemMap (cond f (cond r1 (At a) (place.Refused Nobufs)) (cond r2 (place_in gap) (place.Refused Nobufs))) bytes prot flags fd offset))
-    ≡ map_answer x p7 f15 b0 p q ao w f al g1 g2 r1 r2 gap
-map_flat false p7 f15 b0 p q ao w f al g1 g2 r1 r2 gap a bytes prot flags fd offset = refl
-map_flat true true f15 b0 p q ao w f al g1 g2 r1 r2 gap a bytes prot flags fd offset = refl
-map_flat true false true b0 p q ao w f al g1 g2 r1 r2 gap a bytes prot flags fd offset = refl
-map_flat true false false true p q ao w f al g1 g2 r1 r2 gap a bytes prot flags fd offset = refl
-map_flat true false false false true true ao w f al g1 g2 r1 r2 gap a bytes prot flags fd offset = refl
-map_flat true false false false false false ao w f al g1 g2 r1 r2 gap a bytes prot flags fd offset = refl
-map_flat true false false false true false false w f al g1 g2 r1 r2 gap a bytes prot flags fd offset = refl
-map_flat true false false false true false true true f al g1 g2 r1 r2 gap a bytes prot flags fd offset = refl
-map_flat true false false false true false true false false al g1 g2 r1 false gap a bytes prot flags fd offset = refl
-map_flat true false false false true false true false false al g1 g2 r1 true None a bytes prot flags fd offset = refl
-map_flat true false false false true false true false false al g1 g2 r1 true (Some at) a bytes prot flags fd offset = refl
-map_flat true false false false true false true false true false g1 g2 r1 r2 gap a bytes prot flags fd offset = refl
-map_flat true false false false true false true false true true false g2 r1 r2 gap a bytes prot flags fd offset = refl
-map_flat true false false false true false true false true true true false r1 r2 gap a bytes prot flags fd offset = refl
-map_flat true false false false true false true false true true true true false r2 gap a bytes prot flags fd offset = refl
-map_flat true false false false true false true false true true true true true r2 gap a bytes prot flags fd offset = refl
-map_flat true false false false false true false w f al g1 g2 r1 r2 gap a bytes prot flags fd offset = refl
-map_flat true false false false false true true w f al g1 g2 r1 r2 gap a bytes prot flags fd offset = refl
+    ≡ map_answer p7 f15 b0 p q ao w f al g1 g2 r1 r2 gap
+map_flat true f15 b0 p q ao w f al g1 g2 r1 r2 gap a bytes prot flags fd offset = refl
+map_flat false true b0 p q ao w f al g1 g2 r1 r2 gap a bytes prot flags fd offset = refl
+map_flat false false true p q ao w f al g1 g2 r1 r2 gap a bytes prot flags fd offset = refl
+map_flat false false false true true ao w f al g1 g2 r1 r2 gap a bytes prot flags fd offset = refl
+map_flat false false false false false ao w f al g1 g2 r1 r2 gap a bytes prot flags fd offset = refl
+map_flat false false false true false false w f al g1 g2 r1 r2 gap a bytes prot flags fd offset = refl
+map_flat false false false true false true true f al g1 g2 r1 r2 gap a bytes prot flags fd offset = refl
+map_flat false false false true false true false false al g1 g2 r1 false gap a bytes prot flags fd offset = refl
+map_flat false false false true false true false false al g1 g2 r1 true None a bytes prot flags fd offset = refl
+map_flat false false false true false true false false al g1 g2 r1 true (Some at) a bytes prot flags fd offset = refl
+map_flat false false false true false true false true false g1 g2 r1 r2 gap a bytes prot flags fd offset = refl
+map_flat false false false true false true false true true false g2 r1 r2 gap a bytes prot flags fd offset = refl
+map_flat false false false true false true false true true true false r1 r2 gap a bytes prot flags fd offset = refl
+map_flat false false false true false true false true true true true false r2 gap a bytes prot flags fd offset = refl
+map_flat false false false true false true false true true true true true r2 gap a bytes prot flags fd offset = refl
+map_flat false false false false true false w f al g1 g2 r1 r2 gap a bytes prot flags fd offset = refl
+map_flat false false false false true true w f al g1 g2 r1 r2 gap a bytes prot flags fd offset = refl
 
 room_listed : (m : Pages) (a flags k : ℕ) → let f = has_bits flags 2 in
     AnswersFirst (room_conditions m a flags k)
@@ -216,15 +215,12 @@ map_listed m r =
     let fourth = when (Holds flags 4 × Holds flags 8) Inval fifth in
     let third = when (bytes ≡ 0) Inval fourth in
     let second = when (15 < flags) Inval third in
-    let first = when (7 < prot) Inval second in
-    let anonymous = has_bits flags 1 in
     let fixed_room = nat_le (len (without_pages m (a / 4096) k) + k) PAGE_LIMIT in
     let gap_room = nat_le (len m + k) PAGE_LIMIT in
-    let answered = map_flat anonymous (nat_lt 7 prot) (nat_lt 15 flags) (bytes == 0) p q (is_aligned offset) (has_bits prot 3) f (is_aligned a)
+    let answered = map_flat (nat_lt 7 prot) (nat_lt 15 flags) (bytes == 0) p q (is_aligned offset) (has_bits prot 3) f (is_aligned a)
     (nat_le GUEST_BEGIN a) (nat_le (a + 4096 * k) GUEST_END) fixed_room gap_room (lowest_gap m k)
     a bytes prot flags (low (argument r 4)) offset in
-    subst (AnswersFirst (when (¬ Holds flags 1) Nosys first)) (sym answered)
-    (tested (not anonymous) Nosys _ first (Decides-not anonymous (itself anonymous))
+    subst (AnswersFirst (when (7 < prot) Inval second)) (sym answered)
     (tested (nat_lt 7 prot) Inval _ second (Decides-ltb 7 prot)
     (tested (nat_lt 15 flags) Inval _ third (Decides-ltb 15 flags)
     (tested (bytes == 0) Inval _ fourth (eqb-true bytes 0, eq-eqb bytes 0)
@@ -237,4 +233,4 @@ map_listed m r =
     (tested (f && not (nat_le GUEST_BEGIN a)) Inval _ eleventh (Decides-and f (not (nat_le GUEST_BEGIN a)) (itself f) (above GUEST_BEGIN a))
     (tested (f && not (nat_le (a + 4096 * k) GUEST_END)) Inval _ last
     (Decides-and f (not (nat_le (a + 4096 * k) GUEST_END)) (itself f) (above (a + 4096 * k) GUEST_END))
-    (room_listed m a flags k)))))))))))))
+    (room_listed m a flags k))))))))))))

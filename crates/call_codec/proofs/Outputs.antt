@@ -39,7 +39,7 @@ front_ok (Ok b) (Ok bs) h = (refl, refl)
 front_ok (Ok b) (Err fault) h = absurd (cc)
 front_ok (Err fault) rest h = absurd (cc)
 
-ok_front : (b : Result ℕ MemFault) (rest : Result (List ℕ) MemFault) → IsOk b → IsOk rest → IsOk (in_front b rest)
+pub ok_front : (b : Result ℕ MemFault) (rest : Result (List ℕ) MemFault) → IsOk b → IsOk rest → IsOk (in_front b rest)
 ok_front (Ok b) (Ok bs) h k = refl
 ok_front (Ok b) (Err fault) h k = absurd (cc)
 ok_front (Err fault) rest h k = absurd (cc)

@@ -13,7 +13,7 @@ use Rattle.guest_memory.specs.declared.fault.MemFault.TheVariants.{NotMapped, No
 use Rattle.abi_types.specs.declared.call.Call.{Call}
 use Rattle.abi_types.specs.declared.call.Call.TheVariants.{FdPread, FdRead, FdStatGet, FileReaddir, FileReadlink, FileStatFget, FileStatGet, MemMap, Memory, Refused}
 use Rattle.abi_base.specs.declared.errno.Errno.{Errno}
-use Rattle.abi_base.specs.declared.errno.Errno.TheVariants.{Success, Fault, Inval, Nobufs, Nosys, Notsup}
+use Rattle.abi_base.specs.declared.errno.Errno.TheVariants.{Success, Fault, Inval, Nobufs, Notsup}
 use Rattle.abi_types.specs.declared.place.Place.{Place}
 use Rattle.abi_types.specs.declared.place.Place.TheVariants as place
 use Rattle.abi_types.specs.declared.place.Place.TheVariants.{At}
@@ -163,14 +163,12 @@ in_gap_good m k =
 place_good : (m : Pages) (a bytes prot flags offset : ℕ) → map_refusal a bytes prot flags offset ≡ None → MayMapThere m (place_of m a flags (pages_in bytes)) (pages_in bytes)
 place_good m a bytes prot flags offset h =
     let k = pages_in bytes in
-    let wild = not (has_bits flags 1) in
     let wrong = nat_lt 7 prot || nat_lt 15 flags || bytes == 0 || not (has_one flags 4 8) || not (is_aligned offset) in
     let shared = has_bits flags 8 || writes_and_executes prot in
     let outside = has_bits flags 2 && not (is_aligned a && is_guests a k) in
-    let fourth : Option Errno = cond outside (Some Inval) None in
-    let third : Option Errno = cond shared (Some Notsup) fourth in
-    let second : Option Errno = cond wrong (Some Inval) third in
-    let within = not_refused outside Inval None (rest_refuses shared Notsup fourth (rest_refuses wrong Inval third (rest_refuses wild Nosys second h))) in
+    let last : Option Errno = cond outside (Some Inval) None in
+    let second : Option Errno = cond shared (Some Notsup) last in
+    let within = not_refused outside Inval None (rest_refuses shared Notsup last (rest_refuses wrong Inval second h)) in
     either_good m k (has_bits flags 2) (place_at m a k) (place_in_gap m k)
     (λ e. fixed_good m a k (and_not (has_bits flags 2) (is_aligned a && is_guests a k) within e)) (λ e. in_gap_good m k)
 

@@ -3,8 +3,8 @@ pub mod MemoryCalls
 pub mod WriteCall
 pub mod Spelled
 pub mod Output
-pub mod OutputLaws
 pub mod Put
+pub mod OutputLaws
 pub mod Image
 pub mod Start
 pub mod Bounded

@@ -1,13 +1,13 @@
 -- The calls that a process makes about its own memory: mem_advise, mem_map, mem_protect, mem_sync and mem_unmap. What
 -- they answer is in the caller's registers and memory alone, and so is what they leave of the memory.
-use Rattle.std.specs.Prelude.{ℕ, ◌≤◌, ◌+◌, ◌-◌, ◌*◌, ◌/◌, ◌%◌, ◌^◌, ◌==◌, ◌&&◌, ◌||◌, not, nat_le, nat_lt, Bool, Option, Some, None, if◌then◌else◌}
+use Rattle.std.specs.Prelude.{ℕ, ◌≤◌, ◌+◌, ◌-◌, ◌*◌, ◌/◌, ◌%◌, ◌^◌, ◌==◌, ◌&&◌, ◌||◌, not, nat_le, nat_lt, Bool, List, take, Option, Some, None, if◌then◌else◌}
 use Rattle.abi_base.specs.declared.address_space.TheConstants.{GUEST_BEGIN, GUEST_END, PAGE_SIZE}
 use Rattle.std.specs.Int.RustNames.{bit_and}
 use Rattle.std.specs.FinMap.{len}
 use Rattle.abi_types.specs.declared.call.Call.{Call}
 use Rattle.abi_types.specs.declared.call.Call.TheVariants.{MemMap, Memory, Refused}
 use Rattle.abi_base.specs.declared.errno.Errno.{Errno}
-use Rattle.abi_base.specs.declared.errno.Errno.TheVariants.{Success, Fault, Inval, Nobufs, Nosys, Notsup}
+use Rattle.abi_base.specs.declared.errno.Errno.TheVariants.{Success, Fault, Inval, Nobufs, Notsup}
 use Rattle.abi_types.specs.declared.place.Place.{Place}
 use Rattle.abi_types.specs.declared.place.Place.TheVariants as place
 use Rattle.abi_types.specs.declared.place.Place.TheVariants.{At}
@@ -17,6 +17,7 @@ use Rattle.guest_memory.specs.Changes.{all_there, lowest_gap, mapped, protected,
 use Rattle.guest_memory.specs.Mapping.{page_limit}
 use Rattle.guest_memory.specs.Page.{Pages}
 use Rattle.guest_memory.specs.Ranges.{IsPageAddress}
+use Rattle.guest_memory.specs.Written.{set_bytes}
 use Rattle.argument_reading.specs.Arguments.{argument, low}
 
 -- ---- arguments
@@ -103,17 +104,12 @@ mem_unmap_of r =
 
 -- Why mem_map is refused by its address, length, prot, flags and offset, with a file or without one. ANON is 1, FIXED is 2,
 -- PRIVATE is 4 and SHARED is 8.
-abbrev pub mapping_refusal : ℕ → ℕ → ℕ → ℕ → ℕ → Option Errno
-mapping_refusal a bytes prot flags offset =
+abbrev pub map_refusal : ℕ → ℕ → ℕ → ℕ → ℕ → Option Errno
+map_refusal a bytes prot flags offset =
     if nat_lt 7 prot || nat_lt 15 flags || bytes == 0 || not (has_one flags 4 8) || not (is_aligned offset) then Some Inval
     else if has_bits flags 8 || writes_and_executes prot then Some Notsup
     else if has_bits flags 2 && not (is_aligned a && is_guests a (pages_in bytes)) then Some Inval
     else None
-
--- Why it is refused while no file can be mapped: then it is no call without ANON.
-abbrev pub map_refusal : ℕ → ℕ → ℕ → ℕ → ℕ → Option Errno
-map_refusal a bytes prot flags offset =
-    if not (has_bits flags 1) then Some Nosys else mapping_refusal a bytes prot flags offset
 
 -- FIXED: k pages at the address, in place of those that are there; NOBUFS where that would be too many
 abbrev pub place_at : Pages → ℕ → ℕ → Place
@@ -141,11 +137,6 @@ abbrev pub mem_map_of : Pages → Registers → Call
 mem_map_of m r =
     unless_refused 33 (map_refusal (argument r 0) (argument r 1) (low (argument r 2)) (low (argument r 3)) (argument r 5)) (placed_map m r)
 
--- the same where a file can be mapped too
-abbrev pub mapping_of : Pages → Registers → Call
-mapping_of m r =
-    unless_refused 33 (mapping_refusal (argument r 0) (argument r 1) (low (argument r 2)) (low (argument r 3)) (argument r 5)) (placed_map m r)
-
 -- ---- what they leave of the memory
 
 -- k pages may be mapped at the address, in place of those that are there
@@ -160,10 +151,11 @@ abbrev pub MayMapThere : Pages → Place → ℕ → Type 0
 MayMapThere m (At a) k = MayMapAt m a k
 MayMapThere m (place.Refused errno) k = Unit {0}
 
--- a mapping of k pages that went to this place: pages of zeros, in place of what was there
-abbrev pub with_mapping : Pages → Place → ℕ → Prot → Pages
-with_mapping m (At a) k prot = mapped m (a / PAGE_SIZE) k prot
-with_mapping m (place.Refused errno) k prot = m
+-- A mapping of k pages that went to this place, in place of what was there. Whatever its rights are, the pages have these bytes, as
+-- many as they have room for, and zeros behind them.
+abbrev pub with_mapping : Pages → Place → ℕ → Prot → List ℕ → Pages
+with_mapping m (At a) k prot bytes = set_bytes (mapped m (a / PAGE_SIZE) k prot) a (take (PAGE_SIZE * k) bytes)
+with_mapping m (place.Refused errno) k prot bytes = m
 
 -- the memory after the call with this number, which succeeded; the others change nothing
 abbrev pub with_change : Pages → Registers → ℕ → Pages
@@ -182,8 +174,7 @@ abbrev pub IsSomewhere : Place → Type 0
 IsSomewhere (At a) = Unit {0}
 IsSomewhere (place.Refused errno) = ⊥
 
--- the memory after the call of these registers, which was answered with SUCCESS
+-- the memory after the call of these registers, which was answered with SUCCESS, but for mem_map
 abbrev pub memory_with : Pages → Registers → Call → Pages
-memory_with m r (MemMap place length prot flags fd offset) = with_mapping m place (pages_in length) (prot_of prot)
 memory_with m r (Memory number errno) = on_success errno (with_change m r number) m
 memory_with m r other = m

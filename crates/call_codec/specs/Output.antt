@@ -54,6 +54,11 @@ fdstat_bytes stat = written fdstat_layout.fields (fdstat_values stat) (replicate
 abbrev pub filestat_bytes : FileStat → List ℕ
 filestat_bytes stat = written filestat_layout.fields (filestat_values stat) (replicate filestat_layout.size 0)
 
+-- the bytes that a call gave, if it gave some
+abbrev pub content_of : Payload → List ℕ
+content_of (Content bytes) = bytes
+content_of other = []
+
 -- the bytes, or the state of a descriptor or of a file, that a call gave go to an address
 abbrev pub with_payload : Pages → ℕ → Payload → Pages
 with_payload m a (Content bytes) = with_bytes m a bytes

@@ -1,18 +1,26 @@
 -- What registers and memory that spell a call say of its output: each byte of it is written.
-use Rattle.std.specs.Prelude.{◌≡◌, ◌≤◌, ℕ, List, [], ◌∷◌, take, drop, length, min, Ok, IsOk}
+use Rattle.std.specs.Prelude.{◌≡◌, ◌≤◌, ◌<◌, ◌+◌, ◌*◌, ◌/◌, ◌%◌, ℕ, true, false, List, [], ◌∷◌, take, drop, length, min, slice_index, Ok, IsOk, Option, Some, option_map}
+use Rattle.std.specs.FinMap.{get}
+use Rattle.abi_base.specs.declared.address_space.TheConstants.{PAGE_SIZE}
+use Rattle.abi_base.specs.declared.prot.Prot.{Prot}
 use Rattle.abi_base.specs.Registers.{Registers}
 use Rattle.abi_structures.specs.declared.structures.FdStat.{FdStat}
 use Rattle.abi_structures.specs.declared.structures.FileStat.{FileStat}
 use Rattle.abi_structures.specs.declared.structures.Iovec.{Iovec}
-use Rattle.abi_types.specs.declared.call.Call.TheVariants.{FdPread, FdRead, FdStatGet, FileReaddir, FileReadlink, FileStatFget, FileStatGet}
+use Rattle.abi_types.specs.declared.call.Call.TheVariants.{FdPread, FdRead, FdStatGet, FileReaddir, FileReadlink, FileStatFget, FileStatGet, MemMap}
 use Rattle.abi_types.specs.declared.call.Lookup.{Lookup}
+use Rattle.abi_types.specs.declared.place.Place.TheVariants.{At}
+use Rattle.abi_types.specs.declared.reply.Payload.{Payload}
 use Rattle.guest_memory.specs.Page.{Pages}
+use Rattle.guest_memory.specs.Ranges.{in_range}
 use Rattle.guest_memory.specs.Written.{write_of}
 use Rattle.argument_reading.specs.Arguments.{argument}
 use Rattle.argument_reading.specs.Ranges.{ranges_at}
 use Rattle.argument_reading.specs.declared.ranges.TheConstants.{MOST_TRANSFERRED}
 use Rattle.call_codec.specs.Args.{args_of}
-use Rattle.call_codec.specs.Output.{fdstat_bytes, filestat_bytes, with_bytes}
+use Rattle.call_codec.specs.MemoryCalls.{pages_in, prot_of}
+use Rattle.call_codec.specs.Output.{content_of, fdstat_bytes, filestat_bytes, with_bytes}
+use Rattle.call_codec.specs.Put.{memory_after}
 
 -- bytes go into ranges, one after another: each write is made, and no byte is left over
 abbrev pub AreWrittenInto : Pages → List Iovec → List ℕ → Type 0
@@ -66,3 +74,20 @@ abbrev pub FoundStateIsWritten : Type 0
 FoundStateIsWritten =
     (m : Pages) (r : Registers) (lookup : Lookup) (path : List ℕ) → args_of m r ≡ FileStatGet lookup path
     → TakesFileState m (argument r 3)
+
+-- the byte that stands at an address, if its page is there
+abbrev pub standing : Pages → ℕ → Option ℕ
+standing m a = option_map (λ p. slice_index p.bytes (a % PAGE_SIZE)) (get m (a / PAGE_SIZE))
+
+-- The k pages from an address on have these rights in the second memory, and these bytes, as many as they have room for, with zeros
+-- behind the last. All other pages are as they were.
+pub record AreFilled (m : Pages) (a k : ℕ) (prot : Prot) (bytes : List ℕ) (after : Pages) : Type 0 where
+  pub rights : (q : ℕ) → in_range (a / PAGE_SIZE) k q ≡ true → option_map (λ p. p.prot) (get after q) ≡ Some prot
+  pub stands : (i : ℕ) → i < PAGE_SIZE * k → standing after (a + i) ≡ Some (slice_index bytes i)
+  pub others : (q : ℕ) → in_range (a / PAGE_SIZE) k q ≡ false → get after q ≡ get m q
+
+-- Where mem_map is spelled, the bytes that it gives stand in its pages, whatever their rights are.
+abbrev pub MappingIsFilled : Type 0
+MappingIsFilled =
+    (m : Pages) (r : Registers) (a size prot flags fd offset : ℕ) (payload : Payload) → args_of m r ≡ MemMap (At a) size prot flags fd offset
+    → AreFilled m a (pages_in size) (prot_of prot) (content_of payload) (memory_after m r (MemMap (At a) size prot flags fd offset) payload)

@@ -12,8 +12,8 @@ use Rattle.abi_base.specs.Errno.{number_of}
 use Rattle.abi_base.specs.Registers.{Registers, with_pc, with_x}
 use Rattle.guest_memory.specs.Page.{Pages}
 use Rattle.argument_reading.specs.Arguments.{argument}
-use Rattle.call_codec.specs.MemoryCalls.{memory_with, on_success, IsSomewhere}
-use Rattle.call_codec.specs.Output.{with_content, with_payload}
+use Rattle.call_codec.specs.MemoryCalls.{memory_with, on_success, pages_in, prot_of, with_mapping, IsSomewhere}
+use Rattle.call_codec.specs.Output.{content_of, with_content, with_payload}
 
 -- the results of a call that succeeded: fd_dup and file_open have the new number; fd_pread, fd_pwrite, fd_read and fd_write have how
 -- many bytes went, and file_readdir and file_readlink how many came; fd_seek has the new offset; mem_map has an address
@@ -39,7 +39,7 @@ abbrev pub answered_of : Registers → Call → Answer → Registers
 answered_of r call (answer.Reply reply) = put_of r call reply
 
 -- the memory after a call of these registers that succeeded and gave this beside its results: that goes to an iovec array, or to the
--- address in a1 or in a3. The calls that aren't named here write nothing of it
+-- address in a1 or in a3, or stands in the pages that mem_map made. The calls that aren't named here write nothing of it
 abbrev pub memory_after : Pages → Registers → Call → Payload → Pages
 memory_after m r (FdPread fd length offset) payload = with_content m r payload
 memory_after m r (FdRead fd length) payload = with_content m r payload
@@ -48,6 +48,7 @@ memory_after m r (FileReaddir fd length cookie) payload = with_payload m (argume
 memory_after m r (FileReadlink fd path length) payload = with_payload m (argument r 3) payload
 memory_after m r (FileStatFget fd) payload = with_payload m (argument r 1) payload
 memory_after m r (FileStatGet lookup path) payload = with_payload m (argument r 3) payload
+memory_after m r (MemMap place length prot flags fd offset) payload = with_mapping m place (pages_in length) (prot_of prot) (content_of payload)
 memory_after m r other payload = memory_with m r other
 
 -- the memory after an answer to a call of these registers

@@ -9,7 +9,7 @@ use Rattle.abi_types.specs.declared.place.Place.TheVariants as place
 use Rattle.abi_types.specs.declared.place.Place.TheVariants.{At}
 use Rattle.abi_base.specs.declared.address_space.TheConstants.{GUEST_BEGIN, GUEST_END, PAGE_LIMIT, PAGE_SIZE}
 use Rattle.abi_base.specs.declared.errno.Errno.{Errno}
-use Rattle.abi_base.specs.declared.errno.Errno.TheVariants.{Success, Fault, Inval, Nobufs, Nosys, Notsup}
+use Rattle.abi_base.specs.declared.errno.Errno.TheVariants.{Success, Fault, Inval, Nobufs, Notsup}
 use Rattle.abi_base.specs.Registers.{Registers}
 use Rattle.guest_memory.specs.Changes.{lowest_gap, without_pages}
 use Rattle.guest_memory.specs.Mapping.{AreThere}
@@ -95,12 +95,11 @@ room_conditions m a flags k =
     success))
 
 -- mem_map: an address, a length, a prot, flags, a descriptor and an offset. Of the flags 1 is ANON, 2 is FIXED, 4 is PRIVATE
--- and 8 is SHARED. There are no files yet, so without ANON it is no call.
+-- and 8 is SHARED. Without ANON the kernel answers what the descriptor lacks before it answers that there is no room.
 abbrev pub map_conditions : Pages → Registers → Conditions
 map_conditions m r =
     let a = argument r 0 in let bytes = argument r 1 in let prot = low (argument r 2) in let flags = low (argument r 3) in
-    when (¬ Holds flags 1) Nosys
-    (when (7 < prot) Inval
+    when (7 < prot) Inval
     (when (15 < flags) Inval
     (when (bytes ≡ 0) Inval
     (when (Holds flags 4 × Holds flags 8) Inval
@@ -111,7 +110,7 @@ map_conditions m r =
     (when (Holds flags 2 × IsMisaligned a) Inval
     (when (Holds flags 2 × (a < GUEST_BEGIN)) Inval
     (when (Holds flags 2 × (GUEST_END < a + PAGE_SIZE * pages_in bytes)) Inval
-    (room_conditions m a flags (pages_in bytes)))))))))))))
+    (room_conditions m a flags (pages_in bytes))))))))))))
 
 -- The calls are answered as listed.
 abbrev pub AdviseIsListed : Type 0

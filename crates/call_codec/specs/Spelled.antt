@@ -8,7 +8,7 @@ use Rattle.abi_base.specs.Registers.{Registers}
 use Rattle.abi_types.specs.declared.call.Call.{Call}
 use Rattle.abi_types.specs.declared.call.Call.TheVariants.{ProcExit, Refused}
 use Rattle.argument_reading.specs.Arguments.{argument, low}
-use Rattle.call_codec.specs.MemoryCalls.{mapping_of, mem_advise_of, mem_protect_of, mem_sync_of, mem_unmap_of}
+use Rattle.call_codec.specs.MemoryCalls.{mem_advise_of, mem_map_of, mem_protect_of, mem_sync_of, mem_unmap_of}
 use Rattle.call_codec.specs.WriteCall.{fd_write_of}
 use Rattle.call_reading.specs.ClockCalls.{clock_res_get_of, clock_time_get_of}
 use Rattle.call_reading.specs.DescriptorCalls.{fd_close_of, fd_create1_of, fd_create2_of, fd_datasync_of, fd_dup_of, fd_pread_of, fd_pwrite_of, fd_read_of, fd_replace_of, fd_seek_of, fd_stat_get_of, fd_stat_put_of, fd_sync_of}
@@ -43,7 +43,7 @@ descriptor_call m r number =
 unfoldable pub memory_call : Pages → Registers → ℕ → Result Call Errno
 memory_call m r number =
     if number == 32 then Ok (mem_advise_of m r)
-    else if number == 33 then Ok (mapping_of m r)
+    else if number == 33 then Ok (mem_map_of m r)
     else if number == 34 then Ok (mem_protect_of m r)
     else if number == 35 then Ok (mem_sync_of m r)
     else if number == 36 then Ok (mem_unmap_of r)

@@ -1,5 +1,5 @@
 //! Laws of the definitions. The functions do nothing.
-ghost use Rattle.call_codec.specs.OutputLaws.{EntriesAreWritten, FoundStateIsWritten, LinkIsWritten, OpenStateIsWritten, PreadIsWritten, ReadIsWritten, StateIsWritten};
+ghost use Rattle.call_codec.specs.OutputLaws.{EntriesAreWritten, FoundStateIsWritten, LinkIsWritten, MappingIsFilled, OpenStateIsWritten, PreadIsWritten, ReadIsWritten, StateIsWritten};
 ghost use Rattle.call_codec.specs.Refusals.{AdviseIsListed, MapIsListed, ProtectIsListed, SyncIsListed, UnmapIsListed};
 ghost use Rattle.call_codec.specs.StartBlock.{ArgdataStands, CanaryStands, VectorStands};
 
@@ -21,7 +21,8 @@ pub fn start_block_stands()
 {}
 
 /// The output of a call that registers and memory spell is written whole: no write of bytes that were read, as many as the call
-/// asks for or has room for at most, and none of the state of a descriptor or of a file is refused.
+/// asks for or has room for at most, and none of the state of a descriptor or of a file is refused. The pages that mem_map makes
+/// have the bytes that it gives, and zeros behind them.
 pub fn output_is_written()
     ensures pread { PreadIsWritten }
     ensures read { ReadIsWritten }
@@ -30,4 +31,5 @@ pub fn output_is_written()
     ensures link { LinkIsWritten }
     ensures open_state { OpenStateIsWritten }
     ensures found_state { FoundStateIsWritten }
+    ensures mapping { MappingIsFilled }
 {}

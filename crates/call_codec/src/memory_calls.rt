@@ -1,7 +1,7 @@
 //! The calls that a process makes about its own memory, from registers and memory.
 ghost use Rattle.std.specs.Prelude.{◌≡◌, ◌≤◌, ◌+◌, ◌*◌, ◌^◌};
 ghost use Rattle.argument_reading.specs.Arguments.{low};
-ghost use Rattle.call_codec.specs.MemoryCalls.{has_bits, has_one, writes_and_executes, pages_in, is_aligned, is_guests, if_mapped, mem_advise_of, protect_refusal, mem_protect_of, is_sync, mem_sync_of, is_range, mem_unmap_of, mapping_of, mapping_refusal, place_at, place_in_gap, place_of, mem_map_of};
+ghost use Rattle.call_codec.specs.MemoryCalls.{has_bits, has_one, writes_and_executes, pages_in, is_aligned, is_guests, if_mapped, mem_advise_of, protect_refusal, mem_protect_of, is_sync, mem_sync_of, is_range, mem_unmap_of, map_refusal, place_at, place_in_gap, place_of, mem_map_of};
 ghost use Rattle.guest_memory.specs.Ranges.{IsPageAddress};
 
 use abi_base::{GUEST_BEGIN, GUEST_END, PAGE_LIMIT, PAGE_SIZE};
@@ -26,9 +26,6 @@ pub const MEM_UNMAP: u64 = 36;
 
 // The bits of a prot that are for a writable page that can be executed.
 const WRITE_AND_EXEC: u32 = 3;
-
-// The flag of a mapping without a file.
-const ANON: u32 = 1;
 
 // The flag of a mapping at the address that the call names.
 const FIXED: u32 = 2;
@@ -191,8 +188,8 @@ pub fn mem_unmap(regs: &Regs) -> Call
 }
 
 // Why mem_map is refused by its address, length, prot, flags and offset, with a file or without one.
-fn mapping_refusal(at: u64, bytes: u64, prot: u32, flags: u32, offset: u64) -> Option<Errno>
-    ensures { result ≡ mapping_refusal at bytes prot flags offset }
+fn map_refusal(at: u64, bytes: u64, prot: u32, flags: u32, offset: u64) -> Option<Errno>
+    ensures { result ≡ map_refusal at bytes prot flags offset }
 {
     let known = prot <= 7 && flags <= 15;
     if !known || bytes == 0 || !has_one(flags, PRIVATE, SHARED) || !is_aligned(offset) {
@@ -234,30 +231,16 @@ fn place_in_gap(memory: &GuestMemory, pages: u64) -> Place
     }
 }
 
-/// mem_map while no file can be mapped: without ANON it is no call.
+/// mem_map, with a file or without one: an address, a length, a prot, flags, a descriptor and an offset.
 pub fn mem_map(regs: &Regs, memory: &GuestMemory) -> Call
     ensures { result ≡ mem_map_of memory.now regs.now }
-{
-    if has_bits(low(regs.get(13)), ANON) {
-        mapping(regs, memory)
-    } else {
-        Call::Refused {
-            number: MEM_MAP,
-            errno: Errno::Nosys,
-        }
-    }
-}
-
-/// mem_map, with a file or without one: an address, a length, a prot, flags, a descriptor and an offset.
-pub fn mapping(regs: &Regs, memory: &GuestMemory) -> Call
-    ensures { result ≡ mapping_of memory.now regs.now }
 {
     let at = regs.get(10);
     let length = regs.get(11);
     let prot = low(regs.get(12));
     let flags = low(regs.get(13));
     let offset = regs.get(15);
-    if let Some(errno) = mapping_refusal(at, length, prot, flags, offset) {
+    if let Some(errno) = map_refusal(at, length, prot, flags, offset) {
         return Call::Refused {
             number: MEM_MAP,
             errno,

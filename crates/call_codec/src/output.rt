@@ -1,7 +1,7 @@
 //! What a call that succeeded writes into the caller's memory.
 ghost use Rattle.std.specs.Prelude.{◌≡◌, ◌≤◌, OnOk, OnErr};
 ghost use Rattle.argument_reading.specs.Arguments.{argument};
-ghost use Rattle.call_codec.specs.Output.{fdstat_bytes, filestat_bytes, scattered, with_bytes, with_content, with_payload};
+ghost use Rattle.call_codec.specs.Output.{content_of, fdstat_bytes, filestat_bytes, scattered, with_bytes, with_content, with_payload};
 
 use abi_layout::{write_fdstat, write_filestat};
 use abi_structures::Iovec;
@@ -49,6 +49,16 @@ pub fn put_content(
         }
     }
     Ok(())
+}
+
+/// The bytes of the payload, if it has some.
+pub fn content(payload: &Payload) -> &[u8]
+    ensures { result.now ≡ content_of payload.now }
+{
+    match payload {
+        Payload::Content(bytes) => bytes.as_slice(),
+        _ => &[],
+    }
 }
 
 /// Writes the payload from an address on, if it is bytes or the state of a descriptor or of a file.

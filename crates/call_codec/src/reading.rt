@@ -4,7 +4,7 @@ ghost use Rattle.argument_reading.specs.Reading.{LacksMemory, Reads};
 ghost use Rattle.call_codec.specs.Args.{IsCopied};
 ghost use Rattle.call_codec.specs.Spelled.{descriptor_call, is_copied, memory_call, numbered, process_call, spelled_of, thread_call};
 
-use crate::memory_calls::{mapping, mem_advise, mem_protect, mem_sync, mem_unmap};
+use crate::memory_calls::{mem_advise, mem_map, mem_protect, mem_sync, mem_unmap};
 use crate::write_call::fd_write;
 use abi_types::{Call, Errno, Regs};
 use argument_reading::{Refusal, low};
@@ -56,7 +56,7 @@ fn memory_call(regs: &Regs, memory: &GuestMemory, number: u64) -> Result<Call, E
 {
     match number {
         32 => Ok(mem_advise(regs, memory)),
-        33 => Ok(mapping(regs, memory)),
+        33 => Ok(mem_map(regs, memory)),
         34 => Ok(mem_protect(regs, memory)),
         35 => Ok(mem_sync(regs, memory)),
         36 => Ok(mem_unmap(regs)),

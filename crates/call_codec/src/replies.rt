@@ -1,15 +1,17 @@
 //! From an answer back to the registers and the memory.
 ghost use Rattle.std.specs.Prelude.{◌≡◌, ◌≤◌, ◌/◌, ◌^◌, OnOk, OnErr};
+ghost use Rattle.abi_types.specs.declared.place.Place.TheVariants as place;
 ghost use Rattle.argument_reading.specs.Arguments.{argument};
 ghost use Rattle.call_codec.specs.Args.{args_of};
-ghost use Rattle.call_codec.specs.MemoryCalls.{IsSomewhere, MayMapThere, with_change, with_mapping, pages_in, prot_of};
+ghost use Rattle.call_codec.specs.MemoryCalls.{IsSomewhere, MayMapAt, MayMapThere, with_change, with_mapping, pages_in, prot_of};
 ghost use Rattle.call_codec.specs.Put.{answered_memory, answered_of, memory_after, put_of, with_results, TakesRoom};
 ghost use Rattle.guest_memory.specs.Changes.{protected, without_pages};
 ghost use Rattle.guest_memory.specs.Mapping.{AreThere};
 ghost use Rattle.guest_memory.specs.Ranges.{IsPageAddress};
 
+use crate::image::READ_WRITE;
 use crate::memory_calls::{has_bits, pages_in};
-use crate::output::{put_content, put_payload};
+use crate::output::{content, put_content, put_payload};
 use abi_base::{GUEST_END, PAGE_SIZE};
 use abi_types::{Answer, Call, Errno, Payload, Place, Prot, Regs, Reply};
 use argument_reading::low;
@@ -113,7 +115,17 @@ fn put_memory(
             length,
             prot,
             ..
-        } => map(alloc, memory, *place, pages_in(*length), prot_of(*prot)),
+        } => {
+            let pages = pages_in(*length);
+            map(
+                alloc,
+                memory,
+                *place,
+                pages,
+                prot_of(*prot),
+                content(payload),
+            )
+        }
         Call::Memory { number, errno } => {
             if let Errno::Success = *errno {
                 change(regs, memory, *number);
@@ -124,23 +136,46 @@ fn put_memory(
     }
 }
 
-// Maps pages of zeros at their place, in place of those that are there.
+// Maps pages with bytes in them at their place, in place of those that are there.
 fn map(
     alloc: Global,
     memory: &mut GuestMemory,
     place: Place,
     pages: u64,
     prot: Prot,
+    bytes: &[u8],
 ) -> Result<(), AllocError>
     requires { MayMapThere memory.old place pages }
-    ensures ok { OnOk result (memory.new ≡ with_mapping memory.old place pages prot) }
+    ensures ok { OnOk result (memory.new ≡ with_mapping memory.old place pages prot bytes.now) }
     ensures only { OnErr result (IsSomewhere place) }
     ensures err { OnErr result (memory.new ≡ memory.old) }
 {
     match place {
-        Place::At(at) => memory.map_fixed(alloc, at, pages as u32, prot),
+        Place::At(at) => map_at(alloc, memory, at, pages, prot, bytes),
         Place::Refused(_) => Ok(()),
     }
+}
+
+// Maps pages at an address, in place of those that are there, with as many of the bytes as they have room for. They get their
+// rights once the bytes are in them.
+fn map_at(
+    alloc: Global,
+    memory: &mut GuestMemory,
+    at: u64,
+    pages: u64,
+    prot: Prot,
+    bytes: &[u8],
+) -> Result<(), AllocError>
+    requires { MayMapAt memory.old at pages }
+    ensures ok { OnOk result (memory.new ≡ with_mapping memory.old (place.At at) pages prot bytes.now) }
+    ensures err { OnErr result (memory.new ≡ memory.old) }
+{
+    memory.map_fixed(alloc, at, pages as u32, READ_WRITE)?;
+    let count = bytes.len().min((pages * PAGE_SIZE) as usize);
+    // The pages are there and can be written, so that neither can be refused.
+    let _ = memory.write_bytes(at, &bytes[..count]);
+    let _ = memory.protect(at, pages as u32, prot);
+    Ok(())
 }
 
 // The memory after mem_protect, mem_unmap or a call that changes nothing, by its number.

@@ -1,3 +1,4 @@
 pub mod Walks
 pub mod Reworked
 pub mod Heads
+pub mod Pages

@@ -3,11 +3,15 @@
 --     nodes_stay      so it is of each number after a call that changes one node
 --     becomes_is      a tree with another node is what setting that node makes of it
 --     unless_done, not_large      calls that might be refused
-use Rattle.std.proofs.Common.{◌≡◌, ◌<◌, ◌≤◌, ℕ, ◌==◌, Bool, true, false, cond, List, length, Option, Some, None, refl, sym, ap, ◌∙◌, arith}
-use Rattle.std.proofs.lemmas.Bool.{false_from_ne_true, ltb-true}
-use Rattle.std.specs.Prelude.{bit_and, max, nat_lt}
+--     below_limit      some bytes below the limit have room
+--     is_written, overwrites_is      they are written, and so a call is done
+use Rattle.std.proofs.Common.{◌≡◌, ◌<◌, ◌≤◌, ℕ, ◌==◌, ◌&&◌, Bool, true, false, not, cond, List, [], ◌∷◌, length, Option, Some, None, refl, sym, ap, ◌∙◌, arith}
+use Rattle.std.proofs.lemmas.Bool.{false_from_ne_true, lt-leb, ltb-true}
+use Rattle.std.proofs.Math.Dec.{leb-suc-zero}
+use Rattle.std.specs.Prelude.{bit_and, max, nat_le, nat_lt}
 use Rattle.std.specs.FinMap.{empty, get}
 use Rattle.std.specs.Option.{option_map}
+use Rattle.abi_base.specs.declared.errno.Errno.TheVariants.{Fbig}
 use Rattle.abi_structures.specs.declared.structures.FileStat.{FileStat}
 use Rattle.abi_types.specs.declared.node.Node.{Node}
 use Rattle.abi_types.specs.declared.node.NodeKind.TheVariants as kind
@@ -15,15 +19,20 @@ use Rattle.abi_types.specs.declared.node.Times.{Times}
 use Rattle.abi_types.specs.declared.reply.Answer.TheVariants as answer
 use Rattle.abi_types.specs.declared.reply.Reply.{Reply}
 use Rattle.number_map.specs.Maps.{same_numbers}
-use Rattle.tree_model.specs.Changes.{bytes_of, with_bytes, with_times}
+use Rattle.tree_model.specs.Changes.{bytes_of, is_file, with_bytes, with_times}
 use Rattle.tree_model.specs.Entries.{here_or_other, with_bytes-changes, with_times-changes}
-use Rattle.tree_model.specs.Files.{resized}
+use Rattle.tree_model.specs.Files.{after_write, is_beyond, resized}
 use Rattle.tree_model.specs.Tree.{Tree}
 use Rattle.tree_model.specs.declared.limits.TheConstants.{MOST_FILE_BYTES}
+use Rattle.kernel_model.specs.FileBytes.{overwritten, overwrites, write_bytes, written_count}
 use Rattle.kernel_model.specs.FileChanges.{allocated, becomes, becomes_in, has_size, modified, put_size, put_stat, put_times, retimed, retimed_in, sized, times_put}
-use Rattle.kernel_model.specs.Outcome.{Outcome}
+use Rattle.kernel_model.specs.Outcome.{Outcome, replies}
+use Rattle.kernel_model.specs.Reply.{refused, success}
 use Rattle.kernel_model.specs.State.{State}
+use Rattle.kernel_model.specs.TreeUpdates.{node_update}
+use Rattle.kernel_model.proofs.FileBytes.{overwritten_reworks}
 use Rattle.kernel_model.proofs.Reworks.{Reworks, put_tree}
+use Rattle.kernel_model.proofs.Tests.{not_true}
 use Rattle.file_calls.specs.Done.{HasSameNodes, IsDone, names_at, tree_after}
 
 -- ---- a node that is there stays there, with its names
@@ -67,6 +76,11 @@ sized_still t n now size =
 pub allocated_still : (t : Tree) (n now size : ℕ) → Still t (allocated t n now size) n
 allocated_still t n now size = sized_still t n now (max (length (bytes_of t n)) size)
 
+pub overwritten_still : (t : Tree) (n now at : ℕ) (bytes : List ℕ) → Still t (overwritten t n now at bytes) n
+overwritten_still t n now at bytes =
+    let other : Tree = with_bytes t n (after_write (bytes_of t n) at bytes) in
+    retimed_still other n (modified now) ∙ with_bytes_still t n (after_write (bytes_of t n) at bytes)
+
 module _ (flags : ℕ) (stat : FileStat) (now : ℕ) where
   pub put_times_still : (t : Tree) (n : ℕ) → Still t (put_times flags stat now t n) n
   put_times_still t n =
@@ -89,6 +103,10 @@ counts_none : (o : Option Node) → count o ≡ None → o ≡ None
 counts_none None is = refl
 counts_none (Some node) is = cc
 
+becomes_updates : (n : ℕ) (o : Option Node) → (becomes n o).updates ≡ node_update n o
+becomes_updates n None = refl
+becomes_updates n (Some node) = refl
+
 module _ (t u : Tree) (n : ℕ) (works : Reworks t u n) (still : Still t u n) where
   none_done : get u.nodes n ≡ None → u ≡ t
   none_done none =
@@ -96,16 +114,20 @@ module _ (t u : Tree) (n : ℕ) (works : Reworks t u n) (still : Still t u n) wh
       let nodes = same_numbers u.nodes t.nodes (λ q. here_or_other (λ k. get u.nodes k ≡ get t.nodes k) n q (none ∙ sym before) (works.others q)) in
       λ i. record { nodes = nodes i; names = works.names i }
 
-  done_by : (o : Option Node) → get u.nodes n ≡ o → u ≡ tree_after (becomes n o).updates t
+  done_by : (o : Option Node) → get u.nodes n ≡ o → u ≡ tree_after (node_update n o) t
   done_by None is = none_done is
   done_by (Some node) is = sym (put_tree (bare t) n node u works is)
+
+  -- the tree u is what setting its node makes of t
+  pub node_done : u ≡ tree_after (node_update n (get u.nodes n)) t
+  node_done = done_by (get u.nodes n) refl
 
   -- each node is there as before, with as many names
   same_nodes : HasSameNodes t u
   same_nodes q = here_or_other (λ k. names_at u k ≡ names_at t k) n q still (λ other. ap count (works.others q other))
 
   pub becomes_done : u ≡ tree_after (becomes_in n u).updates t
-  becomes_done = done_by (get u.nodes n) refl
+  becomes_done = node_done ∙ ap (λ us. tree_after us t) (sym (becomes_updates n (get u.nodes n)))
 
 -- ---- calls
 
@@ -123,3 +145,24 @@ unless_done false o p t u reply fails done = done
 
 pub not_large : (size : ℕ) → size ≤ MOST_FILE_BYTES → nat_lt MOST_FILE_BYTES size ≡ false
 not_large size small = false_from_ne_true (nat_lt MOST_FILE_BYTES size) (λ is. let more : MOST_FILE_BYTES < size = ltb-true MOST_FILE_BYTES size is in omega arith)
+
+-- ---- writes
+
+pub below_limit : (at b : ℕ) (bytes : List ℕ) → at < MOST_FILE_BYTES → is_beyond at (b ∷ bytes) ≡ false
+below_limit at b bytes below =
+    ap (λ none. not none && nat_le MOST_FILE_BYTES at) (leb-suc-zero (length bytes)) ∙ lt-leb MOST_FILE_BYTES at below
+
+-- a write of some bytes below it
+pub is_written : (t : Tree) (n now at : ℕ) (bytes : List ℕ) → (length bytes == 0) ≡ false → at < MOST_FILE_BYTES
+    → write_bytes t n now at bytes ≡ overwrites t n now at bytes
+is_written t n now at [] some below = absurd (not_true (sym some))
+is_written t n now at (b ∷ bytes) some below =
+    ap (λ c. cond c (replies (refused Fbig)) (overwrites t n now at (b ∷ bytes))) (below_limit at b bytes below)
+
+-- a call that has written so many bytes, and replies with their count
+pub overwrites_is : (t u : Tree) (n now at : ℕ) (bytes : List ℕ) (count : ℕ) (reply : Reply) → is_file t n ≡ true → u ≡ overwritten t n now at bytes
+    → count ≡ written_count at bytes → reply ≡ success count 0 → IsDone (overwrites t n now at bytes) t u reply
+overwrites_is t u n now at bytes count reply file is counted answered = (
+  ap answer.Reply (answered ∙ ap (λ k. success k 0) counted),
+  is ∙ node_done t (overwritten t n now at bytes) n (overwritten_reworks t n now at bytes file) (overwritten_still t n now at bytes),
+)

@@ -6,24 +6,32 @@ ghost use Rattle.file_calls.specs.Opens.{IsThere};
 
 use crate::changes::{file_allocate, file_stat_fput, file_stat_put};
 use crate::listings::file_readdir;
+use crate::reading::{fd_pread, map_file};
 use crate::stats::{file_stat_fget, file_stat_get};
 use crate::symlinks::file_readlink;
+use crate::writing::fd_pwrite;
 use abi_types::{Call, Errno, OpenKind, Reply};
 use file_tree::Tree;
 use right_rules::refused;
 use std::alloc::{AllocError, Global};
+
+// The flag of a mapping that has no file.
+const ANONYMOUS: u32 = 1;
 
 /// The descriptor on whose open the call works, where it is a call that does.
 pub fn opened_fd(call: &Call) -> Option<u32>
     ensures { result ≡ model.opened_fd call.now }
 {
     match call {
-        Call::FileAllocate { fd, .. }
+        Call::FdPread { fd, .. }
+        | Call::FdPwrite { fd, .. }
+        | Call::FileAllocate { fd, .. }
         | Call::FileReaddir { fd, .. }
         | Call::FileReadlink { fd, .. }
         | Call::FileStatFget { fd }
         | Call::FileStatFput { fd, .. } => Some(*fd),
         Call::FileStatGet { lookup, .. } | Call::FileStatPut { lookup, .. } => Some(lookup.fd),
+        Call::MemMap { flags, fd, .. } if *flags & ANONYMOUS == 0 => Some(*fd),
         _ => None,
     }
 }
@@ -44,6 +52,10 @@ pub fn on_open(
     ensures nodes { HasSameNodes tree.old tree.new }
 {
     match call {
+        Call::FdPread { length, offset, .. } => fd_pread(alloc, tree, kind, *length, *offset),
+        Call::FdPwrite { bytes, offset, .. } => {
+            fd_pwrite(tree, kind, now, *offset, bytes.as_slice())
+        }
         Call::FileAllocate { offset, length, .. } => {
             file_allocate(tree, kind, now, *offset, *length)
         }
@@ -64,6 +76,12 @@ pub fn on_open(
             stat,
             flags,
         } => Ok(file_stat_put(tree, kind, now, lookup.flags, path.as_slice(), stat, *flags)),
+        Call::MemMap {
+            place,
+            length,
+            offset,
+            ..
+        } => map_file(alloc, tree, kind, *place, *length, *offset),
         _ => Ok(refused(Errno::Nosys)),
     }
 }

@@ -1,8 +1,8 @@
 //! What calls on files do that work on the open of one descriptor, a file's or a directory's: they look at the file tree, or
-//! change a size or times. They make no name and take none away.
+//! change bytes, a size or times. They make no name and take none away, and leave the open as it is.
 //!
 //! [`on_open`] does such a call on the open and the tree that it is passed. Which calls these are, and of which descriptor's
-//! open, [`opened_fd`] tells.
+//! open, [`opened_fd`] tells. [`read_file`] and [`overwrite`] are of use to calls that move the open too.
 //!
 //! What other calls share with them is here too: where a path leads, why it leads nowhere ([`Refusal`]), and changes of one
 //! node.
@@ -11,13 +11,17 @@
 pub use changes::{set_modified, set_size};
 pub use dispatch::{on_open, opened_fd};
 pub use paths::{found, lookup_mode, path_error, walked};
+pub use reading::read_file;
 pub use refusal::{Refusal, reply_of};
 pub use stats::type_number;
+pub use writing::overwrite;
 
 mod changes;
 mod dispatch;
 mod listings;
 mod paths;
+mod reading;
 mod refusal;
 mod stats;
 mod symlinks;
+mod writing;

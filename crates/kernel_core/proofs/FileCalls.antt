@@ -1,5 +1,6 @@
 -- Calls that work on the open of a descriptor change the file tree alone.
 --     put_all_tree      updates of the tree alone give a state with the tree that they make
+--     file_does      a call means what its outcome is
 --     tree_valid      a valid state with another tree, whose nodes have as many names, is valid where it is nearly so
 --     there_behind      what stands behind an open of a valid state is there
 --     absent_answers      without an open such a call answers BADF, and leaves the state
@@ -20,12 +21,15 @@ use Rattle.abi_types.specs.declared.open_kind.OpenKind.TheVariants.{File, Direct
 use Rattle.abi_types.specs.declared.reply.Answer.{Answer}
 use Rattle.abi_types.specs.declared.reply.Answer.TheVariants as answer
 use Rattle.abi_types.specs.declared.reply.Reply.{Reply}
+use Rattle.abi_types.specs.declared.who.Who.{Who}
 use Rattle.tree_model.specs.Opens.{opens_of_node}
 use Rattle.tree_model.specs.Tree.{links_in, links_of}
 use Rattle.tree_model.specs.declared.limits.TheConstants.{ROOT}
+use Rattle.kernel_model.specs.Calls.{meaning_of}
 use Rattle.kernel_model.specs.ClockCalls.{real_time}
 use Rattle.kernel_model.specs.FileCalls.{file_meaning, opened_fd}
 use Rattle.kernel_model.specs.FileMeaning.{open_of}
+use Rattle.kernel_model.specs.Meaning.{Meaning}
 use Rattle.kernel_model.specs.Outcome.{Outcome, replies}
 use Rattle.kernel_model.specs.Release.{release}
 use Rattle.kernel_model.specs.Reply.{refused}
@@ -49,6 +53,14 @@ put_all_tree [] S h = refl
 put_all_tree (set_node n node ∷ us) S h = put_all_tree us (put_one (set_node n node) S) h.1
 put_all_tree (set_names n names ∷ us) S h = put_all_tree us (put_one (set_names n names) S) h.1
 put_all_tree (u ∷ us) S h = absurd h.0
+
+-- ---- what the calls mean
+
+pub file_does : (constants : Constants) (S : State) (who : Who) (table : Table) (called : Call) (fd : ℕ) → opened_fd called ≡ Some fd
+    → (meaning_of called).does constants (whole S) who table ≡ file_outcome constants S table fd called
+file_does constants S who table called fd is =
+    let on = on_open_of called fd is in
+    ap (λ (m : Meaning). m.does constants (whole S) who table) on.means ∙ ap (λ n. file_outcome constants S table n called) on.of
 
 -- ---- validity
 
@@ -96,6 +108,9 @@ absent_is_badf (call.FileStatFget n) fd now t is = refl
 absent_is_badf (call.FileStatFput n stat flags) fd now t is = refl
 absent_is_badf (call.FileStatGet lookup path) fd now t is = refl
 absent_is_badf (call.FileStatPut lookup path stat flags) fd now t is = refl
+absent_is_badf (call.FdPread n length offset) fd now t is = refl
+absent_is_badf (call.FdPwrite n bytes offset) fd now t is = refl
+absent_is_badf (call.MemMap place length prot flags n offset) fd now t is = refl
 absent_is_badf other fd now t is = absurd (none_is_no fd is)
 
 -- what is said of a call that answers so and leaves this state

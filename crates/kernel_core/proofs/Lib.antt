@@ -7,6 +7,7 @@ pub mod Counts
 pub mod Ends
 pub mod Lives
 pub mod Streams
+pub mod MovingCalls
 pub mod Answers
 pub mod Acts
 pub mod Starts

@@ -3,5 +3,6 @@ pub mod Start
 pub mod Answering
 pub mod Changes
 pub mod Files
+pub mod Moving
 pub mod Names
 pub mod Opening

@@ -1,13 +1,11 @@
 //! What calls answer that change nothing of the kernel's state.
-ghost use Rattle.std.specs.Prelude.{◌≡◌, ◌==◌, bit_and, cond};
-ghost use Rattle.abi_base.specs.declared.errno.Errno.TheVariants as error;
+ghost use Rattle.std.specs.Prelude.{◌≡◌};
 ghost use Rattle.abi_types.specs.declared.constants.Constants as constants;
 ghost use Rattle.abi_types.specs.declared.who.Who as who;
 ghost use Rattle.kernel_core.specs.Answering.{DoesMore};
 ghost use Rattle.kernel_model.specs.Calls.{meaning_of};
 ghost use Rattle.kernel_model.specs.MemoryCalls.{placed};
 ghost use Rattle.kernel_model.specs.Outcome.{replies};
-ghost use Rattle.kernel_model.specs.Reply as reply;
 ghost use Rattle.kernel_model.specs.State.{Table};
 ghost use Rattle.kernel_model.specs.View.{View};
 
@@ -24,17 +22,6 @@ fn placed(place: Place) -> Reply
     }
 }
 
-// A mapping with these flags: of zeros where they have ANON. A mapping of a file's bytes isn't built yet.
-fn mapped(place: Place, flags: u32) -> Reply
-    ensures { result ≡ cond (bit_and flags 1 == 1) (placed place) (reply.refused error.Nosys) }
-{
-    if flags & 1 == 1 {
-        placed(place)
-    } else {
-        refused(Errno::Nosys)
-    }
-}
-
 /// What a call answers that does no more than that, once no descriptor and no right is missing. A call that isn't built yet
 /// answers NOSYS.
 pub fn answer_of(call: &Call) -> Reply
@@ -42,13 +29,16 @@ pub fn answer_of(call: &Call) -> Reply
     ensures { (c : constants.Constants) (v : View) (w : who.Who) (table : Table) → (meaning_of call.now).does c v w table ≡ replies result }
 {
     match call {
-        Call::MemMap { place, flags, .. } => mapped(*place, *flags),
+        Call::MemMap { place, .. } => placed(*place),
         Call::Memory { errno, .. } | Call::Refused { errno, .. } => refused(*errno),
         Call::FdDatasync { .. } | Call::FdSync { .. } | Call::FileAdvise { .. } => success(0, 0),
         Call::FdClose { .. }
         | Call::FdDup { .. }
+        | Call::FdPread { .. }
+        | Call::FdPwrite { .. }
         | Call::FdRead { .. }
         | Call::FdReplace { .. }
+        | Call::FdSeek { .. }
         | Call::FdStatGet { .. }
         | Call::FdStatPut { .. }
         | Call::FdWrite { .. }
@@ -71,9 +61,6 @@ pub fn answer_of(call: &Call) -> Reply
         | Call::CondvarSignal { .. }
         | Call::FdCreate1 { .. }
         | Call::FdCreate2 { .. }
-        | Call::FdPread { .. }
-        | Call::FdPwrite { .. }
-        | Call::FdSeek { .. }
         | Call::LockUnlock { .. }
         | Call::Poll { .. }
         | Call::ProcExec { .. }

@@ -5,7 +5,7 @@ ghost use Rattle.abi_types.specs.declared.descriptor.Denial.TheVariants as denia
 ghost use Rattle.abi_types.specs.declared.reply.Answer.TheVariants as answer;
 ghost use Rattle.kernel_core.specs.Changes.{change_outcome, HasReplaced, IsDup};
 ghost use Rattle.kernel_core.specs.Files.{file_outcome};
-ghost use Rattle.kernel_core.specs.Kernel.{terms_after, is_live, any_live};
+ghost use Rattle.kernel_core.specs.Kernel.{is_live, any_live};
 ghost use Rattle.kernel_model.specs.Calls.{named, need, takes_memory};
 ghost use Rattle.kernel_model.specs.FileCalls as files;
 ghost use Rattle.kernel_model.specs.Laws.{HasAll, IsFirstLack, IsOfFirstLack, IsOfPath};
@@ -20,7 +20,6 @@ ghost use Rattle.kernel_model.specs.Start.{start_state};
 ghost use Rattle.kernel_model.specs.State.{put_all, Table, Part, has_part, Agree, thread_of, tree_of, written_to};
 ghost use Rattle.kernel_model.specs.Step.{act, failed, outside, MayLackMemory, IsStep, IsUntouched, end_unreleased, end_state};
 ghost use Rattle.kernel_model.specs.DescriptorCalls.{stat_get, stat_of, flags_of};
-ghost use Rattle.kernel_model.specs.StreamCalls.{read_from, read_term, write_term, write_to};
 ghost use Rattle.kernel_model.specs.Valid.{IsValid};
 ghost use Rattle.kernel_model.specs.View.{whole};
 
@@ -32,9 +31,10 @@ use crate::table::let_go_all;
 use crate::table_change::TableChange;
 use crate::terminal::Terminal;
 use abi_types::{
-    Answer, Bytes, Call, Constants, Denial, Descriptor, Errno, FdStat, Needed, OpenKind, Payload,
+    Answer, Call, Constants, Denial, Descriptor, Errno, FdStat, Needed, OpenKind, Payload,
     Pid, Reply, Status, Thread, Tid, TryClone, Who,
 };
+use fd_calls::moved_fd;
 use fd_table::FdTable;
 use file_calls::{on_open, opened_fd, type_number};
 use file_tree::Tree;
@@ -74,48 +74,6 @@ impl Model for Kernel {
     ghost view = { λ k. record { clock = k.clock; tables = k.tables; own = k.own; statuses = k.statuses; opens = k.objects.kinds; nodes = k.tree.nodes; names = k.tree.names; terms = k.terms } };
 
     ghost invariant = { λ k. IsKept (record { clock = k.clock; tables = k.tables; own = k.own; statuses = k.statuses; opens = k.objects.kinds; nodes = k.tree.nodes; names = k.tree.names; terms = k.terms }) k.objects.counts };
-}
-
-// Writes the bytes to a standard stream. `Err` changes nothing.
-fn write_term(terms: &mut NumMap<Terminal>, which: u32, bytes: &Bytes) -> Result<Answer, AllocError>
-    ensures ok { IfOk result (λ given. (given ≡ (write_term bytes.now which (map.get terms.old which)).answer)
-        × (terms.new ≡ terms_after (write_term bytes.now which (map.get terms.old which)).updates terms.old)) }
-    ensures err { OnErr result (terms.new ≡ terms.old) }
-    ensures there { (k : ℕ) → IsSome (map.get terms.old k) → IsSome (map.get terms.new k) }
-{
-    if !terms.contains(u64::from(which)) {
-        return Ok(Answer::Reply(refused(Errno::Badf)));
-    }
-    let stream = terms.get_mut(u64::from(which));
-    match stream.write(bytes.as_slice()) {
-        Ok(()) => Ok(Answer::Reply(success(bytes.len() as u64, 0))),
-        Err(error) => Err(error),
-    }
-}
-
-// Reads from a standard stream at most so many bytes. `Err` changes nothing.
-fn read_term(
-    alloc: Global,
-    terms: &mut NumMap<Terminal>,
-    which: u32,
-    most: u64,
-) -> Result<Answer, AllocError>
-    ensures ok { IfOk result (λ given. (given ≡ (read_term most which (map.get terms.old which)).answer)
-        × (terms.new ≡ terms_after (read_term most which (map.get terms.old which)).updates terms.old)) }
-    ensures err { OnErr result (terms.new ≡ terms.old) }
-    ensures there { (k : ℕ) → IsSome (map.get terms.old k) → IsSome (map.get terms.new k) }
-{
-    if !terms.contains(u64::from(which)) {
-        return Ok(Answer::Reply(refused(Errno::Badf)));
-    }
-    let stream = terms.get_mut(u64::from(which));
-    match stream.read(alloc, most) {
-        Ok(bytes) => {
-            let count = bytes.len() as u64;
-            Ok(Answer::Reply(success_with(count, Payload::Content(bytes))))
-        }
-        Err(error) => Err(error),
-    }
 }
 
 // An open's flags. A process has none.
@@ -181,58 +139,6 @@ impl Kernel {
         self.own.get_mut(p).end();
         let_go_all(self.tables.get_mut(p), &mut self.objects);
         release(&mut self.objects, &mut self.tree);
-    }
-
-    // Writes the bytes to what the descriptor stands for. `Err` changes nothing.
-    fn fd_write(&mut self, pid: Pid, fd: u32, bytes: &Bytes) -> Result<Answer, AllocError>
-        ensures ok { IfOk result (λ given. (table : Table) → map.get self.old.tables pid ≡ Some table →
-            (given ≡ (write_to (whole self.old) bytes.now (map.get table fd)).answer)
-            × (self.new ≡ put_all (write_to (whole self.old) bytes.now (map.get table fd)).updates self.old)) }
-        ensures err { OnErr result (self.new ≡ self.old) }
-    {
-        let Some(table) = self.tables.get(u64::from(pid.0)) else {
-            return Ok(Answer::Reply(refused(Errno::Badf)));
-        };
-        let Some(descriptor) = table.get(fd) else {
-            return Ok(Answer::Reply(refused(Errno::Badf)));
-        };
-        match self.objects.get(descriptor.id) {
-            None => Ok(Answer::Reply(refused(Errno::Badf))),
-            Some(OpenKind::Terminal { which, .. }) => write_term(&mut self.terms, *which, bytes),
-            Some(
-                OpenKind::File { .. }
-                | OpenKind::Directory { .. }
-                | OpenKind::End { .. }
-                | OpenKind::Process(_),
-            ) => Ok(Answer::Reply(refused(Errno::Badf))),
-        }
-    }
-
-    // Reads at most so many bytes from what the descriptor stands for. `Err` changes nothing.
-    fn fd_read(&mut self, pid: Pid, fd: u32, most: u64) -> Result<Answer, AllocError>
-        ensures ok { IfOk result (λ given. (table : Table) → map.get self.old.tables pid ≡ Some table →
-            (given ≡ (read_from (whole self.old) most (map.get table fd)).answer)
-            × (self.new ≡ put_all (read_from (whole self.old) most (map.get table fd)).updates self.old)) }
-        ensures err { OnErr result (self.new ≡ self.old) }
-    {
-        let Some(table) = self.tables.get(u64::from(pid.0)) else {
-            return Ok(Answer::Reply(refused(Errno::Badf)));
-        };
-        let Some(descriptor) = table.get(fd) else {
-            return Ok(Answer::Reply(refused(Errno::Badf)));
-        };
-        match self.objects.get(descriptor.id) {
-            None => Ok(Answer::Reply(refused(Errno::Badf))),
-            Some(OpenKind::Terminal { which, .. }) => {
-                read_term(self.alloc, &mut self.terms, *which, most)
-            }
-            Some(
-                OpenKind::File { .. }
-                | OpenKind::Directory { .. }
-                | OpenKind::End { .. }
-                | OpenKind::Process(_),
-            ) => Ok(Answer::Reply(refused(Errno::Badf))),
-        }
     }
 
     // What the descriptor is and may do.
@@ -314,13 +220,15 @@ impl Kernel {
         if let Some(fd) = opened_fd(call) {
             return self.file_call(constants, who.pid, fd, call);
         }
+        if let Some(fd) = moved_fd(call) {
+            return self.moving_call(constants, who.pid, fd, call);
+        }
         if let Some((fd, other)) = named_fds(call) {
             return self.name_call(constants, who.pid, fd, other, call);
         }
         match call {
             Call::FdClose { fd } => self.change_descriptors(who.pid, &TableChange::Close(*fd)),
             Call::FdDup { fd } => self.change_descriptors(who.pid, &TableChange::Dup(*fd)),
-            Call::FdRead { fd, length } => self.fd_read(who.pid, *fd, *length),
             Call::FdReplace { from, to } => {
                 let change = TableChange::Replace {
                     from: *from,
@@ -337,7 +245,6 @@ impl Kernel {
                 };
                 self.change_descriptors(who.pid, &change)
             }
-            Call::FdWrite { fd, bytes } => self.fd_write(who.pid, *fd, bytes),
             Call::FileOpen {
                 lookup,
                 path,

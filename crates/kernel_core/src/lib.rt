@@ -6,6 +6,7 @@ pub use run_types::{Act, Entry, History, Launch, Record};
 
 mod answering;
 mod kernel;
+mod moving;
 mod names;
 mod opening;
 mod own;

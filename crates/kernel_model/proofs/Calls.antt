@@ -9,6 +9,7 @@ use Rattle.kernel_model.proofs.Answering.{each_row_is_proper, listing_is_proper,
 use Rattle.kernel_model.proofs.MemoryCalls.{decided_is_proper, mem_map_is_proper}
 use Rattle.kernel_model.proofs.ProcessCalls.{proc_exit_is_proper}
 use Rattle.kernel_model.proofs.DescriptorCalls.{fd_close_is_proper, fd_dup_is_proper, fd_replace_is_proper, fd_stat_get_is_proper, fd_stat_put_is_proper}
+use Rattle.kernel_model.proofs.FileBytes.{fd_pread_is_proper, fd_pwrite_is_proper}
 use Rattle.kernel_model.proofs.FileChanges.{file_allocate_is_proper, file_stat_fput_is_proper, file_stat_put_is_proper}
 use Rattle.kernel_model.proofs.FileLooks.{file_advise_is_proper, file_readdir_is_proper, file_readlink_is_proper, file_stat_fget_is_proper, file_stat_get_is_proper}
 use Rattle.kernel_model.proofs.NameLinking.{file_link_is_proper}
@@ -16,7 +17,7 @@ use Rattle.kernel_model.proofs.NameMaking.{file_create_is_proper, file_symlink_i
 use Rattle.kernel_model.proofs.NameMoving.{file_rename_is_proper}
 use Rattle.kernel_model.proofs.NameRemoving.{file_unlink_is_proper}
 use Rattle.kernel_model.proofs.Opening.{file_open_is_proper}
-use Rattle.kernel_model.proofs.StreamCalls.{fd_read_is_proper, fd_write_is_proper}
+use Rattle.kernel_model.proofs.StreamCalls.{fd_read_is_proper, fd_seek_is_proper, fd_write_is_proper}
 
 pub proper : (call : Call) → IsProper (meaning_of call)
 proper (call.ClockResGet clock) = naming_is_proper []
@@ -27,11 +28,11 @@ proper (call.FdCreate1 kind) = naming_is_proper []
 proper (call.FdCreate2 kind) = naming_is_proper []
 proper (call.FdDatasync fd) = needing_is_proper fd _
 proper (call.FdDup fd) = fd_dup_is_proper fd
-proper (call.FdPread fd length offset) = row_is_proper _
-proper (call.FdPwrite fd bytes offset) = row_is_proper _
+proper (call.FdPread fd length offset) = fd_pread_is_proper fd length offset
+proper (call.FdPwrite fd bytes offset) = fd_pwrite_is_proper fd bytes offset
 proper (call.FdRead fd length) = fd_read_is_proper fd length
 proper (call.FdReplace from to) = fd_replace_is_proper from to
-proper (call.FdSeek fd offset whence) = row_is_proper _
+proper (call.FdSeek fd offset whence) = fd_seek_is_proper offset whence fd
 proper (call.FdStatGet fd) = fd_stat_get_is_proper fd
 proper (call.FdStatPut fd stat flags) = fd_stat_put_is_proper fd stat flags
 proper (call.FdSync fd) = needing_is_proper fd _
@@ -51,7 +52,7 @@ proper (call.FileStatPut lookup path stat flags) = file_stat_put_is_proper looku
 proper (call.FileSymlink text fd path) = file_symlink_is_proper text fd path
 proper (call.FileUnlink fd path flags) = file_unlink_is_proper fd path flags
 proper (call.LockUnlock lock word scope) = naming_is_proper []
-proper (call.MemMap place length prot flags fd offset) = mem_map_is_proper place prot flags fd
+proper (call.MemMap place length prot flags fd offset) = mem_map_is_proper place length prot flags fd offset
 proper (call.Memory number errno) = decided_is_proper errno
 proper (call.Poll subscriptions) = each_row_is_proper (wait_rows subscriptions)
 proper (call.ProcExec fd bytes fds) = listing_is_proper _ fds

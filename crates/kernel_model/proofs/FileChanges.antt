@@ -1,7 +1,8 @@
 -- The meanings of the calls that change sizes and times are proper.
-use Rattle.std.proofs.Common.{◌≡◌, ◌⊎◌, ℕ, ◌+◌, ◌==◌, ◌||◌, Bool, true, false, cond, List, [], ◌∷◌, length, Option, Some, None, inl, inr, refl, sym, ap, subst, ◌∙◌}
+use Rattle.std.proofs.Common.{◌≡◌, ◌⊎◌, ℕ, ◌+◌, ◌==◌, ◌||◌, Bool, true, false, cond, List, [], ◌∷◌, length, map, Option, Some, None, inl, inr, refl, sym, ap, subst, ◌∙◌}
 use Rattle.std.specs.Prelude.{⊤, bit_and, max, nat_lt}
 use Rattle.std.specs.FinMap.{get}
+use Rattle.std.specs.List.{AllByRecursion}
 use Rattle.abi_base.specs.declared.errno.Errno.{Errno}
 use Rattle.abi_base.specs.declared.errno.Errno.TheVariants.{Badf, Fbig}
 use Rattle.abi_structures.specs.declared.structures.FileStat.{FileStat}
@@ -9,6 +10,7 @@ use Rattle.abi_types.specs.declared.call.Lookup.{Lookup}
 use Rattle.abi_types.specs.declared.node.Node.{Node}
 use Rattle.abi_types.specs.declared.open_kind.OpenKind.{OpenKind}
 use Rattle.abi_types.specs.declared.open_kind.OpenKind.TheVariants.{File, Directory, End, Terminal, Process}
+use Rattle.abi_types.specs.declared.reply.Answer.TheVariants as answer
 use Rattle.path_lookup.specs.declared.ends.WalkMode.{WalkMode}
 use Rattle.tree_model.specs.Below.{below_self}
 use Rattle.tree_model.specs.Changes.{bytes_in, bytes_of, is_file, with_bytes}
@@ -18,13 +20,14 @@ use Rattle.tree_model.specs.declared.limits.TheConstants.{MOST_FILE_BYTES}
 use Rattle.kernel_model.specs.FileChanges.{retimed, modified, sized, allocated, times_put, put_times, has_size, put_size, put_stat, becomes, becomes_in, unless_large, node_part, changing, allocate, file_allocate, asked_size, put_open, file_stat_fput, put_found, put_by_path, file_stat_put}
 use Rattle.kernel_model.specs.FilePaths.{lookup_mode, outside_of, path_errors, walked}
 use Rattle.kernel_model.specs.Outcome.{Outcome, replies}
-use Rattle.kernel_model.specs.Proper.{IsIn, IsPlain, IsProper, IsUnset}
-use Rattle.kernel_model.specs.Reply.{refused}
+use Rattle.kernel_model.specs.Proper.{IsIn, IsPlain, IsProper}
+use Rattle.kernel_model.specs.Reply.{refused, success}
 use Rattle.kernel_model.specs.Sight.{behind, node_parts}
-use Rattle.kernel_model.specs.State.{State, Tree, tree_of, Part, at_node, same_part, has_part, put_all}
+use Rattle.kernel_model.specs.State.{State, Tree, tree_of, Part, Update, at_node, same_part, has_part, part_of, put_all}
+use Rattle.kernel_model.specs.TreeUpdates.{node_update}
 use Rattle.kernel_model.specs.Valid.{HasBehind, IsNearlyValid}
 use Rattle.kernel_model.proofs.Branches.{IsSeen, node_is_part}
-use Rattle.kernel_model.proofs.FileMeanings.{KeepsWell, SetsTree, file_is_proper}
+use Rattle.kernel_model.proofs.FileMeanings.{IsOfTree, KeepsWell, SetsTree, file_is_proper}
 use Rattle.kernel_model.proofs.FilePaths.{GoesAlike, at_walked_holds, at_walked_plain, at_walked_reads, at_walked_unset, badf_among, found_is_seen, path_errors_lack, walked_plainly, walked_reads}
 use Rattle.kernel_model.proofs.Parts.{outside_cons, same_part_is}
 use Rattle.kernel_model.proofs.Reworks.{Alike, Reworks, reworks_self, reworks_twice, retimed_alike, retimed_reworks, set_node_nearly_valid, with_bytes_alike, with_bytes_reworks}
@@ -90,32 +93,36 @@ module _ (flags : ℕ) (stat : FileStat) (now : ℕ) where
 
 -- ---- what a call makes of a node
 
-becomes_tree : (n : ℕ) (o : Option Node) → SetsTree (becomes n o)
-becomes_tree n None = tt
-becomes_tree n (Some node) = (tt, tt)
+node_tree : (n : ℕ) (o : Option Node) → AllByRecursion IsOfTree (node_update n o)
+node_tree n None = tt
+node_tree n (Some node) = (tt, tt)
 
-becomes_unset : (n : ℕ) (o : Option Node) (q : Part) → same_part (at_node n) q ≡ false → IsUnset (becomes n o) q
-becomes_unset n None q h = refl
-becomes_unset n (Some node) q h = ap (λ b. b || false) h
+node_unset : (n : ℕ) (o : Option Node) (q : Part) → same_part (at_node n) q ≡ false → has_part (map part_of (node_update n o)) q ≡ false
+node_unset n None q h = refl
+node_unset n (Some node) q h = ap (λ b. b || false) h
+
+node_valid : (S : State) (n : ℕ) (u : Tree) (o : Option Node) → Reworks (tree_of S) u n → get u.nodes n ≡ o → IsNearlyValid S
+    → IsNearlyValid (put_all (node_update n o) S)
+node_valid S n u None works there nearly = nearly
+node_valid S n u (Some node) works there nearly = set_node_nearly_valid S n node u works there nearly
+
+becomes_holds : (P : List Update → Type 0) (n : ℕ) (o : Option Node) → P (node_update n o) → P (becomes n o).updates
+becomes_holds P n None h = h
+becomes_holds P n (Some node) h = h
 
 becomes_plain : (errors : List Errno) → IsIn Badf errors → (n : ℕ) (o : Option Node) → IsPlain errors (becomes n o)
 becomes_plain errors badf n None = (refl, inr (refl, badf))
 becomes_plain errors badf n (Some node) = (refl, inl refl)
 
-becomes_valid : (S : State) (n : ℕ) (u : Tree) (o : Option Node) → Reworks (tree_of S) u n → get u.nodes n ≡ o → IsNearlyValid S
-    → IsNearlyValid (put_all (becomes n o).updates S)
-becomes_valid S n u None works there nearly = nearly
-becomes_valid S n u (Some node) works there nearly = set_node_nearly_valid S n node u works there nearly
-
 -- ---- what a call makes of an open's node
 
-abbrev change_errors : List Errno
+abbrev pub change_errors : List Errno
 change_errors = Badf ∷ Fbig ∷ []
 
-badf_among_changes : IsIn Badf change_errors
+pub badf_among_changes : IsIn Badf change_errors
 badf_among_changes = ([], Fbig ∷ [], refl)
 
-fbig_among_changes : IsIn Fbig change_errors
+pub fbig_among_changes : IsIn Fbig change_errors
 fbig_among_changes = (Badf ∷ [], [], refl)
 
 -- a file that is open is there
@@ -123,23 +130,43 @@ abbrev IsFileThere : Tree → Option OpenKind → Type 0
 IsFileThere t (Some (File node offset flags)) = is_file t node ≡ true
 IsFileThere t _ = ⊤
 
--- the outcome is a refusal, or the open's node becomes another one of the same kind
-abbrev IsChange : Tree → Option OpenKind → Outcome → Type 0
+-- the outcome is plain, and it sets nothing, or the open's node becomes another one of the same kind
+abbrev pub IsChange : Tree → Option OpenKind → Outcome → Type 0
 IsChange t kind o =
-    ((errno : Errno) × (o ≡ replies (refused errno)) × IsIn errno change_errors)
-    ⊎ ((node : ℕ) × (w : Tree) × (o ≡ becomes_in node w) × (node_part t kind ≡ at_node node ∷ []) × (IsFileThere t kind → Reworks t w node))
+    IsPlain change_errors o
+    × ((o.updates ≡ [])
+    ⊎ ((node : ℕ) × (w : Tree) × (o.updates ≡ node_update node (get w.nodes node)) × (node_part t kind ≡ at_node node ∷ [])
+    × (IsFileThere t kind → Reworks t w node)))
 
-refuses : (t : Tree) (kind : Option OpenKind) (errno : Errno) → IsIn errno change_errors → IsChange t kind (replies (refused errno))
-refuses t kind errno here = inl (errno, refl, here)
+pub refuses : (t : Tree) (kind : Option OpenKind) (errno : Errno) → IsIn errno change_errors → IsChange t kind (replies (refused errno))
+refuses t kind errno here = ((refl, inr (refl, here)), inl refl)
 
--- what holds of each such outcome
-change_holds : (P : Outcome → Type 0) (t : Tree) (kind : Option OpenKind) (o : Outcome) → IsChange t kind o
-    → ((errno : Errno) → IsIn errno change_errors → P (replies (refused errno)))
-    → ((node : ℕ) (w : Tree) → node_part t kind ≡ at_node node ∷ [] → (IsFileThere t kind → Reworks t w node) → P (becomes_in node w)) → P o
-change_holds P t kind o (inl error) refused changed = subst P (sym error.1) (refused error.0 error.2)
-change_holds P t kind o (inr made) refused changed = subst P (sym made.2) (changed made.0 made.1 made.3 made.4)
+pub succeeds : (t : Tree) (kind : Option OpenKind) (result : ℕ) → IsChange t kind (replies (success result 0))
+succeeds t kind result = ((refl, inl refl), inl refl)
 
-either_change : (b : Bool) (t : Tree) (kind : Option OpenKind) (errno : Errno) (o : Outcome) → IsIn errno change_errors → IsChange t kind o
+module _ (t : Tree) (kind : Option OpenKind) (node : ℕ) (w : Tree) (part : node_part t kind ≡ at_node node ∷ [])
+    (works : IsFileThere t kind → Reworks t w node) where
+  -- with a result
+  pub makes : (result : ℕ) → IsChange t kind (record { answer = answer.Reply (success result 0); updates = node_update node (get w.nodes node) })
+  makes result = ((refl, inl refl), inr (node, w, refl, part, works))
+
+  remakes : IsChange t kind (becomes_in node w)
+  remakes = (
+    becomes_plain change_errors badf_among_changes node (get w.nodes node),
+    inr (node, w, becomes_holds (λ us. us ≡ node_update node (get w.nodes node)) node (get w.nodes node) refl, part, works),
+  )
+
+-- what holds of what each such outcome sets
+change_holds : (P : List Update → Type 0) (t : Tree) (kind : Option OpenKind) (o : Outcome) → IsChange t kind o → P []
+    → ((node : ℕ) (w : Tree) → node_part t kind ≡ at_node node ∷ [] → (IsFileThere t kind → Reworks t w node) → P (node_update node (get w.nodes node)))
+    → P o.updates
+change_holds P t kind o is none changed =
+    elim is.1 [
+      | inl unset ↦ subst P (sym unset) none
+      | inr made ↦ subst P (sym made.2) (changed made.0 made.1 made.3 made.4)
+    ]
+
+pub either_change : (b : Bool) (t : Tree) (kind : Option OpenKind) (errno : Errno) (o : Outcome) → IsIn errno change_errors → IsChange t kind o
     → IsChange t kind (cond b (replies (refused errno)) o)
 either_change true t kind errno o here is = refuses t kind errno here
 either_change false t kind errno o here is = is
@@ -164,27 +191,24 @@ node_is_seen S (Some (End reads writes flags)) q h = absurd (not_true h)
 node_is_seen S (Some (Terminal which flags)) q h = absurd (not_true h)
 node_is_seen S (Some (Process p)) q h = absurd (not_true h)
 
-changing_keeps_well : (does : ℕ → Tree → Option OpenKind → Outcome)
+pub changing_keeps_well : (does : ℕ → Tree → Option OpenKind → Outcome)
     → ((now : ℕ) (t u : Tree) (kind : Option OpenKind) → IsSeen t u kind → does now u kind ≡ does now t kind)
     → ((now : ℕ) (t : Tree) (kind : Option OpenKind) → IsChange t kind (does now t kind)) → KeepsWell (changing does)
 changing_keeps_well does alike is = record {
   reads = alike;
   walks = λ t u kind seen. refl;
   tree = λ now t kind.
-      change_holds SetsTree t kind (does now t kind) (is now t kind) (λ errno here. tt) (λ node w part works. becomes_tree node (get w.nodes node));
+      change_holds (AllByRecursion IsOfTree) t kind (does now t kind) (is now t kind) tt (λ node w part works. node_tree node (get w.nodes node));
   sets = λ now t kind q h.
-      change_holds (λ o. IsUnset o q) t kind (does now t kind) (is now t kind) (λ errno here. refl)
+      change_holds (λ us. has_part (map part_of us) q ≡ false) t kind (does now t kind) (is now t kind) refl
       (λ node w part works.
-      becomes_unset node (get w.nodes node) q (outside_cons (at_node node) [] q (sym (ap (λ parts. has_part parts q) part) ∙ h)).0);
+      node_unset node (get w.nodes node) q (outside_cons (at_node node) [] q (sym (ap (λ parts. has_part parts q) part) ∙ h)).0);
   seen = node_is_seen;
-  plain = λ now t kind.
-      change_holds (IsPlain change_errors) t kind (does now t kind) (is now t kind) (λ errno here. (refl, inr (refl, here)))
-      (λ node w part works. becomes_plain change_errors badf_among_changes node (get w.nodes node));
-  lacks = ((λ e. cc), ((λ e. cc), tt));
+  plain = λ now t kind. (is now t kind).0;
+  lacks = λ _. ((λ e. cc), ((λ e. cc), tt));
   valid = λ now S kind behind nearly.
-      change_holds (λ (o : Outcome). IsNearlyValid (put_all o.updates S)) (tree_of S) kind (does now (tree_of S) kind) (is now (tree_of S) kind)
-      (λ errno here. nearly)
-      (λ node w part works. becomes_valid S node w (get w.nodes node) (works (file_there S kind behind)) refl nearly);
+      change_holds (λ us. IsNearlyValid (put_all us S)) (tree_of S) kind (does now (tree_of S) kind) (is now (tree_of S) kind) nearly
+      (λ node w part works. node_valid S node w (get w.nodes node) (works (file_there S kind behind)) refl nearly);
 }
 
 -- ---- file_allocate
@@ -202,7 +226,7 @@ allocate_is : (size now : ℕ) (t : Tree) (kind : Option OpenKind) → IsChange 
 allocate_is size now t None = refuses t None Badf badf_among_changes
 allocate_is size now t (Some (File node offset flags)) =
     either_change (nat_lt MOST_FILE_BYTES size) t (Some (File node offset flags)) Fbig _ fbig_among_changes
-    (inr (node, allocated t node now size, refl, refl, λ file. allocated_reworks t node now size file))
+    (remakes t (Some (File node offset flags)) node (allocated t node now size) refl (λ file. allocated_reworks t node now size file))
 allocate_is size now t (Some (Directory node flags)) = refuses t (Some (Directory node flags)) Badf badf_among_changes
 allocate_is size now t (Some (End reads writes flags)) = refuses t (Some (End reads writes flags)) Badf badf_among_changes
 allocate_is size now t (Some (Terminal which flags)) = refuses t (Some (Terminal which flags)) Badf badf_among_changes
@@ -232,10 +256,10 @@ module _ (flags : ℕ) (stat : FileStat) where
   put_open_is now t None = refuses t None Badf badf_among_changes
   put_open_is now t (Some (File node offset f)) =
       either_change (nat_lt MOST_FILE_BYTES (asked_size flags stat)) t (Some (File node offset f)) Fbig _ fbig_among_changes
-      (inr (node, put_stat flags stat now t node, refl, refl, λ file. put_stat_reworks flags stat now t node file))
+      (remakes t (Some (File node offset f)) node (put_stat flags stat now t node) refl (λ file. put_stat_reworks flags stat now t node file))
   put_open_is now t (Some (Directory node f)) =
       either_change (has_size flags) t (Some (Directory node f)) Badf _ badf_among_changes
-      (inr (node, put_times flags stat now t node, refl, refl, λ file. put_times_reworks flags stat now t node))
+      (remakes t (Some (Directory node f)) node (put_times flags stat now t node) refl (λ file. put_times_reworks flags stat now t node))
   put_open_is now t (Some (End reads writes f)) = refuses t (Some (End reads writes f)) Badf badf_among_changes
   put_open_is now t (Some (Terminal which f)) = refuses t (Some (Terminal which f)) Badf badf_among_changes
   put_open_is now t (Some (Process p)) = refuses t (Some (Process p)) Badf badf_among_changes
@@ -255,17 +279,18 @@ pub put_by_path_keeps_well : (mode : WalkMode) (path : List ℕ) (flags : ℕ) (
 put_by_path_keeps_well mode path flags stat = record {
   reads = λ now t u kind seen. at_walked_reads (put_found flags stat now) (put_found_alike flags stat now) t u mode path kind seen;
   walks = λ t u kind seen. ap outside_of (walked_reads t u mode path kind seen);
-  tree = λ now t kind. at_walked_holds SetsTree (put_found flags stat now t) (λ reply. tt) (λ n. becomes_tree n _) (walked t mode path kind);
-  sets = λ now t kind q h. at_walked_unset (put_found flags stat now t) q (λ n apart. becomes_unset n _ q apart) (walked t mode path kind) h;
+  tree = λ now t kind. at_walked_holds SetsTree (put_found flags stat now t) (λ reply. tt) (λ n. becomes_holds (AllByRecursion IsOfTree) n _ (node_tree n _)) (walked t mode path kind);
+  sets = λ now t kind q h. at_walked_unset (put_found flags stat now t) q (λ n apart. becomes_holds (λ us. has_part (map part_of us) q ≡ false) n _ (node_unset n _ q apart)) (walked t mode path kind) h;
   seen = λ S kind q h. found_is_seen S mode path kind q h;
   plain = λ now t kind.
       at_walked_plain (put_found flags stat now t) (λ n. becomes_plain path_errors badf_among n _) (walked t mode path kind) (walked_plainly t mode path kind);
-  lacks = path_errors_lack;
+  lacks = λ _. path_errors_lack;
   valid = λ now S kind behind nearly.
       at_walked_holds (λ (o : Outcome). IsNearlyValid (put_all o.updates S)) (put_found flags stat now (tree_of S)) (λ reply. nearly)
       (λ n.
-      becomes_valid S n (put_times flags stat now (tree_of S) n) (get (put_times flags stat now (tree_of S) n).nodes n)
-      (put_times_reworks flags stat now (tree_of S) n) refl nearly)
+      becomes_holds (λ us. IsNearlyValid (put_all us S)) n (get (put_times flags stat now (tree_of S) n).nodes n)
+      (node_valid S n (put_times flags stat now (tree_of S) n) (get (put_times flags stat now (tree_of S) n).nodes n)
+      (put_times_reworks flags stat now (tree_of S) n) refl nearly))
       (walked (tree_of S) mode path kind);
 }
 

@@ -1,10 +1,10 @@
 -- The meanings of the calls that look at files, directories and symlinks are proper.
-use Rattle.std.proofs.Common.{◌≡◌, ◌⊎◌, ℕ, ◌+◌, List, [], ◌∷◌, ◌++◌, Option, Some, None, inl, inr, refl, sym, ap, subst, ◌∙◌}
+use Rattle.std.proofs.Common.{◌≡◌, ◌≢◌, ◌⊎◌, ℕ, ◌+◌, Bool, true, List, [], ◌∷◌, ◌++◌, Option, Some, None, inl, inr, refl, sym, ap, subst, ◌∙◌}
 use Rattle.std.specs.Prelude.{take, drop}
 use Rattle.std.specs.FinMap.{entries, get}
 use Rattle.std.specs.List.{AllByRecursion}
 use Rattle.abi_base.specs.declared.errno.Errno.{Errno}
-use Rattle.abi_base.specs.declared.errno.Errno.TheVariants.{Badf, Inval, Success}
+use Rattle.abi_base.specs.declared.errno.Errno.TheVariants.{Badf, Inval, Nomem, Success}
 use Rattle.abi_types.specs.declared.call.Lookup.{Lookup}
 use Rattle.abi_types.specs.declared.node.Node.{Node}
 use Rattle.abi_types.specs.declared.node.NodeKind.{NodeKind}
@@ -38,11 +38,11 @@ use Rattle.kernel_model.proofs.Tests.{not_true}
 abbrev pub Answers : List Errno → Outcome → Type 0
 Answers errors o = (reply : Reply) × (o ≡ replies reply) × (reply.denial ≡ None) × ((reply.errno ≡ Success) ⊎ IsIn reply.errno errors)
 
-refuses : (errors : List Errno) (errno : Errno) → IsIn errno errors → Answers errors (replies (refused errno))
-refuses errors errno here = (refused errno, refl, refl, inr here)
+pub answers_refused : (errors : List Errno) (errno : Errno) → IsIn errno errors → Answers errors (replies (refused errno))
+answers_refused errors errno here = (refused errno, refl, refl, inr here)
 
-done : (errors : List Errno) (reply : Reply) → reply.denial ≡ None → reply.errno ≡ Success → Answers errors (replies reply)
-done errors reply plain success = (reply, refl, plain, inl success)
+pub answers_done : (errors : List Errno) (reply : Reply) → reply.denial ≡ None → reply.errno ≡ Success → Answers errors (replies reply)
+answers_done errors reply plain success = (reply, refl, plain, inl success)
 
 reply_plain : (errors : List Errno) (reply : Reply) → reply.denial ≡ None → (reply.errno ≡ Success) ⊎ IsIn reply.errno errors → IsPlain errors (replies reply)
 reply_plain errors reply plain (inl success) = (plain, inl success)
@@ -65,18 +65,25 @@ answers_valid : (errors : List Errno) (o : Outcome) (S : State) → Answers erro
 answers_valid errors o S h nearly = answers_hold (λ (x : Outcome). IsNearlyValid (put_all x.updates S)) errors o h (λ reply. nearly)
 
 -- a look at an open
-looking_keeps_well : (looks : Tree → Option OpenKind → Outcome) → ((t u : Tree) (kind : Option OpenKind) → IsSeen t u kind → looks u kind ≡ looks t kind)
+module _ (looks : Tree → Option OpenKind → Outcome) (errors : List Errno) (takes : Bool)
+    (alike : (t u : Tree) (kind : Option OpenKind) → IsSeen t u kind → looks u kind ≡ looks t kind)
+    (answers : (t : Tree) (kind : Option OpenKind) → Answers errors (looks t kind))
+    (lacks : takes ≡ true → AllByRecursion (λ errno. errno ≢ Nomem) errors) where
+  pub looks_keep_well : KeepsWell (record (looking looks) { errors = errors; takes_memory = takes })
+  looks_keep_well = record {
+    reads = λ now t u kind seen. alike t u kind seen;
+    walks = λ t u kind seen. refl;
+    tree = λ now t kind. answers_tree errors (looks t kind) (answers t kind);
+    sets = λ now t kind q h. answers_unset errors (looks t kind) q (answers t kind);
+    seen = λ S kind q h. absurd (not_true h);
+    plain = λ now t kind. answers_plainly errors (looks t kind) (answers t kind);
+    lacks = lacks;
+    valid = λ now S kind behind nearly. answers_valid errors (looks (tree_of S) kind) S (answers (tree_of S) kind) nearly;
+  }
+
+pub looking_keeps_well : (looks : Tree → Option OpenKind → Outcome) → ((t u : Tree) (kind : Option OpenKind) → IsSeen t u kind → looks u kind ≡ looks t kind)
     → ((t : Tree) (kind : Option OpenKind) → Answers (Badf ∷ []) (looks t kind)) → KeepsWell (looking looks)
-looking_keeps_well looks alike answers = record {
-  reads = λ now t u kind seen. alike t u kind seen;
-  walks = λ t u kind seen. refl;
-  tree = λ now t kind. answers_tree (Badf ∷ []) (looks t kind) (answers t kind);
-  sets = λ now t kind q h. answers_unset (Badf ∷ []) (looks t kind) q (answers t kind);
-  seen = λ S kind q h. absurd (not_true h);
-  plain = λ now t kind. answers_plainly (Badf ∷ []) (looks t kind) (answers t kind);
-  lacks = ((λ e. cc), tt);
-  valid = λ now S kind behind nearly. answers_valid (Badf ∷ []) (looks (tree_of S) kind) S (answers (tree_of S) kind) nearly;
-}
+looking_keeps_well looks alike answers = looks_keep_well looks (Badf ∷ []) true alike answers (λ _. ((λ e. cc), tt))
 
 -- a look at what a path leads to
 by_path_keeps_well : (mode : WalkMode) (path : List ℕ) (goes : Tree → ℕ → Outcome) → GoesAlike goes → ((t : Tree) (n : ℕ) → Answers path_errors (goes t n))
@@ -91,7 +98,7 @@ by_path_keeps_well mode path goes alike answers = record {
   seen = λ S kind q h. absurd (not_true h);
   plain = λ now t kind.
       at_walked_plain (goes t) (λ n. answers_plainly path_errors (goes t n) (answers t n)) (walked t mode path kind) (walked_plainly t mode path kind);
-  lacks = path_errors_lack;
+  lacks = λ _. path_errors_lack;
   valid = λ now S kind behind nearly.
       at_walked_holds (λ (o : Outcome). IsNearlyValid (put_all o.updates S)) (goes (tree_of S)) (λ reply. nearly)
       (λ n. answers_valid path_errors (goes (tree_of S) n) S (answers (tree_of S) n) nearly) (walked (tree_of S) mode path kind);
@@ -105,8 +112,8 @@ file_advise_is_proper fd = needing_is_proper fd _
 -- ---- file_stat_fget and file_stat_get
 
 tell_answers : (errors : List Errno) → IsIn Badf errors → (n : ℕ) (o : Option Node) → Answers errors (tell_node n o)
-tell_answers errors badf n None = refuses errors Badf badf
-tell_answers errors badf n (Some node) = done errors _ refl refl
+tell_answers errors badf n None = answers_refused errors Badf badf
+tell_answers errors badf n (Some node) = answers_done errors _ refl refl
 
 tell_alike : GoesAlike tell_in
 tell_alike t u n same = ap (tell_node n) (sym same)
@@ -122,14 +129,14 @@ tell_open_alike t u (Some (Terminal which flags)) seen = refl
 tell_open_alike t u (Some (Process p)) seen = refl
 
 tell_open_answers : (t : Tree) (kind : Option OpenKind) → Answers (Badf ∷ []) (tell_open t kind)
-tell_open_answers t None = refuses (Badf ∷ []) Badf ([], [], refl)
+tell_open_answers t None = answers_refused (Badf ∷ []) Badf ([], [], refl)
 tell_open_answers t (Some (File node offset flags)) = tell_answers (Badf ∷ []) ([], [], refl) node (get t.nodes node)
 tell_open_answers t (Some (Directory node flags)) = tell_answers (Badf ∷ []) ([], [], refl) node (get t.nodes node)
-tell_open_answers t (Some (End (Some reads) writes flags)) = done (Badf ∷ []) _ refl refl
-tell_open_answers t (Some (End None (Some writes) flags)) = done (Badf ∷ []) _ refl refl
-tell_open_answers t (Some (End None None flags)) = refuses (Badf ∷ []) Badf ([], [], refl)
-tell_open_answers t (Some (Terminal which flags)) = done (Badf ∷ []) _ refl refl
-tell_open_answers t (Some (Process p)) = refuses (Badf ∷ []) Badf ([], [], refl)
+tell_open_answers t (Some (End (Some reads) writes flags)) = answers_done (Badf ∷ []) _ refl refl
+tell_open_answers t (Some (End None (Some writes) flags)) = answers_done (Badf ∷ []) _ refl refl
+tell_open_answers t (Some (End None None flags)) = answers_refused (Badf ∷ []) Badf ([], [], refl)
+tell_open_answers t (Some (Terminal which flags)) = answers_done (Badf ∷ []) _ refl refl
+tell_open_answers t (Some (Process p)) = answers_refused (Badf ∷ []) Badf ([], [], refl)
 
 pub tell_open_keeps_well : KeepsWell (looking tell_open)
 tell_open_keeps_well = looking_keeps_well tell_open tell_open_alike tell_open_answers
@@ -147,12 +154,12 @@ file_stat_get_is_proper lookup path =
 -- ---- file_readlink
 
 link_answers : (n : ℕ) (kind : NodeKind) → Answers path_errors (read_link n kind)
-link_answers n (kind.File bytes) = refuses path_errors Inval inval_among
-link_answers n kind.Directory = refuses path_errors Inval inval_among
-link_answers n (kind.Link text) = done path_errors _ refl refl
+link_answers n (kind.File bytes) = answers_refused path_errors Inval inval_among
+link_answers n kind.Directory = answers_refused path_errors Inval inval_among
+link_answers n (kind.Link text) = answers_done path_errors _ refl refl
 
 read_answers : (n : ℕ) (o : Option Node) → Answers path_errors (read_node n o)
-read_answers n None = refuses path_errors Badf badf_among
+read_answers n None = answers_refused path_errors Badf badf_among
 read_answers n (Some node) = link_answers n node.kind
 
 pub read_link_keeps_well : (path : List ℕ) (n : ℕ) → KeepsWell (by_path NoFollow path (λ now. read_link_in n))
@@ -195,16 +202,16 @@ list_open_alike n position t u (Some (Terminal which flags)) seen = refl
 list_open_alike n position t u (Some (Process p)) seen = refl
 
 list_answers : (t : Tree) (n position : ℕ) (o : Option Names) → Answers (Badf ∷ []) (list_names t n position o)
-list_answers t n position None = refuses (Badf ∷ []) Badf ([], [], refl)
-list_answers t n position (Some names) = done (Badf ∷ []) _ refl refl
+list_answers t n position None = answers_refused (Badf ∷ []) Badf ([], [], refl)
+list_answers t n position (Some names) = answers_done (Badf ∷ []) _ refl refl
 
 list_open_answers : (n position : ℕ) (t : Tree) (kind : Option OpenKind) → Answers (Badf ∷ []) (list_open n position t kind)
-list_open_answers n position t None = refuses (Badf ∷ []) Badf ([], [], refl)
-list_open_answers n position t (Some (File node offset flags)) = refuses (Badf ∷ []) Badf ([], [], refl)
+list_open_answers n position t None = answers_refused (Badf ∷ []) Badf ([], [], refl)
+list_open_answers n position t (Some (File node offset flags)) = answers_refused (Badf ∷ []) Badf ([], [], refl)
 list_open_answers n position t (Some (Directory node flags)) = list_answers t n position (get t.names node)
-list_open_answers n position t (Some (End reads writes flags)) = refuses (Badf ∷ []) Badf ([], [], refl)
-list_open_answers n position t (Some (Terminal which flags)) = refuses (Badf ∷ []) Badf ([], [], refl)
-list_open_answers n position t (Some (Process p)) = refuses (Badf ∷ []) Badf ([], [], refl)
+list_open_answers n position t (Some (End reads writes flags)) = answers_refused (Badf ∷ []) Badf ([], [], refl)
+list_open_answers n position t (Some (Terminal which flags)) = answers_refused (Badf ∷ []) Badf ([], [], refl)
+list_open_answers n position t (Some (Process p)) = answers_refused (Badf ∷ []) Badf ([], [], refl)
 
 pub list_keeps_well : (n cookie : ℕ) → KeepsWell (looking (list_open n cookie))
 list_keeps_well n cookie = looking_keeps_well (list_open n cookie) (list_open_alike n cookie) (list_open_answers n cookie)

@@ -88,7 +88,7 @@ pub record KeepsWell (m : FileMeaning) : Type 0 where
   pub seen : (S : State) (kind : Option OpenKind) (q : Part) → has_part (m.changes (tree_of S) kind) q ≡ true → has_part (behind S kind) q ≡ true
   -- its reply
   pub plain : (now : ℕ) (t : Tree) (kind : Option OpenKind) → IsDeniedOutside m.errors (m.outside t kind) (m.does now t kind)
-  pub lacks : AllByRecursion (λ errno. errno ≢ Nomem) m.errors
+  pub lacks : m.takes_memory ≡ true → AllByRecursion (λ errno. errno ≢ Nomem) m.errors
   -- where what stands behind the open is there, it leaves a nearly valid state so
   pub valid : (now : ℕ) (S : State) (kind : Option OpenKind) → ((k : OpenKind) → kind ≡ Some k → HasBehind S k) → IsNearlyValid S
       → IsNearlyValid (put_all (m.does now (tree_of S) kind).updates S)
@@ -130,7 +130,7 @@ module _ (m : FileMeaning) (well : KeepsWell m) where
         (beyond_own who.pid (m.changes (tree_of S) (open_of (whole S) (get table row.fd))) part h).1;
     changes = λ S table part h. file_seen S (get table row.fd) part h;
     plain = λ constants v who table. well.plain (real_time constants v.clock) v.branch (open_of v (get table row.fd));
-    lacks = λ _. well.lacks;
+    lacks = well.lacks;
     others = λ constants v who table q apart.
         tree_unset (m.does (real_time constants v.clock) v.branch (open_of v (get table row.fd))).updates q
         (well.tree (real_time constants v.clock) v.branch (open_of v (get table row.fd)));

@@ -7,7 +7,6 @@ pub mod Sights
 pub mod ObjectNumbers
 pub mod Answering
 pub mod DescriptorCalls
-pub mod StreamCalls
 pub mod Branches
 pub mod FileMeanings
 pub mod NameMeanings
@@ -23,8 +22,11 @@ pub mod TreeChanges
 pub mod LastNames
 pub mod NameMaking
 pub mod NameRemoving
-pub mod FileCalls
+pub mod FileBytes
+pub mod OpenMeanings
+pub mod StreamCalls
 pub mod MemoryCalls
+pub mod FileCalls
 pub mod ProcessCalls
 pub mod NewOpens
 pub mod Opened

@@ -7,7 +7,8 @@ use Rattle.abi_types.specs.declared.call.Call.TheVariants as call
 use Rattle.abi_types.specs.declared.reply.Reply.{Reply}
 use Rattle.abi_types.specs.declared.needed.Needed.{Needed}
 use Rattle.kernel_model.specs.ClockCalls.{clock_res_get, clock_time_get, random_get}
-use Rattle.kernel_model.specs.DescriptorCalls.{fd_close, fd_datasync, fd_dup, fd_replace, fd_seek, fd_stat_get, fd_stat_put, fd_sync}
+use Rattle.kernel_model.specs.DescriptorCalls.{fd_close, fd_datasync, fd_dup, fd_replace, fd_stat_get, fd_stat_put, fd_sync}
+use Rattle.kernel_model.specs.FileBytes.{fd_pread, fd_pwrite}
 use Rattle.kernel_model.specs.FileChanges.{file_allocate, file_stat_fput, file_stat_put}
 use Rattle.kernel_model.specs.FileLooks.{file_advise, file_readdir, file_readlink, file_stat_fget, file_stat_get}
 use Rattle.kernel_model.specs.NameMaking.{file_create, file_symlink}
@@ -17,7 +18,7 @@ use Rattle.kernel_model.specs.Opening.{file_open}
 use Rattle.kernel_model.specs.MemoryCalls.{decided, mem_map}
 use Rattle.kernel_model.specs.ProcessCalls.{proc_exec, proc_exit, proc_fork, proc_raise, thread_create, thread_exit, thread_yield}
 use Rattle.kernel_model.specs.SocketCalls.{fd_create1, fd_create2, sock_recv, sock_send, sock_shutdown}
-use Rattle.kernel_model.specs.StreamCalls.{fd_pread, fd_pwrite, fd_read, fd_write}
+use Rattle.kernel_model.specs.StreamCalls.{fd_read, fd_seek, fd_write}
 use Rattle.kernel_model.specs.WaitCalls.{condvar_signal, lock_unlock, poll}
 use Rattle.kernel_model.specs.Meaning.{Meaning}
 use Rattle.kernel_model.specs.Need as needs
@@ -33,8 +34,8 @@ meaning_of (call.FdCreate1 kind) = fd_create1
 meaning_of (call.FdCreate2 kind) = fd_create2
 meaning_of (call.FdDatasync fd) = fd_datasync fd
 meaning_of (call.FdDup fd) = fd_dup fd
-meaning_of (call.FdPread fd length offset) = fd_pread fd
-meaning_of (call.FdPwrite fd bytes offset) = fd_pwrite fd
+meaning_of (call.FdPread fd length offset) = fd_pread fd length offset
+meaning_of (call.FdPwrite fd bytes offset) = fd_pwrite fd bytes offset
 meaning_of (call.FdRead fd length) = fd_read fd length
 meaning_of (call.FdReplace from to) = fd_replace from to
 meaning_of (call.FdSeek fd offset whence) = fd_seek fd offset whence
@@ -57,7 +58,7 @@ meaning_of (call.FileStatPut lookup path stat flags) = file_stat_put lookup path
 meaning_of (call.FileSymlink text fd path) = file_symlink text fd path
 meaning_of (call.FileUnlink fd path flags) = file_unlink fd path flags
 meaning_of (call.LockUnlock lock word scope) = lock_unlock
-meaning_of (call.MemMap place length prot flags fd offset) = mem_map place prot flags fd
+meaning_of (call.MemMap place length prot flags fd offset) = mem_map place length prot flags fd offset
 meaning_of (call.Memory number errno) = decided errno
 meaning_of (call.Poll subscriptions) = poll subscriptions
 meaning_of (call.ProcExec fd bytes fds) = proc_exec fd fds

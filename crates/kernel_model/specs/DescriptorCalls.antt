@@ -1,10 +1,10 @@
 -- Calls on descriptors themselves.
-use Rattle.std.specs.Prelude.{ℕ, zero, suc, ◌+◌, ◌==◌, ◌&&◌, true, false, bit_and, List, [], ◌∷◌, ◌++◌, Option, None, Some, if◌then◌else◌}
+use Rattle.std.specs.Prelude.{ℕ, zero, suc, ◌+◌, ◌==◌, true, false, bit_and, List, [], ◌∷◌, ◌++◌, Option, None, Some, if◌then◌else◌}
 use Rattle.std.specs.FinMap.{contains_key, get, insert, remove}
 use Rattle.abi_base.specs.declared.errno.Errno.TheVariants.{Badf, Mfile}
 use Rattle.abi_base.specs.declared.limits.TheConstants.{MOST_DESCRIPTORS}
 use Rattle.abi_base.specs.declared.rights.Rights.{Rights}
-use Rattle.abi_base.specs.declared.rights.TheConstants.Rights.{FD_DATASYNC, FD_SEEK, FD_STAT_PUT_FLAGS, FD_SYNC, FD_TELL}
+use Rattle.abi_base.specs.declared.rights.TheConstants.Rights.{FD_DATASYNC, FD_STAT_PUT_FLAGS, FD_SYNC}
 use Rattle.abi_base.specs.Rights.{meet_of}
 use Rattle.abi_structures.specs.declared.structures.FdStat.{FdStat}
 use Rattle.abi_types.specs.declared.descriptor.Descriptor.{Descriptor}
@@ -14,10 +14,10 @@ use Rattle.abi_types.specs.declared.open_kind.OpenKind.TheVariants.{File, Direct
 use Rattle.abi_types.specs.declared.reply.Answer.TheVariants as answer
 use Rattle.abi_types.specs.declared.reply.Payload.TheVariants as payload
 use Rattle.kernel_model.specs.FileTypes.{character_device, directory, fifo, process, regular_file, stream_socket}
-use Rattle.kernel_model.specs.Meaning.{Meaning, answering, unbuilt_row}
+use Rattle.kernel_model.specs.Meaning.{Meaning, answering}
 use Rattle.kernel_model.specs.Outcome.{Outcome, replies}
 use Rattle.kernel_model.specs.Reply.{refused, success}
-use Rattle.kernel_model.specs.Rows.{asking_row, base_row, both, either_row, where_set}
+use Rattle.kernel_model.specs.Rows.{asking_row, base_row, both, where_set}
 use Rattle.kernel_model.specs.State.{Table, Part, Update, at_open, set_open, set_table}
 use Rattle.kernel_model.specs.View.{View}
 
@@ -104,15 +104,6 @@ fd_replace from to = record {
   errors = Badf ∷ [];
   takes_memory = false;
 }
-
--- ---- fd_seek: no open of a valid state has an offset yet, so none has the right that it needs
-
--- FD_SEEK; an offset of 0 from where it is (whence 1) tells it alone, for which FD_TELL will do
-abbrev pub seek_row : ℕ → ℕ → ℕ → Needed
-seek_row fd offset whence = if (offset == 0) && (whence == 1) then either_row fd FD_TELL FD_SEEK else base_row fd FD_SEEK
-
-abbrev pub fd_seek : ℕ → ℕ → ℕ → Meaning
-fd_seek fd offset whence = unbuilt_row (seek_row fd offset whence)
 
 -- ---- fd_stat_get
 

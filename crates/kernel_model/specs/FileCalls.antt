@@ -1,13 +1,15 @@
 -- The calls on files that work on the open of one descriptor: each by its meaning there.
-use Rattle.std.specs.Prelude.{ℕ, ◌+◌, Option, None, Some}
+use Rattle.std.specs.Prelude.{ℕ, ◌+◌, Option, None, Some, if◌then◌else◌}
 use Rattle.abi_base.specs.declared.errno.Errno.TheVariants.{Nosys}
 use Rattle.abi_types.specs.declared.call.Call.{Call}
 use Rattle.abi_types.specs.declared.call.Call.TheVariants as call
 use Rattle.path_lookup.specs.declared.ends.WalkMode.TheVariants.{NoFollow}
+use Rattle.kernel_model.specs.FileBytes.{read_at, write_at}
 use Rattle.kernel_model.specs.FileChanges.{allocate, changing, put_by_path, put_open}
 use Rattle.kernel_model.specs.FileLooks.{list_open, looking, read_link_in, tell_in, tell_open}
 use Rattle.kernel_model.specs.FileMeaning.{FileMeaning}
 use Rattle.kernel_model.specs.FilePaths.{by_path, lookup_mode}
+use Rattle.kernel_model.specs.MemoryCalls.{is_anonymous, mapping}
 use Rattle.kernel_model.specs.Outcome.{replies}
 use Rattle.kernel_model.specs.Reply.{refused}
 
@@ -20,6 +22,9 @@ opened_fd (call.FileStatFget fd) = Some fd
 opened_fd (call.FileStatFput fd stat flags) = Some fd
 opened_fd (call.FileStatGet lookup path) = Some lookup.fd
 opened_fd (call.FileStatPut lookup path stat flags) = Some lookup.fd
+opened_fd (call.FdPread fd length offset) = Some fd
+opened_fd (call.FdPwrite fd bytes offset) = Some fd
+opened_fd (call.MemMap place length prot flags fd offset) = if is_anonymous flags then None else Some fd
 opened_fd _ = None
 
 -- what the call means by the open; any other call has no meaning there
@@ -31,4 +36,7 @@ file_meaning (call.FileStatFget fd) = looking tell_open
 file_meaning (call.FileStatFput fd stat flags) = changing (put_open flags stat)
 file_meaning (call.FileStatGet lookup path) = by_path (lookup_mode lookup.flags) path (λ now. tell_in)
 file_meaning (call.FileStatPut lookup path stat flags) = put_by_path (lookup_mode lookup.flags) path flags stat
+file_meaning (call.FdPread fd length offset) = looking (read_at length offset)
+file_meaning (call.FdPwrite fd bytes offset) = changing (write_at bytes offset)
+file_meaning (call.MemMap place length prot flags fd offset) = mapping place length offset
 file_meaning _ = looking (λ t kind. replies (refused Nosys))

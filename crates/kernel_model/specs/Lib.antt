@@ -17,9 +17,10 @@ pub mod FileMeaning
 pub mod FilePaths
 pub mod FileLooks
 pub mod FileChanges
-pub mod FileCalls
-pub mod Numbers
 pub mod TreeUpdates
+pub mod FileBytes
+pub mod FileOffsets
+pub mod Numbers
 pub mod LastNames
 pub mod NameMeaning
 pub mod NameMaking
@@ -29,8 +30,10 @@ pub mod NameCalls
 pub mod Opening
 pub mod SocketCalls
 pub mod WaitCalls
+pub mod OpenMeaning
 pub mod StreamCalls
 pub mod MemoryCalls
+pub mod FileCalls
 pub mod ProcessCalls
 pub mod Calls
 pub mod Step

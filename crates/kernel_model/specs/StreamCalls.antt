@@ -1,20 +1,35 @@
--- Calls on opens that bytes are read from and written to.
-use Rattle.std.specs.Prelude.{ℕ, true, List, [], ◌∷◌, ◌++◌, length, take, drop, Option, None, Some}
-use Rattle.std.specs.FinMap.{get}
-use Rattle.abi_types.specs.declared.reply.Answer.TheVariants as answer
-use Rattle.abi_types.specs.declared.descriptor.Descriptor.{Descriptor}
-use Rattle.abi_base.specs.declared.errno.Errno.TheVariants.{Badf}
+-- Calls on opens that bytes are read from and written to, at the place where the last one ended.
+use Rattle.std.specs.Prelude.{ℕ, ◌==◌, ◌&&◌, true, false, List, [], ◌∷◌, ◌++◌, length, take, drop, Option, None, Some, if◌then◌else◌}
+use Rattle.abi_base.specs.declared.errno.Errno.TheVariants.{Badf, Fbig, Inval}
+use Rattle.abi_base.specs.declared.rights.TheConstants.Rights.{FD_READ, FD_SEEK, FD_TELL, FD_WRITE}
+use Rattle.abi_types.specs.declared.needed.Needed.{Needed}
 use Rattle.abi_types.specs.declared.open_kind.OpenKind.{OpenKind}
-use Rattle.abi_types.specs.declared.open_kind.OpenKind.TheVariants.{Terminal}
+use Rattle.abi_types.specs.declared.open_kind.OpenKind.TheVariants.{File, Terminal}
+use Rattle.abi_types.specs.declared.reply.Answer.TheVariants as answer
 use Rattle.abi_types.specs.declared.stream.Stream.{Stream}
-use Rattle.abi_base.specs.declared.rights.TheConstants.Rights.{FD_READ, FD_SEEK, FD_WRITE}
-use Rattle.kernel_model.specs.Meaning.{Meaning, unbuilt_row}
+use Rattle.kernel_model.specs.FileOffsets.{moves_open, read_on, seek_open_file, write_on}
+use Rattle.kernel_model.specs.Meaning.{Meaning}
+use Rattle.kernel_model.specs.OpenMeaning.{OpenMeaning, by_open}
 use Rattle.kernel_model.specs.Outcome.{Outcome, replies}
 use Rattle.kernel_model.specs.Reply.{content, refused, success}
-use Rattle.kernel_model.specs.Rows.{base_row, both}
-use Rattle.kernel_model.specs.Sight.{reached_by}
-use Rattle.kernel_model.specs.State.{set_term}
+use Rattle.kernel_model.specs.Rows.{base_row, either_row}
+use Rattle.kernel_model.specs.State.{Part, at_node, at_term, set_term}
 use Rattle.kernel_model.specs.View.{View}
+
+-- ---- what such calls may change
+
+-- the standard stream of an open
+abbrev pub stream_part : Option OpenKind → List Part
+stream_part (Some (Terminal which flags)) = at_term which ∷ []
+stream_part _ = []
+
+-- what is written to by an open: a standard stream or a file
+abbrev pub written_part : Option OpenKind → List Part
+written_part (Some (Terminal which flags)) = at_term which ∷ []
+written_part (Some (File node offset flags)) = at_node node ∷ []
+written_part _ = []
+
+-- ---- fd_write
 
 -- bytes written to a standard stream: all are written, and their count is the result
 abbrev pub write_term : List ℕ → ℕ → Option Stream → Outcome
@@ -24,29 +39,23 @@ write_term bytes which (Some stream) = record {
   updates = set_term which (record stream { written = stream.written ++ bytes }) ∷ [];
 }
 
--- bytes written to an open: so far a standard stream alone takes them
-abbrev pub write_open : View → List ℕ → Option OpenKind → Outcome
-write_open v bytes None = replies (refused Badf)
-write_open v bytes (Some (Terminal which flags)) = write_term bytes which (v.term which)
-write_open v bytes (Some _) = replies (refused Badf)
+-- bytes written to the open of this number: so far standard streams and files take them
+abbrev pub write_open : ℕ → View → List ℕ → ℕ → Option OpenKind → Outcome
+write_open now v bytes o None = replies (refused Badf)
+write_open now v bytes o (Some (Terminal which flags)) = write_term bytes which (v.term which)
+write_open now v bytes o (Some (File node offset flags)) = moves_open o (write_on v.branch node offset flags now bytes)
+write_open now v bytes o (Some _) = replies (refused Badf)
 
--- bytes written to a descriptor
-abbrev pub write_to : View → List ℕ → Option Descriptor → Outcome
-write_to v bytes None = replies (refused Badf)
-write_to v bytes (Some d) = write_open v bytes (v.opened d.id)
-
-abbrev pub fd_write : ℕ → List ℕ → Meaning
-fd_write fd bytes = record {
-  named = fd ∷ [];
-  need = base_row fd FD_WRITE ∷ [];
-  seen = fd ∷ [];
-  does = λ constants v who table. write_to v bytes (get table fd);
-  outside = λ v table. None;
-  changes = λ S table. reached_by S (get table fd);
-  numbers = 0;
-  errors = Badf ∷ [];
+abbrev pub writing : List ℕ → OpenMeaning
+writing bytes = record {
+  does = λ now v. write_open now v bytes;
+  changes = written_part;
+  errors = Badf ∷ Fbig ∷ [];
   takes_memory = true;
 }
+
+abbrev pub fd_write : ℕ → List ℕ → Meaning
+fd_write fd bytes = by_open (base_row fd FD_WRITE) (writing bytes)
 
 -- ---- fd_read
 
@@ -58,34 +67,42 @@ read_term n which (Some stream) = record {
   updates = set_term which (record stream { left = drop n stream.left }) ∷ [];
 }
 
--- bytes read from an open: so far a standard stream alone gives them
-abbrev pub read_open : View → ℕ → Option OpenKind → Outcome
-read_open v n None = replies (refused Badf)
-read_open v n (Some (Terminal which flags)) = read_term n which (v.term which)
-read_open v n (Some _) = replies (refused Badf)
+-- bytes read from the open of this number: so far standard streams and files give them
+abbrev pub read_open : View → ℕ → ℕ → Option OpenKind → Outcome
+read_open v n o None = replies (refused Badf)
+read_open v n o (Some (Terminal which flags)) = read_term n which (v.term which)
+read_open v n o (Some (File node offset flags)) = moves_open o (read_on v.branch node offset flags n)
+read_open v n o (Some _) = replies (refused Badf)
 
--- bytes read from a descriptor
-abbrev pub read_from : View → ℕ → Option Descriptor → Outcome
-read_from v n None = replies (refused Badf)
-read_from v n (Some d) = read_open v n (v.opened d.id)
-
-abbrev pub fd_read : ℕ → ℕ → Meaning
-fd_read fd n = record {
-  named = fd ∷ [];
-  need = base_row fd FD_READ ∷ [];
-  seen = fd ∷ [];
-  does = λ constants v who table. read_from v n (get table fd);
-  outside = λ v table. None;
-  changes = λ S table. reached_by S (get table fd);
-  numbers = 0;
+abbrev pub reading : ℕ → OpenMeaning
+reading n = record {
+  does = λ now v. read_open v n;
+  changes = stream_part;
   errors = Badf ∷ [];
   takes_memory = true;
 }
 
--- ---- fd_pread and fd_pwrite: no open of a valid state has an offset yet, so none has the rights that they need
+abbrev pub fd_read : ℕ → ℕ → Meaning
+fd_read fd n = by_open (base_row fd FD_READ) (reading n)
 
-abbrev pub fd_pread : ℕ → Meaning
-fd_pread fd = unbuilt_row (base_row fd (both FD_READ FD_SEEK))
+-- ---- fd_seek
 
-abbrev pub fd_pwrite : ℕ → Meaning
-fd_pwrite fd = unbuilt_row (base_row fd (both FD_WRITE FD_SEEK))
+-- the open of this number is moved
+abbrev pub seek_open : View → ℕ → ℕ → ℕ → Option OpenKind → Outcome
+seek_open v bits whence o None = replies (refused Badf)
+seek_open v bits whence o (Some kind) = moves_open o (seek_open_file v.branch bits whence kind)
+
+abbrev pub seeking : ℕ → ℕ → OpenMeaning
+seeking bits whence = record {
+  does = λ now v. seek_open v bits whence;
+  changes = λ kind. [];
+  errors = Badf ∷ Inval ∷ [];
+  takes_memory = false;
+}
+
+-- FD_SEEK; an offset of 0 from where it is (whence 1) tells it alone, for which FD_TELL will do
+abbrev pub seek_row : ℕ → ℕ → ℕ → Needed
+seek_row fd bits whence = if (bits == 0) && (whence == 1) then either_row fd FD_TELL FD_SEEK else base_row fd FD_SEEK
+
+abbrev pub fd_seek : ℕ → ℕ → ℕ → Meaning
+fd_seek fd bits whence = by_open (seek_row fd bits whence) (seeking bits whence)

@@ -7,6 +7,7 @@ use Rattle.abi_types.specs.declared.call.Call.{Call}
 use Rattle.abi_types.specs.declared.call.Call.TheVariants.{Memory, Refused}
 use Rattle.abi_base.specs.declared.errno.Errno.{Errno}
 use Rattle.abi_base.specs.declared.errno.Errno.TheVariants.{Success, Again, Badf, Exist, Fault, Fbig, Ilseq, Inval, Isdir, Loop, Mfile, Mlink, NameTooLong, Nobufs, Noent, Nomem, Nosys, Notcapable, Notdir, Notempty, Notsup, Perm}
+use Rattle.abi_types.specs.declared.needed.Needed.{Needed}
 use Rattle.abi_types.specs.declared.place.Place.{Place}
 use Rattle.abi_types.specs.declared.place.Place.TheVariants as place
 use Rattle.abi_types.specs.declared.place.Place.TheVariants.{At}
@@ -14,8 +15,8 @@ use Rattle.abi_base.specs.Registers.{Registers}
 use Rattle.kernel_model.specs.Calls.{errors_of}
 use Rattle.kernel_model.specs.FilePaths.{path_errors}
 use Rattle.kernel_model.specs.Laws.{IsNotDeniedEarly}
-use Rattle.std.specs.Prelude.{bit_and}
-use Rattle.kernel_model.specs.MemoryCalls.{map_file, map_zeros, place_errors}
+use Rattle.kernel_model.specs.FileMeaning.{on_open}
+use Rattle.kernel_model.specs.MemoryCalls.{is_anonymous, map_row, map_zeros, mapping, place_errors}
 use Rattle.kernel_model.specs.NameMaking.{making, making_unless, text_error}
 use Rattle.kernel_model.proofs.Lists.{all_weaker}
 use Rattle.kernel_model.proofs.Refusals.{IsNoLackOf}
@@ -52,6 +53,9 @@ badf_spelled = (λ e. cc, λ e. cc)
 
 fault_spelled : IsSpelled Fault
 fault_spelled = (λ e. cc, λ e. cc)
+
+fbig_spelled : IsSpelled Fbig
+fbig_spelled = (λ e. cc, λ e. cc)
 
 inval_spelled : IsSpelled Inval
 inval_spelled = (λ e. cc, λ e. cc)
@@ -162,10 +166,9 @@ protect_spelled m r =
 
 map_refusal_spelled : (a bytes prot flags offset : ℕ) → IsSpelledIf (map_refusal a bytes prot flags offset)
 map_refusal_spelled a bytes prot flags offset =
-    or_else_spelled (not (has_bits flags 1)) Nosys _ nosys_spelled
-    (or_else_spelled (nat_lt 7 prot || nat_lt 15 flags || bytes == 0 || not (has_one flags 4 8) || not (is_aligned offset)) Inval _ inval_spelled
+    or_else_spelled (nat_lt 7 prot || nat_lt 15 flags || bytes == 0 || not (has_one flags 4 8) || not (is_aligned offset)) Inval _ inval_spelled
     (or_else_spelled (has_bits flags 8 || writes_and_executes prot) Notsup _ notsup_spelled
-    (or_else_spelled (has_bits flags 2 && not (is_aligned a && is_guests a (pages_in bytes))) Inval None inval_spelled tt)))
+    (or_else_spelled (has_bits flags 2 && not (is_aligned a && is_guests a (pages_in bytes))) Inval None inval_spelled tt))
 
 either_place : (b : Bool) (x y : Place) → IsSpelledPlace x → IsSpelledPlace y → IsSpelledPlace (cond b x y)
 either_place true x y h k = h
@@ -181,15 +184,17 @@ place_spelled m a flags k =
     (either_place (nat_le (_) page_limit) (At a) (place.Refused Nobufs) tt (nobufs_spelled, tt))
     (either_place (nat_le (_) page_limit) (place_in (lowest_gap m k)) (place.Refused Nobufs) (gap_spelled (lowest_gap m k)) (nobufs_spelled, tt))
 
-either_map : (zeros : Bool) (place : Place) (fd prot : ℕ) → IsSpelledPlace place → AllByRecursion IsSpelled (cond zeros (map_zeros place) (map_file fd prot)).errors
-either_map true place fd prot h = h
-either_map false place fd prot h = (nosys_spelled, tt)
+either_map : (zeros : Bool) (place : Place) (length offset : ℕ) (row : Needed) → IsSpelledPlace place
+    → AllByRecursion IsSpelled (cond zeros (map_zeros place) (on_open row (mapping place length offset))).errors
+either_map true place length offset row h = h
+either_map false place length offset row h = (badf_spelled, h)
 
 map_spelled : (m : Pages) (r : Registers) → IsSpelledCall (mem_map_of m r)
 map_spelled m r =
     unless_spelled 33 (map_refusal (argument r 0) (argument r 1) (low (argument r 2)) (low (argument r 3)) (argument r 5)) _
     (map_refusal_spelled (argument r 0) (argument r 1) (low (argument r 2)) (low (argument r 3)) (argument r 5))
-    (either_map (bit_and (low (argument r 3)) 1 == 1) (place_of m (argument r 0) (low (argument r 3)) (pages_in (argument r 1))) (low (argument r 4)) (low (argument r 2))
+    (either_map (is_anonymous (low (argument r 3))) (place_of m (argument r 0) (low (argument r 3)) (pages_in (argument r 1))) (argument r 1)
+    (argument r 5) (map_row (low (argument r 4)) (low (argument r 2)))
     (place_spelled m (argument r 0) (low (argument r 3)) (pages_in (argument r 1))))
 
 -- ---- all of them
@@ -199,15 +204,15 @@ args_spelled m r = args_hold IsSpelledCall m r (record {
   fd_close = λ fd. tt;
   fd_datasync = λ fd. tt;
   fd_dup = λ fd. (badf_spelled, (mfile_spelled, tt));
-  fd_pread = λ fd length offset is. (nosys_spelled, tt);
-  fd_pwrite = λ fd bytes offset is. (nosys_spelled, tt);
+  fd_pread = λ fd length offset is. (badf_spelled, tt);
+  fd_pwrite = λ fd bytes offset is. (badf_spelled, (fbig_spelled, tt));
   fd_read = λ fd length is. (badf_spelled, tt);
   fd_replace = λ from to. (badf_spelled, tt);
-  fd_seek = λ fd offset whence is. (nosys_spelled, tt);
+  fd_seek = λ fd offset whence is. (badf_spelled, (inval_spelled, tt));
   fd_stat_get = λ fd is. (badf_spelled, tt);
   fd_stat_put = λ fd stat flags is. (badf_spelled, tt);
   fd_sync = λ fd. tt;
-  fd_write = λ fd bytes. (badf_spelled, tt);
+  fd_write = λ fd bytes. (badf_spelled, (fbig_spelled, tt));
   files = record {
     file_advise = λ fd offset length advice is. tt;
     file_allocate = λ fd offset length is. changing_spelled;

@@ -1,6 +1,7 @@
 //! Guests that make, move and take away names: file_create, file_symlink, file_link, file_rename and file_unlink.
+use crate::byte_asks::Access::FdPread;
 use crate::file_runs::Ask::{
-    Allocate, FdStatGet, Names, Other, Readdir, Readlink, StatFget, StatGet,
+    Allocate, Bytes, FdStatGet, Names, Other, Readdir, Readlink, StatFget, StatGet,
 };
 use crate::file_runs::Path::Is;
 use crate::file_runs::Told::{Done, FdStat, Opened, Read, Refused, Stat};
@@ -591,11 +592,12 @@ const WHOLE: &[Row] = &[
     (Readlink(DIR, Is(b"l"), 8), Read(b"f")),
     (Names(Open(DIR, Is(b"f"), 0, [0, 0x106, 0])), Opened(4)),
     (Allocate(4, 0, 8), Done),
+    (Bytes(FdPread(4, &[(0, 8)], 2)), Read(b"c\0\0\0\0\0")),
     (Names(Symlink(b"f", DIR, b"m")), Done),
     (Names(Create(DIR, b"e")), Done),
     (Readdir(DIR, 60, 0), Read(SECOND)),
     (Names(Link(DIR, b"f", DIR, b"g")), Done),
-    (StatGet(DIR, Is(b"g")), Stat(SHARED, 8, [0, 5000, 9000])),
+    (StatGet(DIR, Is(b"g")), Stat(SHARED, 8, [0, 5000, 10_000])),
     // a file that is linked where another descriptor has more rights is opened with those
     (Names(Open(2, Is(b"f"), 0, [0; 3])), Refused("NOTCAPABLE")),
     (Names(Link(2, b"f", 3, b"f")), Done),

@@ -1,8 +1,9 @@
 //! Guests that call the kernel about files, and the reports of their runs. Each call has 64 bytes of its own for its output; at
 //! the end the guest writes all of them to descriptor 0, which is standard output. `--history` shows each answer.
+use crate::byte_asks::{Access, call_on_bytes, name_on_bytes};
 use crate::calls::{Given, check};
 use crate::guests::program_with;
-use crate::name_asks::{Naming, call_on_names, name_on_names};
+use crate::name_asks::{Asked, Naming, call_on_names, name_on_names, place_asked};
 use guest_kit::{CALL_LIST, CallList};
 use std::alloc::{AllocError, Global};
 use std::process::Abort;
@@ -43,6 +44,10 @@ pub(crate) enum Ask {
     StatPut(u64, Path, Put, u64),
     // The descriptor.
     FdStatGet(u64),
+    // The descriptor, what is put, and the flags.
+    FdStatPut(u64, Asked, u64),
+    // A call on a file's bytes.
+    Bytes(Access),
     // A call on names.
     Names(Naming),
     // The name, the number and the first arguments of any call.
@@ -68,6 +73,10 @@ pub(crate) enum Told {
     Stat(Node, u64, [u64; 3]),
     // The number of a new descriptor.
     Opened(usize),
+    // A count of bytes, an offset or an address.
+    Number(usize),
+    // These bytes are written to standard output, before the calls' output.
+    Shown(&'static [u8]),
     // An fdstat: its kind, its flags, and its base and inheriting rights.
     FdStat(u8, u16, u64, u64),
     // The name of its error.
@@ -158,6 +167,8 @@ fn call_of(list: &mut CallList, ask: &Ask, output: u64) -> Result<[u64; 7], Allo
             Ok([28, *lookup, address, count, stat, *flags, 0])
         }
         Ask::FdStatGet(fd) => Ok([13, *fd, output, 0, 0, 0, 0]),
+        Ask::FdStatPut(fd, put, flags) => Ok([14, *fd, place_asked(list, put)?, *flags, 0, 0, 0]),
+        Ask::Bytes(access) => call_on_bytes(list, access, output),
         Ask::Names(naming) => call_on_names(list, naming),
         Ask::Other(_, [number, a0, a1, a2, a3, a4]) => Ok([*number, *a0, *a1, *a2, *a3, *a4, 0]),
     }
@@ -191,6 +202,8 @@ fn name_of(ask: &Ask) -> &'static str {
         Ask::StatGet(..) => "file_stat_get",
         Ask::StatPut(..) => "file_stat_put",
         Ask::FdStatGet(..) => "fd_stat_get",
+        Ask::FdStatPut(..) => "fd_stat_put",
+        Ask::Bytes(access) => name_on_bytes(access),
         Ask::Names(naming) => name_on_names(naming),
         Ask::Other(name, _) => name,
     }
@@ -237,7 +250,7 @@ fn output_of(alloc: Global, told: &Told) -> Result<Vec<u8>, AllocError> {
         Told::FdStat(kind, flags, base, inheriting) => {
             push_fdstat(&mut bytes, *kind, *flags, &[*base, *inheriting])?;
         }
-        Told::Done | Told::Opened(_) | Told::Refused(_) => {}
+        Told::Done | Told::Opened(_) | Told::Number(_) | Told::Shown(_) | Told::Refused(_) => {}
     }
     for _ in bytes.len()..ROOM {
         bytes.push(0)?;
@@ -245,7 +258,18 @@ fn output_of(alloc: Global, told: &Told) -> Result<Vec<u8>, AllocError> {
     Ok(bytes)
 }
 
-// What the guest writes.
+// What is shown before the calls' output.
+fn shown(alloc: Global, rows: &[Row]) -> Result<Vec<u8>, AllocError> {
+    let mut bytes = Vec::new(alloc);
+    for (_, told) in rows {
+        if let Told::Shown(part) = told {
+            bytes.extend_from_slice(part)?;
+        }
+    }
+    Ok(bytes)
+}
+
+// The output of all calls, which the guest writes at the end.
 fn written(alloc: Global, rows: &[Row]) -> Result<Vec<u8>, AllocError> {
     let mut bytes = Vec::new(alloc);
     for (_, told) in rows {
@@ -267,8 +291,8 @@ fn denial_lines(alloc: Global, denials: &[&str]) -> Result<String, AllocError> {
 fn answer_of(told: &Told) -> (&'static str, usize) {
     match told {
         Told::Done | Told::Stat(..) | Told::FdStat(..) => ("SUCCESS", 0),
-        Told::Read(bytes) => ("SUCCESS", bytes.len()),
-        Told::Opened(number) => ("SUCCESS", *number),
+        Told::Read(bytes) | Told::Shown(bytes) => ("SUCCESS", bytes.len()),
+        Told::Opened(number) | Told::Number(number) => ("SUCCESS", *number),
         Told::Refused(errno) => (errno, 0),
     }
 }
@@ -294,9 +318,12 @@ fn history_lines(alloc: Global, rows: &[Row], count: usize) -> Result<String, Al
 
 // The report of a run. What is written ends with a zero.
 fn report_of(alloc: Global, run: &Run<'_>) -> Result<Vec<u8>, AllocError> {
+    let before = shown(alloc, run.rows)?;
     let bytes = written(alloc, run.rows)?;
-    let head = format!(in alloc; "== stdout {}\n", bytes.len())?;
+    let length = before.len().wrapping_add(bytes.len());
+    let head = format!(in alloc; "== stdout {length}\n")?;
     let mut report = head.into_bytes();
+    report.extend_from_slice(&before)?;
     report.extend_from_slice(&bytes)?;
     report.extend_from_slice(b"\n== stderr 0\n== status exit 0\n== run ended\n")?;
     report.extend_from_slice(denial_lines(alloc, run.denials)?.as_bytes())?;

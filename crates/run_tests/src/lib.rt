@@ -2,15 +2,23 @@
 #![tactic(auto)]
 
 #[cfg(test)]
+mod byte_asks;
+#[cfg(test)]
 mod calls;
 #[cfg(test)]
 mod command_lines;
+#[cfg(test)]
+mod file_bytes;
 #[cfg(test)]
 mod file_changes;
 #[cfg(test)]
 mod file_looks;
 #[cfg(test)]
+mod file_maps;
+#[cfg(test)]
 mod file_names;
+#[cfg(test)]
+mod file_needs;
 #[cfg(test)]
 mod file_opens;
 #[cfg(test)]

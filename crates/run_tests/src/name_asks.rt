@@ -31,8 +31,8 @@ fn place(list: &mut CallList, bytes: &[u8]) -> Result<(u64, u64), AllocError> {
     Ok((list.place(bytes)?, bytes.len() as u64))
 }
 
-// The address of an fdstat that has this, and ones in the other bytes.
-fn place_asked(list: &mut CallList, asked: &Asked) -> Result<u64, AllocError> {
+/// The address of an fdstat that has this, and ones in the other bytes.
+pub(crate) fn place_asked(list: &mut CallList, asked: &Asked) -> Result<u64, AllocError> {
     let [flags, base, inheriting] = asked;
     let [low, high, ..] = flags.to_le_bytes();
     let address = list.place(&[0xff, 0xff, low, high, 0xff, 0xff, 0xff, 0xff])?;

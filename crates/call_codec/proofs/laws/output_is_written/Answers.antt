@@ -1,3 +1,4 @@
+use Rattle.call_codec.proofs.Mappings.{mapping_filled}
 use Rattle.call_codec.proofs.Outputs.{entries_written, found_state_written, link_written, open_state_written, pread_written, read_written, state_written}
 use Rattle.call_codec.proofs.laws.output_is_written.Goals as goal
 
@@ -21,3 +22,6 @@ returns-clause-open_state c = open_state_written
 
 pub returns-clause-found_state : goal.returns-clause-found_state
 returns-clause-found_state c = found_state_written
+
+pub returns-clause-mapping : goal.returns-clause-mapping
+returns-clause-mapping c = mapping_filled

@@ -7,7 +7,7 @@ use Rattle.call_codec.proofs.replies.put_memory.Goals as goal
 pub map-requires : goal.map-requires
 map-requires c =
     let call = MemMap c.in-MemMap.place c.in-MemMap.length c.in-MemMap.prot c.in-MemMap.flags c.in-MemMap.fd c.in-MemMap.offset in
-    subst (λ (k : ℕ). MayMapThere c.args.memory.now c.in-MemMap.place k) (sym c.pages_in.ensures)
+    subst (λ (k : ℕ). MayMapThere c.args.memory.now c.in-MemMap.place k) (sym c.pages_in-pages.ensures)
     (call_suits c.args.memory.now c.args.regs.now call (sym c.in-MemMap.is ∙ c.requires))
 
 pub change-requires-clause-aligned : goal.change-requires-clause-aligned

@@ -11,14 +11,17 @@ use Rattle.kernel_model.specs.Release.{release}
 use Rattle.kernel_model.specs.State.{State, put_all}
 use Rattle.kernel_model.specs.Step.{act}
 use Rattle.kernel_model.specs.DescriptorCalls.{stat_get}
-use Rattle.kernel_model.specs.StreamCalls.{read_from, write_to}
 use Rattle.kernel_model.specs.Valid.{IsValid}
 use Rattle.kernel_model.specs.View.{whole}
 use Rattle.kernel_model.proofs.Valids.{release_valid}
+use Rattle.kernel_core.specs.Files.{file_outcome}
+use Rattle.kernel_core.specs.Moving.{moving_outcome}
 use Rattle.kernel_core.specs.Names.{name_outcome}
 use Rattle.kernel_core.proofs.Answers.{no_more}
+use Rattle.kernel_core.proofs.FileCalls.{file_does}
+use Rattle.kernel_core.proofs.MovingCalls.{moving_does}
 use Rattle.kernel_core.proofs.NameCalls.{names_does}
-use Rattle.kernel_core.proofs.Acts.{act_refused, act_allowed, by_outcome, read_released, stat_get_sets_nothing, write_released}
+use Rattle.kernel_core.proofs.Acts.{act_refused, act_allowed, by_outcome, stat_get_sets_nothing}
 use Rattle.kernel_core.proofs.kernel.Kernel.act.Goals as goal
 use Rattle.kernel_core.proofs.kernel.Kernel.act.Goals.{After-refusal}
 
@@ -66,38 +69,6 @@ returns-in-Some-refusal-clause-ok c =
     (act_refused c.args.constants.now c.args.self.now c.args.who.now c.args.call.now c.in-Some.table.now c.in-Some-refusal.reply (there a)
     (rows a ∙ c.in-Some-refusal.is))
 
-pub returns-in-FdWrite-clause-ok : goal.returns-in-FdWrite-clause-ok
-returns-in-FdWrite-clause-ok c =
-    let a = (goal.at.returns-in-FdWrite-clause-ok c).After-refusal in
-    let constants = c.args.constants.now in
-    let S = c.args.self.now in
-    let who = c.args.who.now in
-    let table = c.in-Some.table.now in
-    let found = get table c.in-FdWrite.fd in
-    let allowed : act constants (whole S) who c.args.call.now ≡ write_to (whole S) c.in-FdWrite.bytes found =
-    act_allowed constants S who c.args.call.now table (there a) (rows a ∙ c.in_default-refusal.is)
-    ∙ ap (λ call. (meaning_of call).does constants (whole S) who table) c.in-FdWrite.is in
-    IfOk-weaker _ _ _
-    (λ given done. by_outcome constants S c.fd_write.new.self who c.args.call.now given _ allowed
-    ((done table (there a)).0, (done table (there a)).1 ∙ sym (write_released S c.in-FdWrite.bytes found (valid a))))
-    c.fd_write.ensures.ok
-
-pub returns-in-FdRead-clause-ok : goal.returns-in-FdRead-clause-ok
-returns-in-FdRead-clause-ok c =
-    let a = (goal.at.returns-in-FdRead-clause-ok c).After-refusal in
-    let constants = c.args.constants.now in
-    let S = c.args.self.now in
-    let who = c.args.who.now in
-    let table = c.in-Some.table.now in
-    let found = get table c.in-FdRead.fd in
-    let allowed : act constants (whole S) who c.args.call.now ≡ read_from (whole S) c.in-FdRead.length found =
-    act_allowed constants S who c.args.call.now table (there a) (rows a ∙ c.in_default-refusal.is)
-    ∙ ap (λ call. (meaning_of call).does constants (whole S) who table) c.in-FdRead.is in
-    IfOk-weaker _ _ _
-    (λ given done. by_outcome constants S c.fd_read.new.self who c.args.call.now given _ allowed
-    ((done table (there a)).0, (done table (there a)).1 ∙ sym (read_released S c.in-FdRead.length found (valid a))))
-    c.fd_read.ensures.ok
-
 pub returns-in-FdStatGet-clause-ok : goal.returns-in-FdStatGet-clause-ok
 returns-in-FdStatGet-clause-ok c =
     let a = (goal.at.returns-in-FdStatGet-clause-ok c).After-refusal in
@@ -117,12 +88,11 @@ answer_of-requires c =
     no_more c.args.call.now (record {
       close = c.in_default-call.not-FdClose;
       dup = c.in_default-call.not-FdDup;
-      read = c.in_default-call.not-FdRead;
       replace = c.in_default-call.not-FdReplace;
       stat_get = c.in_default-call.not-FdStatGet;
       stat_put = c.in_default-call.not-FdStatPut;
-      write = c.in_default-call.not-FdWrite;
       file = sym c.opened_fd.ensures ∙ c.in_default-opened_fd.is;
+      moves = sym c.moved_fd.ensures ∙ c.in_default-moved_fd.is;
       names = sym c.named_fds.ensures ∙ c.in_default-named_fds.is;
       opens = c.in_default-call.not-FileOpen;
       exit = c.in_default-call.not-ProcExit;
@@ -147,3 +117,31 @@ returns-in-Some-named_fds-clause-ok c =
     act_allowed constants S who call table (there a) (rows a ∙ c.in_default-refusal.is)
     ∙ names_does constants S who table call fd other (sym c.named_fds.ensures ∙ c.in-Some-named_fds.is) in
     IfOk-weaker _ _ _ (λ given done. by_outcome constants S c.name_call.new.self who call given _ allowed (done table (there a))) c.name_call.ensures.ok
+
+pub returns-in-Some-opened_fd-clause-ok : goal.returns-in-Some-opened_fd-clause-ok
+returns-in-Some-opened_fd-clause-ok c =
+    let a = (goal.at.returns-in-Some-opened_fd-clause-ok c).After-refusal in
+    let constants = c.args.constants.now in
+    let S = c.args.self.now in
+    let who = c.args.who.now in
+    let call = c.args.call.now in
+    let table = c.in-Some.table.now in
+    let fd = c.in-Some-opened_fd.fd in
+    let allowed : act constants (whole S) who call ≡ file_outcome constants S table fd call =
+    act_allowed constants S who call table (there a) (rows a ∙ c.in_default-refusal.is)
+    ∙ file_does constants S who table call fd (sym c.opened_fd.ensures ∙ c.in-Some-opened_fd.is) in
+    IfOk-weaker _ _ _ (λ given done. by_outcome constants S c.file_call.new.self who call given _ allowed (done table (there a))) c.file_call.ensures.ok
+
+pub returns-in-Some-moved_fd-clause-ok : goal.returns-in-Some-moved_fd-clause-ok
+returns-in-Some-moved_fd-clause-ok c =
+    let a = (goal.at.returns-in-Some-moved_fd-clause-ok c).After-refusal in
+    let constants = c.args.constants.now in
+    let S = c.args.self.now in
+    let who = c.args.who.now in
+    let call = c.args.call.now in
+    let table = c.in-Some.table.now in
+    let fd = c.in-Some-moved_fd.fd in
+    let allowed : act constants (whole S) who call ≡ moving_outcome constants S table fd call =
+    act_allowed constants S who call table (there a) (rows a ∙ c.in_default-refusal.is)
+    ∙ moving_does constants S who table call fd (sym c.moved_fd.ensures ∙ c.in-Some-moved_fd.is) in
+    IfOk-weaker _ _ _ (λ given done. by_outcome constants S c.moving_call.new.self who call given _ allowed (done table (there a))) c.moving_call.ensures.ok

@@ -1,0 +1,12 @@
+//! What calls on descriptors do that work at the offset of a file that is open: they read and write there, which moves it on,
+//! or set it. An open that isn't a file's they refuse.
+//!
+//! [`move_open`] does such a call on the open and the tree that it is passed. Which calls these are, and of which descriptor's
+//! open, [`moved_fd`] tells.
+#![tactic(auto)]
+
+pub use dispatch::{move_open, moved_fd};
+
+mod dispatch;
+mod seeking;
+mod transfers;

@@ -1,0 +1,156 @@
+-- What a meaning on the open of one descriptor keeps to that may make another one of it, and that it is then proper.
+--     IsOfNoProcess, apart_unset, apart_threads, apart_tables      updates of opens, of the tree and of streams set nothing of a
+--         process, and keep its threads and its descriptors
+--     OpensWell m      what is shown of each such meaning
+--     by_open_is_proper      it is proper
+use Rattle.std.proofs.Common.{◌≡◌, ◌≢◌, inl, inr, ℕ, ◌||◌, true, false, List, [], ◌∷◌, ◌++◌, map, Option, Some, None, refl, ap, ◌∙◌}
+use Rattle.std.specs.Prelude.{⊤}
+use Rattle.std.specs.FinMap.{get}
+use Rattle.std.specs.List.{AllByRecursion}
+use Rattle.abi_base.specs.declared.errno.Errno.TheVariants.{Badf, Nomem}
+use Rattle.abi_types.specs.declared.descriptor.Descriptor.{Descriptor}
+use Rattle.abi_types.specs.declared.needed.Needed.{Needed}
+use Rattle.abi_types.specs.declared.open_kind.OpenKind.{OpenKind}
+use Rattle.kernel_model.specs.ClockCalls.{real_time}
+use Rattle.kernel_model.specs.DescriptorCalls.{open_part}
+use Rattle.kernel_model.specs.FileMeaning.{open_of}
+use Rattle.kernel_model.specs.OpenMeaning.{OpenMeaning, at_descriptor, by_open}
+use Rattle.kernel_model.specs.Proper.{IsIn, IsPlain, IsProper, IsUnset}
+use Rattle.kernel_model.specs.Sight.{own_parts, behind, reached_by}
+use Rattle.kernel_model.specs.State.{State, Part, Update, at_proc, at_status, at_open, same_part, has_part, part_of, put_all, put_one, set_node, set_names, set_open, set_term, threads_of}
+use Rattle.kernel_model.specs.Step.{tick}
+use Rattle.kernel_model.specs.Valid.{IsNearlyValid}
+use Rattle.kernel_model.specs.View.{View, restrict, whole}
+use Rattle.kernel_model.proofs.Branches.{seen_parts}
+use Rattle.kernel_model.proofs.Parts.{beyond_own, has_left}
+use Rattle.kernel_model.proofs.Sights.{open_seen}
+use Rattle.kernel_model.proofs.Tests.{either_true, or_true}
+
+-- ---- updates of opens, of the tree and of streams
+
+-- the update is of nothing that a process has of its own
+abbrev pub IsOfNoProcess : Update → Type 0
+IsOfNoProcess (set_open o kind) = ⊤
+IsOfNoProcess (set_node n node) = ⊤
+IsOfNoProcess (set_names n names) = ⊤
+IsOfNoProcess (set_term k stream) = ⊤
+IsOfNoProcess _ = ⊥
+
+abbrev pub AreOfNoProcess : List Update → Type 0
+AreOfNoProcess us = AllByRecursion IsOfNoProcess us
+
+one_unset : (u : Update) (q : ℕ) → IsOfNoProcess u → (same_part (part_of u) (at_proc q) ≡ false) × (same_part (part_of u) (at_status q) ≡ false)
+one_unset (set_open o kind) q h = (refl, refl)
+one_unset (set_node n node) q h = (refl, refl)
+one_unset (set_names n names) q h = (refl, refl)
+one_unset (set_term k stream) q h = (refl, refl)
+one_unset u q h = absurd h
+
+pub apart_unset : (us : List Update) (q : ℕ) → AreOfNoProcess us
+    → (has_part (map part_of us) (at_proc q) ≡ false) × (has_part (map part_of us) (at_status q) ≡ false)
+apart_unset [] q h = (refl, refl)
+apart_unset (u ∷ us) q h =
+    let one = one_unset u q h.0 in
+    let rest = apart_unset us q h.1 in (
+      ap (λ b. b || has_part (map part_of us) (at_proc q)) one.0 ∙ rest.0,
+      ap (λ b. b || has_part (map part_of us) (at_status q)) one.1 ∙ rest.1,
+    )
+
+one_threads : (u : Update) (S : State) (p : ℕ) → IsOfNoProcess u → threads_of (put_one u S) p ≡ threads_of S p
+one_threads (set_open o kind) S p h = refl
+one_threads (set_node n node) S p h = refl
+one_threads (set_names n names) S p h = refl
+one_threads (set_term k stream) S p h = refl
+one_threads u S p h = absurd h
+
+pub apart_threads : (us : List Update) (S : State) (p : ℕ) → AreOfNoProcess us → threads_of (put_all us S) p ≡ threads_of S p
+apart_threads [] S p h = refl
+apart_threads (u ∷ us) S p h = apart_threads us (put_one u S) p h.1 ∙ one_threads u S p h.0
+
+one_tables : (u : Update) (S : State) → IsOfNoProcess u → (put_one u S).tables ≡ S.tables
+one_tables (set_open o kind) S h = refl
+one_tables (set_node n node) S h = refl
+one_tables (set_names n names) S h = refl
+one_tables (set_term k stream) S h = refl
+one_tables u S h = absurd h
+
+pub apart_tables : (us : List Update) (S : State) → AreOfNoProcess us → (put_all us S).tables ≡ S.tables
+apart_tables [] S h = refl
+apart_tables (u ∷ us) S h = apart_tables us (put_one u S) h.1 ∙ one_tables u S h.0
+
+-- ---- meanings
+
+pub record OpensWell (m : OpenMeaning) : Type 0 where
+  -- by what it sees it does what it does by the whole state
+  pub reads : (now : ℕ) (S : State) (p o : ℕ) (kind : Option OpenKind)
+      → m.does now (restrict S (seen_parts S p o kind)) o kind ≡ m.does now (whole S) o kind
+  -- it sets nothing of a process, and nothing beside the open that it doesn't say; and it sees that
+  pub apart : (now : ℕ) (v : View) (o : ℕ) (kind : Option OpenKind) → AreOfNoProcess (m.does now v o kind).updates
+  pub sets : (now : ℕ) (v : View) (o : ℕ) (kind : Option OpenKind) (q : Part) → has_part (at_open o ∷ m.changes kind) q ≡ false
+      → IsUnset (m.does now v o kind) q
+  pub seen : (S : State) (kind : Option OpenKind) (q : Part) → has_part (m.changes kind) q ≡ true → has_part (behind S kind) q ≡ true
+  -- its reply
+  pub plain : (now : ℕ) (v : View) (o : ℕ) (kind : Option OpenKind) → IsPlain m.errors (m.does now v o kind)
+  pub badf : IsIn Badf m.errors
+  pub lacks : m.takes_memory ≡ true → AllByRecursion (λ errno. errno ≢ Nomem) m.errors
+  -- it leaves a nearly valid state so
+  pub valid : (now : ℕ) (S : State) (o : ℕ) (kind : Option OpenKind) → get S.opens o ≡ kind → IsNearlyValid S
+      → IsNearlyValid (put_all (m.does now (whole S) o kind).updates S)
+
+module _ (m : OpenMeaning) (well : OpensWell m) where
+  reads_descriptor : (now : ℕ) (S : State) (p : ℕ) (d : Option Descriptor)
+      → at_descriptor (m.does now (restrict S (own_parts p ++ (reached_by S d ++ [])))) (restrict S (own_parts p ++ (reached_by S d ++ []))) d
+      ≡ at_descriptor (m.does now (whole S)) (whole S) d
+  reads_descriptor now S p None = refl
+  reads_descriptor now S p (Some d) =
+      ap (m.does now (restrict S (own_parts p ++ (reached_by S (Some d) ++ []))) d.id) (open_seen S p d)
+      ∙ well.reads now S p d.id (get S.opens d.id)
+
+  sets_descriptor : (now : ℕ) (S : State) (d : Option Descriptor) (q : Part)
+      → has_part (open_part d ++ m.changes (open_of (whole S) d)) q ≡ false
+      → IsUnset (at_descriptor (m.does now (whole (tick S))) (whole (tick S)) d) q
+  sets_descriptor now S None q h = refl
+  sets_descriptor now S (Some d) q h = well.sets now (whole (tick S)) d.id (get S.opens d.id) q h
+
+  seen_descriptor : (S : State) (d : Option Descriptor) (q : Part) → has_part (open_part d ++ m.changes (open_of (whole S) d)) q ≡ true
+      → has_part (reached_by S d ++ []) q ≡ true
+  seen_descriptor S None q h = well.seen S None q h
+  seen_descriptor S (Some d) q h =
+      has_left (reached_by S (Some d)) [] q (elim (either_true (same_part (at_open d.id) q) (has_part (m.changes (get S.opens d.id)) q) h) [
+        | inl is ↦ ap (λ b. b || has_part (behind S (get S.opens d.id)) q) is
+        | inr there ↦ ap (λ b. same_part (at_open d.id) q || b) (well.seen S (get S.opens d.id) q there) ∙ or_true (same_part (at_open d.id) q)
+      ])
+
+  plain_descriptor : (now : ℕ) (v : View) (d : Option Descriptor) → IsPlain m.errors (at_descriptor (m.does now v) v d)
+  plain_descriptor now v None = (refl, inr (refl, well.badf))
+  plain_descriptor now v (Some d) = well.plain now v d.id (v.opened d.id)
+
+  pub apart_descriptor : (now : ℕ) (v : View) (d : Option Descriptor) → AreOfNoProcess (at_descriptor (m.does now v) v d).updates
+  apart_descriptor now v None = tt
+  apart_descriptor now v (Some d) = well.apart now v d.id (v.opened d.id)
+
+  valid_descriptor : (now : ℕ) (S : State) (d : Option Descriptor) → IsNearlyValid S
+      → IsNearlyValid (put_all (at_descriptor (m.does now (whole S)) (whole S) d).updates S)
+  valid_descriptor now S None nearly = nearly
+  valid_descriptor now S (Some d) nearly = well.valid now S d.id (get S.opens d.id) refl nearly
+
+  pub by_open_is_proper : (row : Needed) → IsProper (by_open row m)
+  by_open_is_proper row = record {
+    names = (([], [], refl), tt);
+    sees = (inl (row, ([], [], refl), refl), tt);
+    reads = λ constants S who table. reads_descriptor (real_time constants S.clock) S who.pid (get table row.fd);
+    walks = λ S who table. refl;
+    sets = λ constants S who table part h.
+        sets_descriptor (real_time constants (tick S).clock) S (get table row.fd) part
+        (beyond_own who.pid (open_part (get table row.fd) ++ m.changes (open_of (whole S) (get table row.fd))) part h).1;
+    changes = λ S table part h. seen_descriptor S (get table row.fd) part h;
+    plain = λ constants v who table. plain_descriptor (real_time constants v.clock) v (get table row.fd);
+    lacks = well.lacks;
+    others = λ constants v who table q other.
+        apart_unset (at_descriptor (m.does (real_time constants v.clock) v) v (get table row.fd)).updates q
+        (apart_descriptor (real_time constants v.clock) v (get table row.fd));
+    threads = λ constants S who table live.
+        apart_threads (at_descriptor (m.does (real_time constants S.clock) (whole S)) (whole S) (get table row.fd)).updates S who.pid
+        (apart_descriptor (real_time constants S.clock) (whole S) (get table row.fd));
+    valid = λ constants S who table there nearly. valid_descriptor (real_time constants S.clock) S (get table row.fd) nearly;
+  }

@@ -1,0 +1,44 @@
+-- What a call means that works on the open of one descriptor, and may make another one of it: all of it hangs on the time, on that
+-- open, and on what stands behind it.
+use Rattle.std.specs.Prelude.{ℕ, Bool, List, [], ◌∷◌, ◌++◌, Option, None, Some}
+use Rattle.std.specs.FinMap.{get}
+use Rattle.abi_base.specs.declared.errno.Errno.{Errno}
+use Rattle.abi_base.specs.declared.errno.Errno.TheVariants.{Badf}
+use Rattle.abi_types.specs.declared.descriptor.Descriptor.{Descriptor}
+use Rattle.abi_types.specs.declared.needed.Needed.{Needed}
+use Rattle.abi_types.specs.declared.open_kind.OpenKind.{OpenKind}
+use Rattle.kernel_model.specs.ClockCalls.{real_time}
+use Rattle.kernel_model.specs.DescriptorCalls.{open_part}
+use Rattle.kernel_model.specs.FileMeaning.{open_of}
+use Rattle.kernel_model.specs.Meaning.{Meaning}
+use Rattle.kernel_model.specs.Outcome.{Outcome, replies}
+use Rattle.kernel_model.specs.Reply.{refused}
+use Rattle.kernel_model.specs.State.{Part}
+use Rattle.kernel_model.specs.View.{View, whole}
+
+pub record OpenMeaning : Type 0 where
+  -- what it does with the open of this number, by the time in nanoseconds since 1970
+  pub does : ℕ → View → ℕ → Option OpenKind → Outcome
+  -- what it may change beside the open
+  pub changes : Option OpenKind → List Part
+  pub errors : List Errno
+  pub takes_memory : Bool
+
+-- what is done with the open of a descriptor
+abbrev pub at_descriptor : (ℕ → Option OpenKind → Outcome) → View → Option Descriptor → Outcome
+at_descriptor does v None = replies (refused Badf)
+at_descriptor does v (Some d) = does d.id (v.opened d.id)
+
+-- the meaning of a call that needs this of the descriptor
+abbrev pub by_open : Needed → OpenMeaning → Meaning
+by_open row m = record {
+  named = row.fd ∷ [];
+  need = row ∷ [];
+  seen = row.fd ∷ [];
+  does = λ constants v who table. at_descriptor (m.does (real_time constants v.clock) v) v (get table row.fd);
+  outside = λ v table. None;
+  changes = λ S table. open_part (get table row.fd) ++ m.changes (open_of (whole S) (get table row.fd));
+  numbers = 0;
+  errors = m.errors;
+  takes_memory = m.takes_memory;
+}
