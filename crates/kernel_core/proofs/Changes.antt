@@ -18,9 +18,9 @@ use Rattle.kernel_model.specs.Valid.{IsNearlyValid}
 use Rattle.kernel_model.specs.View.{whole}
 use Rattle.kernel_model.proofs.DescriptorCalls.{close_is, dup_errors, dup_is, put_valid, replaced_is, setting_valid}
 use Rattle.abi_base.specs.declared.errno.Errno.TheVariants.{Badf}
-use Rattle.kernel_core.specs.declared.table_change.TableChange.{TableChange}
-use Rattle.kernel_core.specs.declared.table_change.TableChange.TheVariants.{Close, Dup, Replace, StatPut}
-use Rattle.kernel_core.specs.Changes.{change_outcome, opens_after, stat_put_at, table_after, HasReplaced, IsMoved}
+use Rattle.kernel_parts.specs.declared.table_change.TableChange.{TableChange}
+use Rattle.kernel_parts.specs.declared.table_change.TableChange.TheVariants.{Close, Dup, Replace, StatPut}
+use Rattle.kernel_parts.specs.Changes.{change_outcome, opens_after, stat_put_at, table_after, HasReplaced, IsMoved}
 use Rattle.kernel_model.proofs.Tests.{none_is_no, same_some}
 
 -- ---- the updates are of this process's table and of opens

@@ -23,7 +23,7 @@ use Rattle.kernel_model.specs.Valid.{IsNamed, IsNearlyValid}
 use Rattle.kernel_model.proofs.NameMeanings.{IsChangeOf, IsGood}
 use Rattle.kernel_model.proofs.TreeUpdates.{counted, put_counted, with_tree}
 use Rattle.kernel_model.proofs.Valids.{ended_held}
-use Rattle.kernel_core.specs.Names.{own_left, tree_left}
+use Rattle.kernel_parts.specs.Names.{own_left, tree_left}
 
 -- ---- what a process has made
 

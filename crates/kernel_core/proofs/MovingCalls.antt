@@ -47,8 +47,9 @@ use Rattle.kernel_model.proofs.OpenMeanings.{OpensWell}
 use Rattle.kernel_model.proofs.StreamCalls.{read_opens_well, seek_opens_well, write_opens_well}
 use Rattle.kernel_model.proofs.Tests.{none_is_no, same_some}
 use Rattle.kernel_model.proofs.Valids.{IsSameBehind, release_valid, set_open_nearly_valid, some_again}
-use Rattle.kernel_core.specs.Kernel.{terms_after}
-use Rattle.kernel_core.specs.Moving.{moving_outcome, stream_outcome}
+use Rattle.kernel_parts.specs.StreamCalls.{terms_after}
+use Rattle.kernel_core.specs.Moving.{moving_outcome}
+use Rattle.kernel_parts.specs.StreamCalls.{stream_outcome}
 use Rattle.kernel_core.proofs.FileCalls.{tree_valid, with_tree}
 use Rattle.kernel_core.proofs.Streams.{written_valid}
 

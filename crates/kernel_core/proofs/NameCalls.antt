@@ -3,9 +3,7 @@
 --     open_there      that of a descriptor that is there
 --     names_does      a call means what its outcome is
 --     names_take_memory, first_is_named      memory may be wanting for it;  its first descriptor is there
---     one_new, new_again      it makes one node or none, and where none no number matters
---     next_is_new      nothing in the tree has it;  numbered_is, unnumbered      it was found, or not
---     refused_left, counted_out, changed_left      how it is done that is refused;  that can't number its node;  that changes the tree
+--     next_is_new      nothing in the tree has the number of the node that it makes
 --     names_valid, names_after      what it leaves is nearly valid;  the state after it
 use Rattle.std.proofs.Common.{◌≡◌, ◌≢◌, ℕ, zero, suc, Bool, true, false, cond, ◌++◌, List, Option, None, Some, Err, IsSome, is_none, is_some, refl, sym, ap, subst, ◌∙◌, arith}
 use Rattle.std.specs.FinMap.{get, insert}
@@ -55,7 +53,8 @@ use Rattle.kernel_model.proofs.Tests.{none_is_no, not_true, same_some}
 use Rattle.name_calls.specs.Checks.{IsTold}
 use Rattle.name_calls.specs.Done.{FailsAs, IsNew}
 use Rattle.name_calls.specs.declared.failure.Failure.TheVariants.{Refused}
-use Rattle.kernel_core.specs.Names.{IsLeftBy, name_outcome, names_come, number_of, open_at, open_in}
+use Rattle.kernel_core.specs.Names.{name_outcome, names_come}
+use Rattle.kernel_parts.specs.Names.{IsLeftBy, number_of, open_at, open_in}
 use Rattle.kernel_core.proofs.Leaving.{left_of, released_is}
 
 -- ---- the opens of descriptors
@@ -151,96 +150,12 @@ first_is_named table unnamed fd other is all = absurd (none_is_no (fd, other) is
 
 -- ---- the node that it makes
 
-text_makes_one : (o : Option Errno) (path : List ℕ) (node : NodeKind) → (making_unless o (making node path)).makes ≡ 1
-text_makes_one None path node = refl
-text_makes_one (Some errno) path node = refl
-
-pub one_new : (called : Call) → IsSome (named_fds called) → (name_meaning called).makes ≢ 0 → (name_meaning called).makes ≡ 1
-one_new (call.FileCreate fd path type) some makes = refl
-one_new (call.FileLink lookup path new_fd new_path) some makes = absurd (makes refl)
-one_new (call.FileRename fd path new_fd new_path) some makes = absurd (makes refl)
-one_new (call.FileSymlink text fd path) some makes = text_makes_one (text_error text) path (kind.Link text)
-one_new (call.FileUnlink fd path flags) some makes = absurd (makes refl)
-one_new unnamed some makes = absurd (not_true some)
-
--- the number of the last node that it makes serves as well as that of the first
-pub new_again : (called : Call) → IsSome (named_fds called) → (p now : ℕ) (own : Option Own) (t : Tree) (here there : Option OpenKind)
-    → (name_meaning called).does now (next_object p own (name_meaning called).makes) t here there ≡ (name_meaning called).does now (next_object p own 1) t here there
-new_again (call.FileCreate fd path type) some p now own t here there = refl
-new_again (call.FileLink lookup path new_fd new_path) some p now own t here there = refl
-new_again (call.FileRename fd path new_fd new_path) some p now own t here there = refl
-new_again (call.FileSymlink text fd path) some p now own t here there =
-    let m : NameMeaning = making_unless (text_error text) (making (kind.Link text) path) in
-    ap (λ k. m.does now (next_object p own k) t here there) (text_makes_one (text_error text) path (kind.Link text))
-new_again (call.FileUnlink fd path flags) some p now own t here there = refl
-new_again unnamed some p now own t here there = absurd (not_true some)
-
 -- the number of the last object that a process makes is none in the tree
 pub next_is_new : (S : State) (p makes : ℕ) → can_number p makes (get S.own p) ≡ true → IsNearlyValid S → IsNew makes (tree_of S) (next_object p (get S.own p) makes)
 next_is_new S p zero can v = tt
 next_is_new S p (suc makes) can v =
     let fits = numbers_fit p makes (get S.own p) can in
     ap is_none (next_is_absent S p (suc makes) v fits.0 (omega arith) fits.1).1
-
--- a number was found, or none
-number_by : (b : Bool) (k n : ℕ) → cond b (Some k) None ≡ Some n → (b ≡ true) × (n ≡ k)
-number_by true k n is = (refl, sym (same_some k n is))
-number_by false k n is = absurd (none_is_no n is)
-
-pub numbered_is : (p count n : ℕ) (own : Option Own) → number_of p count own ≡ Some n → (can_number p count own ≡ true) × (n ≡ next_object p own count)
-numbered_is p count n own is = number_by (can_number p count own) (next_object p own count) n is
-
-unnumbered_by : (b : Bool) (k : ℕ) → cond b (Some k) None ≡ None → b ≡ false
-unnumbered_by true k is = absurd (none_is_no k (sym is))
-unnumbered_by false k is = refl
-
-pub unnumbered : (p count : ℕ) (own : Option Own) → number_of p count own ≡ None → can_number p count own ≡ false
-unnumbered p count own is = unnumbered_by (can_number p count own) (next_object p own count) is
-
--- ---- how it is done
-
-abbrev comes_of : Refusal → Comes
-comes_of (refusal.Errno errno) = Refuses errno
-comes_of (refusal.Outside component) = LeadsOut component
-
-pub failed_is : (comes : Comes) (why : Refusal) → FailsAs comes (Refused why) → comes ≡ comes_of why
-failed_is comes (refusal.Errno errno) is = is
-failed_is comes (refusal.Outside component) is = is
-
-pub told_is : (A : Type 0) (comes : Comes) (why : Refusal) → IsTold {A = A} comes (Err why) → comes ≡ comes_of why
-told_is A comes (refusal.Errno errno) is = is
-told_is A comes (refusal.Outside component) is = is
-
-module _ (p makes : ℕ) (own new : Own) (t u : Tree) (comes : Comes) (reply : Reply) where
-  refused_so : (why : Refusal) → new ≡ own → u ≡ t → reply ≡ reply_of why → IsLeftBy p makes own new t u (comes_of why) reply
-  refused_so (refusal.Errno errno) own_is tree_is is = record { answered = ap answer.Reply is; numbered = own_is; changed = tree_is }
-  refused_so (refusal.Outside component) own_is tree_is is = record { answered = ap answer.Reply is; numbered = own_is; changed = tree_is }
-
-  pub refused_left : (why : Refusal) → comes ≡ comes_of why → new ≡ own → u ≡ t → reply ≡ reply_of why → IsLeftBy p makes own new t u comes reply
-  refused_left why comes_is own_is tree_is is = subst (λ k. IsLeftBy p makes own new t u k reply) (sym comes_is) (refused_so why own_is tree_is is)
-
-  -- a change, by whether the process can make so many
-  change_so : (c : Change) → new ≡ cond (can_number p makes (Some own)) (made_more makes own) own → u ≡ cond (can_number p makes (Some own)) c.tree t
-      → answer.Reply reply ≡ (outcome_of p (Some own) makes (Changes c)).answer → IsLeftBy p makes own new t u (Changes c) reply
-  change_so c own_is tree_is is = record { answered = is; numbered = own_is; changed = tree_is }
-
-  abbrev outcome_by : Change → Bool → Outcome
-  outcome_by c b =
-      cond b (record { answer = answer.Reply (success 0 0); updates = own_updates p makes (Some own) ++ change_updates c }) (replies (refused Again))
-
-  pub counted_out : (c : Change) → comes ≡ Changes c → can_number p makes (Some own) ≡ false → new ≡ own → u ≡ t → reply ≡ refused Again
-      → IsLeftBy p makes own new t u comes reply
-  counted_out c comes_is cannot own_is tree_is is =
-      subst (λ k. IsLeftBy p makes own new t u k reply) (sym comes_is)
-      (change_so c (own_is ∙ sym (ap (λ b. cond b (made_more makes own) own) cannot)) (tree_is ∙ sym (ap (λ b. cond b c.tree t) cannot))
-      (ap answer.Reply is ∙ sym (ap (λ b. (outcome_by c b).answer) cannot)))
-
-  pub changed_left : (c : Change) → comes ≡ Changes c → can_number p makes (Some own) ≡ true → new ≡ made_more makes own → u ≡ c.tree → reply ≡ success 0 0
-      → IsLeftBy p makes own new t u comes reply
-  changed_left c comes_is can own_is tree_is is =
-      subst (λ k. IsLeftBy p makes own new t u k reply) (sym comes_is)
-      (change_so c (own_is ∙ sym (ap (λ b. cond b (made_more makes own) own) can)) (tree_is ∙ sym (ap (λ b. cond b c.tree t) can))
-      (ap answer.Reply is ∙ sym (ap (λ b. (outcome_by c b).answer) can)))
 
 -- ---- the state after it
 

@@ -47,11 +47,11 @@ use Rattle.kernel_model.proofs.TreeUpdates.{put_counted, with_tree}
 use Rattle.name_calls.specs.Done.{IsNew}
 use Rattle.name_calls.specs.Plans.{change_of, kind_of, makes_of, opened_by, opened_of}
 use Rattle.name_calls.specs.declared.plans.OpenPlan.{OpenPlan}
-use Rattle.kernel_core.specs.Names.{open_in}
+use Rattle.kernel_parts.specs.Names.{open_in}
 use Rattle.kernel_core.specs.Opening.{IsOpening, open_outcome, opened_at}
-use Rattle.kernel_core.specs.declared.opening.Opening.{Opening}
+use Rattle.kernel_parts.specs.declared.opening.Opening.{Opening}
 use Rattle.kernel_core.proofs.Leaving.{counted_is, none_holds, released_is}
-use Rattle.kernel_core.proofs.Lowest.{lowest_is}
+use Rattle.kernel_parts.proofs.Lowest.{lowest_is}
 use Rattle.kernel_core.proofs.NameCalls.{opened_is}
 
 -- ---- nothing is opened

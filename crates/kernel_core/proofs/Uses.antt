@@ -13,9 +13,9 @@ use Rattle.tree_model.specs.Tree.{Tree}
 use Rattle.kernel_model.specs.DescriptorCalls.{dup_at, dup_of, lowered_to, lowest_free, replaced_by, stat_set, with_flags}
 use Rattle.kernel_model.specs.State.{Table, Update, set_open, set_table}
 use Rattle.kernel_model.proofs.DescriptorCalls.{either_set}
-use Rattle.kernel_core.specs.Changes.{change_outcome, opens_after, stat_put_at}
-use Rattle.kernel_core.specs.declared.table_change.TableChange.{TableChange}
-use Rattle.kernel_core.specs.declared.table_change.TableChange.TheVariants.{Close, Dup, Replace, StatPut}
+use Rattle.kernel_parts.specs.Changes.{change_outcome, opens_after, stat_put_at}
+use Rattle.kernel_parts.specs.declared.table_change.TableChange.{TableChange}
+use Rattle.kernel_parts.specs.declared.table_change.TableChange.TheVariants.{Close, Dup, Replace, StatPut}
 
 -- an open with other flags is of the same node
 pub same_node : (kind : OpenKind) (flags n : ℕ) → one_of_node n (with_flags kind flags) ≡ one_of_node n kind

@@ -1,15 +1,14 @@
 -- What the kernel's code keeps beside its state.
-use Rattle.std.specs.Prelude.{◌≡◌, ℕ, ◌^◌, List, [], ◌∷◌, Bool, true, false, Some, is_some}
+use Rattle.std.specs.Prelude.{◌≡◌, ℕ, ◌^◌, Bool, true, false, Some, is_some}
 use Rattle.std.specs.Ordering.{nat_cmp}
-use Rattle.std.specs.FinMap.{FinMap, get, insert}
-use Rattle.abi_types.specs.declared.stream.Stream.{Stream}
+use Rattle.std.specs.FinMap.{FinMap, get}
 use Rattle.number_map.specs.Maps.{number, least_key}
 use Rattle.abi_types.specs.declared.status.Status.{Status}
 use Rattle.abi_types.specs.declared.status.Status.TheVariants.{Live, Exit, Killed}
 use Rattle.kernel_model.specs.Release.{holders}
 use Rattle.fd_table.specs.Sizes.{KeysBelow}
 use Rattle.fd_table.specs.Table.{IsTable}
-use Rattle.kernel_model.specs.State.{State, Table, Update, set_table, set_own, set_status, set_open, set_node, set_names, set_term}
+use Rattle.kernel_model.specs.State.{State, Table}
 use Rattle.kernel_model.specs.Valid.{IsValid}
 
 -- the state is valid, each open's count is that of its holders, and tables and processes have numbers that fit their types
@@ -18,17 +17,6 @@ pub record IsKept (S : State) (counts : FinMap nat_cmp ℕ) : Type 0 where
   pub counted : (o : ℕ) → number (get counts o) ≡ holders S o
   pub small : (p : ℕ) (table : Table) → get S.tables p ≡ Some table → IsTable table
   pub processes : KeysBelow (2 ^ 32) S.tables
-
--- the standard streams after these updates
-abbrev pub terms_after : List Update → FinMap nat_cmp Stream → FinMap nat_cmp Stream
-terms_after [] terms = terms
-terms_after (set_term k stream ∷ updates) terms = terms_after updates (insert terms k stream)
-terms_after (set_table p table ∷ updates) terms = terms_after updates terms
-terms_after (set_own p own ∷ updates) terms = terms_after updates terms
-terms_after (set_status p status ∷ updates) terms = terms_after updates terms
-terms_after (set_open o kind ∷ updates) terms = terms_after updates terms
-terms_after (set_node n node ∷ updates) terms = terms_after updates terms
-terms_after (set_names n names ∷ updates) terms = terms_after updates terms
 
 -- whether the status is that of a live process
 abbrev pub is_live : Status → Bool

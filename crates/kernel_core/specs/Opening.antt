@@ -11,8 +11,8 @@ use Rattle.kernel_model.specs.Opening.{Opened, open_at, open_mode, open_walked, 
 use Rattle.kernel_model.specs.Outcome.{Outcome}
 use Rattle.kernel_model.specs.State.{State, Table, tree_of}
 use Rattle.name_calls.specs.Plans.{kind_of, makes_of, opened_by}
-use Rattle.kernel_core.specs.Names.{open_in}
-use Rattle.kernel_core.specs.declared.opening.Opening.{Opening}
+use Rattle.kernel_parts.specs.Names.{open_in}
+use Rattle.kernel_parts.specs.declared.opening.Opening.{Opening}
 
 -- what is opened at this time, by the open of a descriptor of the table, where a node that is made has the number new
 abbrev pub opened_at : ℕ → ℕ → State → Table → Lookup → List ℕ → ℕ → FdStat → Opened

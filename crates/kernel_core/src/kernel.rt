@@ -3,7 +3,7 @@ ghost use Rattle.std.specs.Prelude.{◌≡◌, ◌≢◌, ◌⊎◌, ◌∷◌, 
 ghost use Rattle.std.specs.FinMap as map;
 ghost use Rattle.abi_types.specs.declared.descriptor.Denial.TheVariants as denial;
 ghost use Rattle.abi_types.specs.declared.reply.Answer.TheVariants as answer;
-ghost use Rattle.kernel_core.specs.Changes.{change_outcome, HasReplaced, IsDup};
+ghost use Rattle.kernel_parts.specs.Changes.{change_outcome, HasReplaced, IsDup};
 ghost use Rattle.kernel_core.specs.Files.{file_outcome};
 ghost use Rattle.kernel_core.specs.Kernel.{is_live, any_live};
 ghost use Rattle.kernel_model.specs.Calls.{named, need, takes_memory};
@@ -23,21 +23,17 @@ ghost use Rattle.kernel_model.specs.DescriptorCalls.{stat_get, stat_of, flags_of
 ghost use Rattle.kernel_model.specs.Valid.{IsValid};
 ghost use Rattle.kernel_model.specs.View.{whole};
 
-use crate::answering::answer_of;
-use crate::own::Own;
-use crate::release::release;
-use crate::start::{granted, single, streams};
-use crate::table::let_go_all;
-use crate::table_change::TableChange;
-use crate::terminal::Terminal;
 use abi_types::{
-    Answer, Call, Constants, Denial, Descriptor, Errno, FdStat, Needed, OpenKind, Payload,
-    Pid, Reply, Status, Thread, Tid, TryClone, Who,
+    Answer, Call, Constants, Denial, Descriptor, Errno, FdStat, Needed, OpenKind, Payload, Pid,
+    Reply, Status, Thread, Tid, TryClone, Who,
 };
 use fd_calls::moved_fd;
 use fd_table::FdTable;
 use file_calls::{on_open, opened_fd, type_number};
 use file_tree::Tree;
+use kernel_parts::{
+    Own, TableChange, Terminal, answer_of, granted, let_go_all, release, single, streams,
+};
 use name_calls::named_fds;
 use number_map::NumMap;
 use object_store::Objects;

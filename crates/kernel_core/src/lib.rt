@@ -4,14 +4,7 @@
 pub use kernel::Kernel;
 pub use run_types::{Act, Entry, History, Launch, Record};
 
-mod answering;
 mod kernel;
 mod moving;
 mod names;
 mod opening;
-mod own;
-mod release;
-mod start;
-mod table;
-mod table_change;
-mod terminal;

@@ -17,7 +17,7 @@ use Rattle.kernel_model.proofs.Valids.{release_valid}
 use Rattle.kernel_core.specs.Files.{file_outcome}
 use Rattle.kernel_core.specs.Moving.{moving_outcome}
 use Rattle.kernel_core.specs.Names.{name_outcome}
-use Rattle.kernel_core.proofs.Answers.{no_more}
+use Rattle.kernel_parts.proofs.Answers.{no_more}
 use Rattle.kernel_core.proofs.FileCalls.{file_does}
 use Rattle.kernel_core.proofs.MovingCalls.{moving_does}
 use Rattle.kernel_core.proofs.NameCalls.{names_does}

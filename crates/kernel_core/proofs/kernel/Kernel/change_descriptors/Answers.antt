@@ -13,13 +13,13 @@ use Rattle.kernel_model.specs.Release.{count_in, holders, release, without_nodes
 use Rattle.kernel_model.specs.State.{State, Table, Update, put_all}
 use Rattle.kernel_model.specs.Valid.{IsValid}
 use Rattle.kernel_model.proofs.Valids.{ended_is, release_restores, same_value}
-use Rattle.kernel_core.specs.Changes.{change_outcome, opens_after, table_after}
+use Rattle.kernel_parts.specs.Changes.{change_outcome, opens_after, table_after}
 use Rattle.kernel_core.specs.Kernel.{IsKept}
 use Rattle.kernel_core.specs.contracts.kernel.Kernel.{the_view}
 use Rattle.kernel_core.proofs.Changes.{change_of_own, change_small, change_valid, moved_holders, puts_are}
 use Rattle.kernel_core.proofs.Ends.{covered, number-retain, retain_same}
 use Rattle.kernel_core.proofs.Kept.{holders_few, small_set}
-use Rattle.kernel_core.proofs.Tests.{on_err}
+use Rattle.kernel_parts.proofs.Tests.{on_err}
 use Rattle.kernel_core.proofs.Uses.{change_use}
 use Rattle.kernel_core.proofs.kernel.Kernel.change_descriptors.Goals as goal
 use Rattle.kernel_core.proofs.kernel.Kernel.change_descriptors.Goals.{In_err-reply, After-release}

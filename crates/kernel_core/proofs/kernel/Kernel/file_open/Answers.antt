@@ -21,7 +21,7 @@ use Rattle.kernel_core.specs.contracts.kernel.Kernel.{the_view}
 use Rattle.kernel_core.proofs.Changes.{moved_holders}
 use Rattle.kernel_core.proofs.Kept.{AreSmall, small_set}
 use Rattle.kernel_core.proofs.OpenCalls.{none_holds_it, node_is_new, open_answer, open_changes, open_fits, open_is_new, open_released, open_valid, planned_before}
-use Rattle.kernel_core.proofs.Tests.{on_err}
+use Rattle.kernel_parts.proofs.Tests.{on_err}
 use Rattle.kernel_core.proofs.kernel.Kernel.file_open.Goals as goal
 use Rattle.kernel_core.proofs.kernel.Kernel.file_open.Goals.{After-get_mut-table, In_err-put_opening, After-success}
 

@@ -12,8 +12,8 @@ use Rattle.object_store.specs.Objects.{Held}
 use Rattle.kernel_model.specs.State.{State, Table}
 use Rattle.kernel_model.specs.Valid.{IsValid}
 use Rattle.kernel_model.proofs.Valids.{same_value}
-use Rattle.kernel_core.specs.Kernel.{terms_after}
-use Rattle.kernel_core.specs.Moving.{stream_outcome}
+use Rattle.kernel_parts.specs.StreamCalls.{terms_after}
+use Rattle.kernel_parts.specs.StreamCalls.{stream_outcome}
 use Rattle.kernel_core.specs.contracts.kernel.Kernel.{the_view}
 use Rattle.kernel_core.proofs.FileCalls.{there_behind}
 use Rattle.kernel_core.proofs.MovingCalls.{IsMovingStep, moved_answers, moved_same, moved_valid, stream_answers, unnamed_answers, unopened_answers, with_terms}
@@ -64,9 +64,9 @@ returns-in-Terminal-clause-ok d =
     let S = d.self.inside in
     let stream = get S.terms d.in-Terminal.which in
     let step : (given : Answer) → (given ≡ (stream_outcome d.args.call.now d.in-Terminal.which stream).answer)
-        × (d.on_stream.new.terms ≡ terms_after (stream_outcome d.args.call.now d.in-Terminal.which stream).updates S.terms)
-        → (table : Table) → get d.args.self.now.tables d.args.pid ≡ Some table
-        → IsMovingStep d.args.constants.now d.args.self.now table d.args.fd d.args.call.now given (with_terms (the_view S) d.on_stream.new.terms) =
+    × (d.on_stream.new.terms ≡ terms_after (stream_outcome d.args.call.now d.in-Terminal.which stream).updates S.terms)
+    → (table : Table) → get d.args.self.now.tables d.args.pid ≡ Some table
+    → IsMovingStep d.args.constants.now d.args.self.now table d.args.fd d.args.call.now given (with_terms (the_view S) d.on_stream.new.terms) =
     λ given done table here.
     subst (λ (X : State). get X.tables d.args.pid ≡ Some table
     → IsMovingStep d.args.constants.now X table d.args.fd d.args.call.now given (with_terms (the_view S) d.on_stream.new.terms)) d.self.view_is

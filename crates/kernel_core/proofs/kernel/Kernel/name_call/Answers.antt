@@ -12,10 +12,11 @@ use Rattle.kernel_model.specs.State.{State, Table, Tree, put_all, tree_of}
 use Rattle.kernel_model.specs.Valid.{IsValid}
 use Rattle.kernel_model.proofs.Valids.{release_restores, same_value}
 use Rattle.kernel_core.specs.Kernel.{IsKept}
-use Rattle.kernel_core.specs.Names.{IsLeftBy, name_outcome, names_come, open_at, open_in}
+use Rattle.kernel_core.specs.Names.{name_outcome, names_come}
+use Rattle.kernel_parts.specs.Names.{IsLeftBy, open_at, open_in}
 use Rattle.kernel_core.specs.contracts.kernel.Kernel.{the_view}
 use Rattle.kernel_core.proofs.NameCalls.{names_after, names_answer, names_tree, names_valid, open_there}
-use Rattle.kernel_core.proofs.Tests.{on_err}
+use Rattle.kernel_parts.proofs.Tests.{on_err}
 use Rattle.kernel_core.proofs.kernel.Kernel.name_call.Goals as goal
 use Rattle.kernel_core.proofs.kernel.Kernel.name_call.Goals.{In-Some, In_err-reply, In_ok-reply}
 

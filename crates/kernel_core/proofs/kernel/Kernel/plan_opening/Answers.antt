@@ -8,11 +8,11 @@ use Rattle.kernel_model.specs.Outcome.{replies}
 use Rattle.kernel_model.specs.State.{State, Table, tree_of}
 use Rattle.kernel_model.proofs.Valids.{same_value}
 use Rattle.name_calls.specs.Plans.{makes_of, opened_by, opened_of}
-use Rattle.kernel_core.specs.Names.{number_of, open_in}
+use Rattle.kernel_parts.specs.Names.{number_of, open_in}
 use Rattle.kernel_core.specs.Opening.{IsOpening, open_outcome, opened_at}
 use Rattle.kernel_core.specs.contracts.kernel.Kernel.{the_view}
-use Rattle.kernel_core.proofs.Lowest.{full_is_none}
-use Rattle.kernel_core.proofs.NameCalls.{numbered_is, unnumbered}
+use Rattle.kernel_parts.proofs.Lowest.{full_is_none}
+use Rattle.kernel_parts.proofs.Naming.{numbered_is, unnumbered}
 use Rattle.kernel_core.proofs.OpenCalls.{first_number, full_opens_none, opens_from, refused_opens_none, uncounted_opens_none}
 use Rattle.kernel_core.proofs.kernel.Kernel.plan_opening.Goals as goal
 use Rattle.kernel_core.proofs.kernel.Kernel.plan_opening.Goals.{In-Some-Some, In-Ok}

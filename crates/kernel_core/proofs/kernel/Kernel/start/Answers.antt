@@ -3,7 +3,7 @@ use Rattle.std.specs.Ordering.{nat_cmp}
 use Rattle.std.specs.FinMap.{insert, empty}
 use Rattle.object_store.specs.Objects.{Held}
 use Rattle.object_store.specs.contracts.objects.Objects.{the_view}
-use Rattle.kernel_core.specs.Start.{granted_objects}
+use Rattle.kernel_parts.specs.Start.{granted_objects}
 use Rattle.kernel_model.specs.Start.{granted_table, start_state}
 use Rattle.kernel_model.specs.State.{State, Table, Own}
 use Rattle.kernel_model.specs.Valid.{IsValid}

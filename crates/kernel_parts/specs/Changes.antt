@@ -1,0 +1,54 @@
+-- What a call does to its process's descriptors, and to the opens that they name.
+use Rattle.std.specs.Prelude.{◌≡◌, ℕ, ◌+◌, List, [], ◌∷◌, Option, None, Some, IsSome}
+use Rattle.std.specs.Ordering.{nat_cmp}
+use Rattle.std.specs.FinMap.{FinMap, get, insert, remove}
+use Rattle.abi_base.specs.declared.errno.Errno.TheVariants.{Badf}
+use Rattle.abi_structures.specs.declared.structures.FdStat.{FdStat}
+use Rattle.abi_types.specs.declared.descriptor.Descriptor.{Descriptor}
+use Rattle.abi_types.specs.declared.open_kind.OpenKind.{OpenKind}
+use Rattle.number_map.specs.Maps.{number}
+use Rattle.kernel_model.specs.DescriptorCalls.{dup_of, replaced_by, stat_set, with_table}
+use Rattle.kernel_model.specs.Outcome.{Outcome, replies}
+use Rattle.kernel_model.specs.Release.{count_in}
+use Rattle.kernel_model.specs.Reply.{refused}
+use Rattle.kernel_model.specs.State.{Table, Update, set_table, set_open}
+use Rattle.kernel_parts.specs.declared.table_change.TableChange.{TableChange}
+use Rattle.kernel_parts.specs.declared.table_change.TableChange.TheVariants.{Close, Dup, Replace, StatPut}
+
+-- fd_stat_put by the opens
+abbrev pub stat_put_at : ℕ → FinMap nat_cmp OpenKind → Table → ℕ → FdStat → ℕ → Option Descriptor → Outcome
+stat_put_at p opens table fd stat flags None = replies (refused Badf)
+stat_put_at p opens table fd stat flags (Some d) = stat_set p table fd stat flags d (get opens d.id)
+
+-- what the change comes to, for process p
+abbrev pub change_outcome : ℕ → FinMap nat_cmp OpenKind → Table → TableChange → Outcome
+change_outcome p opens table (Close fd) = with_table p 0 (remove table fd)
+change_outcome p opens table (Dup fd) = dup_of p table (get table fd)
+change_outcome p opens table (Replace from to) = replaced_by p table to (get table from)
+change_outcome p opens table (StatPut fd stat flags) = stat_put_at p opens table fd stat flags (get table fd)
+
+-- the table after these updates of it
+abbrev pub table_after : Table → List Update → Table
+table_after table [] = table
+table_after table (set_table p new ∷ updates) = table_after new updates
+table_after table (_ ∷ updates) = table_after table updates
+
+-- the opens after these updates
+abbrev pub opens_after : FinMap nat_cmp OpenKind → List Update → FinMap nat_cmp OpenKind
+opens_after opens [] = opens
+opens_after opens (set_open o kind ∷ updates) = opens_after (insert opens o kind) updates
+opens_after opens (_ ∷ updates) = opens_after opens updates
+
+-- the counts have changed as the holders in the table have
+abbrev pub IsMoved : Table → Table → FinMap nat_cmp ℕ → FinMap nat_cmp ℕ → Type 0
+IsMoved old new before after = (o : ℕ) → number (get after o) + count_in o old ≡ number (get before o) + count_in o new
+
+-- a number that is replaced is there
+abbrev pub HasReplaced : Table → TableChange → Type 0
+HasReplaced table (Replace from to) = IsSome (get table to)
+HasReplaced table _ = Unit {0}
+
+-- the change makes a number
+abbrev pub IsDup : TableChange → Type 0
+IsDup (Dup fd) = Unit {0}
+IsDup _ = ⊥

@@ -1,0 +1,25 @@
+//! The parts that the kernel's state is made of, and what calls do to several of them: a process's descriptor table with the opens
+//! that it holds, what a process has of its own, the standard streams, and the nodes of the file tree that nothing holds any more.
+#![tactic(auto)]
+
+pub use answering::answer_of;
+pub use names::{Caller, change_names, opened};
+pub use opening::{Opening, put_opening};
+pub use own::Own;
+pub use releasing::{forget_nameless, release};
+pub use start::{granted, single, streams};
+pub use stream_calls::on_stream;
+pub use table::let_go_all;
+pub use table_change::TableChange;
+pub use terminal::Terminal;
+
+mod answering;
+mod names;
+mod opening;
+mod own;
+mod releasing;
+mod start;
+mod stream_calls;
+mod table;
+mod table_change;
+mod terminal;

@@ -1,0 +1,74 @@
+//! The calls that read from a standard stream or write to it.
+ghost use Rattle.std.specs.Prelude.{◌≡◌, ℕ, IsSome, IfOk, OnErr, true};
+ghost use Rattle.std.specs.FinMap as map;
+ghost use Rattle.fd_calls.specs.Calls as model;
+ghost use Rattle.kernel_parts.specs.StreamCalls.{stream_outcome, terms_after};
+ghost use Rattle.kernel_model.specs.StreamCalls.{read_term, write_term};
+
+use crate::terminal::Terminal;
+use abi_types::{Answer, Bytes, Call, Errno, Payload};
+use number_map::NumMap;
+use right_rules::{refused, success, success_with};
+use std::alloc::{AllocError, Global};
+
+// Writes the bytes to a standard stream. `Err` changes nothing.
+fn write_term(terms: &mut NumMap<Terminal>, which: u32, bytes: &Bytes) -> Result<Answer, AllocError>
+    ensures ok { IfOk result (λ given. (given ≡ (write_term bytes.now which (map.get terms.old which)).answer)
+        × (terms.new ≡ terms_after (write_term bytes.now which (map.get terms.old which)).updates terms.old)) }
+    ensures err { OnErr result (terms.new ≡ terms.old) }
+    ensures there { (k : ℕ) → IsSome (map.get terms.old k) → IsSome (map.get terms.new k) }
+{
+    if !terms.contains(u64::from(which)) {
+        return Ok(Answer::Reply(refused(Errno::Badf)));
+    }
+    let stream = terms.get_mut(u64::from(which));
+    match stream.write(bytes.as_slice()) {
+        Ok(()) => Ok(Answer::Reply(success(bytes.len() as u64, 0))),
+        Err(error) => Err(error),
+    }
+}
+
+// Reads from a standard stream at most so many bytes. `Err` changes nothing.
+fn read_term(
+    alloc: Global,
+    terms: &mut NumMap<Terminal>,
+    which: u32,
+    most: u64,
+) -> Result<Answer, AllocError>
+    ensures ok { IfOk result (λ given. (given ≡ (read_term most which (map.get terms.old which)).answer)
+        × (terms.new ≡ terms_after (read_term most which (map.get terms.old which)).updates terms.old)) }
+    ensures err { OnErr result (terms.new ≡ terms.old) }
+    ensures there { (k : ℕ) → IsSome (map.get terms.old k) → IsSome (map.get terms.new k) }
+{
+    if !terms.contains(u64::from(which)) {
+        return Ok(Answer::Reply(refused(Errno::Badf)));
+    }
+    let stream = terms.get_mut(u64::from(which));
+    match stream.read(alloc, most) {
+        Ok(bytes) => {
+            let count = bytes.len() as u64;
+            Ok(Answer::Reply(success_with(count, Payload::Content(bytes))))
+        }
+        Err(error) => Err(error),
+    }
+}
+
+/// Does a call on a standard stream. `Err` changes nothing.
+pub fn on_stream(
+    alloc: Global,
+    terms: &mut NumMap<Terminal>,
+    which: u32,
+    call: &Call,
+) -> Result<Answer, AllocError>
+    ensures ok { IfOk result (λ given. (given ≡ (stream_outcome call.now which (map.get terms.old which)).answer)
+        × (terms.new ≡ terms_after (stream_outcome call.now which (map.get terms.old which)).updates terms.old)) }
+    ensures only { OnErr result ((model.moving_meaning call.now).takes_memory ≡ true) }
+    ensures err { OnErr result (terms.new ≡ terms.old) }
+    ensures there { (k : ℕ) → IsSome (map.get terms.old k) → IsSome (map.get terms.new k) }
+{
+    match call {
+        Call::FdRead { length, .. } => read_term(alloc, terms, which, *length),
+        Call::FdWrite { bytes, .. } => write_term(terms, which, bytes),
+        _ => Ok(Answer::Reply(refused(Errno::Badf))),
+    }
+}
