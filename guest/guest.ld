@@ -45,14 +45,13 @@ SECTIONS
         *(.data .data.* .sdata .sdata.*)
     } :data
     .tdata : ALIGN(16) {
-        __tls_base = .;
-        QUAD(0) /* so that it is there in each program */
         *(.tdata .tdata.*)
     } :data :tls
-    .tbss : {
+    .tbss : ALIGN(16) {
         *(.tbss .tbss.* .tcommon)
     } :data :tls
     . = ADDR(.tbss) + SIZEOF(.tbss); /* the linker gives .tbss no room of its own */
+    __tls_base = SIZEOF(.tdata) != 0 ? ADDR(.tdata) : ADDR(.tbss);
     .bss : ALIGN(16) {
         *(.sbss .sbss.* .bss .bss.* COMMON)
     } :data
