@@ -1,0 +1,155 @@
+/*
+ * A guest that does its worst, without end: what its argument data says under `do`. bench/worst runs it and measures what it costs.
+ * worst.elf is made of this text by `guest/cc --bare -s -o worst.elf worst.c`.
+ */
+#include "argdata.h"
+
+#define MAPPING ((size_t)1 << 20)
+#define FILE_LIMIT ((cloudabi_filesize_t)64 << 20)
+#define NAME_LENGTH 255
+
+static cloudabi_fd_t directory, input, output;
+static char bytes[65536];
+
+static void spin(void)
+{
+    for (;;)
+        __asm__ volatile("");
+}
+
+/* As many pages as it gets, each written to; it then spins. */
+static void fill_memory(void)
+{
+    void *memory;
+    while (cloudabi_sys_mem_map(NULL, MAPPING, CLOUDABI_PROT_READ | CLOUDABI_PROT_WRITE,
+                                CLOUDABI_MAP_ANON | CLOUDABI_MAP_PRIVATE, 0, 0, &memory)
+           == CLOUDABI_ESUCCESS) {
+        for (size_t at = 0; at < MAPPING; at += 4096)
+            ((volatile char *)memory)[at] = 1;
+    }
+    spin();
+}
+
+/* Takes nearly all of its memory, then changes the rights of all of it with each call. */
+static void protect_memory(void)
+{
+    size_t length = (size_t)65000 * 4096;
+    void *memory;
+    cloudabi_sys_mem_map(NULL, length, CLOUDABI_PROT_READ, CLOUDABI_MAP_ANON | CLOUDABI_MAP_PRIVATE, 0, 0, &memory);
+    for (uint32_t prot = CLOUDABI_PROT_READ;; prot ^= CLOUDABI_PROT_WRITE)
+        cloudabi_sys_mem_protect(memory, length, prot);
+}
+
+/* Takes nearly all of its memory and gives it back, again and again. */
+static void map_memory(void)
+{
+    size_t length = (size_t)65000 * 4096;
+    void *memory;
+    for (;;) {
+        cloudabi_sys_mem_map(NULL, length, CLOUDABI_PROT_READ, CLOUDABI_MAP_ANON | CLOUDABI_MAP_PRIVATE, 0, 0, &memory);
+        cloudabi_sys_mem_unmap(memory, length);
+    }
+}
+
+static void write_output(void)
+{
+    cloudabi_iovec_t range = {bytes, sizeof bytes};
+    size_t count;
+    for (;;)
+        cloudabi_sys_fd_write(output, &range, 1, &count);
+}
+
+static void read_input(void)
+{
+    cloudabi_iovec_t range = {bytes, sizeof bytes};
+    cloudabi_filesize_t place;
+    size_t count;
+    for (;;) {
+        cloudabi_sys_fd_read(input, &range, 1, &count);
+        cloudabi_sys_fd_seek(input, 0, CLOUDABI_WHENCE_SET, &place);
+    }
+}
+
+static void make_calls(void)
+{
+    cloudabi_fdstat_t status;
+    for (;;)
+        cloudabi_sys_fd_stat_get(output, &status);
+}
+
+static void be_denied(void)
+{
+    cloudabi_iovec_t range = {bytes, 1};
+    size_t count;
+    for (;;)
+        cloudabi_sys_fd_read(output, &range, 1, &count);
+}
+
+/* Makes the file of this number and this length of name, and leaves it closed. */
+static void make_file(uint64_t number, size_t name_length, cloudabi_filesize_t size)
+{
+    char name[NAME_LENGTH];
+    cloudabi_fdstat_t asked = {.base = CLOUDABI_RIGHT_FILE_ALLOCATE};
+    cloudabi_fd_t fd;
+    for (size_t i = name_length; i > 0; --i) {
+        name[i - 1] = (char)('0' + number % 10);
+        number /= 10;
+    }
+    if (cloudabi_sys_file_open((cloudabi_lookup_t){directory, 0}, name, name_length, CLOUDABI_O_CREAT, &asked, &fd)
+        != CLOUDABI_ESUCCESS)
+        return;
+    if (size != 0)
+        cloudabi_sys_file_allocate(fd, 0, size);
+    cloudabi_sys_fd_close(fd);
+}
+
+static void fill_files(void)
+{
+    for (uint64_t number = 0;; ++number)
+        make_file(number, 10, FILE_LIMIT);
+}
+
+static void make_names(void)
+{
+    for (uint64_t number = 0;; ++number)
+        make_file(number, NAME_LENGTH, 0);
+}
+
+/* Makes 5000 names, and then lists the last of them again and again. */
+static void list_names(void)
+{
+    size_t count;
+    for (uint64_t number = 0; number < 5000; ++number)
+        make_file(number, 10, 0);
+    for (;;)
+        cloudabi_sys_file_readdir(directory, bytes, 64, 4999, &count);
+}
+
+static const struct {
+    const char *name;
+    void (*run)(void);
+} kinds[] = {
+    {"spin", spin},   {"memory", fill_memory}, {"protect", protect_memory}, {"map", map_memory}, {"output", write_output},
+    {"input", read_input}, {"calls", make_calls}, {"denials", be_denied},   {"files", fill_files}, {"names", make_names},
+    {"list", list_names},
+};
+
+void program_main(const argdata_t *arguments)
+{
+    argdata_t value, what;
+    const char *text;
+    size_t length;
+    if (!argdata_map_find(arguments, "do", &what) || !argdata_get_str(&what, &text, &length)
+        || !argdata_map_find(arguments, "directory", &value) || !argdata_get_fd(&value, &directory)
+        || !argdata_map_find(arguments, "input", &value) || !argdata_get_fd(&value, &input)
+        || !argdata_map_find(arguments, "output", &value) || !argdata_get_fd(&value, &output))
+        cloudabi_sys_proc_exit(255);
+    for (size_t i = 0; i < sizeof kinds / sizeof kinds[0]; ++i) {
+        size_t at = 0;
+        while (at < length && kinds[i].name[at] == text[at])
+            ++at;
+        if (at == length && kinds[i].name[at] == '\0')
+            kinds[i].run();
+    }
+    cloudabi_sys_proc_exit(254);
+}
