@@ -1,6 +1,6 @@
 /*
  * A guest that does its worst, without end: what its argument data says under `do`. bench/worst runs it and measures what it costs.
- * worst.elf is made of this text by `guest/cc --bare -s -o worst.elf worst.c`.
+ * worst.elf is made of this text by `../guest/cc --bare -s -o worst.elf worst.c`.
  */
 #include "argdata.h"
 
@@ -20,7 +20,7 @@ static void spin(void)
 /* As many pages as it gets, each written to; it then spins. */
 static void fill_memory(void)
 {
-    void *memory;
+    void *memory = NULL;
     while (cloudabi_sys_mem_map(NULL, MAPPING, CLOUDABI_PROT_READ | CLOUDABI_PROT_WRITE,
                                 CLOUDABI_MAP_ANON | CLOUDABI_MAP_PRIVATE, 0, 0, &memory)
            == CLOUDABI_ESUCCESS) {
@@ -34,7 +34,7 @@ static void fill_memory(void)
 static void protect_memory(void)
 {
     size_t length = (size_t)65000 * 4096;
-    void *memory;
+    void *memory = NULL;
     cloudabi_sys_mem_map(NULL, length, CLOUDABI_PROT_READ, CLOUDABI_MAP_ANON | CLOUDABI_MAP_PRIVATE, 0, 0, &memory);
     for (uint32_t prot = CLOUDABI_PROT_READ;; prot ^= CLOUDABI_PROT_WRITE)
         cloudabi_sys_mem_protect(memory, length, prot);
@@ -44,7 +44,7 @@ static void protect_memory(void)
 static void map_memory(void)
 {
     size_t length = (size_t)65000 * 4096;
-    void *memory;
+    void *memory = NULL;
     for (;;) {
         cloudabi_sys_mem_map(NULL, length, CLOUDABI_PROT_READ, CLOUDABI_MAP_ANON | CLOUDABI_MAP_PRIVATE, 0, 0, &memory);
         cloudabi_sys_mem_unmap(memory, length);
