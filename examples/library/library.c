@@ -1,4 +1,6 @@
 /* Tries what the C library has in the sandbox, a line for each thing: `ok`, or what went wrong. It exits with how many went wrong. */
+#include "argdata.h"
+
 #include <errno.h>
 #include <fcntl.h>
 #include <math.h>
@@ -135,6 +137,50 @@ static void try_the_rest(int argc, char **argv)
     tell("fprintf of a file", fprintf(left, "%d\n", 12) == 3);
 }
 
+#define VALUE(text) &(argdata_t){(const uint8_t *)text, sizeof text - 1}
+
+static bool is_integer(const argdata_t *value, int64_t wanted)
+{
+    int64_t number;
+    return argdata_get_int(value, &number) && number == wanted;
+}
+
+static bool is_text(const argdata_t *value, const char *wanted)
+{
+    const char *text;
+    size_t length;
+    return argdata_get_str(value, &text, &length) && length == strlen(wanted) && strcmp(text, wanted) == 0;
+}
+
+static void try_argument_data(void)
+{
+    int64_t number;
+    bool truth = false;
+    cloudabi_fd_t fd;
+    const char *text;
+    size_t length;
+    argdata_rest_t rest;
+    argdata_t key, item;
+    tell("integers", is_integer(VALUE("\5"), 0) && is_integer(VALUE("\5\x7f"), 127) && is_integer(VALUE("\5\x80"), -128)
+         && is_integer(VALUE("\5\0\x80"), 128) && is_integer(VALUE("\5\x80\0\0\0\0\0\0\0"), INT64_MIN));
+    tell("an integer that doesn't fit", !argdata_get_int(VALUE("\5\0\xff\xff\xff\xff\xff\xff\xff\xff"), &number));
+    tell("bools", argdata_get_bool(VALUE("\2\1"), &truth) && truth && argdata_get_bool(VALUE("\2"), &truth) && !truth
+         && !argdata_get_bool(VALUE("\2\2"), &truth));
+    tell("descriptors", argdata_get_fd(VALUE("\3\1\2\3\4"), &fd) && fd == 0x01020304 && !argdata_get_fd(VALUE("\3\1\2"), &fd));
+    tell("texts", is_text(VALUE("\10\0"), "") && is_text(VALUE("\10ab\0"), "ab")
+         && !argdata_get_str(VALUE("\10ab"), &text, &length) && !argdata_get_str(VALUE("\10a\0b\0"), &text, &length));
+    tell("a sequence", argdata_seq_begin(VALUE("\7\x80\x81\5"), &rest) && argdata_seq_next(&rest, &item) && item.length == 0
+         && argdata_seq_next(&rest, &item) && is_integer(&item, 0) && !argdata_seq_next(&rest, &item));
+    tell("a field over its end", argdata_seq_begin(VALUE("\7\x83\5"), &rest) && !argdata_seq_next(&rest, &item));
+    tell("a length without an end", argdata_seq_begin(VALUE("\7\1\1"), &rest) && !argdata_seq_next(&rest, &item));
+    tell("a map", argdata_map_begin(VALUE("\6\x83\10a\0\x82\5\1"), &rest) && argdata_map_next(&rest, &key, &item)
+         && is_text(&key, "a") && is_integer(&item, 1) && !argdata_map_next(&rest, &key, &item));
+    tell("a key", argdata_map_find(VALUE("\6\x83\10a\0\x82\5\1\x84\10ab\0\x82\5\2"), "ab", &item) && is_integer(&item, 2)
+         && !argdata_map_find(VALUE("\6\x83\10a\0\x82\5\1"), "", &item));
+    tell("a value of another type", !argdata_map_begin(VALUE("\7"), &rest) && !argdata_get_int(VALUE("\2"), &number)
+         && !argdata_get_int(VALUE(""), &number));
+}
+
 static void at_exit(void)
 {
     printf("atexit: ok\n");
@@ -152,6 +198,7 @@ int main(int argc, char **argv)
     try_offsets();
     try_memory();
     try_texts();
+    try_argument_data();
     try_the_rest(argc, argv);
     return failed;
 }
