@@ -110,12 +110,14 @@ static bool is_text(const argdata_t *value, const char *wanted)
 bool argdata_map_find(const argdata_t *map, const char *key, argdata_t *value)
 {
     argdata_rest_t rest;
-    argdata_t name;
+    argdata_t name, found;
     if (!argdata_map_begin(map, &rest))
         return false;
-    while (argdata_map_next(&rest, &name, value)) {
-        if (is_text(&name, key))
+    while (argdata_map_next(&rest, &name, &found)) {
+        if (is_text(&name, key)) {
+            *value = found;
             return true;
+        }
     }
     return false;
 }

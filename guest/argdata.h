@@ -38,7 +38,7 @@ bool argdata_map_next(argdata_rest_t *rest, argdata_t *key, argdata_t *value);
 bool argdata_seq_begin(const argdata_t *value, argdata_rest_t *rest);
 bool argdata_seq_next(argdata_rest_t *rest, argdata_t *item);
 
-/* The value of the map's pair whose key is this text; false where there is none. */
+/* The value of the map's first pair whose key is this text; false where there is none, and `value` stays. */
 bool argdata_map_find(const argdata_t *map, const char *key, argdata_t *value);
 
 #endif

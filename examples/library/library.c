@@ -177,6 +177,9 @@ static void try_argument_data(void)
          && is_text(&key, "a") && is_integer(&item, 1) && !argdata_map_next(&rest, &key, &item));
     tell("a key", argdata_map_find(VALUE("\6\x83\10a\0\x82\5\1\x84\10ab\0\x82\5\2"), "ab", &item) && is_integer(&item, 2)
          && !argdata_map_find(VALUE("\6\x83\10a\0\x82\5\1"), "", &item));
+    item = (argdata_t){NULL, 7};
+    tell("no key", !argdata_map_find(VALUE("\6\x83\10a\0\x82\5\1"), "b", &item) && item.length == 7
+         && !argdata_map_find(VALUE("\7"), "a", &item) && !argdata_map_find(VALUE(""), "a", &item));
     tell("a value of another type", !argdata_map_begin(VALUE("\7"), &rest) && !argdata_get_int(VALUE("\2"), &number)
          && !argdata_get_int(VALUE(""), &number));
 }
