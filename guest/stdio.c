@@ -58,10 +58,13 @@ int __wrap_fclose(FILE *file)
     return __real_fclose(file);
 }
 
+/* What was read last isn't flushed: that would set the offset back, which needs a right of its own. */
 __attribute__((destructor)) static void flush_all(void)
 {
     fflush(stdout);
     fflush(stderr);
-    for (struct open_file *opened = open_files; opened != NULL; opened = opened->next)
-        fflush(opened->file);
+    for (struct open_file *opened = open_files; opened != NULL; opened = opened->next) {
+        if (((struct __file_bufio *)opened->file)->dir == __SWR)
+            fflush(opened->file);
+    }
 }

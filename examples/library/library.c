@@ -132,9 +132,12 @@ static void try_the_rest(int argc, char **argv)
     tell("the end of standard input", fgets(line, sizeof line, stdin) == NULL && feof(stdin));
     tell("setjmp", setjmp(place) == 1 || (longjmp(place, 1), false));
     tell("fprintf of standard error", fprintf(stderr, "a line of standard error\n") == 25);
-    /* Left open: the exit writes what is in its buffer. */
+    /* Left open: the exit writes what is in the first one's buffer, and doesn't set back the offset of the second, for which it has no
+       right. */
     FILE *left = fopen("data/left", "w");
     tell("fprintf of a file", fprintf(left, "%d\n", 12) == 3);
+    FILE *read_last = fopen("/data/inner/c", "r");
+    tell("a file that is only read", getc(read_last) == 'c');
 }
 
 #define VALUE(text) &(argdata_t){(const uint8_t *)text, sizeof text - 1}
