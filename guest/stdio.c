@@ -1,20 +1,43 @@
 /*
- * The standard streams of the C library picolibc, each with a buffer that is written at the end of a line, and the writing of all
- * buffers at the exit. picolibc keeps no list of the files that `fopen` opens; the linker puts the functions here in the places of
- * its own (`--wrap`), and they keep one.
+ * The standard streams of the C library picolibc, whose lines are written as they end, and two things that it leaves out. A read that
+ * fails is an error of the stream, and not its end. And all buffers are written at the exit: picolibc keeps no list of the files that
+ * `fopen` opens, so the linker puts the functions here in the places of its own (`--wrap`), and they keep one.
  */
+#include <stdbool.h>
 #include <stdio-bufio.h>
 #include <stdlib.h>
 #include <unistd.h>
 
+static bool has_failed;
+
+static ssize_t read_bytes(int fd, void *buffer, size_t size)
+{
+    ssize_t count = read(fd, buffer, size);
+    has_failed = count < 0;
+    return count;
+}
+
+/* The stream's next byte. picolibc's own function gives the end of the file for a failed read too. */
+static int get_byte(FILE *file)
+{
+    has_failed = false;
+    int byte = __bufio_get(file);
+    return byte < 0 && has_failed ? _FDEV_ERR : byte;
+}
+
+/* A stream over a file descriptor, with a buffer. */
+#define STREAM(number, bytes, way, buffering)                                                                                      \
+    {                                                                                                                              \
+        .xfile = FDEV_SETUP_EXT(__bufio_put, get_byte, __bufio_flush, __bufio_close, __bufio_seek, __bufio_setvbuf, (way) | __SBUF), \
+        .fd = number, .bflags = buffering, .buf = bytes, .size = BUFSIZ, .read = read_bytes, .write = write, .lseek = lseek,        \
+        .close = close,                                                                                                            \
+    }
+
 static char input_bytes[BUFSIZ], output_bytes[BUFSIZ], error_bytes[BUFSIZ];
 
-static struct __file_bufio input =
-    FDEV_SETUP_BUFIO(0, input_bytes, BUFSIZ, read, write, lseek, close, __SRD, 0);
-static struct __file_bufio output =
-    FDEV_SETUP_BUFIO(1, output_bytes, BUFSIZ, read, write, lseek, close, __SWR, __BLBF);
-static struct __file_bufio errors =
-    FDEV_SETUP_BUFIO(2, error_bytes, BUFSIZ, read, write, lseek, close, __SWR, __BLBF);
+static struct __file_bufio input = STREAM(0, input_bytes, __SRD, 0);
+static struct __file_bufio output = STREAM(1, output_bytes, __SWR, __BLBF);
+static struct __file_bufio errors = STREAM(2, error_bytes, __SWR, __BLBF);
 
 FILE *const stdin = &input.xfile.cfile.file;
 FILE *const stdout = &output.xfile.cfile.file;
@@ -40,6 +63,8 @@ FILE *__wrap_fdopen(int fd, const char *mode)
         free(opened);
         return NULL;
     }
+    ((struct __file_bufio *)opened->file)->read = read_bytes;
+    opened->file->get = get_byte;
     opened->next = open_files;
     open_files = opened;
     return opened->file;

@@ -82,6 +82,13 @@ static void try_offsets(void)
     tell("fseek, ungetc and ftell", fseek(file, 1, SEEK_SET) == 0 && getc(file) == 'b' && ungetc('B', file) == 'B'
          && getc(file) == 'B' && getc(file) == EOF && feof(file) && ftell(file) == 2);
     fclose(file);
+
+    file = fopen("data", "r");
+    tell("a directory that is read", getc(file) == EOF && ferror(file) && !feof(file));
+    fclose(file);
+    file = fopen("data/seek", "r");
+    tell("a file that is written though it is open to read", fputs("x", file) == EOF || fflush(file) == EOF);
+    fclose(file);
 }
 
 static void try_memory(void)
