@@ -115,6 +115,22 @@ static void make_names(void)
         make_file(number, NAME_LENGTH, 0);
 }
 
+/* Makes a directory in a directory in a directory: each record of the report's tree has the path of all of them. */
+static void nest_directories(void)
+{
+    cloudabi_fdstat_t asked = {.base = CLOUDABI_RIGHT_FILE_OPEN | CLOUDABI_RIGHT_FILE_CREATE_DIRECTORY,
+                               .inheriting = CLOUDABI_RIGHT_FILE_OPEN | CLOUDABI_RIGHT_FILE_CREATE_DIRECTORY};
+    cloudabi_fd_t inner;
+    for (;;) {
+        cloudabi_sys_file_create(directory, "d", 1, CLOUDABI_FILETYPE_DIRECTORY);
+        if (cloudabi_sys_file_open((cloudabi_lookup_t){directory, 0}, "d", 1, CLOUDABI_O_DIRECTORY, &asked, &inner)
+            == CLOUDABI_ESUCCESS) {
+            cloudabi_sys_fd_close(directory);
+            directory = inner;
+        }
+    }
+}
+
 /* Makes 5000 names, and then lists the last of them again and again. */
 static void list_names(void)
 {
@@ -131,7 +147,7 @@ static const struct {
 } kinds[] = {
     {"spin", spin},   {"memory", fill_memory}, {"protect", protect_memory}, {"map", map_memory}, {"output", write_output},
     {"input", read_input}, {"calls", make_calls}, {"denials", be_denied},   {"files", fill_files}, {"names", make_names},
-    {"list", list_names},
+    {"list", list_names}, {"nest", nest_directories},
 };
 
 void program_main(const argdata_t *arguments)
