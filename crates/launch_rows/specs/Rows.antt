@@ -5,7 +5,7 @@ use Rattle.yaml_scalars.specs.declared.kind.YamlKind.{YamlKind}
 use Rattle.yaml_scalars.specs.declared.fault.LineFault.{LineFault}
 use Rattle.yaml_scalars.specs.Spaces.{after_gap}
 use Rattle.yaml_scalars.specs.Plain.{begins_plain, is_space_or_end, is_behind_key, plain_length}
-use Rattle.yaml_scalars.specs.Quoted.{after_quoted}
+use Rattle.yaml_scalars.specs.Quoted.{quoted}
 use Rattle.yaml_scalars.specs.Scalars.{is_quote}
 use Rattle.yaml_values.specs.Tags.{name_length}
 use Rattle.launch_rows.specs.declared.fault.Fault.{Fault}
@@ -63,9 +63,14 @@ begins_key (b ∷ bs) = is_quote b || begins_plain false b bs
 unfoldable pub behind_key : List ℕ → Option (List ℕ)
 behind_key [] = None
 behind_key (b ∷ bs) =
-    if is_quote b then behind_quoted (after_quoted b bs)
+    if is_quote b then behind_quoted (quoted b bs).rest
     else if begins_plain false b bs then behind_colon (drop (plain_length false (b ∷ bs)) (b ∷ bs))
     else None
+
+-- what stands in the row behind the key and its colon; nothing, where there is no key
+abbrev pub after_key : Option (List ℕ) → List ℕ
+after_key None = []
+after_key (Some rest) = after_gap rest
 
 -- nothing stands here but perhaps a tag
 abbrev pub is_open : List ℕ → Bool
@@ -108,6 +113,14 @@ is_start = is_alone (codes "---")
 
 abbrev pub is_stop : Row → Bool
 is_stop = is_alone (codes "...")
+
+-- the bytes begin with this text, and behind it stands a space or nothing
+abbrev pub is_before_space : List ℕ → List ℕ → Bool
+is_before_space text bytes = starts_with nat_eq bytes text && is_space_or_end (drop (length text) bytes)
+
+-- `---` or `...` at column 0, with or without text behind it
+abbrev pub is_marker : Row → Bool
+is_marker r = (r.column == 0) && (is_before_space (codes "---") r.content || is_before_space (codes "...") r.content)
 
 -- a directive that says what `!` stands for
 abbrev pub is_directive : Row → Bool

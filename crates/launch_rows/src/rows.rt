@@ -1,8 +1,8 @@
 //! What a line begins with.
 ghost use Rattle.std.specs.Prelude.{◌≡◌, ◌≤◌, ◌<◌, false, length, drop, option_map, IfSome};
-ghost use Rattle.yaml_scalars.specs.Quoted.{after_quoted};
+ghost use Rattle.yaml_scalars.specs.Quoted.{quoted as quoted_of};
 ghost use Rattle.yaml_values.specs.Tags.{name_length};
-ghost use Rattle.launch_rows.specs.Rows.{is_dash, behind_colon, behind_quoted, begins_key, behind_key, is_open, awaits_value};
+ghost use Rattle.launch_rows.specs.Rows.{is_dash, behind_colon, behind_quoted, begins_key, behind_key, after_key, is_open, awaits_value};
 
 use yaml_scalars::{plain, quoted, spaces};
 
@@ -28,7 +28,7 @@ pub fn behind_colon(bytes: &[u8]) -> Option<&[u8]>
 
 // What stands behind a quoted key, of which the opening quote was read, and its colon.
 fn behind_quoted(quote: u8, bytes: &[u8]) -> Option<&[u8]>
-    ensures { option_map (λ r. r.now) result ≡ behind_quoted (after_quoted quote bytes.now) }
+    ensures { option_map (λ r. r.now) result ≡ behind_quoted (quoted_of quote bytes.now).rest }
 {
     match quoted::after_quoted(quote, bytes) {
         None => None,
@@ -63,6 +63,16 @@ pub fn behind_key(bytes: &[u8]) -> Option<&[u8]>
     }
 }
 
+/// What stands behind the key and its colon, and spaces: nothing, where a comment does, and where no key begins here.
+pub fn after_key(bytes: &[u8]) -> &[u8]
+    ensures { result.now ≡ after_key (behind_key bytes.now) }
+{
+    match behind_key(bytes) {
+        None => &[],
+        Some(rest) => spaces::after_gap(rest),
+    }
+}
+
 // What stands behind the name of a tag.
 fn after_name(bytes: &[u8]) -> &[u8]
     ensures { result.now ≡ drop (name_length false bytes.now) bytes.now }
@@ -77,8 +87,8 @@ fn after_name(bytes: &[u8]) -> &[u8]
     rest
 }
 
-// Nothing stands here but perhaps a tag.
-fn is_open(bytes: &[u8]) -> bool
+/// Nothing stands here but perhaps a tag.
+pub fn is_open(bytes: &[u8]) -> bool
     ensures { result ≡ is_open bytes.now }
 {
     match bytes {

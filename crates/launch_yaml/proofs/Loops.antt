@@ -1,23 +1,35 @@
 -- Entries that are read one after the other, as a loop does.
-use Rattle.std.proofs.Common.{◌≡◌, ℕ, suc, List, [], ◌∷◌, ◌++◌, drop, Bool, true, false, cond, Option, Some, None, Result, Ok, Err, refl, sym, ap, ◌∙◌, append_assoc, ◌+◌, arith}
+use Rattle.std.proofs.Common.{◌≡◌, ◌≤◌, ◌-◌, ℕ, suc, List, [], ◌∷◌, ◌++◌, length, take, drop, Bool, true, false, cond, Option, Some, None, Result, Ok, Err, refl, sym, ap, subst, ◌∙◌, append_assoc, ◌+◌, arith}
+use Rattle.std.proofs.Math.Seq.{take-length}
 use Rattle.std.proofs.lemmas.List.{append-nil}
-use Rattle.std.specs.Prelude.{◌||◌, not, ◌==◌, if◌then◌else◌, is_some}
+use Rattle.std.specs.Prelude.{◌&&◌, ◌||◌, not, ◌==◌, if◌then◌else◌, is_some}
 use Rattle.std.specs.List.{take_while, prefix_len, list_any}
 use Rattle.yaml_values.specs.Shape.{Shape, Content, node, content_of}
 use Rattle.yaml_values.specs.Keys.{same_key}
 use Rattle.yaml_scalars.specs.declared.kind.YamlKind.TheVariants as kinds
 use Rattle.launch_rows.specs.declared.fault.Fault.{Fault}
 use Rattle.launch_rows.specs.declared.line.Line.{Line}
-use Rattle.refusals.specs.Results.{◌>>=◌}
+use Rattle.refusals.specs.declared.refusal.Refusal.{Refusal}
+use Rattle.refusals.specs.Results.{◌>>=◌, Gives}
+use Rattle.yaml_values.specs.declared.node.Node.{Node}
+use Rattle.yaml_values.specs.Views.{shape_of}
+use Rattle.std.proofs.lemmas.Bool.Decides.{nat_tests}
 use Rattle.refusals.proofs.Steps.{bind_alike}
-use Rattle.launch_rows.specs.Rows.{Row, at_row, begins_key, behind_key}
+use Rattle.launch_rows.specs.Rows.{Row, is_dash, at_row, begins_key, behind_key}
 use Rattle.launch_yaml.specs.Entries.{Entry, after_while, belongs, entries_after, never, is_key_awaiting, map_entries, sequence_entries}
-use Rattle.launch_yaml.specs.Blocks.{Block, items_of, pairs_of, pair_of, key_of, new_key_of, key_at, no_entry, wrong_key, value_of_entry}
+use Rattle.launch_yaml.specs.Blocks.{Block, untagged, value_with, behind_dash, item_of, items_of, pairs_of, pair_of, key_of, new_key_of, key_at, no_entry, wrong_key, value_of_entry, block_at}
 use Rattle.launch_rows.specs.Views.{row, rows, lines_from}
 
 -- what was read before, and what is still read
 abbrev pub with_front : {A : Type 0} → List A → Result (List A) Fault → Result (List A) Fault
 with_front front read = read >>= λ xs. Ok (front ++ xs)
+
+-- the lines behind an entry are fewer than those from it on
+pub fewer_lines : (others : ℕ) (next following : Option Line) (rest after behind : List Line) (first : Line) → next ≡ Some first → lines_from following behind ≡ after → length after ≤ length rest
+    → length (lines_from next rest) ≤ suc others → length (lines_from following behind) ≤ suc others
+fewer_lines others next following rest after behind first is same shorter fewer =
+    let here : length (lines_from next rest) ≡ suc (length rest) = ap (λ (n : Option Line). length (lines_from n rest)) is in
+    omega (arith, here, ap length same, shorter, fewer)
 
 -- ---- the entries of rows, one after the other
 
@@ -208,7 +220,7 @@ new_key_alike keys others r same =
 key_alike : (column : ℕ) (is_root : Bool) (keys others : List Content) (r : Row) → SameKeys keys others → key_at column is_root keys r ≡ key_at column is_root others r
 key_alike column is_root keys others r same =
     ap (λ (read : Result Content Fault).
-    if not (r.column == column) then at_row r kinds.Indent
+    if not (r.column == column) then no_entry is_root r
     else if not (begins_key r.content) then at_row r (wrong_key r.content)
     else if not (is_some (behind_key r.content)) then no_entry is_root r
     else read) (new_key_alike keys others r same)
@@ -232,3 +244,26 @@ pub value_fails : (block : Block) (depth column : ℕ) (is_root : Bool) (keys : 
 value_fails block depth column is_root keys e key f first second =
     ap (λ (read : Result Content Fault). read >>= λ key. value_of_entry block depth e >>= λ v. Ok (node e.first.number None key, v)) first
     ∙ ap (λ (read : Result Shape Fault). read >>= λ v. Ok (node e.first.number None key, v)) second
+
+-- ---- one item
+
+pub behind_first : (bytes : List ℕ) → 1 ≤ length bytes → take (length bytes - 1) (drop 1 bytes) ≡ drop 1 bytes
+behind_first [] some = absurd (omega (arith, some))
+behind_first (b ∷ bs) some =
+    let size : suc (length bs) - 1 ≡ length bs = omega arith in
+    ap (λ n. take n bs) size ∙ take-length bs
+
+pub item_is : (depth column : ℕ) (is_root : Bool) (e : Entry) (behind : Row) (bytes : List ℕ) (result : Result Node (Refusal Fault)) → e.first.column ≡ column → is_dash e.first.content ≡ true
+    → behind ≡ behind_dash e.first → bytes ≡ behind.content
+    → Gives shape_of result (value_with (block_at depth) depth false untagged true behind e.others bytes)
+    → Gives shape_of result (item_of (block_at depth) depth column is_root e)
+item_is depth column is_root e behind bytes result same dash is by gives =
+    let read = λ (r : Row) (bs : List ℕ). value_with (block_at depth) depth false untagged true r e.others bs in
+    let test : (e.first.column == column) ≡ true = grind (arith, nat_tests, same) in
+    let first : item_of (block_at depth) depth column is_root e ≡ (if is_dash e.first.content then read (behind_dash e.first) (behind_dash e.first).content else no_entry is_root e.first) =
+    ap (λ (b : Bool). if b && is_dash e.first.content then read (behind_dash e.first) (behind_dash e.first).content else no_entry is_root e.first) test in
+    let whole : item_of (block_at depth) depth column is_root e ≡ read behind bytes =
+    first
+    ∙ ap (λ (b : Bool). if b then read (behind_dash e.first) (behind_dash e.first).content else no_entry is_root e.first) dash
+    ∙ sym (ap (read behind) (by ∙ ap (λ (r : Row). r.content) is) ∙ ap (λ (r : Row). read r (behind_dash e.first).content) is) in
+    subst (λ (r : Result Shape Fault). Gives shape_of result r) (sym whole) gives

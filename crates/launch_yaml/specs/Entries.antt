@@ -1,7 +1,7 @@
 -- The entries of a block: a row at its column, or left of it, with the rows that belong to it.
 use Rattle.std.specs.Prelude.{ℕ, ◌==◌, ◌&&◌, ◌||◌, if◌then◌else◌, nat_lt, Bool, false, List, [], ◌∷◌, drop}
 use Rattle.std.specs.List.{take_while, prefix_len}
-use Rattle.launch_rows.specs.Rows.{Row, is_dash, awaits_value, behind_key}
+use Rattle.launch_rows.specs.Rows.{Row, is_dash, is_open, awaits_value, behind_key}
 
 -- the rows behind the front of rows that pass a test
 abbrev pub after_while : (Row → Bool) → List Row → List Row
@@ -17,16 +17,17 @@ is_deeper column r = nat_lt column r.column
 abbrev pub is_item_at : ℕ → Row → Bool
 is_item_at column r = (r.column == column) && is_dash r.content
 
+-- an item stands at the column, perhaps behind deeper rows that have only a tag
 abbrev pub begins_with_item_at : ℕ → List Row → Bool
 begins_with_item_at column [] = false
-begins_with_item_at column (r ∷ rs) = is_item_at column r
+begins_with_item_at column (r ∷ rs) = is_item_at column r || (is_deeper column r && is_open r.content && begins_with_item_at column rs)
 
 -- whether a row belongs to an entry: a deeper one does, and where the entry has items at its column, an item there does
 abbrev pub belongs_there : ℕ → Bool → Row → Bool
 belongs_there column items r = is_deeper column r || (items && is_item_at column r)
 
 -- Whether rows belong to an entry, where these follow its first row: the deeper ones, and where the entry is a key that
--- awaits its value and an item follows at its column, the items there.
+-- awaits its value and a sequence follows at its column, the items there.
 abbrev pub belongs : ℕ → Bool → List Row → Row → Bool
 belongs column awaits rows r = belongs_there column (awaits && begins_with_item_at column rows) r
 

@@ -3,3 +3,4 @@ pub mod Blocks
 pub mod Document
 pub mod Parsing
 pub mod TaggingViews
+pub mod Laws

@@ -1,16 +1,16 @@
 //! Values that stand on lines.
-ghost use Rattle.std.specs.Prelude.{◌≡◌, ◌∷◌, map};
+ghost use Rattle.std.specs.Prelude.{◌≡◌, ◌∷◌, true, map};
 ghost use Rattle.yaml_values.specs.Shape.{node as shape_node};
 ghost use Rattle.yaml_values.specs.Views.{shape_of, content_of_value, pair_of as pair_view};
 ghost use Rattle.refusals.specs.Results.{Gives};
 ghost use Rattle.launch_rows.specs.Views.{row, rows, IsWithin, AllWithin};
 ghost use Rattle.launch_yaml.specs.Entries.{Entry};
-ghost use Rattle.launch_yaml.specs.Blocks.{begins_block, below, value_of_entry, item_of, in_line, on_following, items_at, pairs_at, block_at, node_at};
+ghost use Rattle.launch_yaml.specs.Blocks.{begins_block, value_in, value_below, value_with, value_of_entry, item_of, items_at, pairs_at, block_at, root_at};
 ghost use Rattle.launch_yaml.specs.TaggingViews.{tagging_view};
 
 use crate::entries;
-use crate::keys::{deepest, key_at, kind_of_no_entry};
-use crate::single::{alone, behind_one_tag, lines_behind, tagging_at};
+use crate::keys::{deepest, key_at};
+use crate::single::{alone, kind_of_end, tagging_at, wrong_in};
 use crate::tagging::Tagging;
 use launch_rows::fault::Fault;
 use launch_rows::line::{Line, at_line, content, from};
@@ -21,12 +21,10 @@ use yaml_scalars::{YamlKind, spaces};
 use yaml_values::keys::KeySet;
 use yaml_values::{Node, NodeList, NodePairs, NodeValue};
 
-// A map or a sequence begins with a line.
-fn begins_block(text: &[u8], line: Line) -> bool
-    requires { IsWithin text.now line }
-    ensures { result ≡ begins_block (row text.now line) }
+// A map or a sequence begins here.
+fn begins_block(bytes: &[u8]) -> bool
+    ensures { result ≡ begins_block bytes.now }
 {
-    let bytes = content(text, line);
     rows::is_dash(bytes) || rows::behind_key(bytes).is_some()
 }
 
@@ -41,67 +39,103 @@ fn untagged(line: u32, value: NodeValue) -> Node
     }
 }
 
-/// The value that begins with a line and goes on with the others, in which so many maps and sequences may stand inside
-/// each other.
-#[cycle(blocks)]
-pub fn node(
+/// The root, which begins with a line and goes on with the others. So many maps and sequences may stand inside each other.
+pub fn root(
     alloc: Global,
     text: &[u8],
     depth: usize,
-    is_root: bool,
     line: Line,
     others: &[Line],
 ) -> Result<Node, Refusal<Fault>>
     requires { AllWithin text.now (line ∷ others.now) }
-    ensures { Gives shape_of result (node_at depth is_root (row text.now line) (rows text.now others.now)) }
+    ensures { Gives shape_of result (root_at depth (row text.now line) (rows text.now others.now)) }
 {
-    if begins_block(text, line) {
-        let value = block(alloc, text, depth, is_root, line, others)?;
-        Ok(untagged(line.number, value))
-    } else {
-        in_line(
-            alloc,
-            text,
-            depth,
-            is_root,
-            line,
-            content(text, line),
-            others,
-        )
-    }
+    let bytes = content(text, line);
+    value(
+        alloc,
+        text,
+        depth,
+        true,
+        Tagging::Untagged,
+        true,
+        line,
+        others,
+        bytes,
+    )
 }
 
-// A value of which some is in a line's rest: a tag, or all of it.
+// A value from these bytes of a line on, perhaps with a tag. A map or a sequence may begin with fresh bytes alone.
 #[cycle(blocks)]
-fn in_line(
+fn value(
     alloc: Global,
     text: &[u8],
     depth: usize,
     is_root: bool,
+    tagging: Tagging,
+    fresh: bool,
     line: Line,
+    others: &[Line],
     bytes: &[u8],
-    others: &[Line],
 ) -> Result<Node, Refusal<Fault>>
     requires { AllWithin text.now (line ∷ others.now) }
-    ensures { Gives shape_of result (in_line (block_at depth) depth is_root (row text.now line) bytes.now (rows text.now others.now)) }
+    ensures { Gives shape_of result (value_with (block_at depth) depth is_root (tagging_view tagging) fresh (row text.now line) (rows text.now others.now) bytes.now) }
 {
-    let behind = lines_behind(text, is_root, line, others);
     match bytes {
-        [b'!', rest @ ..] => {
-            let (tagging, bytes) = tagging_at(alloc, text, line, rest)?;
-            if bytes.is_empty() {
-                on_following(alloc, text, depth, is_root, tagging, line.number, others)
-            } else {
-                behind_one_tag(alloc, text, depth, tagging, line, bytes, behind)
+        [b'!', rest @ ..] if tagging.is_untagged() => {
+            let (tagging, behind) = tagging_at(alloc, text, line, rest)?;
+            if rows::behind_key(behind).is_some() {
+                return Err(Refusal::At(wrong_in(text, line, YamlKind::Character, behind)));
             }
+            untagged_value(
+                alloc, text, depth, is_root, tagging, false, line, others, behind,
+            )
         }
-        _ => alone(alloc, text, depth, Tagging::Untagged, line, bytes, behind),
+        _ => untagged_value(
+            alloc, text, depth, is_root, tagging, fresh, line, others, bytes,
+        ),
     }
 }
 
-// A value on following lines, if there are any, whose tag was read on the line of that number.
+// The same, where no tag may stand first.
 #[cycle(blocks)]
-fn on_following(
+fn untagged_value(
+    alloc: Global,
+    text: &[u8],
+    depth: usize,
+    is_root: bool,
+    tagging: Tagging,
+    fresh: bool,
+    line: Line,
+    others: &[Line],
+    bytes: &[u8],
+) -> Result<Node, Refusal<Fault>>
+    requires { AllWithin text.now (line ∷ others.now) }
+    ensures { Gives shape_of result (value_in (block_at depth) depth is_root (value_below (block_at depth) depth is_root line.number (rows text.now others.now)) (tagging_view tagging) fresh (row text.now line) (rows text.now others.now) bytes.now) }
+{
+    match bytes {
+        [] => below(alloc, text, depth, is_root, tagging, line.number, others),
+        bytes if fresh && begins_block(bytes) => match tagging.binary_place() {
+            Some(place) => Err(Refusal::At(place)),
+            None => {
+                let value = block(alloc, text, depth, is_root, line, others)?;
+                Ok(tagging.into_node(line.number, value))
+            }
+        },
+        [b'!', ..] => match tagging.binary_place() {
+            Some(place) => Err(Refusal::At(place)),
+            None => Err(Refusal::At(wrong_in(text, line, YamlKind::Tag, bytes))),
+        },
+        [b'[' | b'{', ..] => match tagging.binary_place() {
+            Some(place) => Err(Refusal::At(place)),
+            None => alone(alloc, text, depth, is_root, tagging, line, others, bytes),
+        },
+        _ => alone(alloc, text, depth, is_root, tagging, line, others, bytes),
+    }
+}
+
+// A value on the lines behind that of this number, if there are any.
+#[cycle(blocks)]
+fn below(
     alloc: Global,
     text: &[u8],
     depth: usize,
@@ -111,27 +145,14 @@ fn on_following(
     others: &[Line],
 ) -> Result<Node, Refusal<Fault>>
     requires { AllWithin text.now others.now }
-    ensures { Gives shape_of result (on_following (block_at depth) depth is_root (tagging_view tagging) number (rows text.now others.now)) }
+    ensures { Gives shape_of result (value_below (block_at depth) depth is_root number (rows text.now others.now) (tagging_view tagging)) }
 {
     match others {
         [] => tagging.absent(number),
-        [line, rest @ ..] if begins_block(text, *line) => match tagging.binary_place() {
-            Some(place) => Err(Refusal::At(place)),
-            None => {
-                let value = block(alloc, text, depth, is_root, *line, rest)?;
-                Ok(tagging.into_node(line.number, value))
-            }
-        },
         [line, rest @ ..] => {
-            let behind = lines_behind(text, is_root, *line, rest);
-            behind_one_tag(
-                alloc,
-                text,
-                depth,
-                tagging,
-                *line,
-                content(text, *line),
-                behind,
+            let bytes = content(text, *line);
+            value(
+                alloc, text, depth, is_root, tagging, true, *line, rest, bytes,
             )
         }
     }
@@ -197,39 +218,25 @@ fn item(
     others: &[Line],
 ) -> Result<Node, Refusal<Fault>>
     requires { AllWithin text.now (line ∷ others.now) }
-    ensures { Gives shape_of result (item_of (node_at depth) column is_root (record { first = row text.now line; others = rows text.now others.now })) }
+    ensures { Gives shape_of result (item_of (block_at depth) depth column is_root (record { first = row text.now line; others = rows text.now others.now })) }
 {
-    if line.column != column {
-        return Err(Refusal::At(at_line(line, YamlKind::Indent)));
-    }
     match content(text, line) {
-        bytes @ [_, rest @ ..] if rows::is_dash(bytes) => {
+        bytes @ [_, rest @ ..] if line.column == column && rows::is_dash(bytes) => {
             let rest = spaces::after_gap(rest);
-            if rest.is_empty() {
-                below(alloc, text, depth, line.number, others)
-            } else {
-                node(alloc, text, depth, false, from(text, line, rest), others)
-            }
+            let behind = from(text, line, rest);
+            value(
+                alloc,
+                text,
+                depth,
+                false,
+                Tagging::Untagged,
+                true,
+                behind,
+                others,
+                content(text, behind),
+            )
         }
-        _ => Err(Refusal::At(at_line(line, kind_of_no_entry(is_root)))),
-    }
-}
-
-// A value on following lines, if there are any.
-#[cycle(blocks)]
-fn below(
-    alloc: Global,
-    text: &[u8],
-    depth: usize,
-    number: u32,
-    others: &[Line],
-) -> Result<Node, Refusal<Fault>>
-    requires { AllWithin text.now others.now }
-    ensures { Gives shape_of result (below (node_at depth) number (rows text.now others.now)) }
-{
-    match others {
-        [] => Ok(untagged(number, NodeValue::Null)),
-        [line, rest @ ..] => node(alloc, text, depth, false, *line, rest),
+        _ => Err(Refusal::At(at_line(line, kind_of_end(is_root)))),
     }
 }
 
@@ -273,15 +280,16 @@ fn entry_value(
     requires { AllWithin text.now (line ∷ others.now) }
     ensures { Gives shape_of result (value_of_entry (block_at depth) depth (record { first = row text.now line; others = rows text.now others.now })) }
 {
-    match rows::behind_key(content(text, line)) {
-        None => Err(Refusal::At(at_line(line, YamlKind::Character))),
-        Some(rest) => {
-            let rest = spaces::after_gap(rest);
-            if rest.is_empty() {
-                below(alloc, text, depth, line.number, others)
-            } else {
-                in_line(alloc, text, depth, false, line, rest, others)
-            }
-        }
-    }
+    let rest = rows::after_key(content(text, line));
+    value(
+        alloc,
+        text,
+        depth,
+        false,
+        Tagging::Untagged,
+        false,
+        line,
+        others,
+        rest,
+    )
 }

@@ -7,22 +7,23 @@ ghost use Rattle.yaml_scalars.specs.Spaces.{after_gap};
 ghost use Rattle.yaml_values.specs.Views.{shape_of};
 ghost use Rattle.launch_rows.specs.declared.fault.Fault.{Fault};
 ghost use Rattle.launch_rows.specs.Faults.{unless, beside};
-ghost use Rattle.launch_rows.specs.Rows.{is_alone, is_start, is_stop, is_directive};
+ghost use Rattle.launch_rows.specs.Rows.{is_alone, is_start, is_stop, is_before_space, is_marker, is_directive};
 ghost use Rattle.launch_yaml.specs.Entries.{after_while};
 ghost use Rattle.refusals.specs.Results.{Gives};
 ghost use Rattle.launch_rows.specs.Views.{row, rows, IsWithin, AllWithin};
-ghost use Rattle.launch_yaml.specs.Document.{is_marker, no_marker, is_right_of, end_at, after_document, root_of, body_of, after_directive, document_of, parse_at};
+ghost use Rattle.launch_yaml.specs.Document.{is_inside, first_column, end_at, after_document, root_of, body_of, after_directive, after_head, document_of, parse_at};
 ghost use Rattle.launch_yaml.specs.Parsing.{Parses};
 
 use crate::blocks;
 use launch_rows::fault::Fault;
 use launch_rows::faults::first_of;
-use launch_rows::line::{Line, content};
+use launch_rows::line::{Line, at_line, content};
 use launch_rows::lines;
 use refusals::Refusal;
 use std::alloc::Global;
 use thiserror::Error;
 use yaml_scalars::YamlKind;
+use yaml_scalars::plain::is_space_or_end;
 use yaml_scalars::spaces::after_gap;
 use yaml_values::{Node, NodeValue};
 
@@ -80,6 +81,22 @@ fn is_stop(text: &[u8], line: Line) -> bool
     is_alone(text, b"...", line)
 }
 
+// The line begins with this text, and behind it stands a space or nothing.
+fn is_before_space(expected: &[u8], line: &[u8]) -> bool
+    ensures { result ≡ is_before_space expected.now line.now }
+{
+    line.starts_with(expected) && is_space_or_end(line.split_at(expected.len()).1)
+}
+
+// `---` or `...` at the line's front, with or without text behind it.
+fn is_marker(text: &[u8], line: Line) -> bool
+    requires { IsWithin text.now line }
+    ensures { result ≡ is_marker (row text.now line) }
+{
+    let bytes = content(text, line);
+    line.column == 0 && (is_before_space(b"---", bytes) || is_before_space(b"...", bytes))
+}
+
 // The directive that says what `!` stands for.
 fn is_directive(text: &[u8], line: Line) -> bool
     requires { IsWithin text.now line }
@@ -88,33 +105,23 @@ fn is_directive(text: &[u8], line: Line) -> bool
     is_alone(text, b"%TAG ! tag:nuxi.nl,2015:cloudabi/", line)
 }
 
-// How many lines stand before the first marker.
-fn count_before_marker(text: &[u8], lines: &[Line]) -> usize
-    requires { AllWithin text.now lines.now }
-    ensures value { result ≡ prefix_len no_marker (rows text.now lines.now) }
-    ensures inside { result ≤ length lines.now }
+fn is_inside(text: &[u8], column: usize, line: Line) -> bool
+    requires { IsWithin text.now line }
+    ensures { result ≡ is_inside column (row text.now line) }
 {
-    let mut count = 0;
-    let mut rest = lines;
-    while let [line, after @ ..] = rest {
-        if is_start(text, *line) || is_stop(text, *line) {
-            return count;
-        }
-        count += 1;
-        rest = after;
-    }
-    count
+    !is_marker(text, line) && column <= line.column
 }
 
-// How many lines at the front are as far to the right as the column or further.
-fn count_right_of(text: &[u8], first: Line, lines: &[Line]) -> usize
-    ensures value { result ≡ prefix_len (is_right_of (row text.now first)) (rows text.now lines.now) }
+// How many lines at the front are of the document whose first line stands at the column: none is a marker, and none left of it.
+fn count_inside(text: &[u8], column: usize, lines: &[Line]) -> usize
+    requires { AllWithin text.now lines.now }
+    ensures value { result ≡ prefix_len (is_inside column) (rows text.now lines.now) }
     ensures inside { result ≤ length lines.now }
 {
     let mut count = 0;
     let mut rest = lines;
     while let [line, after @ ..] = rest {
-        if line.column < first.column {
+        if !is_inside(text, column, *line) {
             return count;
         }
         count += 1;
@@ -167,64 +174,80 @@ fn nothing() -> Node
     }
 }
 
-// The value of a document. A line left of its first one stands behind it.
+// The value of the lines of a document.
 fn root(alloc: Global, text: &[u8], lines: &[Line]) -> Result<Node, Refusal<Fault>>
     requires { AllWithin text.now lines.now }
     ensures { Gives shape_of result (root_of (rows text.now lines.now)) }
 {
-    let [first, others @ ..] = lines else {
-        return Ok(nothing());
-    };
-    let (inside, behind) = others.split_at(count_right_of(text, *first, others));
-    let value = blocks::node(alloc, text, GREATEST_DEPTH, true, *first, inside)?;
-    unless(end_at(behind), value)
+    match lines {
+        [] => Ok(nothing()),
+        [first, others @ ..] => blocks::root(alloc, text, GREATEST_DEPTH, *first, others),
+    }
 }
 
-// The document whose directive and `---` were read.
+fn first_column(lines: &[Line]) -> usize
+    ensures { (text : List ℕ) → result ≡ first_column (rows text lines.now) }
+{
+    match lines {
+        [] => 0,
+        [first, ..] => first.column,
+    }
+}
+
+// The document whose head was read.
 fn body(alloc: Global, text: &[u8], lines: &[Line]) -> Result<Node, Refusal<Fault>>
     requires { AllWithin text.now lines.now }
     ensures { Gives shape_of result (body_of (rows text.now lines.now)) }
 {
-    let (inside, behind) = lines.split_at(count_before_marker(text, lines));
+    let (inside, behind) = lines.split_at(count_inside(text, first_column(lines), lines));
     let value = root(alloc, text, inside)?;
     unless(after_document(text, behind), value)
 }
 
-// The document behind its directive: `---` stands there first.
-fn after_directive(
-    alloc: Global,
+// The lines behind a directive: `---` stands there first.
+fn after_directive<'a>(
     text: &[u8],
     directive: Line,
-    lines: &[Line],
-) -> Result<Node, Refusal<Fault>>
+    lines: &'a [Line],
+) -> Result<&'a [Line], Refusal<Fault>>
     requires { AllWithin text.now lines.now }
-    ensures { Gives shape_of result (after_directive (row text.now directive) (rows text.now lines.now)) }
+    ensures value { Gives (λ ls. rows text.now ls.now) result (after_directive (row text.now directive) (rows text.now lines.now)) }
+    ensures within { IfOk result (λ ls. AllWithin text.now ls.now) }
 {
     match lines {
-        [line, others @ ..] if is_start(text, *line) => body(alloc, text, others),
-        _ => Err(Refusal::At(Fault {
-            line: directive.number,
-            column: directive.column,
-            kind: YamlKind::Character,
-        })),
+        [line, others @ ..] if is_start(text, *line) => Ok(others),
+        _ => Err(Refusal::At(at_line(directive, YamlKind::Character))),
     }
 }
 
-// The document that these lines are, its directive and its `---` among them.
+// The lines behind a directive and a `---`. No value stands in the line of a marker.
+fn after_head<'a>(text: &[u8], lines: &'a [Line]) -> Result<&'a [Line], Refusal<Fault>>
+    requires { AllWithin text.now lines.now }
+    ensures value { Gives (λ ls. rows text.now ls.now) result (after_head (rows text.now lines.now)) }
+    ensures within { IfOk result (λ ls. AllWithin text.now ls.now) }
+{
+    match lines {
+        [] => Ok(lines),
+        [first, others @ ..] => {
+            if is_directive(text, *first) {
+                after_directive(text, *first, others)
+            } else if is_start(text, *first) {
+                Ok(others)
+            } else if is_marker(text, *first) && !is_stop(text, *first) {
+                Err(Refusal::At(at_line(*first, YamlKind::Character)))
+            } else {
+                Ok(lines)
+            }
+        }
+    }
+}
+
+// The document that these lines are, its head among them.
 fn document(alloc: Global, text: &[u8], lines: &[Line]) -> Result<Node, Refusal<Fault>>
     requires { AllWithin text.now lines.now }
     ensures { Gives shape_of result (document_of (rows text.now lines.now)) }
 {
-    let [first, others @ ..] = lines else {
-        return Ok(nothing());
-    };
-    if is_directive(text, *first) {
-        after_directive(alloc, text, *first, others)
-    } else if is_start(text, *first) {
-        body(alloc, text, others)
-    } else {
-        body(alloc, text, lines)
-    }
+    body(alloc, text, after_head(text, lines)?)
 }
 
 // What was read, unless there is a fault beside it: then the first one.

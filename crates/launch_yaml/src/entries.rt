@@ -2,7 +2,8 @@
 ghost use Rattle.std.specs.Prelude.{◌≡◌, ◌≤◌, ◌&&◌, length};
 ghost use Rattle.std.specs.List.{take_while, prefix_len};
 ghost use Rattle.launch_rows.specs.Views.{row, rows, IsWithin, AllWithin, lines_from};
-ghost use Rattle.launch_yaml.specs.Entries.{is_item_at, begins_with_item_at, belongs_there, belongs, after_while};
+ghost use Rattle.launch_rows.specs.Rows.{is_open};
+ghost use Rattle.launch_yaml.specs.Entries.{is_deeper, is_item_at, begins_with_item_at, belongs_there, belongs, after_while};
 
 use launch_rows::line::{Line, content};
 use launch_rows::rows;
@@ -14,14 +15,30 @@ fn is_item_at(text: &[u8], column: usize, line: Line) -> bool
     line.column == column && rows::is_dash(content(text, line))
 }
 
+// A deeper line that has only a tag.
+fn is_tag_deeper(text: &[u8], column: usize, line: Line) -> bool
+    requires { IsWithin text.now line }
+    ensures { result ≡ (is_deeper column (row text.now line) && is_open (row text.now line).content) }
+{
+    column < line.column && rows::is_open(content(text, line))
+}
+
+// An item stands at the column, perhaps behind deeper lines that have only a tag.
 fn begins_with_item_at(text: &[u8], column: usize, lines: &[Line]) -> bool
     requires { AllWithin text.now lines.now }
     ensures { result ≡ begins_with_item_at column (rows text.now lines.now) }
 {
-    match lines {
-        [] => false,
-        [line, ..] => is_item_at(text, column, *line),
+    let mut rest = lines;
+    while let [line, after @ ..] = rest {
+        if is_item_at(text, column, *line) {
+            return true;
+        }
+        if !is_tag_deeper(text, column, *line) {
+            return false;
+        }
+        rest = after;
     }
+    false
 }
 
 // A deeper line belongs to an entry, and where the entry has items at its column, an item there does.
@@ -70,6 +87,7 @@ pub fn split<'a>(
     ensures after { rows text.now result.1.now ≡ after_while (belongs column awaits (rows text.now lines.now)) (rows text.now lines.now) }
     ensures mine_within { AllWithin text.now result.0.now }
     ensures after_within { AllWithin text.now result.1.now }
+    ensures mine_shorter { length result.0.now ≤ length lines.now }
     ensures shorter { length result.1.now ≤ length lines.now }
 {
     let items = has_items(text, column, awaits, lines);

@@ -5,11 +5,11 @@ ghost use Rattle.yaml_values.specs.Shape.{Content};
 ghost use Rattle.yaml_values.specs.Views.{content_of_value};
 ghost use Rattle.yaml_values.specs.Keys.{same_key};
 ghost use Rattle.yaml_values.specs.KeySets.{IsScalarKey};
-ghost use Rattle.launch_yaml.specs.Blocks.{kind_of_no_entry, wrong_key, key_of, new_key_of, key_at, deepest};
+ghost use Rattle.launch_yaml.specs.Blocks.{wrong_key, key_of, new_key_of, key_at, deepest};
 ghost use Rattle.refusals.specs.Results.{Gives, Refuses};
 ghost use Rattle.launch_rows.specs.Views.{row, IsWithin};
 
-use crate::single::refusal_in;
+use crate::single::{kind_of_end, refusal_in};
 use launch_rows::fault::Fault;
 use launch_rows::faults::first_of;
 use launch_rows::line::{Line, at_line, content};
@@ -19,17 +19,6 @@ use std::alloc::Global;
 use yaml_scalars::{YamlKind, plain};
 use yaml_values::keys::KeySet;
 use yaml_values::{Mode, NodeValue, resolution};
-
-/// What is wrong with a line in a block's place that is no entry of it: the root's block has ended.
-pub fn kind_of_no_entry(is_root: bool) -> YamlKind
-    ensures { result ≡ kind_of_no_entry is_root }
-{
-    if is_root {
-        YamlKind::End
-    } else {
-        YamlKind::Indent
-    }
-}
 
 // What is wrong where a key should begin.
 fn wrong_key(bytes: &[u8]) -> YamlKind
@@ -87,13 +76,13 @@ pub fn key_at(
 {
     let bytes = content(text, line);
     if line.column != column {
-        return Err(Refusal::At(at_line(line, YamlKind::Indent)));
+        return Err(Refusal::At(at_line(line, kind_of_end(is_root))));
     }
     if !rows::begins_key(bytes) {
         return Err(Refusal::At(at_line(line, wrong_key(bytes))));
     }
     if rows::behind_key(bytes).is_none() {
-        return Err(Refusal::At(at_line(line, kind_of_no_entry(is_root))));
+        return Err(Refusal::At(at_line(line, kind_of_end(is_root))));
     }
     new_key(alloc, text, keys, line)
 }

@@ -2,6 +2,10 @@
 #![tactic(auto)]
 
 pub use document::{Doc, YamlFault, parse};
+pub use laws::{
+    empty_lines_are_no_rows, faults_of_lines_are_told, marks_and_returns_change_nothing,
+    tag_lines_change_the_tag,
+};
 pub use yaml_scalars::YamlKind;
 pub use yaml_values::{Node, NodeList, NodePairs, NodeValue};
 
@@ -9,5 +13,6 @@ mod blocks;
 mod document;
 mod entries;
 mod keys;
+mod laws;
 mod single;
 mod tagging;

@@ -4,7 +4,7 @@ ghost use Rattle.yaml_values.specs.Views.{shape_of, content_of_value};
 ghost use Rattle.yaml_values.specs.Flow.{value_at};
 ghost use Rattle.yaml_values.specs.TagViews.{tag_view};
 ghost use Rattle.launch_rows.specs.Rows.{in_row};
-ghost use Rattle.launch_yaml.specs.Blocks.{text_behind, rows_behind, alone, behind_one_tag, tagging_of, tagging_at};
+ghost use Rattle.launch_yaml.specs.Blocks.{kind_of_end, wrong_in, text_behind, rows_behind, alone, tagging_of, tagging_at};
 ghost use Rattle.refusals.specs.Results.{Gives};
 ghost use Rattle.launch_rows.specs.Views.{row, rows, IsWithin, refusal_in};
 ghost use Rattle.launch_yaml.specs.TaggingViews.{tagging_view};
@@ -19,6 +19,17 @@ use yaml_scalars::{LineFault, YamlKind, spaces};
 use yaml_values::tags::Tag;
 use yaml_values::{Mode, Node, NodeValue, flow, tags};
 
+/// What is wrong with a line that doesn't go on with what stands before it: the root has ended.
+pub fn kind_of_end(is_root: bool) -> YamlKind
+    ensures { result ≡ kind_of_end is_root }
+{
+    if is_root {
+        YamlKind::End
+    } else {
+        YamlKind::Indent
+    }
+}
+
 /// A refusal of what was read in a line.
 pub fn refusal_in(text: &[u8], line: Line, refusal: Refusal<LineFault>) -> Refusal<Fault>
     requires { IsWithin text.now line }
@@ -30,6 +41,15 @@ pub fn refusal_in(text: &[u8], line: Line, refusal: Refusal<LineFault>) -> Refus
     }
 }
 
+/// A fault where these bytes at a line's end begin.
+pub fn wrong_in(text: &[u8], line: Line, kind: YamlKind, bytes: &[u8]) -> Fault
+    requires { IsWithin text.now line }
+    ensures { result ≡ wrong_in (row text.now line) kind bytes.now }
+{
+    let left = bytes.len();
+    place_in(text, line, LineFault { left, kind })
+}
+
 // What stands behind a value in its line.
 fn text_behind(text: &[u8], line: Line, bytes: &[u8]) -> Option<Fault>
     requires { IsWithin text.now line }
@@ -39,18 +59,19 @@ fn text_behind(text: &[u8], line: Line, bytes: &[u8]) -> Option<Fault>
         Some(_) => YamlKind::Character,
         None => YamlKind::End,
     };
-    let left = bytes.len();
-    (left > 0).then_some(place_in(text, line, LineFault { left, kind }))
+    (!bytes.is_empty()).then_some(wrong_in(text, line, kind, bytes))
 }
 
-/// The fault of lines behind a value that stands in one line alone, if there are any.
-pub fn lines_behind(text: &[u8], is_root: bool, line: Line, others: &[Line]) -> Option<Fault>
+// The fault of lines behind a value that stands in one line alone, if there are any.
+fn lines_behind(text: &[u8], is_root: bool, line: Line, others: &[Line]) -> Option<Fault>
     ensures { result ≡ rows_behind is_root (row text.now line) (rows text.now others.now) }
 {
     match others {
         [] => None,
-        [next, ..] if is_root && next.column == line.column => Some(at_line(*next, YamlKind::End)),
-        [next, ..] => Some(at_line(*next, YamlKind::Indent)),
+        [next, ..] => {
+            let kind = kind_of_end(is_root && next.column <= line.column);
+            Some(at_line(*next, kind))
+        }
     }
 }
 
@@ -72,61 +93,25 @@ fn value_in<'a>(
     }
 }
 
-/// A value that stands in its line alone, where there may be a fault behind the line.
+/// A scalar or a flow value, behind which nothing more stands.
 pub fn alone(
     alloc: Global,
     text: &[u8],
     depth: usize,
+    is_root: bool,
     tagging: Tagging,
     line: Line,
+    others: &[Line],
     bytes: &[u8],
-    behind: Option<Fault>,
 ) -> Result<Node, Refusal<Fault>>
     requires { IsWithin text.now line }
-    ensures { Gives shape_of result (alone depth (tagging_view tagging) (row text.now line) bytes.now behind) }
+    ensures { Gives shape_of result (alone depth is_root (tagging_view tagging) (row text.now line) (rows text.now others.now) bytes.now) }
 {
     let (value, rest) = value_in(alloc, text, depth, line, tagging.mode(), bytes)?;
-    match text_behind(text, line, spaces::after_gap(rest)).or(behind) {
+    let behind = text_behind(text, line, spaces::after_gap(rest));
+    match behind.or(lines_behind(text, is_root, line, others)) {
         Some(fault) => Err(Refusal::At(fault)),
         None => Ok(tagging.into_node(line.number, value)),
-    }
-}
-
-/// A value in its line behind a tag: no second tag, and no key.
-pub fn behind_one_tag(
-    alloc: Global,
-    text: &[u8],
-    depth: usize,
-    tagging: Tagging,
-    line: Line,
-    bytes: &[u8],
-    behind: Option<Fault>,
-) -> Result<Node, Refusal<Fault>>
-    requires { IsWithin text.now line }
-    ensures { Gives shape_of result (behind_one_tag depth (tagging_view tagging) (row text.now line) bytes.now behind) }
-{
-    match bytes {
-        [b'!', ..] => {
-            let place = LineFault {
-                left: bytes.len(),
-                kind: YamlKind::Tag,
-            };
-            Err(Refusal::At(tagging.second_tag(place_in(text, line, place))))
-        }
-        [b'[' | b'{', ..] => match tagging.binary_place() {
-            Some(place) => Err(Refusal::At(place)),
-            None => alone(alloc, text, depth, tagging, line, bytes, behind),
-        },
-        _ => match rows::behind_key(bytes) {
-            Some(_) => {
-                let place = LineFault {
-                    left: bytes.len(),
-                    kind: YamlKind::Character,
-                };
-                Err(Refusal::At(place_in(text, line, place)))
-            }
-            None => alone(alloc, text, depth, tagging, line, bytes, behind),
-        },
     }
 }
 
@@ -143,14 +128,8 @@ pub fn tagging_at<'a>(
     match tags::tag_at(alloc, false, rest) {
         Ok((tag, behind)) => {
             let left = 1 + rest.len();
-            let place = place_in(
-                text,
-                line,
-                LineFault {
-                    left,
-                    kind: YamlKind::Tag,
-                },
-            );
+            let kind = YamlKind::Tag;
+            let place = place_in(text, line, LineFault { left, kind });
             Ok((tagging_of(place, tag), spaces::after_gap(behind)))
         }
         Err(refusal) => Err(refusal_in(text, line, refusal)),

@@ -1,8 +1,7 @@
 //! What stands before a value: nothing, or a tag.
-ghost use Rattle.std.specs.Prelude.{◌≡◌, Err};
-ghost use Rattle.yaml_values.specs.Shape.{Shape};
+ghost use Rattle.std.specs.Prelude.{◌≡◌};
 ghost use Rattle.yaml_values.specs.Views.{shape_of, content_of_value};
-ghost use Rattle.launch_yaml.specs.Blocks.{mode_of, node_of, absent, binary_place, second_tag};
+ghost use Rattle.launch_yaml.specs.Blocks.{is_untagged, mode_of, node_of, absent, binary_place};
 ghost use Rattle.refusals.specs.Results.{Gives};
 ghost use Rattle.launch_yaml.specs.TaggingViews.{tagging_view};
 
@@ -28,6 +27,13 @@ pub enum Tagging {
 }
 
 impl Tagging {
+    /// Nothing stands before the value.
+    pub fn is_untagged(&self) -> bool
+        ensures { result ≡ is_untagged (tagging_view self.now) }
+    {
+        matches!(self, Tagging::Untagged)
+    }
+
     /// How a scalar behind it is read.
     pub fn mode(&self) -> Mode
         ensures { result ≡ mode_of (tagging_view self.now) }
@@ -46,16 +52,6 @@ impl Tagging {
         match self {
             Tagging::Base64(place) => Some(*place),
             _ => None,
-        }
-    }
-
-    /// The fault where a second tag stands at a place.
-    pub fn second_tag(&self, place: Fault) -> Fault
-        ensures { second_tag {A = Shape} (tagging_view self.now) place ≡ Err result }
-    {
-        match self {
-            Tagging::Base64(first) => *first,
-            _ => place,
         }
     }
 

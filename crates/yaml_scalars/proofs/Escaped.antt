@@ -1,5 +1,5 @@
 -- What an escape takes are ASCII characters, and what it stands for is a character.
-use Rattle.std.proofs.Common.{◌==◌, ◌≡◌, ℕ, zero, suc, ◌+◌, ◌-◌, ◌*◌, ◌/◌, ◌%◌, ◌^◌, ◌<◌, ◌≤◌, inl, inr, Bool, true, false, cond, ltb, not, ◌&&◌, ◌||◌, List, [], ◌∷◌, ◌++◌, drop, Option, Some, None, Ok, refl, sym, ap, subst, ◌∙◌, arith}
+use Rattle.std.proofs.Common.{◌==◌, ◌≡◌, ℕ, zero, suc, ◌+◌, ◌-◌, ◌*◌, ◌/◌, ◌%◌, ◌^◌, ◌<◌, ◌≤◌, inl, inr, Bool, true, false, cond, ltb, not, ◌&&◌, ◌||◌, List, [], ◌∷◌, ◌++◌, drop, Option, Some, None, option_map, refl, ap, subst, ◌∙◌, arith}
 use Rattle.std.specs.List.{AllByRecursion}
 use Rattle.std.specs.Char.{encode_utf8, IsScalar}
 use Rattle.std.specs.Str.{IsUtf8}
@@ -7,8 +7,8 @@ use Rattle.std.proofs.Math.Nat.{mul-le-mul_right, pow-succ'}
 use Rattle.std.proofs.Math.Utf8.{low_scalar}
 use Rattle.std.proofs.lemmas.Bool.Decides.{nat_tests}
 use Rattle.std.proofs.lemmas.Str.{IsUtf8-encode, encode_ascii}
-use Rattle.yaml_scalars.specs.Quoted.{Part, digit_of, with_digit, hexadecimal, is_escapable, numbered, letter_of, lettered, escape}
-use Rattle.refusals.proofs.Chosen.{chosen, some_is, none_some, ok_is, err_ok}
+use Rattle.yaml_scalars.specs.Quoted.{digit_of, with_digit, hexadecimal, is_escapable, character_of, letter_of, escape}
+use Rattle.refusals.proofs.Chosen.{chosen, some_is, none_some}
 
 abbrev pub AreAscii : List ℕ → Type 0
 AreAscii bytes = AllByRecursion (λ b. b < 128) bytes
@@ -78,28 +78,27 @@ digits_taken (suc count) n m (b ∷ bs) e = with_first (λ d h. digits_taken cou
 escapable_scalar : (n : ℕ) → is_escapable n ≡ true → n < 2 ^ 16 → IsScalar n
 escapable_scalar n e small = grind (arith, nat_tests, e, small)
 
--- an escape of a number that was read
-pub record Numbered (n : Option ℕ) (rest : List ℕ) (piece after : List ℕ) : Type 0 where
+-- a character that was read
+pub record Numbered (n : Option ℕ) (piece : List ℕ) : Type 0 where
   pub code : ℕ
   pub number : n ≡ Some code
   pub escapable : is_escapable code ≡ true
   pub character : encode_utf8 code ≡ piece
-  pub follows : rest ≡ after
 
-numbered_parts : (place : ℕ) (n : Option ℕ) (rest piece after : List ℕ) → numbered place n rest ≡ Ok (Some piece, after) → Numbered n rest piece after
-numbered_parts place None rest piece after e = absurd (err_ok _ _ e)
-numbered_parts place (Some n) rest piece after e = elim (chosen (is_escapable n) _ _ _ e) [
-  | inl p ↦
-      let same = ok_is (Some (encode_utf8 n), rest) (Some piece, after) p.1 in
-      record {
-        code = n;
-        number = refl;
-        escapable = p.0;
-        character = some_is _ _ (ap (λ (q : Part). q.0) same);
-        follows = ap (λ (q : Part). q.1) same;
-      }
-  | inr p ↦ absurd (err_ok _ _ p.1)
+numbered_parts : (n : Option ℕ) (piece : List ℕ) → character_of n ≡ Some piece → Numbered n piece
+numbered_parts None piece e = absurd (none_some piece e)
+numbered_parts (Some n) piece e = elim (chosen (is_escapable n) _ _ _ e) [
+  | inl p ↦ record { code = n; number = refl; escapable = p.0; character = some_is _ _ p.1 }
+  | inr p ↦ absurd (none_some piece p.1)
 ]
+
+-- what an option gives, with how many bytes it takes
+taking_is : (count : ℕ) (o : Option (List ℕ)) (piece : List ℕ) (taken : ℕ) → option_map {U = List ℕ × ℕ} (λ c. (c, count)) o ≡ Some (piece, taken) → (o ≡ Some piece) × (count ≡ taken)
+taking_is count None piece taken e = absurd (none_some (piece, taken) e)
+taking_is count (Some c) piece taken e =
+    let same = some_is (c, count) (piece, taken) e in
+    let some_piece : List ℕ → Option (List ℕ) = λ xs. Some xs in
+    (ap (λ (q : List ℕ × ℕ). some_piece q.0) same, ap (λ (q : List ℕ × ℕ). q.1) same)
 
 -- what is read behind a backslash: ASCII characters, for a character
 pub record Escaped (bytes piece after : List ℕ) : Type 0 where
@@ -118,16 +117,17 @@ encoded_nonzero n some =
     (either_nonzero (ltb n 65536) ((224 + n / 4096) ∷ (128 + n / 64 % 64) ∷ (128 + n % 64) ∷ []) ((240 + n / 262144) ∷ (128 + n / 4096 % 64) ∷ (128 + n / 64 % 64) ∷ (128 + n % 64) ∷ [])
     (omega arith, (omega arith, (omega arith, tt))) (omega arith, (omega arith, (omega arith, (omega arith, tt))))))
 
-number_escaped : (count place b : ℕ) (bs piece after : List ℕ) → 16 ^ count ≤ 2 ^ 16 → b < 128 → numbered place (hexadecimal count (Some 0) bs) (drop count bs) ≡ Ok (Some piece, after)
-    → Escaped (b ∷ bs) piece after
-number_escaped count place b bs piece after few small e =
-    let n = numbered_parts place (hexadecimal count (Some 0) bs) (drop count bs) piece after e in
+number_escaped : (count b : ℕ) (bs piece : List ℕ) (taken : ℕ) → 16 ^ count ≤ 2 ^ 16 → b < 128
+    → option_map {U = List ℕ × ℕ} (λ c. (c, suc count)) (character_of (hexadecimal count (Some 0) bs)) ≡ Some (piece, taken) → Escaped (b ∷ bs) piece (drop taken (b ∷ bs))
+number_escaped count b bs piece taken few small e =
+    let is = taking_is (suc count) (character_of (hexadecimal count (Some 0) bs)) piece taken e in
+    let n = numbered_parts (hexadecimal count (Some 0) bs) piece is.0 in
     let digits = digits_taken count 0 n.code bs n.number in
     let bound : n.code < 2 ^ 16 = omega (arith, digits.1, few) in
     record {
       taken = record {
         front = b ∷ digits.0.front;
-        whole = ap (λ (xs : List ℕ). b ∷ xs) (digits.0.whole ∙ ap (λ (xs : List ℕ). digits.0.front ++ xs) n.follows);
+        whole = ap (λ (xs : List ℕ). b ∷ xs) digits.0.whole ∙ ap (λ (k : ℕ). b ∷ digits.0.front ++ drop k (b ∷ bs)) is.1;
         ascii = (small, digits.0.ascii);
       };
       utf8 = subst IsUtf8 n.character (IsUtf8-encode n.code (escapable_scalar n.code n.escapable bound));
@@ -156,51 +156,24 @@ letter_small b c e = elim (chosen ((b == 34) || (b == 92) || (b == 47)) _ _ _ e)
 pub ascii_utf8 : (c : ℕ) → c < 128 → IsUtf8 (c ∷ [])
 ascii_utf8 c small = subst IsUtf8 (encode_ascii c small) (IsUtf8-encode c (low_scalar c (omega (arith, small))))
 
-letter_escaped : (place b : ℕ) (bs piece after : List ℕ) (letter : Option ℕ) → letter_of b ≡ letter → lettered place letter bs ≡ Ok (Some piece, after)
-    → Escaped (b ∷ bs) piece after
-letter_escaped place b bs piece after None is e = absurd (err_ok _ _ e)
-letter_escaped place b bs piece after (Some c) is e =
+letter_escaped : (b : ℕ) (bs piece : List ℕ) (taken : ℕ) (letter : Option ℕ) → letter_of b ≡ letter → option_map {U = List ℕ × ℕ} (λ c. (c ∷ [], 1)) letter ≡ Some (piece, taken)
+    → Escaped (b ∷ bs) piece (drop taken (b ∷ bs))
+letter_escaped b bs piece taken None is e = absurd (none_some (piece, taken) e)
+letter_escaped b bs piece taken (Some c) is e =
     let small = letter_small b c is in
-    let same = ok_is (Some (c ∷ []), bs) (Some piece, after) e in
+    let same = some_is (c ∷ [], 1) (piece, taken) e in
     record {
-      taken = record { front = b ∷ []; whole = ap (λ (q : Part). b ∷ q.1) same; ascii = (small.0, tt) };
-      utf8 = subst IsUtf8 (some_is (c ∷ []) piece (ap (λ (q : Part). q.0) same)) (ascii_utf8 c small.1.0);
-      nonzero = subst AreNonzero (some_is (c ∷ []) piece (ap (λ (q : Part). q.0) same)) (small.1.1, tt);
+      taken = record { front = b ∷ []; whole = ap (λ (q : List ℕ × ℕ). b ∷ drop q.1 (b ∷ bs)) same; ascii = (small.0, tt) };
+      utf8 = subst IsUtf8 (ap (λ (q : List ℕ × ℕ). q.0) same) (ascii_utf8 c small.1.0);
+      nonzero = subst AreNonzero (ap (λ (q : List ℕ × ℕ). q.0) same) (small.1.1, tt);
     }
 
-pub escaped : (place : ℕ) (bytes piece after : List ℕ) → escape place bytes ≡ Ok (Some piece, after) → Escaped bytes piece after
-escaped place [] piece after e = absurd (err_ok _ _ e)
-escaped place (b ∷ bs) piece after e = elim (chosen (b == 120) _ _ _ e) [
-  | inl p ↦ number_escaped 2 place b bs piece after (omega arith) (grind (arith, nat_tests, p.0)) p.1
+pub escape_read : (bytes piece : List ℕ) (taken : ℕ) → escape bytes ≡ Some (piece, taken) → Escaped bytes piece (drop taken bytes)
+escape_read [] piece taken e = absurd (none_some (piece, taken) e)
+escape_read (b ∷ bs) piece taken e = elim (chosen (b == 120) _ _ _ e) [
+  | inl p ↦ number_escaped 2 b bs piece taken (omega arith) (grind (arith, nat_tests, p.0)) p.1
   | inr p ↦ elim (chosen (b == 117) _ _ _ p.1) [
-    | inl q ↦ number_escaped 4 place b bs piece after (omega arith) (grind (arith, nat_tests, q.0)) q.1
-    | inr q ↦ letter_escaped place b bs piece after (letter_of b) refl q.1
-  ]
-]
-
--- ---- an escape isn't the closing quote
-
-number_no_end : (place : ℕ) (n : Option ℕ) (rest after : List ℕ) → numbered place n rest ≡ Ok (None, after) → ⊥
-number_no_end place None rest after e = err_ok _ _ e
-number_no_end place (Some n) rest after e = elim (chosen (is_escapable n) _ _ _ e) [
-  | inl p ↦
-      let same = ok_is (Some (encode_utf8 n), rest) (None, after) p.1 in
-      none_some (encode_utf8 n) (sym (ap (λ (q : Part). q.0) same))
-  | inr p ↦ err_ok _ _ p.1
-]
-
-letter_no_end : (place : ℕ) (letter : Option ℕ) (rest after : List ℕ) → lettered place letter rest ≡ Ok (None, after) → ⊥
-letter_no_end place None rest after e = err_ok _ _ e
-letter_no_end place (Some c) rest after e =
-    let same = ok_is (Some (c ∷ []), rest) (None, after) e in
-    none_some (c ∷ []) (sym (ap (λ (q : Part). q.0) same))
-
-pub escape_no_end : (place : ℕ) (bytes after : List ℕ) → escape place bytes ≡ Ok (None, after) → ⊥
-escape_no_end place [] after e = err_ok _ _ e
-escape_no_end place (b ∷ bs) after e = elim (chosen (b == 120) _ _ _ e) [
-  | inl p ↦ number_no_end place (hexadecimal 2 (Some 0) bs) (drop 2 bs) after p.1
-  | inr p ↦ elim (chosen (b == 117) _ _ _ p.1) [
-    | inl q ↦ number_no_end place (hexadecimal 4 (Some 0) bs) (drop 4 bs) after q.1
-    | inr q ↦ letter_no_end place (letter_of b) bs after q.1
+    | inl q ↦ number_escaped 4 b bs piece taken (omega arith) (grind (arith, nat_tests, q.0)) q.1
+    | inr q ↦ letter_escaped b bs piece taken (letter_of b) refl q.1
   ]
 ]

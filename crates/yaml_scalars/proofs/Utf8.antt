@@ -1,17 +1,15 @@
 -- What a scalar says is UTF-8 where the bytes are in which it stands.
-use Rattle.std.proofs.Common.{◌≡◌, ℕ, zero, suc, ◌+◌, ◌<◌, ◌⊎◌, inl, inr, Bool, true, false, ◌==◌, ◌&&◌, if◌then◌else◌, List, [], ◌∷◌, ◌++◌, length, Some, None, Result, Ok, Err, refl, sym, ap, subst, ◌∙◌, append_assoc, arith}
+use Rattle.std.proofs.Common.{◌≡◌, ℕ, zero, suc, ◌+◌, ◌<◌, Bool, true, false, not, ◌==◌, ◌&&◌, if◌then◌else◌, List, [], ◌∷◌, ◌++◌, length, drop, Option, Some, None, refl, sym, ap, subst, ◌∙◌, append_assoc, arith}
 use Rattle.std.specs.Str.{IsUtf8}
 use Rattle.std.proofs.Math.ListN.{get_or}
 use Rattle.std.proofs.Math.Seq.{get_or-append_seam, take-append_seam, drop-append-add}
 use Rattle.std.proofs.lemmas.Bool.Decides.{nat_tests}
 use Rattle.std.proofs.lemmas.List.{append-nil, length-append}
 use Rattle.std.proofs.lemmas.Str.{IsUtf8-append, IsUtf8-take, IsUtf8-drop, IsCharBoundary-before_ascii, IsCharBoundary-after_ascii}
-use Rattle.yaml_scalars.specs.declared.fault.LineFault.{LineFault}
-use Rattle.refusals.specs.Results.{◌>>=◌}
-use Rattle.yaml_scalars.specs.Quoted.{Part, single_part, double_part, after_quote, escape, joined, next_parts, content_with, quoted_content}
+use Rattle.yaml_scalars.specs.Quoted.{Quoted, closed, unclosed, put, spoiled, in_single, escape, escaped, in_double, quoted}
 use Rattle.yaml_scalars.specs.Spaces.{without_last_spaces}
-use Rattle.refusals.proofs.Chosen.{chosen, some_is, none_some, ok_is, err_ok}
-use Rattle.yaml_scalars.proofs.Escaped.{AreAscii, AreNonzero, escaped, escape_no_end, ascii_utf8}
+use Rattle.refusals.proofs.Chosen.{some_is, none_some}
+use Rattle.yaml_scalars.proofs.Escaped.{AreAscii, AreNonzero, escape_read, ascii_utf8}
 
 -- ---- an ASCII character parts a text
 
@@ -62,188 +60,90 @@ ascii_for piece bytes b small all character content more inner front utf8 =
     let rest = inner [] (behind_all_ascii bytes more all sides.1) in
     IsUtf8-append front (piece ++ content) sides.0 (IsUtf8-append piece content character rest)
 
--- what a part is read from
-pub record PieceRead (bytes piece after : List ℕ) : Type 0 where
-  pub taken : List ℕ
-  pub whole : bytes ≡ taken ++ after
-  pub for : PieceFor piece taken
-  pub nonzero : AreNonzero taken → AreNonzero piece
+-- ---- what a quoted scalar says
 
-pub record EndRead (bytes after : List ℕ) : Type 0 where
-  pub quote : ℕ
-  pub ascii : quote < 128
-  pub whole : bytes ≡ quote ∷ after
-
--- pieces and the end of parts that are read are those of bytes
-pub record Reads (part : List ℕ → Result Part LineFault) : Type 0 where
-  pub pieces : (bytes piece after : List ℕ) → part bytes ≡ Ok (Some piece, after) → PieceRead bytes piece after
-  pub ends : (bytes after : List ℕ) → part bytes ≡ Ok (None, after) → EndRead bytes after
-
-abbrev piece_ok : List ℕ → List ℕ → Result Part LineFault
-piece_ok piece rest = Ok (Some piece, rest)
-
-abbrev end_ok : List ℕ → Result Part LineFault
-end_ok rest = Ok (None, rest)
-
-byte_read : (b : ℕ) (bs piece after : List ℕ) → piece_ok (b ∷ []) bs ≡ Ok (Some piece, after) → PieceRead (b ∷ bs) piece after
-byte_read b bs piece after e =
-    let same = ok_is (Some (b ∷ []), bs) (Some piece, after) e in
-    record {
-      taken = b ∷ [];
-      whole = ap (λ (q : Part). b ∷ q.1) same;
-      for = subst (λ (xs : List ℕ). PieceFor xs (b ∷ [])) (some_is (b ∷ []) piece (ap (λ (q : Part). q.0) same)) (byte_for b);
-      nonzero = subst (λ (xs : List ℕ). AreNonzero (b ∷ []) → AreNonzero xs) (some_is (b ∷ []) piece (ap (λ (q : Part). q.0) same)) (λ h. h);
-    }
-
-no_end : (piece rest after : List ℕ) → piece_ok piece rest ≡ Ok (None, after) → ⊥
-no_end piece rest after e = none_some piece (sym (ap (λ (q : Part). q.0) (ok_is (Some piece, rest) (None, after) e)))
-
-no_piece : (rest piece after : List ℕ) → end_ok rest ≡ Ok (Some piece, after) → ⊥
-no_piece rest piece after e = none_some piece (ap (λ (q : Part). q.0) (ok_is (None, rest) (Some piece, after) e))
-
-end_read : (b : ℕ) (bs after : List ℕ) → b < 128 → end_ok bs ≡ Ok (None, after) → EndRead (b ∷ bs) after
-end_read b bs after small e = record {
-  quote = b;
-  ascii = small;
-  whole = ap (λ (q : Part). b ∷ q.1) (ok_is (None, bs) (None, after) e);
-}
-
-abbrev part_ok : Part → Result Part LineFault
-part_ok p = Ok p
-
-chosen_part : (b : Bool) (x y z : Part) → part_ok (if b then x else y) ≡ Ok z → ((b ≡ true) × (part_ok x ≡ Ok z)) ⊎ ((b ≡ false) × (part_ok y ≡ Ok z))
-chosen_part true x y z e = inl (refl, e)
-chosen_part false x y z e = inr (refl, e)
-
--- ---- single quotes
-
-two_quotes_read : (b : ℕ) (bs piece after : List ℕ) → b < 128 → Ok (after_quote bs) ≡ piece_ok piece after → PieceRead (b ∷ bs) piece after
-two_quotes_read b [] piece after small e = absurd (no_piece [] piece after e)
-two_quotes_read b (c ∷ cs) piece after small e = elim (chosen_part (c == 39) _ _ _ e) [
-  | inl p ↦
-      let same = ok_is (Some (39 ∷ []), cs) (Some piece, after) p.1 in
-      let second : c < 128 = grind (arith, nat_tests, p.0) in
-      record {
-        taken = b ∷ c ∷ [];
-        whole = ap (λ (q : Part). b ∷ c ∷ q.1) same;
-        for = subst (λ (xs : List ℕ). PieceFor xs (b ∷ c ∷ [])) (some_is (39 ∷ []) piece (ap (λ (q : Part). q.0) same))
-            (ascii_for (39 ∷ []) (c ∷ []) b small (second, tt) (ascii_utf8 39 (omega arith)));
-        nonzero = λ h. subst AreNonzero (some_is (39 ∷ []) piece (ap (λ (q : Part). q.0) same)) (omega arith, tt);
-      }
-  | inr p ↦ absurd (no_piece (c ∷ cs) piece after p.1)
-]
-
-last_quote_read : (b : ℕ) (bs after : List ℕ) → b < 128 → Ok (after_quote bs) ≡ end_ok after → EndRead (b ∷ bs) after
-last_quote_read b [] after small e = end_read b [] after small e
-last_quote_read b (c ∷ cs) after small e = elim (chosen_part (c == 39) _ _ _ e) [
-  | inl p ↦ absurd (no_end (39 ∷ []) cs after p.1)
-  | inr p ↦ end_read b (c ∷ cs) after small p.1
-]
-
-single_piece : (bytes piece after : List ℕ) → single_part bytes ≡ Ok (Some piece, after) → PieceRead bytes piece after
-single_piece [] piece after e = absurd (err_ok _ _ e)
-single_piece (b ∷ bs) piece after e = elim (chosen (b == 39) _ _ _ e) [
-  | inl p ↦ two_quotes_read b bs piece after (grind (arith, nat_tests, p.0)) p.1
-  | inr p ↦ byte_read b bs piece after p.1
-]
-
-single_end : (bytes after : List ℕ) → single_part bytes ≡ Ok (None, after) → EndRead bytes after
-single_end [] after e = absurd (err_ok _ _ e)
-single_end (b ∷ bs) after e = elim (chosen (b == 39) _ _ _ e) [
-  | inl p ↦ last_quote_read b bs after (grind (arith, nat_tests, p.0)) p.1
-  | inr p ↦ absurd (no_end (b ∷ []) bs after p.1)
-]
-
--- ---- double quotes
-
-escape_read : (b place : ℕ) (bs piece after : List ℕ) → b < 128 → escape place bs ≡ Ok (Some piece, after) → PieceRead (b ∷ bs) piece after
-escape_read b place bs piece after small e =
-    let r = escaped place bs piece after e in
-    record {
-      taken = b ∷ r.taken.front;
-      whole = ap (λ (xs : List ℕ). b ∷ xs) r.taken.whole;
-      for = ascii_for piece r.taken.front b small r.taken.ascii r.utf8;
-      nonzero = λ h. r.nonzero;
-    }
-
-double_piece : (bytes piece after : List ℕ) → double_part bytes ≡ Ok (Some piece, after) → PieceRead bytes piece after
-double_piece [] piece after e = absurd (err_ok _ _ e)
-double_piece (b ∷ bs) piece after e = elim (chosen (b == 34) _ _ _ e) [
-  | inl p ↦ absurd (no_piece bs piece after p.1)
-  | inr p ↦ elim (chosen (b == 92) _ _ _ p.1) [
-    | inl q ↦ escape_read b (suc (length bs)) bs piece after (grind (arith, nat_tests, q.0)) q.1
-    | inr q ↦ byte_read b bs piece after q.1
-  ]
-]
-
-double_end : (bytes after : List ℕ) → double_part bytes ≡ Ok (None, after) → EndRead bytes after
-double_end [] after e = absurd (err_ok _ _ e)
-double_end (b ∷ bs) after e = elim (chosen (b == 34) _ _ _ e) [
-  | inl p ↦ end_read b bs after (grind (arith, nat_tests, p.0)) p.1
-  | inr p ↦ elim (chosen (b == 92) _ _ _ p.1) [
-    | inl q ↦ absurd (escape_no_end (suc (length bs)) bs after q.1)
-    | inr q ↦ absurd (no_end (b ∷ []) bs after q.1)
-  ]
-]
-
-parts_read : (single : Bool) → Reads (if single then single_part else double_part)
-parts_read true = record { pieces = single_piece; ends = single_end }
-parts_read false = record { pieces = double_piece; ends = double_end }
-
--- ---- the whole content
-
+-- what a quoted scalar without wrong escapes says, where it is closed, stands for the bytes that it takes
 pub record ContentRead (bytes content rest : List ℕ) : Type 0 where
   pub taken : List ℕ
   pub whole : bytes ≡ taken ++ rest
   pub for : StandsFor content taken
   pub nonzero : AreNonzero taken → AreNonzero content
 
+abbrev Read : List ℕ → Quoted → Type 0
+Read bytes q = (rest : List ℕ) → q.rest ≡ Some rest → q.wrong ≡ None → ContentRead bytes q.content rest
+
 nothing_for : (quote : ℕ) → quote < 128 → StandsFor [] (quote ∷ [])
 nothing_for quote small front utf8 = subst IsUtf8 (sym (append-nil front)) (around_ascii front [] quote small utf8).0
 
-abbrev content_ok : List ℕ → List ℕ → Result (List ℕ × List ℕ) LineFault
-content_ok content rest = Ok (content, rest)
+unclosed_read : (bytes : List ℕ) → Read bytes unclosed
+unclosed_read bytes rest e right = absurd (none_some rest e)
 
-last_read : (bytes after content rest : List ℕ) → EndRead bytes after → content_ok [] after ≡ Ok (content, rest) → ContentRead bytes content rest
-last_read bytes after content rest r e =
-    let same = ok_is ([], after) (content, rest) e in
+closed_read : (quote : ℕ) (bytes : List ℕ) → quote < 128 → Read (quote ∷ bytes) (closed bytes)
+closed_read quote bytes small rest e right = record {
+  taken = quote ∷ [];
+  whole = ap (λ (xs : List ℕ). quote ∷ xs) (some_is bytes rest e);
+  for = nothing_for quote small;
+  nonzero = λ h. tt;
+}
+
+spoiled_read : (bytes : List ℕ) (place : ℕ) (q : Quoted) → Read bytes (spoiled place q)
+spoiled_read bytes place q rest e right = absurd (none_some place (sym right))
+
+put_read : (front piece more : List ℕ) (q : Quoted) → PieceFor piece front → (AreNonzero front → AreNonzero piece) → Read more q → Read (front ++ more) (put piece q)
+put_read front piece more q for nonzero inner rest e right =
+    let i = inner rest e right in
     record {
-      taken = r.quote ∷ [];
-      whole = r.whole ∙ ap (λ (q : List ℕ × List ℕ). r.quote ∷ q.1) same;
-      for = subst (λ (xs : List ℕ). StandsFor xs (r.quote ∷ [])) (ap (λ (q : List ℕ × List ℕ). q.0) same) (nothing_for r.quote r.ascii);
-      nonzero = λ h. subst AreNonzero (ap (λ (q : List ℕ × List ℕ). q.0) same) tt;
+      taken = front ++ i.taken;
+      whole = ap (λ (xs : List ℕ). front ++ xs) i.whole ∙ sym (append_assoc front i.taken rest);
+      for = for q.content i.taken i.for;
+      nonzero = λ h. nonzero_both piece q.content (nonzero (nonzero_left front i.taken h)) (i.nonzero (nonzero_right front i.taken h));
     }
 
-more_read : (bytes piece after content rest : List ℕ) (further : Result (List ℕ × List ℕ) LineFault) → PieceRead bytes piece after
-    → ((c : List ℕ) (d : List ℕ) → further ≡ Ok (c, d) → ContentRead after c d) → (further >>= λ more. Ok (joined piece more)) ≡ Ok (content, rest)
-    → ContentRead bytes content rest
-more_read bytes piece after content rest (Err x) r inner e = absurd (err_ok _ _ e)
-more_read bytes piece after content rest (Ok c) r inner e =
-    let same = ok_is (joined piece c) (content, rest) e in
-    let i = inner c.0 c.1 refl in
-    record {
-      taken = r.taken ++ i.taken;
-      whole = r.whole ∙ ap (λ (xs : List ℕ). r.taken ++ xs) (i.whole ∙ ap (λ (q : List ℕ × List ℕ). i.taken ++ q.1) same) ∙ sym (append_assoc r.taken i.taken rest);
-      for = subst (λ (xs : List ℕ). StandsFor xs (r.taken ++ i.taken)) (ap (λ (q : List ℕ × List ℕ). q.0) same) (r.for c.0 i.taken i.for);
-      nonzero = λ h. subst AreNonzero (ap (λ (q : List ℕ × List ℕ). q.0) same) (nonzero_both piece c.0 (r.nonzero (nonzero_left r.taken i.taken h)) (i.nonzero (nonzero_right r.taken i.taken h)));
-    }
+byte_read : (b : ℕ) (bs : List ℕ) (q : Quoted) → Read bs q → Read (b ∷ bs) (put (b ∷ []) q)
+byte_read b bs q inner = put_read (b ∷ []) (b ∷ []) bs q (byte_for b) (λ h. h) inner
 
-content_read : (part : List ℕ → Result Part LineFault) → Reads part → (fuel : ℕ) (bytes content rest : List ℕ) → content_with part fuel bytes ≡ Ok (content, rest)
-    → ContentRead bytes content rest
-content_read part reads zero bytes content rest e = absurd (err_ok _ _ e)
-content_read part reads (suc fuel) bytes content rest e = with_part (content_read part reads fuel) (part bytes) refl e
-  where
-    with_part : ((bs c d : List ℕ) → content_with part fuel bs ≡ Ok (c, d) → ContentRead bs c d) → (r : Result Part LineFault) → part bytes ≡ r
-        → (r >>= next_parts (content_with part fuel)) ≡ Ok (content, rest) → ContentRead bytes content rest
-    with_part inner (Err x) is h = absurd (err_ok _ _ h)
-    with_part inner (Ok (None, after)) is h = last_read bytes after content rest (reads.ends bytes after is) h
-    with_part inner (Ok (Some piece, after)) is h =
-        more_read bytes piece after content rest (content_with part fuel after) (reads.pieces bytes piece after is) (inner after) h
+by_test : (bytes : List ℕ) (t : Bool) (q r : Quoted) → (t ≡ true → Read bytes q) → (t ≡ false → Read bytes r) → Read bytes (if t then q else r)
+by_test bytes true q r h k = h refl
+by_test bytes false q r h k = k refl
 
-pub quoted_read : (quote : ℕ) (bytes content rest : List ℕ) → quoted_content quote bytes ≡ Ok (content, rest) → ContentRead bytes content rest
-unfolding quoted_content
-quoted_read quote bytes content rest e =
-    content_read (if quote == 39 then single_part else double_part) (parts_read (quote == 39)) (suc (length bytes)) bytes content rest e
+single_read : (bytes : List ℕ) → Read bytes (in_single bytes)
+single_read [] = unclosed_read []
+single_read (b ∷ []) =
+    by_test (b ∷ []) (b == 39) (closed []) (put (b ∷ []) unclosed) (λ e. closed_read b [] (grind (arith, nat_tests, e))) (λ e. byte_read b [] unclosed (unclosed_read []))
+single_read (b ∷ c ∷ bs) =
+    let second = if c == 39 then put (39 ∷ []) (in_single bs) else closed (c ∷ bs) in
+    by_test (b ∷ c ∷ bs) (not (b == 39)) (put (b ∷ []) (in_single (c ∷ bs))) second
+    (λ e. byte_read b (c ∷ bs) (in_single (c ∷ bs)) (single_read (c ∷ bs)))
+    (λ e.
+    let small : b < 128 = grind (arith, nat_tests, e) in
+    by_test (b ∷ c ∷ bs) (c == 39) (put (39 ∷ []) (in_single bs)) (closed (c ∷ bs))
+    (λ f.
+    let two : c < 128 = grind (arith, nat_tests, f) in
+    put_read (b ∷ c ∷ []) (39 ∷ []) bs (in_single bs) (ascii_for (39 ∷ []) (c ∷ []) b small (two, tt) (ascii_utf8 39 (omega arith))) (λ h. (omega arith, tt)) (single_read bs))
+    (λ f. closed_read b (c ∷ bs) small))
+
+escaped_read : (b place : ℕ) (bs : List ℕ) → b < 128 → (e : Option (List ℕ × ℕ)) → escape bs ≡ e → ((n : ℕ) → Read (drop n bs) (in_double n bs))
+    → Read (b ∷ bs) (escaped place e (λ n. in_double n bs))
+escaped_read b place bs small None is inner = spoiled_read (b ∷ bs) place (in_double 1 bs)
+escaped_read b place bs small (Some e) is inner =
+    let r = escape_read bs e.0 e.1 is in
+    subst (λ (xs : List ℕ). Read (b ∷ xs) (put e.0 (in_double e.1 bs))) (sym r.taken.whole)
+    (put_read (b ∷ r.taken.front) e.0 (drop e.1 bs) (in_double e.1 bs) (ascii_for e.0 r.taken.front b small r.taken.ascii r.utf8) (λ h. r.nonzero) (inner e.1))
+
+double_read : (taken : ℕ) (bytes : List ℕ) → Read (drop taken bytes) (in_double taken bytes)
+double_read taken [] = unclosed_read (drop taken [])
+double_read (suc taken) (b ∷ bs) = double_read taken bs
+double_read zero (b ∷ bs) =
+    by_test (b ∷ bs) (b == 34) (closed bs) (if b == 92 then escaped (suc (length bs)) (escape bs) (λ n. in_double n bs) else put (b ∷ []) (in_double 0 bs))
+    (λ e. closed_read b bs (grind (arith, nat_tests, e)))
+    (λ e. by_test (b ∷ bs) (b == 92) (escaped (suc (length bs)) (escape bs) (λ n. in_double n bs)) (put (b ∷ []) (in_double 0 bs))
+    (λ f. escaped_read b (suc (length bs)) bs (grind (arith, nat_tests, f)) (escape bs) refl (λ n. double_read n bs))
+    (λ f. byte_read b bs (in_double 0 bs) (double_read 0 bs)))
+
+pub quoted_read : (quote : ℕ) (bytes rest : List ℕ) → (quoted quote bytes).rest ≡ Some rest → (quoted quote bytes).wrong ≡ None → ContentRead bytes (quoted quote bytes).content rest
+unfolding quoted
+quoted_read quote bytes rest e right =
+    by_test bytes (quote == 39) (in_single bytes) (in_double 0 bytes) (λ s. single_read bytes) (λ s. double_read 0 bytes) rest e right
 
 -- ---- the bytes without the spaces at their end
 

@@ -1,35 +1,41 @@
 -- Quoted scalars.
-use Rattle.std.specs.Prelude.{ℕ, zero, suc, ◌+◌, ◌-◌, ◌*◌, ◌==◌, ◌&&◌, ◌||◌, not, if◌then◌else◌, nat_lt, Bool, true, false, List, [], ◌∷◌, ◌++◌, length, drop, Option, Some, None, Result, Ok}
+use Rattle.std.specs.Prelude.{ℕ, zero, suc, ◌+◌, ◌-◌, ◌*◌, ◌==◌, ◌&&◌, ◌||◌, not, if◌then◌else◌, nat_lt, Bool, List, [], ◌∷◌, ◌++◌, length, Option, Some, None, option_map, Result, Ok}
 use Rattle.std.specs.Char.{encode_utf8}
 use Rattle.yaml_scalars.specs.declared.kind.YamlKind.TheVariants as kinds
 use Rattle.yaml_scalars.specs.declared.fault.LineFault.{LineFault}
-use Rattle.refusals.specs.Results.{◌>>=◌}
 use Rattle.yaml_scalars.specs.Results.{fault}
 
--- ---- where a quoted scalar ends
+-- What stands behind an opening quote: what the scalar says, what stands behind its closing quote, if it has one, and the
+-- place of its first wrong escape, if it has one.
+pub record Quoted : Type 0 where
+  pub content : List ℕ
+  pub rest : Option (List ℕ)
+  pub wrong : Option ℕ
 
--- What stands behind the closing quote, where the bytes are those behind the opening one. In single quotes two quotes
--- stand for one: `pending` says that the last byte was a quote that isn't the second of two.
-abbrev pub after_single : Bool → List ℕ → Option (List ℕ)
-after_single false [] = None
-after_single true [] = Some []
-after_single false (b ∷ bs) = after_single (b == 39) bs
-after_single true (b ∷ bs) = if b == 39 then after_single false bs else Some (b ∷ bs)
+abbrev pub closed : List ℕ → Quoted
+closed rest = record { content = []; rest = Some rest; wrong = None }
 
--- In double quotes a backslash takes the next byte with it: `escaped` says that the last byte was such a backslash.
-abbrev pub after_double : Bool → List ℕ → Option (List ℕ)
-after_double escaped [] = None
-after_double true (b ∷ bs) = after_double false bs
-after_double false (b ∷ bs) = if b == 34 then Some bs else after_double (b == 92) bs
+abbrev pub unclosed : Quoted
+unclosed = record { content = []; rest = None; wrong = None }
 
-abbrev pub after_quoted : ℕ → List ℕ → Option (List ℕ)
-after_quoted quote bytes = if quote == 39 then after_single false bytes else after_double false bytes
+-- bytes before what a scalar says
+abbrev pub put : List ℕ → Quoted → Quoted
+put front q = record { content = front ++ q.content; rest = q.rest; wrong = q.wrong }
 
--- ---- what a quoted scalar says
+-- a wrong escape before what a scalar says
+abbrev pub spoiled : ℕ → Quoted → Quoted
+spoiled place q = record { content = q.content; rest = q.rest; wrong = Some place }
 
--- a part of a quoted scalar: some bytes, or the closing quote, and what stands behind it
-abbrev pub Part : Type 0
-Part = Option (List ℕ) × List ℕ
+-- in single quotes two quotes stand for one
+abbrev pub in_single : List ℕ → Quoted
+in_single [] = unclosed
+in_single (b ∷ []) = if b == 39 then closed [] else put (b ∷ []) unclosed
+in_single (b ∷ c ∷ bs) =
+    if not (b == 39) then put (b ∷ []) (in_single (c ∷ bs))
+    else if c == 39 then put (39 ∷ []) (in_single bs)
+    else closed (c ∷ bs)
+
+-- ---- escapes
 
 abbrev pub digit_of : ℕ → Option ℕ
 digit_of b =
@@ -54,10 +60,9 @@ hexadecimal (suc count) n (b ∷ bs) = hexadecimal count (with_digit n (digit_of
 abbrev pub is_escapable : ℕ → Bool
 is_escapable n = nat_lt 0 n && (nat_lt n 0xd800 || not (nat_lt n 0xe000))
 
--- the character of an escape of a number, where the backslash stands at the place
-abbrev pub numbered : ℕ → Option ℕ → List ℕ → Result Part LineFault
-numbered place None rest = fault place kinds.Escape
-numbered place (Some n) rest = if is_escapable n then Ok (Some (encode_utf8 n), rest) else fault place kinds.Escape
+abbrev pub character_of : Option ℕ → Option (List ℕ)
+character_of None = None
+character_of (Some n) = if is_escapable n then Some (encode_utf8 n) else None
 
 -- what an escape of one letter stands for
 abbrev pub letter_of : ℕ → Option ℕ
@@ -68,49 +73,48 @@ letter_of b =
     else if b == 114 then Some 13
     else None
 
-abbrev pub lettered : ℕ → Option ℕ → List ℕ → Result Part LineFault
-lettered place None rest = fault place kinds.Escape
-lettered place (Some b) rest = Ok (Some (b ∷ []), rest)
+-- what the escape of a backslash stands for that stands before these bytes, and how many of them it takes
+abbrev pub escape : List ℕ → Option (List ℕ × ℕ)
+escape [] = None
+escape (b ∷ bs) =
+    if b == 120 then option_map (λ c. (c, 3)) (character_of (hexadecimal 2 (Some 0) bs))
+    else if b == 117 then option_map (λ c. (c, 5)) (character_of (hexadecimal 4 (Some 0) bs))
+    else option_map (λ c. (c ∷ [], 1)) (letter_of b)
 
--- what stands behind a backslash at the place
-abbrev pub escape : ℕ → List ℕ → Result Part LineFault
-escape place [] = fault place kinds.Escape
-escape place (b ∷ bs) =
-    if b == 120 then numbered place (hexadecimal 2 (Some 0) bs) (drop 2 bs)
-    else if b == 117 then numbered place (hexadecimal 4 (Some 0) bs) (drop 4 bs)
-    else lettered place (letter_of b) bs
+-- ---- double quotes
 
-abbrev pub double_part : List ℕ → Result Part LineFault
-double_part [] = fault 0 kinds.Quote
-double_part (b ∷ bs) =
-    if b == 34 then Ok (None, bs)
-    else if b == 92 then escape (suc (length bs)) bs
-    else Ok (Some (b ∷ []), bs)
+-- what an escape and what stands behind it say; a wrong one takes a byte behind the backslash
+abbrev pub escaped : ℕ → Option (List ℕ × ℕ) → (ℕ → Quoted) → Quoted
+escaped place None behind = spoiled place (behind 1)
+escaped place (Some e) behind = put e.0 (behind e.1)
 
--- what stands behind a single quote
-abbrev pub after_quote : List ℕ → Part
-after_quote [] = (None, [])
-after_quote (b ∷ bs) = if b == 39 then (Some (39 ∷ []), bs) else (None, b ∷ bs)
+-- in double quotes, where an escape takes the first bytes, so many of them
+abbrev pub in_double : ℕ → List ℕ → Quoted
+in_double taken [] = unclosed
+in_double (suc taken) (b ∷ bs) = in_double taken bs
+in_double zero (b ∷ bs) =
+    if b == 34 then closed bs
+    else if b == 92 then escaped (suc (length bs)) (escape bs) (λ n. in_double n bs)
+    else put (b ∷ []) (in_double zero bs)
 
-abbrev pub single_part : List ℕ → Result Part LineFault
-single_part [] = fault 0 kinds.Quote
-single_part (b ∷ bs) = if b == 39 then Ok (after_quote bs) else Ok (Some (b ∷ []), bs)
+unfoldable pub quoted : ℕ → List ℕ → Quoted
+quoted quote bytes = if quote == 39 then in_single bytes else in_double 0 bytes
 
--- bytes before those of the content behind them
-abbrev pub joined : List ℕ → List ℕ × List ℕ → List ℕ × List ℕ
-joined front more = (front ++ more.0, more.1)
+-- ---- what is told of it
 
--- what follows a part
-abbrev pub next_parts : (List ℕ → Result (List ℕ × List ℕ) LineFault) → Part → Result (List ℕ × List ℕ) LineFault
-next_parts further (None, rest) = Ok ([], rest)
-next_parts further (Some front, rest) = further rest >>= λ more. Ok (joined front more)
+abbrev pub if_closed : List ℕ → Option (List ℕ) → Result (List ℕ × List ℕ) LineFault
+if_closed content None = fault 0 kinds.Quote
+if_closed content (Some rest) = Ok (content, rest)
 
--- The content up to the closing quote, and what stands behind that. A part takes a byte at least, so the fuel is enough
--- if it is more than the length.
-abbrev pub content_with : (List ℕ → Result Part LineFault) → ℕ → List ℕ → Result (List ℕ × List ℕ) LineFault
-content_with part zero bytes = fault 0 kinds.Quote
-content_with part (suc fuel) bytes = part bytes >>= next_parts (content_with part fuel)
+abbrev pub if_right : Option ℕ → Result (List ℕ × List ℕ) LineFault → Result (List ℕ × List ℕ) LineFault
+if_right None further = further
+if_right (Some place) further = fault place kinds.Escape
 
--- the content of a quoted scalar whose quote was read, and what stands behind it
-unfoldable pub quoted_content : ℕ → List ℕ → Result (List ℕ × List ℕ) LineFault
-quoted_content quote bytes = content_with (if quote == 39 then single_part else double_part) (suc (length bytes)) bytes
+-- what it says and what stands behind it, or its first wrong escape, or that it isn't closed
+abbrev pub told : Quoted → Result (List ℕ × List ℕ) LineFault
+told q = if_right q.wrong (if_closed q.content q.rest)
+
+-- how many of the bytes behind the opening quote it takes
+abbrev pub taken_of : ℕ → Option (List ℕ) → ℕ
+taken_of whole None = whole
+taken_of whole (Some rest) = whole - length rest

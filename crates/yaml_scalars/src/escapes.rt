@@ -1,15 +1,9 @@
 //! Escapes of a double-quoted scalar.
-ghost use Rattle.std.specs.Prelude.{◌≡◌, ◌<◌, ◌≤◌, ◌+◌, ◌*◌, ◌^◌, IfOk, IfSome, List, ℕ, length, drop, option_map, Some, suc};
-ghost use Rattle.refusals.specs.declared.refusal.Refusal.TheVariants.{At};
-ghost use Rattle.yaml_scalars.specs.declared.kind.YamlKind.TheVariants as kinds;
-ghost use Rattle.refusals.specs.Results.{Gives};
-ghost use Rattle.yaml_scalars.specs.Quoted.{hexadecimal, numbered, letter_of, lettered, escape};
+ghost use Rattle.std.specs.Prelude.{◌≡◌, ◌<◌, ◌≤◌, ◌+◌, ◌*◌, ◌^◌, IfSome, List, ℕ, length, drop, option_map, Some};
+ghost use Rattle.yaml_scalars.specs.Quoted.{hexadecimal, character_of, letter_of, escape};
 ghost use Rattle.yaml_scalars.specs.PieceViews.{bytes_of};
 
 use crate::digits::digit;
-use crate::fault::LineFault;
-use crate::kind::YamlKind;
-use refusals::Refusal;
 
 /// What a part of a quoted scalar adds to its content.
 #[derive(Clone, Copy, Drop)]
@@ -47,40 +41,33 @@ fn four_digits(bytes: &[u8]) -> Option<(u32, &[u8])>
     with_two_digits(high, rest)
 }
 
-fn refusal(place: usize) -> Refusal<LineFault>
-    ensures { result ≡ At (record { left = place; kind = kinds.Escape }) }
-{
-    LineFault::refusal(place, YamlKind::Escape)
-}
-
-// The character of an escape of a number, where the backslash stands at the place.
-fn numbered(place: usize, number: u32, rest: &[u8]) -> Result<(Piece, &[u8]), Refusal<LineFault>>
+// The character of a number, unless it is zero or a surrogate.
+fn character(number: u32) -> Option<Piece>
     requires { number < 2 ^ 16 }
-    ensures reads { Gives (λ p. (Some (bytes_of p.0), p.1.now)) result (numbered place (Some number) rest.now) }
-    ensures no_longer { IfOk result (λ p. length p.1.now ≤ length rest.now) }
+    ensures { option_map bytes_of result ≡ character_of (Some number) }
 {
     match char::from_u32(number) {
-        Some(character) if number > 0 => Ok((Piece::Character(character), rest)),
-        _ => Err(refusal(place)),
+        Some(character) if number > 0 => Some(Piece::Character(character)),
+        _ => None,
     }
 }
 
-// What `xHH` stands for behind a backslash at the place, and what stands behind it.
-fn of_two_digits(place: usize, bytes: &[u8]) -> Result<(Piece, &[u8]), Refusal<LineFault>>
-    ensures reads { Gives (λ p. (Some (bytes_of p.0), p.1.now)) result (numbered place (hexadecimal 2 (Some 0) bytes.now) (drop 2 bytes.now)) }
-    ensures no_longer { IfOk result (λ p. length p.1.now ≤ length bytes.now) }
+// What `xHH` stands for behind a backslash, and what stands behind it.
+fn of_two_digits(bytes: &[u8]) -> Option<(Piece, &[u8])>
+    ensures reads { option_map {U = List ℕ × List ℕ} (λ p. (bytes_of p.0, p.1.now)) result ≡ option_map {U = List ℕ × List ℕ} (λ c. (c, drop 2 bytes.now)) (character_of (hexadecimal 2 (Some 0) bytes.now)) }
+    ensures no_longer { IfSome result (λ p. length p.1.now ≤ length bytes.now) }
 {
-    let (number, rest) = with_two_digits(0, bytes).ok_or(refusal(place))?;
-    numbered(place, number, rest)
+    let (number, rest) = with_two_digits(0, bytes)?;
+    Some((character(number)?, rest))
 }
 
-// What `uHHHH` stands for behind a backslash at the place, and what stands behind it.
-fn of_four_digits(place: usize, bytes: &[u8]) -> Result<(Piece, &[u8]), Refusal<LineFault>>
-    ensures reads { Gives (λ p. (Some (bytes_of p.0), p.1.now)) result (numbered place (hexadecimal 4 (Some 0) bytes.now) (drop 4 bytes.now)) }
-    ensures no_longer { IfOk result (λ p. length p.1.now ≤ length bytes.now) }
+// What `uHHHH` stands for behind a backslash, and what stands behind it.
+fn of_four_digits(bytes: &[u8]) -> Option<(Piece, &[u8])>
+    ensures reads { option_map {U = List ℕ × List ℕ} (λ p. (bytes_of p.0, p.1.now)) result ≡ option_map {U = List ℕ × List ℕ} (λ c. (c, drop 4 bytes.now)) (character_of (hexadecimal 4 (Some 0) bytes.now)) }
+    ensures no_longer { IfSome result (λ p. length p.1.now ≤ length bytes.now) }
 {
-    let (number, rest) = four_digits(bytes).ok_or(refusal(place))?;
-    numbered(place, number, rest)
+    let (number, rest) = four_digits(bytes)?;
+    Some((character(number)?, rest))
 }
 
 // What an escape of one letter stands for.
@@ -96,19 +83,16 @@ fn letter(byte: u8) -> Option<u8>
     }
 }
 
-/// What stands behind a backslash of a double-quoted scalar: what it stands for, and the bytes behind it.
-///
-/// # Errors
-/// [`Refusal`] where no escape stands there, with the place of the fault, which is counted from the end of the text.
-pub fn escape(bytes: &[u8]) -> Result<(Piece, &[u8]), Refusal<LineFault>>
-    ensures reads { Gives (λ p. (Some (bytes_of p.0), p.1.now)) result (escape (suc (length bytes.now)) bytes.now) }
-    ensures shorter { IfOk result (λ p. length p.1.now < length bytes.now) }
+/// What the escape of a backslash that stands before these bytes stands for, and what stands behind it. Nothing, where it is
+/// none of the escapes that there are, or stands for no character.
+pub fn escape(bytes: &[u8]) -> Option<(Piece, &[u8])>
+    ensures reads { option_map {U = List ℕ × List ℕ} (λ p. (bytes_of p.0, p.1.now)) result ≡ option_map {U = List ℕ × List ℕ} (λ e. (e.0, drop e.1 bytes.now)) (escape bytes.now) }
+    ensures shorter { IfSome result (λ p. length p.1.now < length bytes.now) }
 {
-    let place = bytes.len() + 1;
     match bytes {
-        [b'x', digits @ ..] => of_two_digits(place, digits),
-        [b'u', digits @ ..] => of_four_digits(place, digits),
-        [byte, rest @ ..] => Ok((Piece::Byte(letter(*byte).ok_or(refusal(place))?), rest)),
-        [] => Err(refusal(place)),
+        [b'x', digits @ ..] => of_two_digits(digits),
+        [b'u', digits @ ..] => of_four_digits(digits),
+        [byte, rest @ ..] => Some((Piece::Byte(letter(*byte)?), rest)),
+        [] => None,
     }
 }

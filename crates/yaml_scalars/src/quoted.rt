@@ -1,10 +1,8 @@
 //! Quoted scalars.
-ghost use Rattle.std.specs.Prelude.{◌≡◌, ◌<◌, ◌≤◌, ◌++◌, IfOk, OnOk, IfSome, if◌then◌else◌, ◌==◌, false, length, option_map};
-ghost use Rattle.refusals.specs.declared.refusal.Refusal.TheVariants.{At};
-ghost use Rattle.yaml_scalars.specs.declared.kind.YamlKind.TheVariants as kinds;
+ghost use Rattle.std.specs.Prelude.{◌≡◌, ◌<◌, ◌≤◌, ◌∷◌, ◌++◌, suc, IfOk, OnOk, IfSome, false, length, drop, option_map};
 ghost use Rattle.refusals.specs.Results.{Gives};
-ghost use Rattle.yaml_scalars.specs.Quoted.{after_single, after_double, after_quoted, single_part, double_part, quoted_content};
-ghost use Rattle.yaml_scalars.specs.PieceViews.{bytes_of};
+ghost use Rattle.yaml_scalars.specs.Quoted.{in_single, in_double, quoted, told, taken_of};
+ghost use Rattle.yaml_scalars.specs.PieceViews.{bytes_of, with_part, is_line_end};
 
 use crate::escapes::{Piece, escape};
 use crate::fault::LineFault;
@@ -12,89 +10,69 @@ use crate::kind::YamlKind;
 use refusals::Refusal;
 use std::alloc::{AllocError, Global};
 
-// What stands behind the closing quote in single quotes, in which two quotes stand for one.
-fn after_single(bytes: &[u8]) -> Option<&[u8]>
-    ensures value { option_map (λ r. r.now) result ≡ after_single false bytes.now }
-    ensures shorter { IfSome result (λ r. length r.now < length bytes.now) }
-{
-    let mut rest = bytes;
-    let mut pending = false;
-    while let [byte, after @ ..] = rest {
-        if pending && *byte != b'\'' {
-            return Some(rest);
-        }
-        pending = !pending && *byte == b'\'';
-        rest = after;
-    }
-    if pending { Some(rest) } else { None }
+/// What stands next in a quoted scalar.
+#[derive(Clone, Copy, Drop)]
+pub enum Part {
+    /// The line's end.
+    LineEnd,
+    /// The closing quote.
+    Closing,
+    /// What says this.
+    Saying(Piece),
+    /// A backslash that begins no escape, and the byte behind it.
+    WrongEscape,
 }
 
-// What stands behind the closing quote in double quotes, in which a backslash takes the next byte with it.
-fn after_double(bytes: &[u8]) -> Option<&[u8]>
-    ensures value { option_map (λ r. r.now) result ≡ after_double false bytes.now }
-    ensures shorter { IfSome result (λ r. length r.now < length bytes.now) }
-{
-    let mut rest = bytes;
-    let mut escaped = false;
-    while let [byte, after @ ..] = rest {
-        rest = after;
-        if escaped {
-            escaped = false;
-        } else if *byte == b'"' {
-            return Some(after);
-        } else {
-            escaped = *byte == b'\\';
-        }
-    }
-    None
-}
-
-/// What stands behind the closing quote of a quoted scalar, where the bytes are those behind the opening one. Nothing,
-/// where it isn't closed.
-pub fn after_quoted(quote: u8, bytes: &[u8]) -> Option<&[u8]>
-    ensures value { option_map (λ r. r.now) result ≡ after_quoted quote bytes.now }
-    ensures shorter { IfSome result (λ r. length r.now < length bytes.now) }
-{
-    if quote == b'\'' {
-        after_single(bytes)
-    } else {
-        after_double(bytes)
-    }
-}
-
-// What a byte of a scalar in single quotes stands for, a quote in it being two, and what stands behind it. Nothing, where
-// it is the closing quote.
-fn single_part(bytes: &[u8]) -> Result<(Option<Piece>, &[u8]), Refusal<LineFault>>
-    ensures reads { Gives (λ p. (option_map bytes_of p.0, p.1.now)) result (single_part bytes.now) }
-    ensures shorter { IfOk result (λ p. length p.1.now < length bytes.now) }
+// The first part in single quotes, in which two quotes stand for one, and what stands behind it.
+fn single_part(bytes: &[u8]) -> (Part, &[u8])
+    ensures reads { in_single bytes.now ≡ with_part in_single (length bytes.now) result.0 result.1.now }
+    ensures shorter { is_line_end result.0 ≡ false → length result.1.now < length bytes.now }
 {
     match bytes {
-        [b'\'', b'\'', rest @ ..] => Ok((Some(Piece::Byte(b'\'')), rest)),
-        [b'\'', rest @ ..] => Ok((None, rest)),
-        [byte, rest @ ..] => Ok((Some(Piece::Byte(*byte)), rest)),
-        [] => Err(unclosed()),
+        [] => (Part::LineEnd, bytes),
+        [b'\'', b'\'', rest @ ..] => (Part::Saying(Piece::Byte(b'\'')), rest),
+        [b'\'', rest @ ..] => (Part::Closing, rest),
+        [byte, rest @ ..] => (Part::Saying(Piece::Byte(*byte)), rest),
     }
 }
 
-// The same in double quotes, where what an escape stands for is one part.
-fn double_part(bytes: &[u8]) -> Result<(Option<Piece>, &[u8]), Refusal<LineFault>>
-    ensures reads { Gives (λ p. (option_map bytes_of p.0, p.1.now)) result (double_part bytes.now) }
-    ensures shorter { IfOk result (λ p. length p.1.now < length bytes.now) }
+fn behind_one(bytes: &[u8]) -> &[u8]
+    ensures { result.now ≡ drop 1 bytes.now }
 {
     match bytes {
-        [b'"', rest @ ..] => Ok((None, rest)),
-        [b'\\', rest @ ..] => {
-            let (piece, after) = escape(rest)?;
-            Ok((Some(piece), after))
-        }
-        [byte, rest @ ..] => Ok((Some(Piece::Byte(*byte)), rest)),
-        [] => Err(unclosed()),
+        [] => bytes,
+        [_, rest @ ..] => rest,
     }
 }
 
-fn part(quote: u8, bytes: &[u8]) -> Result<(Option<Piece>, &[u8]), Refusal<LineFault>>
-    ensures reads { Gives (λ p. (option_map bytes_of p.0, p.1.now)) result ((if quote == 39 then single_part else double_part) bytes.now) }
-    ensures shorter { IfOk result (λ p. length p.1.now < length bytes.now) }
+// The part that a backslash begins, in double quotes before these bytes, and what stands behind it.
+fn escaped_part(bytes: &[u8]) -> (Part, &[u8])
+    ensures reads { in_double 0 (92 ∷ bytes.now) ≡ with_part (in_double 0) (suc (length bytes.now)) result.0 result.1.now }
+    ensures no_longer { length result.1.now ≤ length bytes.now }
+{
+    match escape(bytes) {
+        Some((piece, after)) => (Part::Saying(piece), after),
+        None => (Part::WrongEscape, behind_one(bytes)),
+    }
+}
+
+// The first part in double quotes, and what stands behind it.
+fn double_part(bytes: &[u8]) -> (Part, &[u8])
+    ensures reads { in_double 0 bytes.now ≡ with_part (in_double 0) (length bytes.now) result.0 result.1.now }
+    ensures shorter { is_line_end result.0 ≡ false → length result.1.now < length bytes.now }
+{
+    match bytes {
+        [] => (Part::LineEnd, bytes),
+        [b'"', rest @ ..] => (Part::Closing, rest),
+        [b'\\', rest @ ..] => escaped_part(rest),
+        [byte, rest @ ..] => (Part::Saying(Piece::Byte(*byte)), rest),
+    }
+}
+
+#[tactic(auto, unfolding(crate::specs::Quoted::quoted))]
+fn next_part(quote: u8, bytes: &[u8]) -> (Part, &[u8])
+    ensures reads { quoted quote bytes.now ≡ with_part (quoted quote) (length bytes.now) result.0 result.1.now }
+    ensures shorter { is_line_end result.0 ≡ false → length result.1.now < length bytes.now }
 {
     if quote == b'\'' {
         single_part(bytes)
@@ -103,11 +81,32 @@ fn part(quote: u8, bytes: &[u8]) -> Result<(Option<Piece>, &[u8]), Refusal<LineF
     }
 }
 
-// A quoted scalar that isn't closed is at fault at the line's end.
-fn unclosed() -> Refusal<LineFault>
-    ensures { result ≡ At (record { left = 0; kind = kinds.Quote }) }
+/// What stands behind the closing quote of a quoted scalar, where the bytes are those behind the opening one. Nothing,
+/// where it isn't closed.
+pub fn after_quoted(quote: u8, bytes: &[u8]) -> Option<&[u8]>
+    ensures value { option_map (λ r. r.now) result ≡ (quoted quote bytes.now).rest }
+    ensures shorter { IfSome result (λ r. length r.now < length bytes.now) }
 {
-    LineFault::refusal(0, YamlKind::Quote)
+    let mut rest = bytes;
+    loop {
+        let (part, after) = next_part(quote, rest);
+        match part {
+            Part::LineEnd => return None,
+            Part::Closing => return Some(after),
+            _ => rest = after,
+        }
+    }
+}
+
+/// How many of the bytes behind the opening quote a quoted scalar takes, its closing quote among them.
+pub fn quoted_length(quote: u8, bytes: &[u8]) -> usize
+    ensures value { result ≡ taken_of (length bytes.now) (quoted quote bytes.now).rest }
+    ensures inside { result ≤ length bytes.now }
+{
+    match after_quoted(quote, bytes) {
+        None => bytes.len(),
+        Some(rest) => bytes.len() - rest.len(),
+    }
 }
 
 fn push(content: &mut Vec<u8>, piece: Piece) -> Result<(), AllocError>
@@ -128,17 +127,19 @@ pub fn quoted_content(
     quote: u8,
     bytes: &[u8],
 ) -> Result<(Vec<u8>, &[u8]), Refusal<LineFault>>
-    ensures reads { Gives (λ c. (c.0.items, c.1.now)) result (quoted_content quote bytes.now) }
+    ensures reads { Gives (λ c. (c.0.items, c.1.now)) result (told (quoted quote bytes.now)) }
     ensures no_longer { IfOk result (λ c. length c.1.now ≤ length bytes.now) }
 {
     let mut content = Vec::new(alloc);
     let mut rest = bytes;
     loop {
-        let (piece, after) = part(quote, rest)?;
-        let Some(piece) = piece else {
-            return Ok((content, after));
-        };
-        push(&mut content, piece)?;
+        let (part, after) = next_part(quote, rest);
+        match part {
+            Part::LineEnd => return Err(LineFault::refusal(0, YamlKind::Quote)),
+            Part::Closing => return Ok((content, after)),
+            Part::Saying(piece) => push(&mut content, piece)?,
+            Part::WrongEscape => return Err(LineFault::refusal(rest.len(), YamlKind::Escape)),
+        }
         rest = after;
     }
 }

@@ -1,15 +1,17 @@
 //! Scalars, without what they mean.
-ghost use Rattle.std.specs.Prelude.{◌≡◌, ◌<◌, ◌≤◌, IfOk, IfSome, length};
+ghost use Rattle.std.specs.Prelude.{◌≡◌, ◌<◌, ◌≤◌, ◌-◌, ◌∷◌, IfOk, IfSome, length, take, drop};
 ghost use Rattle.std.specs.Str.{IsUtf8};
 ghost use Rattle.refusals.specs.Results.{Gives};
 ghost use Rattle.yaml_scalars.specs.Characters.{bad_at};
-ghost use Rattle.yaml_scalars.specs.Scalars.{Scalar as ScalarOf, any_scalar_at, front_before, quoted_front, first_wrong, scalar_at};
+ghost use Rattle.refusals.specs.declared.refusal.Refusal.TheVariants.{At};
+ghost use Rattle.yaml_scalars.specs.declared.kind.YamlKind.TheVariants as kinds;
+ghost use Rattle.yaml_scalars.specs.Scalars.{Scalar as ScalarOf, quoted_at, plain_at, scalar_at};
 
 use crate::characters::bad_at;
 use crate::fault::LineFault;
 use crate::kind::YamlKind;
 use crate::plain::{begins_plain, plain_length, wrong_beginning};
-use crate::quoted::{after_quoted, quoted_content};
+use crate::quoted::{quoted_content, quoted_length};
 use crate::spaces::without_last_spaces;
 use lists::Text;
 use refusals::Refusal;
@@ -24,13 +26,6 @@ pub struct Scalar {
     pub content: Text,
 }
 
-// A scalar whose characters weren't looked at.
-#[derive(Drop)]
-struct AnyScalar {
-    is_plain: bool,
-    content: Vec<u8>,
-}
-
 fn text(content: Vec<u8>) -> Text
     requires { IsUtf8 content.items }
     ensures { result ≡ content.items }
@@ -41,73 +36,67 @@ fn text(content: Vec<u8>) -> Text
     }
 }
 
-// The scalar at the front, whatever its characters are.
-fn any_scalar_at(
-    alloc: Global,
-    in_flow: bool,
-    bytes: &[u8],
-) -> Result<(AnyScalar, &[u8]), Refusal<LineFault>>
-    ensures reads { Gives (λ s. record { plain = s.0.is_plain; content = s.0.content.items; rest = s.1.now }) result (any_scalar_at in_flow bytes.now) }
-    ensures shorter { IfOk result (λ s. length s.1.now < length bytes.now) }
-{
-    match bytes {
-        [quote @ (b'"' | b'\''), inside @ ..] => {
-            let (content, rest) = quoted_content(alloc, *quote, inside)?;
-            let is_plain = false;
-            Ok((AnyScalar { is_plain, content }, rest))
-        }
-        [first, after @ ..] if begins_plain(in_flow, *first, after) => {
-            let (front, rest) = bytes.split_at(plain_length(in_flow, bytes));
-            let content = Vec::from_slice(alloc, without_last_spaces(front))?;
-            let is_plain = true;
-            Ok((AnyScalar { is_plain, content }, rest))
-        }
-        [first, ..] => Err(LineFault::refusal(bytes.len(), wrong_beginning(*first))),
-        [] => Err(LineFault::refusal(0, YamlKind::Character)),
-    }
-}
-
-/// How many bytes stand before the first that may not be in a text, of the bytes before the rest.
-pub fn bad_before(bytes: &[u8], rest: &[u8]) -> Option<usize>
-    requires { length rest.now ≤ length bytes.now }
-    ensures value { result ≡ bad_at (front_before bytes.now rest.now) }
+/// How many bytes stand before the first that may not be in a text, of so many bytes at the front.
+pub fn bad_before(bytes: &[u8], count: usize) -> Option<usize>
+    requires { count ≤ length bytes.now }
+    ensures value { result ≡ bad_at (take count bytes.now) }
     ensures inside { IfSome result (λ n. n ≤ length bytes.now) }
 {
-    bad_at(&bytes[..bytes.len() - rest.len()])
+    bad_at(&bytes[..count])
 }
 
-// The bytes of a quoted scalar: up to its closing quote, or to the line's end.
-fn quoted_front(bytes: &[u8]) -> &[u8]
-    ensures value { result.now ≡ quoted_front bytes.now }
-    ensures no_longer { length result.now ≤ length bytes.now }
+// A fault of a character, so many bytes behind the front.
+fn bad_character(bytes: &[u8], count: usize) -> Refusal<LineFault>
+    requires { count ≤ length bytes.now }
+    ensures { result ≡ At (record { left = length bytes.now - count; kind = kinds.Character }) }
 {
-    match bytes {
-        [] => &[],
-        [quote, inside @ ..] => match after_quoted(*quote, inside) {
-            None => bytes,
-            Some(rest) => &bytes[..bytes.len() - rest.len()],
-        },
-    }
+    LineFault::refusal(bytes.len() - count, YamlKind::Character)
 }
 
-// A wrong escape counts only where each byte of the scalar may be in a text.
-fn first_wrong(bytes: &[u8], fault: LineFault) -> LineFault
-    ensures { result ≡ first_wrong bytes.now fault }
+// The quoted scalar at the front, whose quote is this one.
+fn quoted_scalar<'a>(
+    alloc: Global,
+    quote: u8,
+    bytes: &'a [u8],
+    inside: &'a [u8],
+) -> Result<(Scalar, &'a [u8]), Refusal<LineFault>>
+    requires quote { quote < 128 }
+    requires whole { bytes.now ≡ quote ∷ inside.now }
+    ensures reads { Gives (λ s. record { plain = s.0.is_plain; content = s.0.content; rest = s.1.now }) result (quoted_at quote inside.now) }
+    ensures shorter { IfOk result (λ s. length s.1.now < length bytes.now) }
 {
-    match fault.kind {
-        YamlKind::Escape => match bad_at(quoted_front(bytes)) {
-            None => fault,
-            Some(count) => LineFault {
-                left: bytes.len() - count,
-                kind: YamlKind::Character,
-            },
-        },
-        _ => fault,
+    let count = 1 + quoted_length(quote, inside);
+    if let Some(place) = bad_before(bytes, count) {
+        return Err(bad_character(bytes, place));
     }
+    let (content, rest) = quoted_content(alloc, quote, inside)?;
+    let content = text(content);
+    let is_plain = false;
+    Ok((Scalar { is_plain, content }, rest))
+}
+
+// The plain scalar at the front, of so many bytes.
+fn plain_scalar(
+    alloc: Global,
+    bytes: &[u8],
+    count: usize,
+) -> Result<(Scalar, &[u8]), Refusal<LineFault>>
+    requires { count ≤ length bytes.now }
+    ensures reads { Gives (λ s. record { plain = s.0.is_plain; content = s.0.content; rest = s.1.now }) result (plain_at count bytes.now) }
+    ensures rest { IfOk result (λ s. s.1.now ≡ drop count bytes.now) }
+{
+    if let Some(place) = bad_before(bytes, count) {
+        return Err(bad_character(bytes, place));
+    }
+    let (front, rest) = bytes.split_at(count);
+    let content = text(Vec::from_slice(alloc, without_last_spaces(front))?);
+    let is_plain = true;
+    Ok((Scalar { is_plain, content }, rest))
 }
 
 /// The scalar at the front, and what stands behind it. It is refused at the front where none may begin there, at its first
 /// byte that may not be in a text, at a wrong escape, and at the line's end where a quote isn't closed.
+#[tactic(auto, unfolding(crate::specs::Scalars::scalar_at))]
 pub fn scalar_at(
     alloc: Global,
     in_flow: bool,
@@ -116,16 +105,12 @@ pub fn scalar_at(
     ensures reads { Gives (λ s. record { plain = s.0.is_plain; content = s.0.content; rest = s.1.now }) result (scalar_at in_flow bytes.now) }
     ensures shorter { IfOk result (λ s. length s.1.now < length bytes.now) }
 {
-    match any_scalar_at(alloc, in_flow, bytes) {
-        Ok((scalar, rest)) => match bad_before(bytes, rest) {
-            Some(count) => Err(LineFault::refusal(bytes.len() - count, YamlKind::Character)),
-            None => {
-                let AnyScalar { is_plain, content } = scalar;
-                let content = text(content);
-                Ok((Scalar { is_plain, content }, rest))
-            }
-        },
-        Err(Refusal::At(fault)) => Err(Refusal::At(first_wrong(bytes, fault))),
-        Err(Refusal::Memory) => Err(Refusal::Memory),
+    match bytes {
+        [] => Err(LineFault::refusal(0, YamlKind::Character)),
+        [quote @ (b'"' | b'\''), inside @ ..] => quoted_scalar(alloc, *quote, bytes, inside),
+        [first, after @ ..] if begins_plain(in_flow, *first, after) => {
+            plain_scalar(alloc, bytes, plain_length(in_flow, bytes))
+        }
+        [first, ..] => Err(LineFault::refusal(bytes.len(), wrong_beginning(*first))),
     }
 }

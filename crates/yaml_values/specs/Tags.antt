@@ -3,11 +3,9 @@ use Rattle.std.specs.Prelude.{ℕ, suc, ◌==◌, ◌&&◌, ◌||◌, not, if◌
 use lib.Pointwise.{pointwise}
 use Rattle.yaml_scalars.specs.declared.kind.YamlKind.TheVariants as kinds
 use Rattle.yaml_scalars.specs.declared.fault.LineFault.{LineFault}
-use Rattle.refusals.specs.Results.{◌>>=◌}
 use Rattle.yaml_scalars.specs.Results.{fault}
-use Rattle.yaml_scalars.specs.Characters.{bad_at}
 use Rattle.yaml_scalars.specs.Spaces.{is_one_of}
-use Rattle.yaml_scalars.specs.Scalars.{unless_bad, front_before}
+use Rattle.yaml_scalars.specs.Scalars.{unless_bad}
 
 -- a tag: with a name, or `!!binary`
 pub data Tag : Type 0 where
@@ -30,15 +28,13 @@ is_name name = not (length name == 0) && not (is_one_of name 33)
 abbrev pub is_binary : List ℕ → Bool
 is_binary name = pointwise nat_eq name (codes "!binary")
 
--- the tag whose `!` stands at the place, and what stands behind it
-abbrev pub tag_of : ℕ → List ℕ → List ℕ → Result (Tag × List ℕ) LineFault
-tag_of place name rest =
-    if is_binary name then Ok (bytes_in_base64, rest)
-    else if is_name name then Ok (named name, rest)
-    else fault place kinds.Tag
+-- the tag whose name has so many bytes, and what stands behind it
+abbrev pub tag_with : ℕ → List ℕ → Result (Tag × List ℕ) LineFault
+tag_with count bytes =
+    if is_binary (take count bytes) then Ok (bytes_in_base64, drop count bytes)
+    else if is_name (take count bytes) then unless_bad count bytes (Ok (named (take count bytes), drop count bytes))
+    else fault (suc (length bytes)) kinds.Tag
 
 -- the tag behind a `!`, and what stands behind it
 unfoldable pub tag_at : Bool → List ℕ → Result (Tag × List ℕ) LineFault
-tag_at in_flow bytes =
-    tag_of (suc (length bytes)) (take (name_length in_flow bytes) bytes) (drop (name_length in_flow bytes) bytes)
-    >>= λ t. unless_bad bytes t.1 t (bad_at (front_before bytes t.1))
+tag_at in_flow bytes = tag_with (name_length in_flow bytes) bytes

@@ -1,14 +1,13 @@
 //! Tags.
-ghost use Rattle.std.specs.Prelude.{◌≡◌, ◌≤◌, ◌||◌, if◌then◌else◌, IfOk, List, ℕ, length, take, drop};
+ghost use Rattle.std.specs.Prelude.{◌≡◌, ◌≤◌, Ok, IfOk, List, ℕ, length, take, drop};
 ghost use Rattle.refusals.specs.Results.{Gives};
-ghost use Rattle.yaml_scalars.specs.Characters.{bad_at};
 ghost use Rattle.yaml_scalars.specs.Scalars.{unless_bad};
-ghost use Rattle.yaml_values.specs.Tags.{ends_name, name_length, is_name, is_binary, named, bytes_in_base64, tag_at};
+ghost use Rattle.yaml_values.specs.Tags.{Tag as TagOf, ends_name, name_length, is_name, is_binary, named, tag_with, tag_at};
 ghost use Rattle.yaml_values.specs.TagViews.{tag_view};
 
 use lists::Text;
 use refusals::Refusal;
-use std::alloc::{AllocError, Global};
+use std::alloc::Global;
 use std::str;
 use yaml_scalars::characters::bad_at;
 use yaml_scalars::{LineFault, YamlKind};
@@ -63,40 +62,40 @@ fn is_binary(name: &[u8]) -> bool
     name == b"!binary".as_slice()
 }
 
-// What stands behind the `!` of a tag.
-fn is_tag(name: &[u8]) -> bool
-    ensures { result ≡ (is_binary name.now || is_name name.now) }
-{
-    is_binary(name) || is_name(name)
-}
-
-// So many bytes at the front as a text, and what stands behind them.
-fn split_text(bytes: &[u8], count: usize) -> Result<(&str, &[u8]), Refusal<LineFault>>
+// The tag whose name has so many bytes, and what stands behind it.
+fn named(alloc: Global, bytes: &[u8], count: usize) -> Result<(Tag, &[u8]), Refusal<LineFault>>
     requires { count ≤ length bytes.now }
-    ensures { Gives {Y = List ℕ × List ℕ} (λ t. (t.0.now, t.1.now)) result (unless_bad bytes.now (drop count bytes.now) (take count bytes.now, drop count bytes.now) (bad_at (take count bytes.now))) }
+    ensures reads { Gives {Y = TagOf × List ℕ} (λ t. (tag_view t.0, t.1.now)) result (unless_bad count bytes.now (Ok (named (take count bytes.now), drop count bytes.now))) }
+    ensures no_longer { IfOk result (λ t. length t.1.now ≤ length bytes.now) }
 {
-    let (front, rest) = bytes.split_at(count);
-    if let Some(place) = bad_at(front) {
+    let (name, rest) = bytes.split_at(count);
+    if let Some(place) = bad_at(name) {
         return Err(LineFault::refusal(bytes.len() - place, YamlKind::Character));
     }
-    match str::from_utf8(front) {
-        Ok(text) => Ok((text, rest)),
+    match str::from_utf8(name) {
+        Ok(name) => Ok((Tag::Named(Text::of(alloc, name)?), rest)),
         Err(_) => unreachable!(),
     }
 }
 
-// The tag of a name that is one.
-fn tag_named(alloc: Global, name: &str) -> Result<Tag, AllocError>
-    ensures { IfOk result (λ tag. tag_view tag ≡ (if is_binary name.now then bytes_in_base64 else named name.now)) }
+// The same, where the name may be that of no tag.
+fn tag_with(alloc: Global, bytes: &[u8], count: usize) -> Result<(Tag, &[u8]), Refusal<LineFault>>
+    requires { count ≤ length bytes.now }
+    ensures reads { Gives (λ t. (tag_view t.0, t.1.now)) result (tag_with count bytes.now) }
+    ensures no_longer { IfOk result (λ t. length t.1.now ≤ length bytes.now) }
 {
-    if is_binary(name.as_bytes()) {
-        Ok(Tag::Base64)
+    let (name, rest) = bytes.split_at(count);
+    if is_binary(name) {
+        Ok((Tag::Base64, rest))
+    } else if is_name(name) {
+        named(alloc, bytes, count)
     } else {
-        Ok(Tag::Named(Text::of(alloc, name)?))
+        Err(LineFault::refusal(bytes.len() + 1, YamlKind::Tag))
     }
 }
 
 /// The tag behind a `!`, and what stands behind it.
+#[tactic(auto, unfolding(crate::specs::Tags::tag_at))]
 pub fn tag_at(
     alloc: Global,
     in_flow: bool,
@@ -105,10 +104,5 @@ pub fn tag_at(
     ensures reads { Gives (λ t. (tag_view t.0, t.1.now)) result (tag_at in_flow bytes.now) }
     ensures no_longer { IfOk result (λ t. length t.1.now ≤ length bytes.now) }
 {
-    let count = name_length(in_flow, bytes);
-    if !is_tag(&bytes[..count]) {
-        return Err(LineFault::refusal(bytes.len() + 1, YamlKind::Tag));
-    }
-    let (name, rest) = split_text(bytes, count)?;
-    Ok((tag_named(alloc, name)?, rest))
+    tag_with(alloc, bytes, name_length(in_flow, bytes))
 }

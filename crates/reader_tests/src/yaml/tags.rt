@@ -42,6 +42,13 @@ const TAGS: &[Row] = &[
     ("- !a\n  - b", "[!a ['b']]"),
     ("- a: !b\n  - c\n  d: 1", "[{'a': !b ['c'], 'd': 1}]"),
     ("a:\n  !b c", "{'a': !b 'c'}"),
+    // A line with nothing but a tag, before a sequence at the key's column.
+    ("a:\n  !b\n- c\n- d\ne: 1", "{'a': !b ['c', 'd'], 'e': 1}"),
+    ("a:\n  !b # c\n\n- d", "{'a': !b ['d']}"),
+    ("- a:\n    !b\n  - c", "[{'a': !b ['c']}]"),
+    ("a:\n  !b\nc: 1", "{'a': !b ~, 'c': 1}"),
+    ("a:\n    !b\n  - c", "{'a': !b ['c']}"),
+    ("!a\n  b: 1\n  c: 2", "!a {'b': 1, 'c': 2}"),
 ];
 
 #[test]
@@ -161,6 +168,37 @@ const TAG_FAULTS: &[Row] = &[
     ("!a |", "1 BlockScalar"),
     ("!a @b", "1 Character"),
 ];
+
+// Behind a line with nothing but a tag the same faults stand as without it.
+const TAG_LINES: &[Row] = &[
+    // The root ends where a line is left of it, or as far to the right.
+    ("!a\n  b: 1\nc: 2", "3 End"),
+    ("!a\n  b: 1\n c: 2", "3 End"),
+    ("!a\n  - b\n- c", "3 End"),
+    ("!a\n  - b\n c", "3 End"),
+    ("!a\n  b\nc", "3 End"),
+    ("!a\n  b\n c", "3 End"),
+    ("!a\n  b\n  c", "3 End"),
+    ("!a\n  [b]\nc", "3 End"),
+    ("!a\n    b: 1\n  c: 2", "3 End"),
+    ("!a\n  b\n   c", "3 Indent"),
+    ("!a\n  b: 1\n   c: 2", "3 Indent"),
+    ("  !a\nb: 1", "2 End"),
+    ("!a\n  b: 1\n  c", "3 End"),
+    // In a nested value.
+    ("a:\n  !b\n    c: 1\n  d: 2", "4 Indent"),
+    ("a:\n  !b\n    c\n  d: 2", "4 Indent"),
+    ("a:\n  !b c\n- d", "3 Character"),
+    ("a:\n  !b\n  !c\n- d", "3 Tag"),
+    ("a: !b\n  !c\n- d", "2 Tag"),
+    ("a:\n  !!binary\n- b", "2 Tag"),
+    ("a:\n  !b\n  - c\n- d", "4 Character"),
+];
+
+#[test]
+fn tag_lines(rt: HostRuntime) -> Result<(), Fail> {
+    check(&rt, rt.alloc(), TAG_LINES)
+}
 
 #[test]
 fn tag_faults(rt: HostRuntime) -> Result<(), Fail> {

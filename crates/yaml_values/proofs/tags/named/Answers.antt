@@ -1,6 +1,6 @@
 use Rattle.std.proofs.Common.{arith, sym}
 use Rattle.yaml_scalars.proofs.BadBytes.{bad_inside, all_valid}
-use Rattle.yaml_values.proofs.tags.split_text.Goals as goal
+use Rattle.yaml_values.proofs.tags.named.Goals as goal
 
 pub overflow_sub-bytes : goal.overflow_sub-bytes
 overflow_sub-bytes c =

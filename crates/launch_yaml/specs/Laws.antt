@@ -1,0 +1,68 @@
+-- What of a text changes nothing of the document that it is.
+use Rattle.std.specs.Prelude.{◌≡◌, ◌≢◌, ◌≤◌, ◌⊎◌, ℕ, ◌==◌, if◌then◌else◌, true, false, List, [], ◌∷◌, ◌++◌, map, Some, Ok, Err}
+use Rattle.std.specs.List.{AllByRecursion}
+use Rattle.yaml_scalars.specs.Spaces.{after_gap}
+use Rattle.yaml_values.specs.Shape.{Shape, node}
+use Rattle.yaml_values.specs.Tags.{named, tag_at}
+use Rattle.refusals.specs.Results.{◌>>=◌}
+use Rattle.launch_rows.specs.declared.fault.Fault.{Fault}
+use Rattle.launch_rows.specs.Faults.{comes_before}
+use Rattle.launch_rows.specs.Lines.{without_mark, lines, plain_fault}
+use Rattle.launch_rows.specs.Rows.{Row, rows_from, row_of, is_marker}
+use Rattle.launch_yaml.specs.Blocks.{begins_block}
+use Rattle.launch_yaml.specs.Document.{body_of, parse_at}
+
+-- ---- marks and the ends of lines
+
+-- U+FEFF before a text that doesn't begin with it
+abbrev pub MarkChangesNothing : Type 0
+MarkChangesNothing = (text : List ℕ) → without_mark text ≡ text → parse_at (0xef ∷ 0xbb ∷ 0xbf ∷ text) ≡ parse_at text
+
+-- a carriage return before each line feed
+abbrev pub with_returns : List ℕ → List ℕ
+with_returns [] = []
+with_returns (b ∷ bs) = if b == 10 then 13 ∷ 10 ∷ with_returns bs else b ∷ with_returns bs
+
+abbrev pub HasNoReturn : List ℕ → Type 0
+HasNoReturn text = AllByRecursion (λ b. b ≢ 13) text
+
+abbrev pub ReturnsChangeNothing : Type 0
+ReturnsChangeNothing = (text : List ℕ) → HasNoReturn text → parse_at (with_returns text) ≡ parse_at text
+
+-- ---- faults of lines
+
+-- A text with a character that may stand in no text, or with a tab in indentation, is no document. Its fault is the first of
+-- those, or one that comes before it.
+abbrev pub LinesAreTold : Type 0
+LinesAreTold =
+    (text : List ℕ) (f : Fault) → plain_fault (lines text) ≡ Some f
+    → (g : Fault) × (parse_at text ≡ Err g) × ((g ≡ f) ⊎ (comes_before g f ≡ true))
+
+-- ---- lines in which nothing stands
+
+-- what stands in a row, and where in its line
+abbrev pub place_of : Row → ℕ × List ℕ
+place_of r = (r.column, r.content)
+
+-- a line that is blank, or has only a comment, among others: the rows stay, with other numbers
+abbrev pub EmptyLinesAreNoRows : Type 0
+EmptyLinesAreNoRows =
+    (front back : List (List ℕ)) (line : List ℕ) → row_of 1 line ≡ []
+    → map place_of (rows_from 1 (front ++ line ∷ back)) ≡ map place_of (rows_from 1 (front ++ back))
+
+-- ---- a tag in a line of its own
+
+-- nothing but a tag of this name stands in the row
+abbrev pub IsTagOf : List ℕ → Row → Type 0
+IsTagOf name r =
+    (behind rest : List ℕ) × (r.content ≡ 33 ∷ behind) × (tag_at false behind ≡ Ok (named name, rest)) × (after_gap rest ≡ [])
+
+abbrev pub with_tag : ℕ → List ℕ → Shape → Shape
+with_tag line name (node l tag value) = node line (Some name) value
+
+-- Before a map or a sequence that is the root, a row with nothing but a tag puts the tag on it, and changes nothing else: what
+-- may stand behind the first row of the map or the sequence, and which fault is told of it, stays.
+abbrev pub TagRowChangesTheTag : Type 0
+TagRowChangesTheTag =
+    (name : List ℕ) (t r : Row) (rows : List Row) → IsTagOf name t → t.column ≤ r.column → begins_block r.content ≡ true → is_marker r ≡ false
+    → body_of (t ∷ r ∷ rows) ≡ (body_of (r ∷ rows) >>= λ x. Ok (with_tag t.number name x))

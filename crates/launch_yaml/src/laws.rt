@@ -1,0 +1,27 @@
+//! Laws of what texts mean. The functions do nothing.
+ghost use Rattle.launch_yaml.specs.Laws.{LinesAreTold, MarkChangesNothing, ReturnsChangeNothing, EmptyLinesAreNoRows, TagRowChangesTheTag};
+
+/// U+FEFF before a text, and a carriage return before each line feed, change nothing: neither the document that a text is nor
+/// its first fault.
+pub fn marks_and_returns_change_nothing()
+    ensures mark { MarkChangesNothing }
+    ensures returns { ReturnsChangeNothing }
+{}
+
+/// A character that may stand in no text, and a tab in indentation, are told from the lines alone: a text with one is no
+/// document, and its fault is the first of those, or one that comes before it.
+pub fn faults_of_lines_are_told()
+    ensures { LinesAreTold }
+{}
+
+/// A line that is blank or has only a comment is no row: with it or without it the same stands in the rows, at the same
+/// columns. Only the numbers of the lines behind it are others.
+pub fn empty_lines_are_no_rows()
+    ensures { EmptyLinesAreNoRows }
+{}
+
+/// A line with nothing but a tag, before a root that is a block map or a block sequence, changes the tag of the root and nothing
+/// else: neither what stands in the root, nor where it ends, nor which fault is told.
+pub fn tag_lines_change_the_tag()
+    ensures { TagRowChangesTheTag }
+{}
