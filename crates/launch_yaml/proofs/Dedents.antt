@@ -1,17 +1,15 @@
 -- A row left of a root's map or sequence ends it: what stands before that row is read as if the row weren't there.
-use Rattle.std.proofs.Common.{◌≡◌, ℕ, suc, ◌<◌, ◌≤◌, ◌==◌, ◌&&◌, ◌||◌, not, Bool, true, false, cond, if◌then◌else◌, List, [], ◌∷◌, ◌++◌, drop, Result, Ok, Err, refl, sym, ap, ◌∙◌, arith}
-use Rattle.std.specs.Prelude.{nat_lt}
-use Rattle.std.specs.List.{take_while, prefix_len}
+use Rattle.std.proofs.Common.{◌≡◌, ℕ, suc, ◌<◌, ◌==◌, ◌&&◌, ◌||◌, Bool, true, false, cond, if◌then◌else◌, List, [], ◌∷◌, ◌++◌, Result, Ok, Err, refl, sym, ap, ◌∙◌, arith}
+use Rattle.std.specs.List.{take_while}
 use Rattle.std.proofs.lemmas.Bool.Decides.{nat_tests}
 use Rattle.std.proofs.lemmas.List.Sums.{take_while-cons}
 use Rattle.yaml_scalars.specs.declared.kind.YamlKind.TheVariants as kinds
 use Rattle.yaml_values.specs.Shape.{Shape, Content, mapping, sequence, of_list, of_pairs, content_of}
 use Rattle.launch_rows.specs.declared.fault.Fault.{Fault}
 use Rattle.refusals.specs.Results.{◌>>=◌}
-use Rattle.refusals.proofs.Steps.{bind_alike}
-use Rattle.launch_rows.specs.Rows.{Row, is_dash, is_open, begins_key, behind_key, at_row}
+use Rattle.launch_rows.specs.Rows.{Row, is_dash, is_open}
 use Rattle.launch_yaml.specs.Entries.{Entry, is_deeper, is_item_at, begins_with_item_at, belongs_there, belongs, entries_after, never, is_key_awaiting, map_entries, sequence_entries}
-use Rattle.launch_yaml.specs.Blocks.{Block, no_entry, item_of, items_of, key_at, pair_of, pairs_of, items_at, pairs_at, block_with, block_at}
+use Rattle.launch_yaml.specs.Blocks.{Block, item_of, items_of, pair_of, pairs_of, items_at, pairs_at, block_at}
 
 -- the fault of such a row
 abbrev pub end_of : Row → Fault

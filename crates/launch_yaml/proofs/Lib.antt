@@ -6,3 +6,6 @@ pub mod Depths
 pub mod LineEnds
 pub mod Dedents
 pub mod TagRows
+pub mod FlowNumbers
+pub mod BlockNumbers
+pub mod LineNumbers

@@ -8,15 +8,15 @@ use Rattle.yaml_scalars.specs.declared.kind.YamlKind.TheVariants as kinds
 use Rattle.yaml_scalars.specs.Spaces.{begins_with, unless_comment, after_spaces, after_gap}
 use Rattle.yaml_scalars.specs.Plain.{is_space_or_end}
 use Rattle.yaml_values.specs.Shape.{Shape, Content, node}
-use Rattle.yaml_values.specs.Tags.{Tag, named, tag_at}
+use Rattle.yaml_values.specs.Tags.{Tag, tag_at}
 use Rattle.yaml_scalars.specs.declared.fault.LineFault.{LineFault}
 use Rattle.launch_rows.specs.declared.fault.Fault.{Fault}
 use Rattle.refusals.specs.Results.{◌>>=◌}
 use Rattle.launch_rows.specs.Faults.{unless}
-use Rattle.launch_rows.specs.Rows.{Row, is_dash, behind_key, is_before_space, is_marker, is_stop, in_row}
+use Rattle.launch_rows.specs.Rows.{Row, behind_key, is_before_space, is_marker, is_stop, in_row}
 use Rattle.launch_yaml.specs.Entries.{after_while}
-use Rattle.launch_yaml.specs.Blocks.{Tagging, untagged, tagged, tagging_of, wrong_in, begins_block, value_in, unless_key, value_below, block_at, root_at}
-use Rattle.launch_yaml.specs.Document.{is_inside, root_of, end_at, after_document, body_of}
+use Rattle.launch_yaml.specs.Blocks.{Tagging, untagged, tagged, tagging_of, wrong_in, begins_block, value_in, unless_key, value_below, block_at}
+use Rattle.launch_yaml.specs.Document.{is_inside, root_of, after_document, body_of}
 use Rattle.launch_yaml.specs.Laws.{IsTagOf, with_tag, TagRowChangesTheTag}
 use Rattle.launch_yaml.proofs.Dedents.{end_of, then_fault, block_before}
 
@@ -97,7 +97,7 @@ pub record Beside (column first : ℕ) (rows : List Row) : Type 0 where
 abbrev Alike : ℕ → ℕ → List Row → Type 0
 Alike column first rows = (take_while (is_inside column) rows ≡ take_while (is_inside first) rows) × (after_while (is_inside column) rows ≡ after_while (is_inside first) rows)
 
-after_while-cons : (test : Row → Bool) (r : Row) (rs : List Row) → after_while test (r ∷ rs) ≡ cond (test r) (after_while test rs) (r ∷ rs)
+pub after_while-cons : (test : Row → Bool) (r : Row) (rs : List Row) → after_while test (r ∷ rs) ≡ cond (test r) (after_while test rs) (r ∷ rs)
 after_while-cons test r rs = by_test (test r)
   where
     by_test : (t : Bool) → drop (cond t (1 + prefix_len test rs) 0) (r ∷ rs) ≡ cond t (drop (prefix_len test rs) rs) (r ∷ rs)

@@ -60,6 +60,10 @@ body_of rows =
 abbrev pub document_of : List Row → Result Shape Fault
 document_of rows = after_head rows >>= body_of
 
+-- the document that lines are, or their first fault
+abbrev pub document_in : List (List ℕ) → Result Shape Fault
+document_in ls = beside (plain_fault ls) (document_of (rows_from 1 ls))
+
 -- the document that a text is, or its first fault
 unfoldable pub parse_at : List ℕ → Result Shape Fault
-parse_at text = beside (plain_fault (lines text)) (document_of (rows_from 1 (lines text)))
+parse_at text = document_in (lines text)

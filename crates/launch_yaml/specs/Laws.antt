@@ -1,5 +1,5 @@
 -- What of a text changes nothing of the document that it is.
-use Rattle.std.specs.Prelude.{◌≡◌, ◌≢◌, ◌≤◌, ◌⊎◌, ℕ, ◌==◌, if◌then◌else◌, true, false, List, [], ◌∷◌, ◌++◌, map, Some, Ok, Err}
+use Rattle.std.specs.Prelude.{◌≡◌, ◌≢◌, ◌≤◌, ◌⊎◌, ℕ, ◌==◌, if◌then◌else◌, true, false, List, [], ◌∷◌, ◌++◌, length, map, Some, None, Ok, Err}
 use Rattle.std.specs.List.{AllByRecursion}
 use Rattle.yaml_scalars.specs.Spaces.{after_gap}
 use Rattle.yaml_values.specs.Shape.{Shape, node}
@@ -10,7 +10,8 @@ use Rattle.launch_rows.specs.Faults.{comes_before}
 use Rattle.launch_rows.specs.Lines.{without_mark, lines, plain_fault}
 use Rattle.launch_rows.specs.Rows.{Row, rows_from, row_of, is_marker}
 use Rattle.launch_yaml.specs.Blocks.{begins_block}
-use Rattle.launch_yaml.specs.Document.{body_of, parse_at}
+use Rattle.launch_yaml.specs.Document.{body_of, document_in, parse_at}
+use Rattle.launch_yaml.specs.Renumbering.{renumbered, one_more}
 
 -- ---- marks and the ends of lines
 
@@ -49,6 +50,13 @@ abbrev pub EmptyLinesAreNoRows : Type 0
 EmptyLinesAreNoRows =
     (front back : List (List ℕ)) (line : List ℕ) → row_of 1 line ≡ []
     → map place_of (rows_from 1 (front ++ line ∷ back)) ≡ map place_of (rows_from 1 (front ++ back))
+
+-- Such a line behind other lines changes nothing of the document that they are, or of their fault, but the numbers of the lines
+-- behind it.
+abbrev pub EmptyLinesChangeNumbers : Type 0
+EmptyLinesChangeNumbers =
+    (front back : List (List ℕ)) (line : List ℕ) → 1 ≤ length front → row_of 1 line ≡ [] → plain_fault (line ∷ []) ≡ None
+    → document_in (front ++ line ∷ back) ≡ renumbered (one_more (length front)) (document_in (front ++ back))
 
 -- ---- a tag in a line of its own
 

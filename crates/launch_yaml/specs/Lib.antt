@@ -3,4 +3,5 @@ pub mod Blocks
 pub mod Document
 pub mod Parsing
 pub mod TaggingViews
+pub mod Renumbering
 pub mod Laws

@@ -1,5 +1,5 @@
 //! Laws of what texts mean. The functions do nothing.
-ghost use Rattle.launch_yaml.specs.Laws.{LinesAreTold, MarkChangesNothing, ReturnsChangeNothing, EmptyLinesAreNoRows, TagRowChangesTheTag};
+ghost use Rattle.launch_yaml.specs.Laws.{LinesAreTold, MarkChangesNothing, ReturnsChangeNothing, EmptyLinesAreNoRows, EmptyLinesChangeNumbers, TagRowChangesTheTag};
 
 /// U+FEFF before a text, and a carriage return before each line feed, change nothing: neither the document that a text is nor
 /// its first fault.
@@ -14,10 +14,11 @@ pub fn faults_of_lines_are_told()
     ensures { LinesAreTold }
 {}
 
-/// A line that is blank or has only a comment is no row: with it or without it the same stands in the rows, at the same
-/// columns. Only the numbers of the lines behind it are others.
-pub fn empty_lines_are_no_rows()
-    ensures { EmptyLinesAreNoRows }
+/// A line that is blank or has only a comment, in which each character may stand in a text, is no row. Behind another line it
+/// changes nothing of the document or of the fault but the numbers of the lines behind it.
+pub fn empty_lines_change_numbers()
+    ensures rows { EmptyLinesAreNoRows }
+    ensures numbers { EmptyLinesChangeNumbers }
 {}
 
 /// A line with nothing but a tag, before a root that is a block map or a block sequence, changes the tag of the root and nothing

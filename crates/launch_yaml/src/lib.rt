@@ -3,7 +3,7 @@
 
 pub use document::{Doc, YamlFault, parse};
 pub use laws::{
-    empty_lines_are_no_rows, faults_of_lines_are_told, marks_and_returns_change_nothing,
+    empty_lines_change_numbers, faults_of_lines_are_told, marks_and_returns_change_nothing,
     tag_lines_change_the_tag,
 };
 pub use yaml_scalars::YamlKind;
