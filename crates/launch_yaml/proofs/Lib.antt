@@ -9,3 +9,4 @@ pub mod TagRows
 pub mod FlowNumbers
 pub mod BlockNumbers
 pub mod LineNumbers
+pub mod FaultsStay

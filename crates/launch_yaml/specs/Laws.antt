@@ -2,6 +2,7 @@
 use Rattle.std.specs.Prelude.{◌≡◌, ◌≢◌, ◌≤◌, ◌⊎◌, ℕ, ◌==◌, if◌then◌else◌, true, false, List, [], ◌∷◌, ◌++◌, length, map, Some, None, Ok, Err}
 use Rattle.std.specs.List.{AllByRecursion}
 use Rattle.yaml_scalars.specs.Spaces.{after_gap}
+use Rattle.yaml_scalars.specs.declared.kind.YamlKind.TheVariants as kinds
 use Rattle.yaml_values.specs.Shape.{Shape, node}
 use Rattle.yaml_values.specs.Tags.{named, tag_at}
 use Rattle.refusals.specs.Results.{◌>>=◌}
@@ -74,3 +75,10 @@ abbrev pub TagRowChangesTheTag : Type 0
 TagRowChangesTheTag =
     (name : List ℕ) (t r : Row) (rows : List Row) → IsTagOf name t → t.column ≤ r.column → begins_block r.content ≡ true → is_marker r ≡ false
     → body_of (t ∷ r ∷ rows) ≡ (body_of (r ∷ rows) >>= λ x. Ok (with_tag t.number name x))
+
+-- ---- rows behind a fault
+
+-- Rows that are added behind a document at fault leave its fault. `!!binary` with nothing behind it is at fault for what is
+-- missing, so Tag is left out.
+abbrev pub FaultsStay : Type 0
+FaultsStay = (rows more : List Row) (e : Fault) → body_of rows ≡ Err e → e.kind ≢ kinds.Tag → body_of (rows ++ more) ≡ Err e

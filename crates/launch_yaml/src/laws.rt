@@ -1,5 +1,5 @@
 //! Laws of what texts mean. The functions do nothing.
-ghost use Rattle.launch_yaml.specs.Laws.{LinesAreTold, MarkChangesNothing, ReturnsChangeNothing, EmptyLinesAreNoRows, EmptyLinesChangeNumbers, TagRowChangesTheTag};
+ghost use Rattle.launch_yaml.specs.Laws.{LinesAreTold, MarkChangesNothing, ReturnsChangeNothing, EmptyLinesAreNoRows, EmptyLinesChangeNumbers, FaultsStay, TagRowChangesTheTag};
 
 /// U+FEFF before a text, and a carriage return before each line feed, change nothing: neither the document that a text is nor
 /// its first fault.
@@ -25,4 +25,10 @@ pub fn empty_lines_change_numbers()
 /// else: neither what stands in the root, nor where it ends, nor which fault is told.
 pub fn tag_lines_change_the_tag()
     ensures { TagRowChangesTheTag }
+{}
+
+/// Rows that are added behind those of a document at fault leave the fault that is told of them, unless it is Tag: `!!binary` with
+/// nothing behind it is at fault for what is missing.
+pub fn faults_stay()
+    ensures { FaultsStay }
 {}

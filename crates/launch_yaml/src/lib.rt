@@ -3,8 +3,8 @@
 
 pub use document::{Doc, YamlFault, parse};
 pub use laws::{
-    empty_lines_change_numbers, faults_of_lines_are_told, marks_and_returns_change_nothing,
-    tag_lines_change_the_tag,
+    empty_lines_change_numbers, faults_of_lines_are_told, faults_stay,
+    marks_and_returns_change_nothing, tag_lines_change_the_tag,
 };
 pub use yaml_scalars::YamlKind;
 pub use yaml_values::{Node, NodeList, NodePairs, NodeValue};
