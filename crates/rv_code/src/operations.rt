@@ -30,7 +30,7 @@ fn sltu(a: u64, b: u64) -> u64
 
 /// What the operation gives for two registers, or for a register and an immediate that is sign-extended. 0 for an
 /// operation that is of no opcode among 0x13, 0x1b, 0x33 and 0x3b.
-#[inline]
+#[inline(always)]
 pub fn alu(op: Op, a: u64, b: u64) -> u64
     ensures { result ≡ alu_of op a b }
 {

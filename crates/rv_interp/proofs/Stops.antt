@@ -9,10 +9,9 @@ use Rattle.guest_memory.specs.Words.{load_of, store_of}
 use Rattle.rv_code.specs.declared.instr.Instr.{Instr}
 use Rattle.rv_interp.specs.declared.execution.Outcome.{Outcome}
 use Rattle.rv_interp.specs.declared.execution.Outcome.TheVariants as outcome
-use Rattle.rv_interp.specs.declared.kind.Kind.{Kind}
-use Rattle.rv_interp.specs.declared.kind.Kind.TheVariants as kind
+use Rattle.rv_interp.specs.Kinds as kind
 use Rattle.rv_interp.specs.declared.reservation.Reservation.{Reservation}
-use Rattle.rv_interp.specs.Kinds.{kind_of, width_of}
+use Rattle.rv_interp.specs.Kinds.{Kind, kind_of, width_of}
 use Rattle.rv_interp.specs.Machine.{Machine, Step, RegistersStep, MemoryStep, machine, in_registers, in_memory, holds}
 use Rattle.rv_interp.specs.Values.{is_taken, atomic_value}
 use Rattle.rv_interp.specs.Instructions.{register, address, plus_immediate, done_of, trapped, jumped_of, loaded_of, stored_of, memory_trapped, exchanged_of, exchange_of, step_trapped, reserved_of, ended_of, conditional_of, meaning_of, execute_of, instruction_at, begun_of, step_of}

@@ -11,9 +11,8 @@ use Rattle.rv_code.specs.declared.instr.Instr.{Instr}
 use Rattle.rv_code.specs.Decoding.{decode_of}
 use Rattle.rv_code.specs.Operations.{alu_of, register as bits_of}
 use Rattle.rv_interp.specs.declared.execution.Outcome.TheVariants as outcome
-use Rattle.rv_interp.specs.declared.kind.Kind.{Kind}
-use Rattle.rv_interp.specs.declared.kind.Kind.TheVariants as kind
-use Rattle.rv_interp.specs.Kinds.{kind_of, width_of}
+use Rattle.rv_interp.specs.Kinds as kind
+use Rattle.rv_interp.specs.Kinds.{Kind, kind_of, width_of}
 use Rattle.rv_interp.specs.Machine.{Machine, Step, RegistersStep, MemoryStep, machine, in_registers, in_memory, nothing_held, holding, holds}
 use Rattle.rv_interp.specs.Values.{is_taken, loaded_value, atomic_value}
 

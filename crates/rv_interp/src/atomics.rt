@@ -11,9 +11,9 @@ ghost use Rattle.guest_memory.specs.Words.{load_of, store_of};
 
 use crate::execution::Outcome;
 use crate::jumps::done;
-use crate::kind::width;
 use crate::reservation::Reservation;
 use crate::values::{atomic_value, loaded_value};
+use crate::width::width;
 use abi_base::{Regs, Signal};
 use guest_memory::{Access, GuestMemory};
 use rv_code::Instr;
@@ -36,6 +36,7 @@ fn exchange(regs: &mut Regs, mem: &mut GuestMemory, instr: &Instr, at: u64) -> O
 }
 
 /// AMO.
+#[inline(never)]
 pub fn atomic(regs: &mut Regs, mem: &mut GuestMemory, instr: &Instr) -> Outcome
     requires { NamesRegisters instr.now }
     ensures exact { atomic_step regs.old mem.old instr.now ≡ record { outcome = result; regs = regs.new; memory = mem.new } }
@@ -50,6 +51,7 @@ pub fn atomic(regs: &mut Regs, mem: &mut GuestMemory, instr: &Instr) -> Outcome
 }
 
 /// LR.
+#[inline(never)]
 pub fn load_reserved(
     regs: &mut Regs,
     mem: &mut GuestMemory,
@@ -101,6 +103,7 @@ fn store_reserved(
 }
 
 /// SC.
+#[inline(never)]
 pub fn store_conditional(
     regs: &mut Regs,
     mem: &mut GuestMemory,

@@ -6,7 +6,7 @@ ghost use Rattle.rv_interp.specs.Cache.{AreTrue};
 ghost use Rattle.rv_interp.specs.Instructions.{instruction_at, step_of};
 ghost use Rattle.rv_interp.specs.Machine.{machine};
 
-use crate::execution::{Outcome, execute, instruction};
+use crate::execution::{Outcome, execute, execute_once, instruction};
 use crate::reservation::Reservation;
 use abi_base::{Regs, Signal};
 use guest_memory::{Access, GuestMemory};
@@ -51,7 +51,7 @@ impl Cache {
     }
 
     /// Does the instruction at the pc, which is decoded once for each address while no other takes its slot.
-    #[inline]
+    #[inline(always)]
     pub fn step(
         &mut self,
         regs: &mut Regs,
@@ -68,7 +68,7 @@ impl Cache {
             return execute(regs, mem, held, &slot.instr);
         }
         match self.decode_at(mem, pc) {
-            Ok(instr) => execute(regs, mem, held, &instr),
+            Ok(instr) => execute_once(regs, mem, held, &instr),
             Err(signal) => Outcome::Trap(signal),
         }
     }

@@ -6,10 +6,10 @@ ghost use Rattle.rv_interp.specs.Instructions.{next, done_of, plus_immediate, ju
 use crate::execution::Outcome;
 use crate::values::is_taken;
 use abi_base::{Regs, Signal};
-use rv_code::Instr;
+use rv_code::{Instr, Op};
 
 /// The address after the instruction at the pc.
-#[inline]
+#[inline(always)]
 pub fn next(regs: &Regs) -> u64
     ensures { result ≡ next regs.now }
 {
@@ -17,7 +17,7 @@ pub fn next(regs: &Regs) -> u64
 }
 
 /// The sum of a number and the immediate.
-#[inline]
+#[inline(always)]
 pub fn plus_immediate(a: u64, instr: &Instr) -> u64
     ensures { result ≡ plus_immediate a instr.now }
 {
@@ -25,7 +25,7 @@ pub fn plus_immediate(a: u64, instr: &Instr) -> u64
 }
 
 /// The address that a load, a store or a jump to a register names.
-#[inline]
+#[inline(always)]
 pub fn address(regs: &Regs, instr: &Instr) -> u64
     requires { NamesRegisters instr.now }
     ensures { result ≡ address regs.now instr.now }
@@ -34,7 +34,7 @@ pub fn address(regs: &Regs, instr: &Instr) -> u64
 }
 
 /// Writes a register, and goes on behind the instruction.
-#[inline]
+#[inline(always)]
 pub fn done(regs: &mut Regs, rd: u32, value: u64) -> Outcome
     requires { rd < 32 }
     ensures { done_of regs.old rd value ≡ record { outcome = result; regs = regs.new } }
@@ -45,7 +45,7 @@ pub fn done(regs: &mut Regs, rd: u32, value: u64) -> Outcome
 }
 
 /// Writes a register, and goes on at the target, which has to be a multiple of 4.
-#[inline]
+#[inline(always)]
 pub fn jump(regs: &mut Regs, rd: u32, value: u64, target: u64) -> Outcome
     requires { rd < 32 }
     ensures { jumped_of regs.old rd value target ≡ record { outcome = result; regs = regs.new } }
@@ -58,8 +58,19 @@ pub fn jump(regs: &mut Regs, rd: u32, value: u64, target: u64) -> Outcome
     Outcome::Done
 }
 
+/// JAL.
+#[inline(always)]
+pub fn jump_near(regs: &mut Regs, instr: &Instr) -> Outcome
+    requires { NamesRegisters instr.now }
+    ensures { jumped_of regs.old instr.now.rd (next regs.old) (plus_immediate regs.old.pc instr.now) ≡ record { outcome = result; regs = regs.new } }
+{
+    let link = next(regs);
+    let target = plus_immediate(regs.pc(), instr);
+    jump(regs, instr.rd, link, target)
+}
+
 /// JALR: the register is read before it is written.
-#[inline]
+#[inline(always)]
 pub fn jump_register(regs: &mut Regs, instr: &Instr) -> Outcome
     requires { NamesRegisters instr.now }
     ensures { jump_register_of regs.old instr.now ≡ record { outcome = result; regs = regs.new } }
@@ -69,13 +80,14 @@ pub fn jump_register(regs: &mut Regs, instr: &Instr) -> Outcome
     jump(regs, instr.rd, link, target - target % 2)
 }
 
-/// A branch.
-#[inline]
-pub fn branch(regs: &mut Regs, instr: &Instr) -> Outcome
-    requires { NamesRegisters instr.now }
+/// A branch. Its operation is passed beside it, so that where it is a constant no test of it is left.
+#[inline(always)]
+pub fn branch(regs: &mut Regs, instr: &Instr, op: Op) -> Outcome
+    requires names { NamesRegisters instr.now }
+    requires op { op ≡ instr.now.op }
     ensures { branch_of regs.old instr.now ≡ record { outcome = result; regs = regs.new } }
 {
-    if is_taken(instr.op, regs.get(instr.rs1), regs.get(instr.rs2)) {
+    if is_taken(op, regs.get(instr.rs1), regs.get(instr.rs2)) {
         let target = plus_immediate(regs.pc(), instr);
         jump(regs, 0, 0, target)
     } else {

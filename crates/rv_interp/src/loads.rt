@@ -6,43 +6,46 @@ ghost use Rattle.rv_interp.specs.Instructions.{loaded_of, load_step, store_step}
 
 use crate::execution::Outcome;
 use crate::jumps::{address, done};
-use crate::kind::width;
 use crate::values::loaded_value;
+use crate::width::width;
 use abi_base::{Regs, Signal};
 use guest_memory::{GuestMemory, MemFault};
-use rv_code::Instr;
+use rv_code::{Instr, Op};
 
 // Writes what was read to the register.
-#[inline]
-fn loaded(regs: &mut Regs, instr: &Instr, read: Result<u64, MemFault>) -> Outcome
-    requires { NamesRegisters instr.now }
+#[inline(always)]
+fn loaded(regs: &mut Regs, instr: &Instr, op: Op, read: Result<u64, MemFault>) -> Outcome
+    requires names { NamesRegisters instr.now }
+    requires op { op ≡ instr.now.op }
     ensures { loaded_of regs.old instr.now read ≡ record { outcome = result; regs = regs.new } }
 {
     match read {
-        Ok(v) => done(regs, instr.rd, loaded_value(instr.op, v)),
+        Ok(v) => done(regs, instr.rd, loaded_value(op, v)),
         Err(_) => Outcome::Trap(Signal::Segv),
     }
 }
 
-/// A load.
-#[inline]
-pub fn load(regs: &mut Regs, mem: &mut GuestMemory, instr: &Instr) -> Outcome
-    requires { NamesRegisters instr.now }
+/// A load. Its operation is passed beside it, so that where it is a constant no test of it is left.
+#[inline(always)]
+pub fn load(regs: &mut Regs, mem: &mut GuestMemory, instr: &Instr, op: Op) -> Outcome
+    requires names { NamesRegisters instr.now }
+    requires op { op ≡ instr.now.op }
     ensures exact { load_step regs.old mem.old instr.now ≡ record { outcome = result; regs = regs.new } }
     ensures same { mem.new ≡ mem.old }
 {
-    let read = mem.load(address(regs, instr), width(instr.op));
-    loaded(regs, instr, read)
+    let read = mem.load(address(regs, instr), width(op));
+    loaded(regs, instr, op, read)
 }
 
-/// A store.
-#[inline]
-pub fn store(regs: &mut Regs, mem: &mut GuestMemory, instr: &Instr) -> Outcome
-    requires { NamesRegisters instr.now }
+/// A store. Its operation is passed beside it, so that where it is a constant no test of it is left.
+#[inline(always)]
+pub fn store(regs: &mut Regs, mem: &mut GuestMemory, instr: &Instr, op: Op) -> Outcome
+    requires names { NamesRegisters instr.now }
+    requires op { op ≡ instr.now.op }
     ensures exact { store_step regs.old mem.old instr.now ≡ record { outcome = result; regs = regs.new; memory = mem.new } }
     ensures unwritable { KeepsUnwritable mem.old mem.new }
 {
-    match mem.store(address(regs, instr), width(instr.op), regs.get(instr.rs2)) {
+    match mem.store(address(regs, instr), width(op), regs.get(instr.rs2)) {
         Ok(()) => done(regs, 0, 0),
         Err(_) => Outcome::Trap(Signal::Segv),
     }

@@ -5,7 +5,7 @@ ghost use Rattle.rv_interp.specs.Values.{is_taken, extended_byte, extended_half,
 use rv_code::Op;
 
 /// Whether a branch on these two numbers is taken.
-#[inline]
+#[inline(always)]
 pub fn is_taken(op: Op, a: u64, b: u64) -> bool
     ensures { result ≡ is_taken op a b }
 {
@@ -49,17 +49,28 @@ fn low(v: u64) -> u32
 }
 
 /// What a load or an atomic instruction writes to its register, where this number was read.
-#[inline]
+#[inline(always)]
 pub fn loaded_value(op: Op, v: u64) -> u64
     ensures { result ≡ loaded_value op v }
 {
     match op {
         Op::Lb => extended_byte(v),
         Op::Lh => extended_half(v),
-        Op::Lw | Op::LrW => extended_word(v),
-        Op::AmoswapW | Op::AmoaddW | Op::AmoxorW | Op::AmoandW | Op::AmoorW => extended_word(v),
-        Op::AmominW | Op::AmomaxW | Op::AmominuW | Op::AmomaxuW => extended_word(v),
-        _ => v,
+        Op::Lw | Op::LrW | Op::AmoswapW | Op::AmoaddW | Op::AmoxorW | Op::AmoandW => extended_word(
+            v,
+        ),
+        Op::AmoorW | Op::AmominW | Op::AmomaxW | Op::AmominuW | Op::AmomaxuW => extended_word(v),
+        Op::Ld | Op::Lbu | Op::Lhu | Op::Lwu | Op::LrD | Op::ScW | Op::ScD | Op::AmoswapD => v,
+        Op::AmoaddD | Op::AmoxorD | Op::AmoandD | Op::AmoorD | Op::AmominD | Op::AmomaxD => v,
+        Op::AmominuD | Op::AmomaxuD => v,
+        Op::Lui | Op::Auipc | Op::Jal | Op::Jalr | Op::Beq | Op::Bne | Op::Blt | Op::Bge => v,
+        Op::Bltu | Op::Bgeu | Op::Sb | Op::Sh | Op::Sw | Op::Sd | Op::Addi | Op::Slti => v,
+        Op::Sltiu | Op::Xori | Op::Ori | Op::Andi | Op::Slli | Op::Srli | Op::Srai => v,
+        Op::Addiw | Op::Slliw | Op::Srliw | Op::Sraiw | Op::Add | Op::Sub | Op::Sll => v,
+        Op::Slt | Op::Sltu | Op::Xor | Op::Srl | Op::Sra | Op::Or | Op::And | Op::Mul => v,
+        Op::Mulh | Op::Mulhsu | Op::Mulhu | Op::Div | Op::Divu | Op::Rem | Op::Remu => v,
+        Op::Addw | Op::Subw | Op::Sllw | Op::Srlw | Op::Sraw | Op::Mulw | Op::Divw => v,
+        Op::Divuw | Op::Remw | Op::Remuw | Op::Fence | Op::FenceI | Op::Ecall | Op::Ebreak => v,
     }
 }
 

@@ -18,10 +18,10 @@ returns-then-pc-eq0-clause-slots c = all_kept c.args.mem.now c.execute.new.mem c
 pub returns-in-Ok-clause-exact : goal.returns-in-Ok-clause-exact
 returns-in-Ok-clause-exact c =
     decoded c.args.mem.now c.args.regs.now c.args.held.now c.pc-pc.result c.in-Ok.instr _ (sym c.pc-pc.ensures) (sym c.decode_at.ensures.exact ∙ c.in-Ok.is)
-    (ap (λ m. execute_of c.in-Ok.instr (machine c.args.regs.now m c.args.held.now)) (sym c.decode_at.ensures.same) ∙ c.execute-in-Ok.ensures.exact)
+    (ap (λ m. execute_of c.in-Ok.instr (machine c.args.regs.now m c.args.held.now)) (sym c.decode_at.ensures.same) ∙ c.execute_once.ensures.exact)
 
 pub returns-in-Ok-clause-slots : goal.returns-in-Ok-clause-slots
-returns-in-Ok-clause-slots c = all_kept c.decode_at.new.mem c.execute-in-Ok.new.mem c.decode_at.new.self.slots c.execute-in-Ok.ensures.unwritable c.decode_at.ensures.slots
+returns-in-Ok-clause-slots c = all_kept c.decode_at.new.mem c.execute_once.new.mem c.decode_at.new.self.slots c.execute_once.ensures.unwritable c.decode_at.ensures.slots
 
 pub returns-in-Err-clause-exact : goal.returns-in-Err-clause-exact
 returns-in-Err-clause-exact c =
