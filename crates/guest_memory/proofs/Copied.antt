@@ -54,6 +54,9 @@ to_next m from number q is other =
       | inr under ↦ sym (below q from (get m q) under.1) ∙ below q (number + 1) (get m q) (omega (arith, under.1))
     ]
 
+pub not_copied : (m made : Pages) (from number : ℕ) → Some number ≡ least_key (λ q _. nat_le from q) m → AreCopied m from made → get made number ≡ None
+not_copied m made from number is h = let next = (least_entry m from number is).2 in h number ∙ sym (not_below number from (get m number) next)
+
 pub copied_more : (m made : Pages) (from number : ℕ) (p : Page) → Some number ≡ least_key (λ q _. nat_le from q) m
     → Some p ≡ get m number
     → AreCopied m from made → AreCopied m (number + 1) (insert made number p)

@@ -8,3 +8,5 @@ pub mod Numbers
 pub mod EachWritten
 pub mod Changes
 pub mod ListedPages
+pub mod Tables
+pub mod Stores

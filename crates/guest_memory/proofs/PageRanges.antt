@@ -106,6 +106,11 @@ nothing_changed f m after n h = same_numbers after m (λ q. h q ∙ sym (none_ch
 
 -- ---- pages of zeros
 
+-- the next page of a range that is free, after those before it were mapped
+pub next_free : (m now : Pages) (n j k : ℕ) (prot : Prot) → AreFree m n k → AreMapped m n j prot now → j < k → get now (n + j) ≡ None
+next_free m now n j k prot free h lt =
+    changed_outside (λ _. Some (zero_page prot)) m n j now h (n + j) (end_outside n j) ∙ free (n + j) (is_inside n k (n + j) (omega arith) (omega arith))
+
 pub mapped_more : (m now : Pages) (n j : ℕ) (prot : Prot) → AreMapped m n j prot now
     → AreMapped m n (j + 1) prot (insert now (n + j) (zero_page prot))
 mapped_more m now n j prot h =

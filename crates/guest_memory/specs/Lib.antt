@@ -8,3 +8,5 @@ pub mod Mapping
 pub mod Limits
 pub mod Changes
 pub mod Fixed
+pub mod Table
+pub mod Lending

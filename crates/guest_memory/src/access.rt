@@ -14,7 +14,7 @@ pub enum Access {
 
 impl Access {
     /// Whether a page's rights allow this.
-    #[inline]
+    #[inline(always)]
     pub fn is_allowed_by(self, prot: &Prot) -> bool
         ensures { result ≡ allows prot.now self }
     {

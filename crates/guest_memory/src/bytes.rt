@@ -1,5 +1,5 @@
 //! Bytes of a memory in a row.
-ghost use Rattle.std.specs.Prelude.{◌≡◌, ◌≤◌, ◌+◌, ◌/◌, ◌%◌, length, IfErr, IfOk, IsOk, IsSome, MatchResult, OnErr, OnOk, Ok, Err};
+ghost use Rattle.std.specs.Prelude.{◌≡◌, ◌≤◌, ◌+◌, ◌/◌, ◌%◌, length, IfErr, IfOk, IfSome, IsOk, IsSome, MatchResult, OnErr, OnOk, Ok, Err};
 ghost use Rattle.std.specs.FinMap.{get};
 ghost use Rattle.guest_memory.specs.declared.access.Access.TheVariants as access;
 ghost use Rattle.guest_memory.specs.Bytes.{bytes_at, bytes_from, run_at};
@@ -33,6 +33,19 @@ impl GuestMemory {
         match self.pages.get(at / PAGE_SIZE) {
             Some(page) => page.run(access, at),
             None => Err(MemFault::NotMapped(at)),
+        }
+    }
+
+    /// The bytes from an address to its page's end, where the page's hint leads to it and this may be done with them.
+    /// `None` says nothing.
+    #[inline(always)]
+    pub(crate) fn hinted_run(&self, access: Access, at: u64) -> Option<&[u8]>
+        ensures run { IfSome result (λ run. run_at access self.now at ≡ Ok run.now) }
+        ensures len { IfSome result (λ run. length run.now + at % PAGE_SIZE ≡ PAGE_SIZE) }
+    {
+        match self.pages.hinted(at / PAGE_SIZE) {
+            Some(page) => page.run(access, at).ok(),
+            None => None,
         }
     }
 

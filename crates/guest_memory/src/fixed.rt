@@ -8,8 +8,8 @@ ghost use Rattle.guest_memory.specs.Fixed.{without_each};
 
 use crate::mapped_page::MappedPage;
 use crate::memory::GuestMemory;
+use crate::page_table::PageTable;
 use abi_base::{GUEST_BEGIN, GUEST_END, PAGE_LIMIT, PAGE_SIZE, Prot};
-use number_map::NumMap;
 use std::alloc::{AllocError, Global};
 
 impl GuestMemory {
@@ -39,7 +39,7 @@ impl GuestMemory {
 
 // Puts a page at each number of the range that has none. Want of memory changes nothing.
 fn fill_pages(
-    pages: &mut NumMap<MappedPage>,
+    pages: &mut PageTable,
     alloc: Global,
     first: u64,
     count: u64,
@@ -61,7 +61,7 @@ fn fill_pages(
 // Puts a page of zeros at each number of the range that has none, and the numbers of these pages into a list, which is
 // empty before. Where memory runs out, some may be there, and the list names them too.
 fn add_pages_listed(
-    pages: &mut NumMap<MappedPage>,
+    pages: &mut PageTable,
     added: &mut Vec<u64>,
     first: u64,
     count: u64,
@@ -81,7 +81,7 @@ fn add_pages_listed(
 
 // Puts a page of zeros at this number if none is there, and then the number at the end of the list.
 fn add_page_listed(
-    pages: &mut NumMap<MappedPage>,
+    pages: &mut PageTable,
     added: &mut Vec<u64>,
     number: u64,
     prot: Prot,
@@ -101,7 +101,7 @@ fn add_page_listed(
 }
 
 // Takes away the pages of these numbers.
-fn remove_each(pages: &mut NumMap<MappedPage>, numbers: &[u64])
+fn remove_each(pages: &mut PageTable, numbers: &[u64])
     ensures { pages.new ≡ without_each numbers.now pages.old }
 {
     for number in numbers {
@@ -110,7 +110,7 @@ fn remove_each(pages: &mut NumMap<MappedPage>, numbers: &[u64])
 }
 
 // Makes each page of the range one of zeros with these rights. Each is there, so no memory is taken.
-fn reset_pages(pages: &mut NumMap<MappedPage>, first: u64, count: u64, prot: Prot)
+fn reset_pages(pages: &mut PageTable, first: u64, count: u64, prot: Prot)
     requires fits { first + count < 2 ^ 64 }
     requires there { AreThere pages.old first count }
     ensures { AreMapped pages.old first count prot pages.new }

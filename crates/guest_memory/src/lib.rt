@@ -16,4 +16,5 @@ mod mapped_page;
 mod mapping;
 mod memory;
 mod page_map;
+mod page_table;
 mod words;

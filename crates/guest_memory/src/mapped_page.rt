@@ -1,5 +1,6 @@
 //! A page of a guest's memory.
 ghost use Rattle.std.specs.Prelude.{◌≡◌, ◌≤◌, ◌+◌, ◌%◌, length, take, drop, ◌++◌, IfOk, MatchResult, Some, Ok, Err};
+ghost use Rattle.guest_memory.specs.Access.{allows};
 ghost use Rattle.guest_memory.specs.Bytes.{run_in};
 ghost use Rattle.guest_memory.specs.Page.{zero_page, with_prot};
 ghost use Rattle.guest_memory.specs.Words.{IsWidth, bytes_of};
@@ -65,8 +66,16 @@ impl MappedPage {
         self.prot = prot;
     }
 
+    /// Whether its rights allow this.
+    #[inline(always)]
+    pub fn allows(&self, access: Access) -> bool
+        ensures { result ≡ allows self.now.prot access }
+    {
+        access.is_allowed_by(&self.prot)
+    }
+
     /// The bytes from an address in this page to the page's end.
-    #[inline]
+    #[inline(always)]
     pub fn run(&self, access: Access, at: u64) -> Result<&[u8], MemFault>
         ensures run { MatchResult result (λ run. run_in access at (Some self.now) ≡ Ok run.now) (λ fault. run_in access at (Some self.now) ≡ Err fault) }
         ensures len { IfOk result (λ run. length run.now + at % PAGE_SIZE ≡ PAGE_SIZE) }
@@ -87,7 +96,7 @@ impl MappedPage {
     }
 
     /// Writes the `n` lowest bytes of a number from a place in the page on, which end in the page; `n` is 1, 2, 4 or 8.
-    #[inline]
+    #[inline(always)]
     pub fn store(&mut self, place: usize, n: u32, v: u64)
         requires width { IsWidth n }
         requires fits { place + n ≤ PAGE_SIZE }
@@ -98,7 +107,7 @@ impl MappedPage {
 }
 
 // Fills a slice with the lowest bytes of a number, the lowest first. It has 1, 2, 4 or 8 of them.
-#[inline]
+#[inline(always)]
 fn put_number(part: &mut [u8], v: u64)
     requires { IsWidth (length part.old) }
     ensures { part.new ≡ bytes_of (length part.old) v }

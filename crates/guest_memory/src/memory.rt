@@ -3,8 +3,7 @@ ghost use Rattle.std.specs.Prelude.{◌≡◌, IfOk};
 ghost use Rattle.std.specs.FinMap as map;
 ghost use Rattle.guest_memory.specs.Limits.{KeepsLimits};
 
-use crate::mapped_page::MappedPage;
-use number_map::NumMap;
+use crate::page_table::PageTable;
 use std::alloc::{AllocError, Global};
 use std::marker::Model;
 
@@ -12,7 +11,7 @@ use std::marker::Model;
 /// 0x10000 up to 0x4000000000, and there are at most 65,536 pages.
 #[derive(Drop)]
 pub struct GuestMemory {
-    pub(crate) pages: NumMap<MappedPage>,
+    pub(crate) pages: PageTable,
 }
 
 impl Model for GuestMemory {
@@ -36,7 +35,7 @@ impl GuestMemory {
         ensures { result ≡ map.empty }
     {
         GuestMemory {
-            pages: NumMap::new(alloc),
+            pages: PageTable::new(alloc),
         }
     }
 
@@ -44,7 +43,7 @@ impl GuestMemory {
     pub fn copy(&self, alloc: Global) -> Result<Self, AllocError>
         ensures { IfOk result (λ made. made ≡ self.now) }
     {
-        let mut pages = NumMap::new(alloc);
+        let mut pages = PageTable::new(alloc);
         let mut from = 0;
         while let Some(number) = self.pages.first_from(from) {
             let page = self.pages.get(number).unwrap();

@@ -6,12 +6,12 @@ ghost use Rattle.guest_memory.specs.Mapping.{AreFree, AreThere, AreMapped, AreUn
 ghost use Rattle.guest_memory.specs.Changes.{without_pages};
 
 use crate::mapped_page::MappedPage;
+use crate::page_table::PageTable;
 use abi_base::Prot;
-use number_map::NumMap;
 use std::alloc::{AllocError, Global};
 
 /// The lowest page of the range that is there.
-pub fn first_page(pages: &NumMap<MappedPage>, first: u64, count: u64) -> Option<u64>
+pub fn first_page(pages: &PageTable, first: u64, count: u64) -> Option<u64>
     requires { first + count < 2 ^ 64 }
     ensures { MatchOption result (AreFree pages.now first count) (IsFirstNumber (λ q. IsSome (get pages.now q)) first count) }
 {
@@ -24,7 +24,7 @@ pub fn first_page(pages: &NumMap<MappedPage>, first: u64, count: u64) -> Option<
 }
 
 /// The lowest page of the range that isn't there.
-pub fn first_absent(pages: &NumMap<MappedPage>, first: u64, count: u64) -> Option<u64>
+pub fn first_absent(pages: &PageTable, first: u64, count: u64) -> Option<u64>
     requires { first + count < 2 ^ 64 }
     ensures { MatchOption result (AreThere pages.now first count) (IsFirstNumber (λ q. get pages.now q ≡ None) first count) }
 {
@@ -37,7 +37,7 @@ pub fn first_absent(pages: &NumMap<MappedPage>, first: u64, count: u64) -> Optio
 }
 
 /// How many pages of the range are there.
-pub fn count_pages(pages: &NumMap<MappedPage>, first: u64, count: u64) -> u64
+pub fn count_pages(pages: &PageTable, first: u64, count: u64) -> u64
     requires { first + count < 2 ^ 64 }
     ensures { result + len (without_pages pages.now first count) ≡ len pages.now }
 {
@@ -51,15 +51,16 @@ pub fn count_pages(pages: &NumMap<MappedPage>, first: u64, count: u64) -> u64
     found
 }
 
-/// Puts a page of zeros at each number of the range. Where memory runs out, some may be there.
+/// Puts a page of zeros at each number of the range, which has none. Where memory runs out, some may be there.
 pub fn add_pages(
-    pages: &mut NumMap<MappedPage>,
+    pages: &mut PageTable,
     alloc: Global,
     first: u64,
     count: u64,
     prot: Prot,
 ) -> Result<(), AllocError>
-    requires { first + count < 2 ^ 64 }
+    requires fits { first + count < 2 ^ 64 }
+    requires free { AreFree pages.old first count }
     ensures ok { OnOk result (AreMapped pages.old first count prot pages.new) }
     ensures err { OnErr result (AreSameOutside pages.old first count pages.new) }
 {
@@ -70,7 +71,7 @@ pub fn add_pages(
 }
 
 /// Takes away the pages of the range, as far as they are there.
-pub fn remove_pages(pages: &mut NumMap<MappedPage>, first: u64, count: u64)
+pub fn remove_pages(pages: &mut PageTable, first: u64, count: u64)
     requires { first + count < 2 ^ 64 }
     ensures { AreUnmapped pages.old first count pages.new }
 {
@@ -80,7 +81,7 @@ pub fn remove_pages(pages: &mut NumMap<MappedPage>, first: u64, count: u64)
 }
 
 /// Gives each page of the range these rights. Each is there.
-pub fn protect_pages(pages: &mut NumMap<MappedPage>, first: u64, count: u64, prot: Prot)
+pub fn protect_pages(pages: &mut PageTable, first: u64, count: u64, prot: Prot)
     requires fits { first + count < 2 ^ 64 }
     requires there { AreThere pages.old first count }
     ensures { AreProtected pages.old first count prot pages.new }

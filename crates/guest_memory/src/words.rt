@@ -1,9 +1,8 @@
 //! Numbers of a memory, little-endian.
-ghost use Rattle.std.specs.Prelude.{◌≡◌, ◌<◌, ◌≤◌, ◌^◌, ◌+◌, ◌/◌, ◌%◌, length, take, IfErr, IfOk, IsSome, OnErr, OnOk, Ok, Err};
-ghost use Rattle.std.specs.FinMap.{get};
+ghost use Rattle.std.specs.Prelude.{◌≡◌, ◌<◌, ◌≤◌, ◌^◌, ◌+◌, ◌/◌, ◌%◌, length, take, IfErr, IfOk, IsFalse, IsTrue, OnErr, OnOk, Ok, Err};
 ghost use Rattle.guest_memory.specs.Bytes.{bytes_from};
 ghost use Rattle.guest_memory.specs.Words.{IsWidth, bytes_of, number_of, number_in, load_of, store_of, fetch_of};
-ghost use Rattle.guest_memory.specs.Written.{KeepsUnwritable, set_bytes};
+ghost use Rattle.guest_memory.specs.Written.{KeepsUnwritable};
 
 use crate::access::Access;
 use crate::fault::MemFault;
@@ -13,24 +12,24 @@ use abi_base::PAGE_SIZE;
 impl GuestMemory {
     /// The number of the `n` bytes at an address, little-endian; `n` is 1, 2, 4 or 8. Each byte's page must be there
     /// with the right READ; else the fault names the first byte that fails. Every page stays as it is.
-    #[inline]
+    #[inline(always)]
     pub fn load(&mut self, at: u64, n: u32) -> Result<u64, MemFault>
         requires { IsWidth n }
         ensures exact { result ≡ load_of self.old at n }
         ensures small { IfOk result (λ v. v < 256 ^ n) }
         ensures same { self.new ≡ self.old }
     {
-        let run = self.run(Access::Read, at)?;
-        if run.len() >= n as usize {
-            Ok(number_in_run(run, n))
-        } else {
-            self.load_over_pages(Access::Read, at, n)
+        if let Some(run) = self.hinted_run(Access::Read, at) {
+            if run.len() >= n as usize {
+                return Ok(number_in_run(run, n));
+            }
         }
+        self.load_anywhere(Access::Read, at, n)
     }
 
     /// Writes the `n` lowest bytes of a number to an address, little-endian; `n` is 1, 2, 4 or 8. Each byte's page must
     /// be there with the right WRITE; else the fault names the first byte that fails, and nothing is written.
-    #[inline]
+    #[inline(always)]
     pub fn store(&mut self, at: u64, n: u32, v: u64) -> Result<(), MemFault>
         requires { IsWidth n }
         ensures ok { OnOk result (store_of self.old at n v ≡ Ok self.new) }
@@ -38,36 +37,39 @@ impl GuestMemory {
         ensures err { OnErr result (self.new ≡ self.old) }
         ensures unwritable { KeepsUnwritable self.old self.new }
     {
-        let run = self.run(Access::Write, at)?;
-        if run.len() >= n as usize {
-            self.store_in_page(at, n, v);
-            Ok(())
-        } else {
-            self.store_over_pages(at, n, v)
+        if self.store_by_hint(at, n, v) {
+            return Ok(());
         }
+        self.store_anywhere(at, n, v)
     }
 
-    // Writes the `n` lowest bytes of a number to an address, from which on they lie in one page, which is there.
-    #[inline]
-    fn store_in_page(&mut self, at: u64, n: u32, v: u64)
-        requires width { IsWidth n }
-        requires there { IsSome (get self.old (at / PAGE_SIZE)) }
-        requires fits { at % PAGE_SIZE + n ≤ PAGE_SIZE }
-        ensures { self.new ≡ set_bytes self.old at (bytes_of n v) }
+    // Writes the `n` lowest bytes of a number to an address, where they lie in one page, the page's hint leads to it and
+    // it may be written. `false` says nothing but that all is as before.
+    #[inline(always)]
+    fn store_by_hint(&mut self, at: u64, n: u32, v: u64) -> bool
+        requires { IsWidth n }
+        ensures ok { IsTrue result → store_of self.old at n v ≡ Ok self.new }
+        ensures unwritable { KeepsUnwritable self.old self.new }
+        ensures same { IsFalse result → self.new ≡ self.old }
     {
-        let place = (at % PAGE_SIZE) as usize;
-        self.pages.get_mut(at / PAGE_SIZE).store(place, n, v);
+        let place = at % PAGE_SIZE;
+        if place + u64::from(n) > PAGE_SIZE {
+            return false;
+        }
+        self.pages
+            .store_hinted(at / PAGE_SIZE, place as usize, n, v)
     }
 
-    // Writes the `n` lowest bytes of a number, which may lie in two pages.
+    // Writes the `n` lowest bytes of a number wherever they lie, and notes the first one's page.
     #[inline(never)]
-    fn store_over_pages(&mut self, at: u64, n: u32, v: u64) -> Result<(), MemFault>
+    fn store_anywhere(&mut self, at: u64, n: u32, v: u64) -> Result<(), MemFault>
         requires { IsWidth n }
         ensures ok { OnOk result (store_of self.old at n v ≡ Ok self.new) }
         ensures fault { IfErr result (λ fault. store_of self.old at n v ≡ Err fault) }
         ensures err { OnErr result (self.new ≡ self.old) }
         ensures unwritable { KeepsUnwritable self.old self.new }
     {
+        self.pages.note(at / PAGE_SIZE);
         let bytes = v.to_le_bytes();
         self.write_bytes(at, &bytes[..n as usize])
     }
@@ -79,17 +81,28 @@ impl GuestMemory {
         ensures exact { result ≡ fetch_of self.old at }
         ensures same { self.new ≡ self.old }
     {
-        let run = self.run(Access::Exec, at)?;
-        if run.len() >= 4 {
-            Ok(u32::from_le_bytes([run[0], run[1], run[2], run[3]]))
-        } else {
-            let word = self.load_over_pages(Access::Exec, at, 4)?;
-            Ok((word % 0x1_0000_0000) as u32)
+        if let Some(run) = self.hinted_run(Access::Exec, at) {
+            if run.len() >= 4 {
+                return Ok(u32::from_le_bytes([run[0], run[1], run[2], run[3]]));
+            }
         }
+        let word = self.load_anywhere(Access::Exec, at, 4)?;
+        Ok((word % 0x1_0000_0000) as u32)
+    }
+
+    // The number of bytes wherever they lie. It notes the first one's page.
+    #[inline(never)]
+    fn load_anywhere(&mut self, access: Access, at: u64, n: u32) -> Result<u64, MemFault>
+        requires { IsWidth n }
+        ensures exact { result ≡ number_in (bytes_from access self.old at n) }
+        ensures small { IfOk result (λ v. v < 256 ^ n) }
+        ensures same { self.new ≡ self.old }
+    {
+        self.pages.note(at / PAGE_SIZE);
+        self.load_over_pages(access, at, n)
     }
 
     // The number of bytes that may lie in two pages.
-    #[inline(never)]
     fn load_over_pages(&self, access: Access, at: u64, n: u32) -> Result<u64, MemFault>
         requires { IsWidth n }
         ensures exact { result ≡ number_in (bytes_from access self.now at n) }
@@ -104,7 +117,7 @@ impl GuestMemory {
 }
 
 // The number of the first `n` bytes.
-#[inline]
+#[inline(always)]
 fn number_in_run(run: &[u8], n: u32) -> u64
     requires width { IsWidth n }
     requires len { n ≤ length run.now }

@@ -11,7 +11,7 @@ pub returns-in_err-insert-clause-added : goal.returns-in_err-insert-clause-added
 returns-in_err-insert-clause-added c =
     ap (λ qs. without_each qs c.insert.new.self) c.in_ok-push.ensures.items
     ∙ ap (without_each (c.args.added.now.items ++ c.args.number ∷ [])) c.in_err-insert.ensures.err
-    ∙ listed_absent c.args.added.now.items c.args.number c.args.pages.now c.in_err-insert.ensures.absent
+    ∙ listed_absent c.args.added.now.items c.args.number c.args.pages.now (is_none _ c.if-contains.ensures)
 
 pub returns-clause-there : goal.returns-clause-there
 returns-clause-there c =

@@ -4,7 +4,7 @@ use Rattle.std.specs.FinMap.{get, insert}
 use Rattle.number_map.specs.Maps.{least_key}
 use Rattle.guest_memory.specs.Page.{Pages}
 use Rattle.guest_memory.specs.Limits.{KeepsLimits}
-use Rattle.guest_memory.proofs.Copied.{AreCopied, copied_none, copied_more, copied_all, least_entry, least_high}
+use Rattle.guest_memory.proofs.Copied.{AreCopied, not_copied, copied_none, copied_more, copied_all, least_entry, least_high}
 use Rattle.guest_memory.proofs.memory.GuestMemory.copy.Goals as goal
 
 some_copied : {X : Type 0} (r : Option (Bor X)) → IsSome (option_copied r) → IsSome r
@@ -55,3 +55,8 @@ returns c =
     copied_all c.args.self.now c.loop-number.pages c.loop-number.from
     (c.in_default.ensures ∙ ap (λ (m : Pages). least_key (λ q _. nat_le c.loop-number.from q) m) c.self.view_is)
     c.loop-number.invariant.copied
+
+pub insert-requires : goal.insert-requires
+insert-requires c =
+    not_copied c.args.self.now c.loop-number.pages c.loop-number.from c.in-Some.number
+    (c.in-Some.ensures ∙ ap (λ (m : Pages). least_key (λ q _. nat_le c.loop-number.from q) m) c.self.view_is) c.loop-number.invariant.copied
