@@ -7,6 +7,7 @@ pub use calls::{
     BAD_POINTER, HELLO, LONG_WRITE, MANY_RANGES, NO_DESCRIPTOR, PAST_THE_STACK, START_BLOCK,
     TWO_PAGES, UNBUILT_CALLS, exit_with,
 };
+pub use code_changes::{CALL_PROTECTED, REPLACE_CODE, SWAP_CODE};
 pub use hello_file::HELLO_FILE;
 pub use machine::{
     BREAKPOINT, DIVISION_BY_ZERO, DIVISION_OVERFLOW, ILLEGAL, LOAD_AT_ZERO, MISALIGNED_JUMP,
@@ -22,6 +23,7 @@ pub use streams::{COPY, COPY_BY_TWO, FILL_THE_TABLE, calls_over};
 mod arguments;
 mod call_list;
 mod calls;
+mod code_changes;
 mod hello_file;
 mod machine;
 mod memory;

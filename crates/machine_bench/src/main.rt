@@ -1,19 +1,26 @@
-//! `machine_bench LOOP TURNS`: runs a loop of guest code for this many turns of the machine, and prints how many
-//! instructions that were. The loops are `registers`, `memory` and `mixed`.
+//! `machine_bench LOOP TURNS` runs a loop of guest code for this many turns of the machine, and prints how many instructions
+//! that were. The loops are `registers`, `memory` and `mixed`. `machine_bench FILE` runs the guest of an ELF file until it
+//! stands at an ECALL, and prints the number in a0 and how many turns were taken.
 #![tactic(auto)]
 
+mod failure;
+mod guest;
 mod loops;
 
 use abi_base::{Prot, Regs};
+use elf_image::read_elf;
+use failure::Failure;
+use guest::{READ_WRITE, memory_of, start_of};
 use guest_memory::{GuestMemory, MemFault};
 use loops::code_of;
-use rv_interp::{QUANTUM, TurnEnd, turn};
+use rv_interp::{Cache, QUANTUM, TurnEnd, turn};
 use std::alloc::Global;
-use std::env;
+use std::io::Read;
 use std::process::ExitCode;
-use std::rt::Env;
+use std::rt::{Env, Files};
+use std::{env, fs};
 
-// Where the code is.
+// Where a loop's code is.
 const CODE: u64 = 0x10000;
 
 // Where the data is, of which the loops know.
@@ -22,30 +29,17 @@ const DATA: u64 = 0x20000;
 // How many pages of data there are.
 const DATA_PAGES: u32 = 16;
 
-const READ_WRITE: Prot = Prot {
-    read: true,
-    write: true,
-    exec: false,
-};
+// The turns after which a guest is given up.
+const MOST_TURNS: u32 = 100_000_000;
+
+// The register of a guest's result, a0.
+const RESULT: u32 = 10;
 
 const READ_EXEC: Prot = Prot {
     read: true,
     write: false,
     exec: true,
 };
-
-// Why a loop was not run to its end.
-#[derive(Debug, Drop)]
-enum Failure {
-    /// The words are not the name of a loop and a number of turns.
-    Words,
-    /// The guest's memory could not be made.
-    Memory(MemFault),
-    /// A turn ended in another way than by its number of instructions.
-    Ended(TurnEnd),
-    /// The count could not be printed.
-    Unwritten,
-}
 
 // A loop's code, and for how many turns it is run.
 #[derive(Clone, Copy)]
@@ -55,8 +49,15 @@ struct Task<'a> {
     turns: u32,
 }
 
+// What a guest gave, and after how many turns.
+#[derive(Clone, Copy)]
+struct Given {
+    result: u64,
+    turns: u32,
+}
+
 // A memory with this code and with data of zeros.
-fn memory_of(alloc: Global, code: &[u32]) -> Result<GuestMemory, MemFault> {
+fn loop_memory(alloc: Global, code: &[u32]) -> Result<GuestMemory, MemFault> {
     let mut memory = GuestMemory::new(alloc);
     memory.map(alloc, CODE, 1, READ_WRITE)?;
     memory.map(alloc, DATA, DATA_PAGES, READ_WRITE)?;
@@ -70,11 +71,14 @@ fn memory_of(alloc: Global, code: &[u32]) -> Result<GuestMemory, MemFault> {
 }
 
 // Runs a loop for this many turns.
-fn run(alloc: Global, code: &[u32], turns: u32) -> Result<(), Failure> {
-    let mut memory = memory_of(alloc, code).map_err(Failure::Memory)?;
+fn run_loop(alloc: Global, code: &[u32], turns: u32) -> Result<(), Failure> {
+    let mut memory = loop_memory(alloc, code).map_err(Failure::Memory)?;
     let mut regs = Regs::new(CODE);
+    let Ok(mut cache) = Cache::new(alloc) else {
+        return Err(Failure::NoMemory);
+    };
     for _ in 0..turns {
-        match turn(&mut regs, &mut memory) {
+        match turn(&mut regs, &mut memory, &mut cache) {
             TurnEnd::Quantum => {}
             end => return Err(Failure::Ended(end)),
         }
@@ -82,16 +86,34 @@ fn run(alloc: Global, code: &[u32], turns: u32) -> Result<(), Failure> {
     Ok(())
 }
 
-// What the words ask for: a loop by its name, for this many turns. The first word is the program's own name.
-fn read_words(words: &[String]) -> Option<Task<'_>> {
-    match words {
-        [_, name, turns] => Some(Task {
-            name: name.as_str(),
-            code: code_of(name.as_str())?,
-            turns: turns.parse::<u32>().ok()?,
-        }),
-        _ => None,
+// Runs a guest until it stands at an ECALL.
+fn run_guest(alloc: Global, file: &[u8]) -> Result<Given, Failure> {
+    let elf = read_elf(alloc, file).map_err(|_| Failure::Image)?;
+    let mut memory = memory_of(alloc, &elf)?;
+    let mut regs = start_of(&elf);
+    let Ok(mut cache) = Cache::new(alloc) else {
+        return Err(Failure::NoMemory);
+    };
+    for turns in 0..MOST_TURNS {
+        match turn(&mut regs, &mut memory, &mut cache) {
+            TurnEnd::Quantum => {}
+            TurnEnd::Ecall => {
+                let result = regs.get(RESULT);
+                return Ok(Given { result, turns });
+            }
+            end => return Err(Failure::Ended(end)),
+        }
     }
+    Err(Failure::Endless)
+}
+
+// A loop by its name, for a number of turns.
+fn task_of<'a>(name: &'a str, turns: &str) -> Option<Task<'a>> {
+    Some(Task {
+        name,
+        code: code_of(name)?,
+        turns: turns.parse::<u32>().ok()?,
+    })
 }
 
 // The words of the command line.
@@ -99,13 +121,33 @@ fn command_line(rt: &(impl Env + AllocGlobal)) -> Option<Vec<String>> {
     env::args(rt).ok()?.collect(rt.alloc()).ok()
 }
 
-// Runs the loop that the words name, and prints how many instructions were done.
-fn run_and_print(rt: &(impl Env + Print + AllocGlobal)) -> Result<(), Failure> {
+// The bytes of a file.
+fn bytes_of(rt: &(impl Files + AllocGlobal), name: &str) -> Result<Vec<u8>, Failure> {
+    let mut bytes = Vec::new(rt.alloc());
+    let mut file = fs::open(rt, name).map_err(|_| Failure::File)?;
+    let _ = file.read_to_end(&mut bytes).map_err(|_| Failure::File)?;
+    Ok(bytes)
+}
+
+// Runs what the words name, and prints what it gave.
+fn run_and_print(rt: &(impl Env + Files + Print + AllocGlobal)) -> Result<(), Failure> {
     let words = command_line(rt).ok_or(Failure::Words)?;
-    let task = read_words(&words).ok_or(Failure::Words)?;
-    run(rt.alloc(), task.code, task.turns)?;
-    let count = u64::from(task.turns) * u64::from(QUANTUM);
-    println!(rt; "{} {count} instructions", task.name).map_err(|_| Failure::Unwritten)
+    match words.as_slice() {
+        [_, name, turns] => {
+            let task = task_of(name.as_str(), turns.as_str()).ok_or(Failure::Words)?;
+            run_loop(rt.alloc(), task.code, task.turns)?;
+            let count = u64::from(task.turns) * u64::from(QUANTUM);
+            println!(rt; "{} {count} instructions", task.name).map_err(|_| Failure::Unwritten)
+        }
+        [_, name] => {
+            let file = bytes_of(rt, name.as_str())?;
+            let given = run_guest(rt.alloc(), &file)?;
+            println!(rt; "{} after {} turns", given.result, given.turns).map_err(
+                |_| Failure::Unwritten,
+            )
+        }
+        _ => Err(Failure::Words),
+    }
 }
 
 fn main(rt: HostRuntime) -> ExitCode {

@@ -372,7 +372,7 @@ fn store_conditionally(alloc: Global, words: &[u32]) -> Result<(TurnEnd, [u64; 3
     let mut regs = registers(CODE, [at, A1, 9]);
     regs.set(A3, 9);
     regs.set(A5, at + 8);
-    let (end, [_, a2, a3]) = do_turn(&mut memory, &mut regs);
+    let (end, [_, a2, a3]) = do_turn(alloc, &mut memory, &mut regs)?;
     Ok((end, [memory.load(at, 8)?, a2, a3]))
 }
 
@@ -426,10 +426,10 @@ fn do_turns(
 ) -> Result<(TurnEnd, Regs, (TurnEnd, [u64; 3])), MemFault> {
     let mut memory = memory_of(alloc, &row.words)?;
     let mut regs = registers(CODE, [row.a0, A1, row.a2]);
-    let (end, _) = do_turn(&mut memory, &mut regs);
+    let (end, _) = do_turn(alloc, &mut memory, &mut regs)?;
     let first = regs;
     regs.set_pc(CODE + 8);
-    Ok((end, first, do_turn(&mut memory, &mut regs)))
+    Ok((end, first, do_turn(alloc, &mut memory, &mut regs)?))
 }
 
 // The first program that does something else.

@@ -2,7 +2,7 @@
 //! instruction's registers aren't named, it reads a0 and a1 and writes a2, and its address is in a0.
 use abi_base::{Prot, Regs, Signal};
 use guest_memory::{GuestMemory, MemFault};
-use rv_interp::{Outcome, Reservation, TurnEnd, step, turn};
+use rv_interp::{Cache, Outcome, Reservation, TurnEnd, step, turn};
 use std::alloc::Global;
 use std::test::Fail;
 
@@ -602,10 +602,15 @@ const PROGRAMS: &[Program] = &[
     },
 ];
 
-/// Does a turn. How it ended, and the pc, a2 and a3 afterwards.
-pub fn do_turn(memory: &mut GuestMemory, regs: &mut Regs) -> (TurnEnd, [u64; 3]) {
-    let end = turn(regs, memory);
-    (end, [regs.pc(), regs.get(A2), regs.get(A3)])
+/// Does a turn with no instruction kept before. How it ended, and the pc, a2 and a3 afterwards.
+pub fn do_turn(
+    alloc: Global,
+    memory: &mut GuestMemory,
+    regs: &mut Regs,
+) -> Result<(TurnEnd, [u64; 3]), MemFault> {
+    let mut cache = Cache::new(alloc).map_err(|_| MemFault::NoMemory)?;
+    let end = turn(regs, memory, &mut cache);
+    Ok((end, [regs.pc(), regs.get(A2), regs.get(A3)]))
 }
 
 // Does a turn of a program.
@@ -613,7 +618,7 @@ fn run(alloc: Global, program: &Program) -> Result<(TurnEnd, [u64; 3]), MemFault
     let mut memory = memory_of(alloc, &program.words)?;
     let mut regs = registers(program.start, [WRITABLE_CODE, 0x0106_0613, 0]);
     regs.set(A4, program.a4);
-    Ok(do_turn(&mut memory, &mut regs))
+    do_turn(alloc, &mut memory, &mut regs)
 }
 
 // The first program whose turn ends otherwise.
@@ -653,13 +658,52 @@ fn two_turns(alloc: Global) -> Result<[(TurnEnd, [u64; 3]); 2], MemFault> {
     let mut memory = memory_with_far_code(alloc)?;
     let mut regs = registers(CODE, [0, 0, 0]);
     regs.set(A4, 3);
-    let first = do_turn(&mut memory, &mut regs);
+    let first = do_turn(alloc, &mut memory, &mut regs)?;
     memory.protect(CODE, 1, READ_WRITE)?;
     memory.write_bytes(CODE, &[0x13, 0x06, 0x06, 0x01, 0x73, 0, 0, 0])?;
     memory.protect(CODE, 1, READ_EXEC)?;
     regs.set_pc(CODE);
-    let second = do_turn(&mut memory, &mut regs);
+    let second = do_turn(alloc, &mut memory, &mut regs)?;
     Ok([first, second])
+}
+
+// How many additions of 1 to a2 the program has in a row that runs for several turns: addi a2, a2, 1.
+const LONG_CODE: u32 = 8000;
+
+// Turns of one program with the instructions kept, until it stands at the ECALL: a loop of more than one turn, whose code takes
+// more than the slots that there are at first. The pc, a2 and a3 afterwards, and how many turns came before the last.
+fn kept_turns(alloc: Global) -> Result<(TurnEnd, [u64; 3], u32), MemFault> {
+    let mut memory = GuestMemory::new(alloc);
+    memory.map(alloc, CODE, 16, READ_WRITE)?;
+    let mut at = CODE;
+    for _ in 0..LONG_CODE {
+        memory.write_bytes(at, &0x0016_0613_u32.to_le_bytes())?;
+        at = at.wrapping_add(4);
+    }
+    // addi a4, a4, -1; beq a4, zero, 8; jalr zero, 0(a0); ecall
+    for word in [0xfff7_0713_u32, 0x0007_0463, 0x0005_0067, 0x73] {
+        memory.write_bytes(at, &word.to_le_bytes())?;
+        at = at.wrapping_add(4);
+    }
+    memory.protect(CODE, 16, READ_EXEC)?;
+    let mut regs = registers(CODE, [CODE, 0, 0]);
+    regs.set(A4, 5);
+    let mut cache = Cache::new(alloc).map_err(|_| MemFault::NoMemory)?;
+    for turns in 0..100_u32 {
+        let end = turn(&mut regs, &mut memory, &mut cache);
+        if end != TurnEnd::Quantum {
+            return Ok((end, [regs.pc(), regs.get(A2), regs.get(A3)], turns));
+        }
+    }
+    Ok((TurnEnd::Quantum, [0; 3], 100))
+}
+
+#[test]
+fn instructions_are_kept_over_turns(rt: HostRuntime) -> Result<(), Fail> {
+    // 5 times 8000 additions and the 3 instructions behind them, but for the last jump, are 40,014: 9 turns and 3150 more.
+    let want = (TurnEnd::Ecall, [CODE + 4 * 8003, 40_000, 0], 9);
+    assert_eq!(rt; kept_turns(rt.alloc()), Ok(want));
+    Ok(())
 }
 
 #[test]

@@ -1,9 +1,13 @@
 //! A process as the machine has it: its memory, its threads' registers, and the turns that it has left.
-ghost use Rattle.std.specs.Prelude.{◌≡◌, ◌<◌, IsSome, IfOk, OnOk, OnErr, slice_index};
+ghost use Rattle.std.specs.Prelude.{◌≡◌, ◌<◌, IsFalse, IsSome, IfOk, OnOk, OnErr, slice_index};
 ghost use Rattle.std.specs.FinMap as map;
 ghost use Rattle.call_codec.specs.Args.{args_of, IsCopied};
 ghost use Rattle.call_codec.specs.Put.{TakesRoom};
 ghost use Rattle.call_codec.specs.Start.{MayStart, canary};
+ghost use Rattle.guest_memory.specs.Page.{Pages};
+ghost use Rattle.guest_memory.specs.Written.{KeepsUnwritable};
+ghost use Rattle.plain_run.specs.Code.{changes_pages};
+ghost use Rattle.rv_interp.specs.Cache.{AreTrue};
 ghost use Rattle.run_model.specs.World.{first_guest, registers_of, turned_guest, turn_end, called_guest};
 
 use abi_types::{Answer, Call, Pid, Regs, Tid};
@@ -11,7 +15,7 @@ use call_codec::{args, put_answer, start_memory};
 use guest_memory::GuestMemory;
 use number_map::NumMap;
 use run_types::Launch;
-use rv_interp::{TurnEnd, turn};
+use rv_interp::{Cache, TurnEnd, turn};
 use std::alloc::{AllocError, Global};
 use std::marker::Model;
 
@@ -24,23 +28,45 @@ pub const FIRST_THREAD: Tid = Tid(1);
 // The canary of a start, which has no random bytes yet.
 const CANARY: [u8; 64] = [0; 64];
 
-/// A process's memory, the registers of its threads by their numbers, and the turns that it has left.
+/// A process's memory, the registers of its threads by their numbers, and the turns that it has left. Beside the memory stand
+/// instructions of it that are decoded, which contracts don't see: each of them is true of the memory.
 #[derive(Drop)]
 pub struct Guest {
     pub memory: GuestMemory,
     pub regs: NumMap<Regs>,
     pub left: u64,
+    code: Cache,
 }
 
 impl Model for Guest {
     ghost use Rattle.run_model.specs.World.{Guest};
     ghost use Rattle.plain_run.specs.Codes.{guest_code};
+    ghost use Rattle.rv_interp.specs.Cache.{AreTrue};
 
     ghost Value = { Guest };
 
     ghost coded = { guest_code };
 
     ghost view = { λ g. record { memory = g.memory; regs = g.regs; left = g.left } };
+
+    ghost invariant = { λ g. AreTrue g.memory g.code };
+}
+
+// Whether an answer to the call may change which pages there are, or their rights.
+fn changes_pages(call: &Call) -> bool
+    ensures { result ≡ changes_pages call.now }
+{
+    matches!(call, Call::MemMap { .. } | Call::Memory { .. })
+}
+
+// Forgets each instruction, where an answer to the call may change pages that can't be written.
+fn forget_unless_kept(code: &mut Cache, call: &Call)
+    ensures { (m n : Pages) → AreTrue m code.old → (IsFalse (changes_pages call.now) → KeepsUnwritable m n) → AreTrue n code.new }
+{
+    if !changes_pages(call) {
+        return;
+    }
+    code.forget();
 }
 
 impl Guest {
@@ -60,10 +86,12 @@ impl Guest {
         )?;
         let mut regs = NumMap::new(alloc);
         regs.insert(u64::from(FIRST_THREAD.0), first)?;
+        let code = Cache::new(alloc)?;
         Ok(Guest {
             memory,
             regs,
             left: launch.turns,
+            code,
         })
     }
 
@@ -75,7 +103,11 @@ impl Guest {
         ensures end { result ≡ turn_end self.old tid }
     {
         self.left -= 1;
-        turn(self.regs.get_mut(u64::from(tid.0)), &mut self.memory)
+        turn(
+            self.regs.get_mut(u64::from(tid.0)),
+            &mut self.memory,
+            &mut self.code,
+        )
     }
 
     /// The call that a thread spells as it stands at an ECALL.
@@ -104,6 +136,7 @@ impl Guest {
         ensures err { OnErr result (self.new ≡ self.old) }
         ensures only { OnErr result (TakesRoom call.now) }
     {
+        forget_unless_kept(&mut self.code, call);
         let regs = self.regs.get_mut(u64::from(tid.0));
         put_answer(alloc, regs, &mut self.memory, call, answer)
     }

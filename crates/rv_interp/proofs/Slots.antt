@@ -1,10 +1,12 @@
 -- Slots of decoded instructions.
---     empty_true      a slot of an odd address is true of every memory
+--     empty_true, all_empty      a slot of an odd address is true of every memory
 --     kept_true, all_kept      what is true stays true where pages that can't be written stay
---     found      a slot's instruction is the one that is next
---     filled_true      an instruction of a page that can't be written makes a true slot
-use Rattle.std.proofs.Common.{◌≡◌, ℕ, zero, suc, ◌+◌, ◌/◌, ◌%◌, ◌^◌, ◌<◌, ◌≤◌, Bool, true, false, List, [], Option, Some, None, Result, Ok, Err, IfErr, set, refl, sym, ap, ◌∙◌, arith}
-use Rattle.std.proofs.lemmas.List.Elements.{All-set, All-weaker}
+--     filled_true, kept_instruction      an instruction of a page that can't be written makes a true slot
+--     holds_kept, holds_filled, holds_names      a slot has the instruction at an address
+--     decoded, none      the instruction that is next
+use Rattle.std.proofs.Common.{◌≡◌, ℕ, zero, suc, ◌+◌, ◌/◌, ◌%◌, ◌^◌, ◌<◌, ◌≤◌, Bool, true, false, List, [], Option, Some, None, Result, Ok, Err, IfErr, length, get_or, replicate, set, pos, refl, sym, ap, subst, ◌∙◌, arith}
+use Rattle.std.proofs.lemmas.List.Elements.{All-get_or, All-replicate, All-set, All-weaker}
+use Rattle.std.proofs.lemmas.List.{get_or_default, get_or-set_same, length-set}
 use Rattle.std.specs.FinMap.{get}
 use Rattle.std.specs.Result.{is_err}
 use Rattle.abi_base.specs.Registers.{Registers}
@@ -17,10 +19,11 @@ use Rattle.guest_memory.specs.Page.{Page, Pages}
 use Rattle.guest_memory.specs.Words.{number_in}
 use Rattle.guest_memory.specs.Written.{KeepsUnwritable}
 use Rattle.rv_code.specs.declared.instr.Instr.{Instr}
+use Rattle.rv_code.specs.declared.instr.Op.TheVariants as op
 use Rattle.rv_code.specs.Formats.{NamesRegisters}
 use Rattle.rv_interp.specs.declared.cache.Slot.{Slot}
 use Rattle.rv_interp.specs.declared.reservation.Reservation.{Reservation}
-use Rattle.rv_interp.specs.Cache.{IsFixedAt, IsTrue, AreTrue}
+use Rattle.rv_interp.specs.Cache.{IsFixedAt, IsTrue, AreTrue, HoldsAt}
 use Rattle.rv_interp.specs.Machine.{Step, machine}
 use Rattle.rv_interp.specs.Instructions.{fetched_in, instruction_at, begun_of, execute_of, step_of, step_trapped}
 
@@ -48,8 +51,17 @@ same_instruction m n pc e small place = ap (λ bytes. fetched_in (number_in byte
 
 -- ---- slots
 
+-- no instruction is at an odd address
+abbrev pub empty_slot : Slot
+empty_slot = record { pc = 1; instr = record { op = op.Fence; rd = 0; rs1 = 0; rs2 = 0; imm = pos 0 } }
+
 pub empty_true : (m : Pages) (slot : Slot) → slot.pc ≡ 1 → NamesRegisters slot.instr → IsTrue m slot
 empty_true m slot odd names = record { registers = names; fixed = λ place. absurd (omega (arith, odd, place)) }
+
+-- slots with no instruction
+pub all_empty : (m : Pages) (slots : List Slot) (n : ℕ) → slots ≡ replicate n empty_slot → AreTrue m slots
+all_empty m slots n e =
+    subst (AreTrue m) (sym e) (All-replicate (IsTrue m) n empty_slot (empty_true m empty_slot refl (omega arith, omega arith, omega arith)))
 
 kept_fixed : (m n : Pages) (pc : ℕ) (i : Instr) → KeepsUnwritable m n → pc % 4 ≡ 0 → IsFixedAt m pc i → IsFixedAt n pc i
 kept_fixed m n pc i keeps place h =
@@ -68,13 +80,6 @@ kept_true m n keeps slot h =
 
 pub all_kept : (m n : Pages) (slots : List Slot) → KeepsUnwritable m n → AreTrue m slots → AreTrue n slots
 all_kept m n slots keeps h = All-weaker (IsTrue m) (IsTrue n) (λ slot. kept_true m n keeps slot) slots h
-
--- the instruction of a slot is the one at its address
-pub found : (m : Pages) (r : Registers) (held : Reservation) (slot : Slot) → IsTrue m slot → slot.pc ≡ r.pc → r.pc % 4 ≡ 0 → step_of (machine r m held) ≡ execute_of slot.instr (machine r m held)
-unfolding step_of
-found m r held slot h same place =
-    let fixed : IsFixedAt m slot.pc slot.instr = h.fixed (ap (λ n. n % 4) same ∙ place) in
-    ap (begun_of (machine r m held)) (ap (instruction_at m) (sym same) ∙ fixed.instruction)
 
 -- ---- a page that can't be written
 
@@ -107,12 +112,40 @@ failure : {A : Type 0} (b : Result (List ℕ) MemFault) (r : Result A MemFault) 
 failure b (Ok x) h e = absurd (cc)
 failure b (Err fault) h e = (fault, h)
 
--- the slots with an instruction put in one of them, of a page that can't be written
-pub filled : {A : Type 0} (m : Pages) (slots : List Slot) (place pc : ℕ) (i : Instr) (r : Result A MemFault) → AreTrue m slots → instruction_at m pc ≡ Ok i → IfErr r (λ fault. bytes_from Write m pc 1 ≡ Err fault) → is_err r ≡ true
-    → pc < 2 ^ 64 → NamesRegisters i → AreTrue m (set slots place (record { pc = pc; instr = i }))
-filled m slots place pc i r h had refused e small names =
+-- the instruction at an address makes a true slot, where the check says that its page can't be written
+pub kept_instruction : {A : Type 0} (m : Pages) (pc : ℕ) (i : Instr) (r : Result A MemFault) → IfErr r (λ fault. bytes_from Write m pc 1 ≡ Err fault) → is_err r ≡ true → pc < 2 ^ 64 → instruction_at m pc ≡ Ok i
+    → NamesRegisters i → IsTrue m (record { pc = pc; instr = i })
+kept_instruction m pc i r refused e small had names =
     let fault : (fault : MemFault) × (bytes_from Write m pc 1 ≡ Err fault) = failure (bytes_from Write m pc 1) r refused e in
-    All-set (IsTrue m) slots place (record { pc = pc; instr = i }) (filled_true m pc i fault.0 had fault.1 small names) h
+    filled_true m pc i fault.0 had fault.1 small names
+
+-- a slot of an address has the instruction there
+pub holds_kept : (m : Pages) (pc : ℕ) (slots : List Slot) (place : ℕ) (slot : Slot) → AreTrue m slots → place < length slots → slot ≡ get_or slots place slot → slot.pc ≡ pc → pc % 4 ≡ 0 → HoldsAt m pc slots place
+holds_kept m pc slots place slot h within read same multiple =
+    let kept : IsTrue m slot = subst (IsTrue m) (sym read) (All-get_or (IsTrue m) slots place slot within h) in
+    let fixed : IsFixedAt m slot.pc slot.instr = kept.fixed (ap (λ n. n % 4) same ∙ multiple) in
+    record {
+      within = within;
+      instruction = λ d. ap (instruction_at m) (sym same) ∙ fixed.instruction ∙ ap (λ (s : Slot). Ok s.instr) (read ∙ get_or_default slots place slot d within);
+    }
+
+-- a slot that was filled has the instruction
+pub holds_filled : (m : Pages) (pc : ℕ) (slots : List Slot) (place : ℕ) (slot : Slot) → place < length slots → instruction_at m pc ≡ Ok slot.instr → HoldsAt m pc (set slots place slot) place
+holds_filled m pc slots place slot within had =
+    let long = length-set slots place slot in
+    record {
+      within = omega (arith, within, long);
+      instruction = λ d. had ∙ ap (λ (s : Slot). Ok s.instr) (sym (get_or-set_same slots place slot d within));
+    }
+
+-- the slots with one filled
+pub all_filled : (m : Pages) (slots : List Slot) (place : ℕ) (slot : Slot) → AreTrue m slots → IsTrue m slot → AreTrue m (set slots place slot)
+all_filled m slots place slot h kept = All-set (IsTrue m) slots place slot kept h
+
+-- the instruction of a slot, which names registers
+pub holds_names : (m : Pages) (slots : List Slot) (place : ℕ) (slot : Slot) → AreTrue m slots → place < length slots → slot ≡ get_or slots place slot → NamesRegisters slot.instr
+holds_names m slots place slot h within read =
+    let kept : IsTrue m slot = subst (IsTrue m) (sym read) (All-get_or (IsTrue m) slots place slot within h) in kept.registers
 
 -- the instruction that is next, decoded
 pub decoded : (m : Pages) (r : Registers) (held : Reservation) (pc : ℕ) (i : Instr) (step : Step) → r.pc ≡ pc → instruction_at m pc ≡ Ok i → execute_of i (machine r m held) ≡ step → step_of (machine r m held) ≡ step

@@ -1,5 +1,5 @@
 -- What a cache of decoded instructions keeps.
-use Rattle.std.specs.Prelude.{◌≡◌, ℕ, ◌%◌, ◌/◌, ◌^◌, ◌<◌, List, false, Some, Ok}
+use Rattle.std.specs.Prelude.{◌≡◌, ℕ, ◌%◌, ◌/◌, ◌^◌, ◌<◌, List, length, get_or, false, Some, Ok}
 use Rattle.std.specs.FinMap.{get}
 use Rattle.std.specs.List.{All}
 use Rattle.abi_base.specs.declared.address_space.TheConstants.{PAGE_SIZE}
@@ -25,3 +25,8 @@ pub record IsTrue (m : Pages) (slot : Slot) : Type 0 where
 -- each slot is true of this memory
 abbrev pub AreTrue : Pages → List Slot → Type 0
 AreTrue m slots = All (IsTrue m) slots
+
+-- the slot at a place has the instruction that is at an address
+pub record HoldsAt (m : Pages) (pc : ℕ) (slots : List Slot) (place : ℕ) : Type 0 where
+  pub within : place < length slots
+  pub instruction : (d : Slot) → instruction_at m pc ≡ Ok (get_or slots place d).instr

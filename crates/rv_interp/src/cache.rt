@@ -1,25 +1,30 @@
-//! Decoded instructions, kept for a turn.
-ghost use Rattle.std.specs.Prelude.{◌≡◌, IfOk};
+//! Decoded instructions, kept over turns.
+ghost use Rattle.std.specs.Prelude.{◌≡◌, Err, IfErr, IfOk, Ok};
 ghost use Rattle.guest_memory.specs.Page.{Pages};
+ghost use Rattle.rv_code.specs.declared.instr.Instr.{Instr};
 ghost use Rattle.rv_code.specs.Formats.{NamesRegisters};
-ghost use Rattle.rv_interp.specs.Cache.{AreTrue};
+ghost use Rattle.rv_interp.specs.Cache.{AreTrue, HoldsAt, IsTrue};
 ghost use Rattle.rv_interp.specs.Instructions.{instruction_at, step_of};
 ghost use Rattle.rv_interp.specs.Machine.{machine};
 
-use crate::execution::{Outcome, execute, execute_once, instruction};
+use crate::execution::{Outcome, execute, instruction};
 use crate::reservation::Reservation;
 use abi_base::{Regs, Signal};
 use guest_memory::{Access, GuestMemory};
 use rv_code::{Instr, Op};
+use std::alloc::{AllocError, Global};
+use std::marker::Model;
 
-// How many instructions are kept.
-const SLOTS: usize = 256;
+// How many instructions are kept at first, and how many at most: those of 256 KiB of code.
+const FEWEST_SLOTS: usize = 1024;
 
-// A decoded instruction, and the address that it is at.
+const MOST_SLOTS: usize = 65536;
+
+/// A decoded instruction, and the address that it is at.
 #[derive(Clone, Copy)]
-struct Slot {
-    pc: u64,
-    instr: Instr,
+pub struct Slot {
+    pub pc: u64,
+    pub instr: Instr,
 }
 
 // No instruction is at an odd address.
@@ -34,20 +39,65 @@ const EMPTY: Slot = Slot {
     },
 };
 
-/// Instructions of pages that can't be written, by their addresses.
+/// Instructions of pages that can't be written, by their addresses. Each of them is the one that is at its address, as long as
+/// nothing but turns and writes changes the memory: after a change of a page that can't be written, or of its rights, all have
+/// to be forgotten.
 #[derive(Drop)]
 pub struct Cache {
-    slots: [Slot; SLOTS],
+    slots: Vec<Slot>,
+    // Which bits of an instruction's number, its address by 4, name its slot.
+    mask: u64,
+    // How many were decoded since there were as many slots as now.
+    decoded: usize,
+}
+
+impl Model for Cache {
+    ghost use Rattle.std.specs.Prelude.{◌<◌, List, vec_len};
+    ghost use Rattle.rv_interp.specs.declared.cache.Slot.{Slot};
+
+    ghost Value = { List Slot };
+
+    ghost view = { λ c. c.slots.items };
+
+    ghost invariant = { λ c. c.mask < vec_len c.slots };
 }
 
 impl Cache {
     /// No instruction.
-    pub fn new() -> Self
-        ensures { (m : Pages) → AreTrue m result.slots }
+    pub fn new(alloc: Global) -> Result<Self, AllocError>
+        ensures { IfOk result (λ cache. (m : Pages) → AreTrue m cache) }
     {
-        Cache {
-            slots: [EMPTY; SLOTS],
+        let slots = vec![in alloc; EMPTY; FEWEST_SLOTS]?;
+        Ok(Cache {
+            slots,
+            mask: (FEWEST_SLOTS as u64).wrapping_sub(1),
+            decoded: 0,
+        })
+    }
+
+    /// Forgets each instruction.
+    pub fn forget(&mut self)
+        ensures { (m : Pages) → AreTrue m self.new }
+    {
+        self.slots.fill(EMPTY);
+    }
+
+    /// Takes more slots, if many more instructions were decoded than there are slots. Where there is no memory for them, all
+    /// stays as it is.
+    pub fn widen(&mut self)
+        ensures { (m : Pages) → AreTrue m self.old → AreTrue m self.new }
+    {
+        let count = self.slots.len();
+        if self.decoded / 4 < count || count >= MOST_SLOTS {
+            return;
         }
+        self.decoded = 0;
+        let count = count.saturating_mul(4);
+        let Ok(slots) = vec![in *self.slots.allocator(); EMPTY; count] else {
+            return;
+        };
+        self.slots = slots;
+        self.mask = (count as u64).wrapping_sub(1);
     }
 
     /// Does the instruction at the pc, which is decoded once for each address while no other takes its slot.
@@ -58,34 +108,61 @@ impl Cache {
         mem: &mut GuestMemory,
         held: &mut Reservation,
     ) -> Outcome
-        requires { AreTrue mem.old self.old.slots }
+        requires { AreTrue mem.old self.old }
         ensures exact { step_of (machine regs.old mem.old held.old) ≡ record { outcome = result; after = machine regs.new mem.new held.new } }
-        ensures slots { AreTrue mem.new self.new.slots }
+        ensures slots { AreTrue mem.new self.new }
     {
-        let pc = regs.pc();
-        let slot = &self.slots[((pc / 4) % 256) as usize];
-        if slot.pc == pc && pc % 4 == 0 {
-            return execute(regs, mem, held, &slot.instr);
-        }
-        match self.decode_at(mem, pc) {
-            Ok(instr) => execute_once(regs, mem, held, &instr),
-            Err(signal) => Outcome::Trap(signal),
-        }
+        let place = match self.place_of(mem, regs.pc()) {
+            Ok(place) => place,
+            Err(signal) => return Outcome::Trap(signal),
+        };
+        let slot = &self.slots[place];
+        execute(regs, mem, held, &slot.instr)
     }
 
-    // The instruction at an address, which is kept where its page can't be written.
+    // The place of a slot that has the instruction at an address.
+    #[inline(always)]
+    fn place_of(&mut self, mem: &mut GuestMemory, pc: u64) -> Result<usize, Signal>
+        requires { AreTrue mem.old self.old }
+        ensures ok { IfOk result (HoldsAt mem.old pc self.new) }
+        ensures err { IfErr result (λ signal. instruction_at mem.old pc ≡ Err signal) }
+        ensures slots { AreTrue mem.new self.new }
+        ensures same { mem.new ≡ mem.old }
+    {
+        let place = ((pc / 4) & self.mask) as usize;
+        let slot = &self.slots[place];
+        if slot.pc == pc && pc % 4 == 0 {
+            return Ok(place);
+        }
+        self.fill(mem, pc)
+    }
+
+    // Decodes the instruction at an address into its slot.
     #[inline(never)]
-    fn decode_at(&mut self, mem: &mut GuestMemory, pc: u64) -> Result<Instr, Signal>
-        requires { AreTrue mem.old self.old.slots }
-        ensures exact { result ≡ instruction_at mem.old pc }
-        ensures registers { IfOk result NamesRegisters }
-        ensures slots { AreTrue mem.new self.new.slots }
+    fn fill(&mut self, mem: &mut GuestMemory, pc: u64) -> Result<usize, Signal>
+        requires { AreTrue mem.old self.old }
+        ensures ok { IfOk result (HoldsAt mem.old pc self.new) }
+        ensures err { IfErr result (λ signal. instruction_at mem.old pc ≡ Err signal) }
+        ensures slots { AreTrue mem.new self.new }
         ensures same { mem.new ≡ mem.old }
     {
         let instr = instruction(mem, pc)?;
-        if mem.check(Access::Write, pc, 1).is_err() {
-            self.slots[((pc / 4) % 256) as usize] = Slot { pc, instr };
-        }
-        Ok(instr)
+        let kept = kept_address(mem, pc);
+        let place = ((pc / 4) & self.mask) as usize;
+        self.slots[place] = Slot { pc: kept, instr };
+        self.decoded = self.decoded.wrapping_add(1);
+        Ok(place)
+    }
+}
+
+// The address by which a slot has the instruction that is at an address: that address where its page can't be written, and else
+// one where no instruction is, so that it serves this once.
+fn kept_address(mem: &GuestMemory, pc: u64) -> u64
+    ensures { (i : Instr) → instruction_at mem.now pc ≡ Ok i → NamesRegisters i → IsTrue mem.now (record { pc = result; instr = i }) }
+{
+    if mem.check(Access::Write, pc, 1).is_err() {
+        pc
+    } else {
+        EMPTY.pc
     }
 }

@@ -47,7 +47,7 @@ pub fn step(regs: &mut Regs, mem: &mut GuestMemory, held: &mut Reservation) -> O
     ensures unwritable { KeepsUnwritable mem.old mem.new }
 {
     match instruction(mem, regs.pc()) {
-        Ok(instr) => execute_once(regs, mem, held, &instr),
+        Ok(instr) => execute(regs, mem, held, &instr),
         Err(signal) => Outcome::Trap(signal),
     }
 }
@@ -144,19 +144,4 @@ pub fn execute(
         Op::Ecall => Outcome::Ecall,
         Op::Ebreak => Outcome::Trap(Signal::Trap),
     }
-}
-
-/// Does a decoded instruction, in a function of its own that isn't inlined.
-#[inline(never)]
-pub fn execute_once(
-    regs: &mut Regs,
-    mem: &mut GuestMemory,
-    held: &mut Reservation,
-    instr: &Instr,
-) -> Outcome
-    requires { NamesRegisters instr.now }
-    ensures exact { execute_of instr.now (machine regs.old mem.old held.old) ≡ record { outcome = result; after = machine regs.new mem.new held.new } }
-    ensures unwritable { KeepsUnwritable mem.old mem.new }
-{
-    execute(regs, mem, held, instr)
 }

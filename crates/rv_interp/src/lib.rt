@@ -2,6 +2,7 @@
 //! instructions (RISC-V unprivileged manual).
 #![tactic(auto)]
 
+pub use cache::Cache;
 pub use execution::{Outcome, step};
 pub use reservation::Reservation;
 pub use turns::{QUANTUM, TurnEnd, turn, turn_is_one};

@@ -1,5 +1,6 @@
 //! A turn of instructions.
 ghost use Rattle.std.specs.Prelude.{◌≡◌};
+ghost use Rattle.rv_interp.specs.Cache.{AreTrue};
 ghost use Rattle.rv_interp.specs.Turns.{Turns, TurnIsOne, TurnOfIsTurn, turn_of};
 
 use crate::cache::Cache;
@@ -23,13 +24,15 @@ pub enum TurnEnd {
 }
 
 /// Does instructions until exactly `QUANTUM` of them were done or, before that, one is an ECALL or traps. A reservation
-/// of LR lives inside the turn.
-pub fn turn(regs: &mut Regs, mem: &mut GuestMemory) -> TurnEnd
+/// of LR lives inside the turn. The cache, which is true of the memory, is so afterwards.
+pub fn turn(regs: &mut Regs, mem: &mut GuestMemory, cache: &mut Cache) -> TurnEnd
+    requires { AreTrue mem.old cache.old }
     ensures exact { turn_of mem.old regs.old ≡ record { end = result; regs = regs.new; memory = mem.new } }
     ensures turns { Turns mem.old regs.old result mem.new regs.new }
+    ensures slots { AreTrue mem.new cache.new }
 {
+    cache.widen();
     let mut held = Reservation::none();
-    let mut cache = Cache::new();
     for _ in 0..QUANTUM {
         match cache.step(regs, mem, &mut held) {
             Outcome::Done => {}

@@ -5,5 +5,5 @@ use Rattle.rv_interp.proofs.execution.step.Goals as goal
 
 pub returns-in-Ok-clause-unchanged : goal.returns-in-Ok-clause-unchanged
 returns-in-Ok-clause-unchanged c = λ n.
-    let same = parts_unchanged c.in-Ok.instr (machine c.args.regs.now c.instruction.new.mem c.args.held.now) c.execute_once.result c.execute_once.new.regs c.execute_once.new.mem c.execute_once.new.held c.execute_once.ensures.exact n in
+    let same = parts_unchanged c.in-Ok.instr (machine c.args.regs.now c.instruction.new.mem c.args.held.now) c.execute.result c.execute.new.regs c.execute.new.mem c.execute.new.held c.execute.ensures.exact n in
     (same.0, same.1 ∙ c.instruction.ensures.same, same.2)

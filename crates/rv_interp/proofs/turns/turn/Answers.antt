@@ -26,7 +26,7 @@ pub loop-init : goal.loop-init
 loop-init c =
     record {
       done = subst (λ h. Does 0 (fresh c.args.mem.now c.args.regs.now) (machine c.args.regs.now c.args.mem.now h)) (sym c.none-held.ensures) (does-none (fresh c.args.mem.now c.args.regs.now));
-      slots = c.new-cache.ensures c.args.mem.now;
+      slots = c.widen.ensures c.args.mem.now c.requires;
     }
 
 pub loop-preserved : goal.loop-preserved

@@ -7,5 +7,5 @@ use Rattle.rv_interp.proofs.turns.turn.Given as goal
 abbrev pub invariant-loop : goal.invariant-loop
 invariant-loop l = record {
   done : Does l.counter (fresh l.fn.mem l.fn.regs) (machine l.regs l.mem l.held);
-  slots : AreTrue l.mem l.cache.slots;
+  slots : AreTrue l.mem l.cache;
 }

@@ -1,28 +1,31 @@
-use Rattle.std.proofs.Common.{◌≡◌, ◌%◌, sym, ap, ◌∙◌, arith}
-use Rattle.std.proofs.lemmas.List.Elements.{All-get_or}
-use Rattle.rv_interp.specs.Cache.{IsTrue}
-use Rattle.rv_interp.specs.Instructions.{execute_of}
+use Rattle.std.proofs.Common.{◌≡◌, ◌<◌, Ok, get_or, length, sym, ap, subst, ◌∙◌, arith}
+use Rattle.rv_interp.specs.declared.cache.Slot.{Slot}
+use Rattle.rv_interp.specs.Cache.{AreTrue}
+use Rattle.rv_interp.specs.Instructions.{execute_of, instruction_at}
 use Rattle.rv_interp.specs.Machine.{machine}
-use Rattle.rv_interp.proofs.Slots.{all_kept, decoded, found, none}
+use Rattle.rv_interp.proofs.Slots.{all_kept, decoded, holds_names, none}
 use Rattle.rv_interp.proofs.cache.Cache.step.Goals as goal
 
-pub returns-then-pc-eq0-clause-exact : goal.returns-then-pc-eq0-clause-exact
-returns-then-pc-eq0-clause-exact c =
-    let place : c.args.regs.now.pc % 4 ≡ 0 = ap (λ n. n % 4) (sym c.pc-pc.ensures) ∙ c.if-pc-eq0.true in
-    found c.args.mem.now c.args.regs.now c.args.held.now _
-    (All-get_or (IsTrue c.args.mem.now) c.args.self.now.slots _ _ (omega arith) c.requires) (c.if-slot-pc.true ∙ c.pc-pc.ensures) place ∙ c.execute.ensures.exact
+pub index-slot-requires : goal.index-slot-requires
+index-slot-requires c = omega (arith, c.in-Ok.ensures.ok.within, ap length c.self.view_is, c.self.inside.slots.ok.0)
 
-pub returns-then-pc-eq0-clause-slots : goal.returns-then-pc-eq0-clause-slots
-returns-then-pc-eq0-clause-slots c = all_kept c.args.mem.now c.execute.new.mem c.args.self.now.slots c.execute.ensures.unwritable c.requires
+pub execute-requires : goal.execute-requires
+execute-requires c =
+    let slots = c.self.inside.slots.items in
+    let within : c.in-Ok.place < length slots = omega (arith, c.in-Ok.ensures.ok.within, ap length c.self.view_is) in
+    holds_names c.place_of.new.mem slots c.in-Ok.place c.index-slot.result.now (subst (AreTrue c.place_of.new.mem) (sym c.self.view_is) c.place_of.ensures.slots) within c.index-slot.ensures
 
-pub returns-in-Ok-clause-exact : goal.returns-in-Ok-clause-exact
-returns-in-Ok-clause-exact c =
-    decoded c.args.mem.now c.args.regs.now c.args.held.now c.pc-pc.result c.in-Ok.instr _ (sym c.pc-pc.ensures) (sym c.decode_at.ensures.exact ∙ c.in-Ok.is)
-    (ap (λ m. execute_of c.in-Ok.instr (machine c.args.regs.now m c.args.held.now)) (sym c.decode_at.ensures.same) ∙ c.execute_once.ensures.exact)
+pub returns-clause-exact : goal.returns-clause-exact
+returns-clause-exact c =
+    let slot = c.index-slot.result.now in
+    let had : instruction_at c.args.mem.now c.pc.result ≡ Ok slot.instr =
+    c.in-Ok.ensures.ok.instruction slot ∙ ap (λ xs. Ok (get_or xs c.in-Ok.place slot).instr) (sym c.self.view_is) ∙ ap (λ (s : Slot). Ok s.instr) (sym c.index-slot.ensures) in
+    decoded c.args.mem.now c.args.regs.now c.args.held.now c.pc.result slot.instr _ (sym c.pc.ensures) had
+    (ap (λ m. execute_of slot.instr (machine c.args.regs.now m c.args.held.now)) (sym c.place_of.ensures.same) ∙ c.execute.ensures.exact)
 
-pub returns-in-Ok-clause-slots : goal.returns-in-Ok-clause-slots
-returns-in-Ok-clause-slots c = all_kept c.decode_at.new.mem c.execute_once.new.mem c.decode_at.new.self.slots c.execute_once.ensures.unwritable c.decode_at.ensures.slots
+pub returns-clause-slots : goal.returns-clause-slots
+returns-clause-slots c = all_kept c.place_of.new.mem c.execute.new.mem c.place_of.new.self c.execute.ensures.unwritable c.place_of.ensures.slots
 
 pub returns-in-Err-clause-exact : goal.returns-in-Err-clause-exact
 returns-in-Err-clause-exact c =
-    rw (c.decode_at.ensures.same) (none c.args.mem.now c.args.regs.now c.args.held.now c.pc-pc.result c.in-Err.signal (sym c.pc-pc.ensures) (sym c.decode_at.ensures.exact ∙ c.in-Err.is))
+    rw (c.place_of.ensures.same) (none c.args.mem.now c.args.regs.now c.args.held.now c.pc.result c.in-Err.signal (sym c.pc.ensures) c.in-Err.ensures.err)
