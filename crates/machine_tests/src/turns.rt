@@ -608,7 +608,9 @@ pub fn do_turn(
     memory: &mut GuestMemory,
     regs: &mut Regs,
 ) -> Result<(TurnEnd, [u64; 3]), MemFault> {
-    let mut cache = Cache::new(alloc).map_err(|_| MemFault::NoMemory)?;
+    let Ok(mut cache) = Cache::new(alloc) else {
+        return Err(MemFault::NoMemory);
+    };
     let end = turn(regs, memory, &mut cache);
     Ok((end, [regs.pc(), regs.get(A2), regs.get(A3)]))
 }
@@ -668,27 +670,42 @@ fn two_turns(alloc: Global) -> Result<[(TurnEnd, [u64; 3]); 2], MemFault> {
 }
 
 // How many additions of 1 to a2 the program has in a row that runs for several turns: addi a2, a2, 1.
-const LONG_CODE: u32 = 8000;
+const LONG_CODE: usize = 8000;
 
-// Turns of one program with the instructions kept, until it stands at the ECALL: a loop of more than one turn, whose code takes
-// more than the slots that there are at first. The pc, a2 and a3 afterwards, and how many turns came before the last.
-fn kept_turns(alloc: Global) -> Result<(TurnEnd, [u64; 3], u32), MemFault> {
-    let mut memory = GuestMemory::new(alloc);
-    memory.map(alloc, CODE, 16, READ_WRITE)?;
-    let mut at = CODE;
-    for _ in 0..LONG_CODE {
-        memory.write_bytes(at, &0x0016_0613_u32.to_le_bytes())?;
-        at = at.wrapping_add(4);
-    }
-    // addi a4, a4, -1; beq a4, zero, 8; jalr zero, 0(a0); ecall
-    for word in [0xfff7_0713_u32, 0x0007_0463, 0x0005_0067, 0x73] {
+// Writes words one behind another.
+fn write_words(memory: &mut GuestMemory, start: u64, words: &[u32]) -> Result<(), MemFault> {
+    let mut at = start;
+    for word in words {
         memory.write_bytes(at, &word.to_le_bytes())?;
         at = at.wrapping_add(4);
     }
+    Ok(())
+}
+
+// A memory with those additions, and behind them: addi a4, a4, -1; beq a4, zero, 8; jalr zero, 0(a0); ecall.
+fn memory_with_long_code(alloc: Global) -> Result<GuestMemory, MemFault> {
+    let mut memory = GuestMemory::new(alloc);
+    memory.map(alloc, CODE, 16, READ_WRITE)?;
+    write_words(&mut memory, CODE, &[0x0016_0613; LONG_CODE])?;
+    let behind = CODE + 4 * LONG_CODE as u64;
+    write_words(
+        &mut memory,
+        behind,
+        &[0xfff7_0713, 0x0007_0463, 0x0005_0067, 0x73],
+    )?;
     memory.protect(CODE, 16, READ_EXEC)?;
+    Ok(memory)
+}
+
+// Turns of that program with the instructions kept, until it stands at the ECALL: a loop of more than one turn, whose code takes
+// more than the slots that there are at first. The pc, a2 and a3 afterwards, and how many turns came before the last.
+fn kept_turns(alloc: Global) -> Result<(TurnEnd, [u64; 3], u32), MemFault> {
+    let mut memory = memory_with_long_code(alloc)?;
     let mut regs = registers(CODE, [CODE, 0, 0]);
     regs.set(A4, 5);
-    let mut cache = Cache::new(alloc).map_err(|_| MemFault::NoMemory)?;
+    let Ok(mut cache) = Cache::new(alloc) else {
+        return Err(MemFault::NoMemory);
+    };
     for turns in 0..100_u32 {
         let end = turn(&mut regs, &mut memory, &mut cache);
         if end != TurnEnd::Quantum {
