@@ -1,5 +1,4 @@
-//! Tests of what reads and writes bytes and texts: the structures of calls, ELF files, argument data, launch files and
-//! their plans, and the words of a run.
+//! Tests of what reads and writes bytes and texts: the structures of calls, ELF files, argument data, and the words of a run.
 #![tactic(auto)]
 
 #[cfg(test)]
@@ -9,14 +8,6 @@ mod elf;
 #[cfg(test)]
 mod events;
 #[cfg(test)]
-mod long_text;
-#[cfg(test)]
-mod plan_tree;
-#[cfg(test)]
-mod plans;
-#[cfg(test)]
 mod structures;
 #[cfg(test)]
 mod words;
-#[cfg(test)]
-mod yaml;

@@ -1,7 +1,8 @@
 //! Command lines, and what they come to on the first program.
-use crate::calls::{Given, REPORT, answered, check};
+use crate::checks::check;
 use guest_kit::HELLO_FILE;
 use launch_run::Finished;
+use run_kit::{Given, REPORT, answered};
 use std::test::Fail;
 
 const WORDS_LINE: &str = "words: refused\n";

@@ -2,33 +2,11 @@
 #![tactic(auto)]
 
 #[cfg(test)]
-mod byte_asks;
-#[cfg(test)]
-mod calls;
+mod checks;
 #[cfg(test)]
 mod command_lines;
 #[cfg(test)]
-mod file_bytes;
-#[cfg(test)]
-mod file_changes;
-#[cfg(test)]
-mod file_looks;
-#[cfg(test)]
-mod file_maps;
-#[cfg(test)]
-mod file_names;
-#[cfg(test)]
-mod file_needs;
-#[cfg(test)]
-mod file_opens;
-#[cfg(test)]
-mod file_runs;
-#[cfg(test)]
-mod guests;
-#[cfg(test)]
 mod memory_calls;
-#[cfg(test)]
-mod name_asks;
 #[cfg(test)]
 mod programs;
 #[cfg(test)]

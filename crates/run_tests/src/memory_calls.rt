@@ -1,5 +1,6 @@
 //! The calls about memory, as a guest sees them.
-use crate::guests::{check_guest, quiet_report};
+use crate::checks::check_guest;
+use run_kit::quiet_report;
 use std::test::Fail;
 
 // A call's number, its arguments, and its error. A page is at 0x10000, none is at 0x20000.

@@ -1,7 +1,7 @@
 //! Programs, what they write and how they end.
-use crate::calls::{Given, REPORT, WORDS, check};
-use crate::guests::{check_guest, loud_report, placed_program_of, program_of, quiet_report};
+use crate::checks::{check, check_guest};
 use guest_kit::HELLO_FILE;
+use run_kit::{Given, REPORT, WORDS, loud_report, placed_program_of, program_of, quiet_report};
 use std::alloc::{AllocError, Global};
 use std::test::Fail;
 

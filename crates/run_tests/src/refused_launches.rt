@@ -1,6 +1,7 @@
 //! Launches that are refused with a line, and faults of the outside.
-use crate::calls::{Given, WORDS, check};
+use crate::checks::check;
 use guest_kit::HELLO_FILE;
+use run_kit::{Given, WORDS};
 use std::alloc::{AllocError, Global};
 use std::test::Fail;
 

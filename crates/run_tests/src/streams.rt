@@ -1,6 +1,6 @@
 //! The calls on descriptors of standard streams, as a guest sees them. `--history` shows each answer.
-use crate::calls::{Given, check};
-use crate::guests::{check_guest, loud_report, program_of, quiet_report};
+use crate::checks::{check, check_guest};
+use run_kit::{Given, loud_report, program_of, quiet_report};
 use std::alloc::{AllocError, Global};
 use std::process::Abort;
 use std::test::Fail;

@@ -1,6 +1,6 @@
 //! Runs with a file tree: what a launch file gives of it, and what the report prints of it at the end.
-use crate::calls::{Given, check};
-use crate::guests::program_of;
+use crate::checks::check;
+use run_kit::{Given, program_of};
 use std::test::Fail;
 
 // A guest that makes one call with these two arguments, and exits with its error.

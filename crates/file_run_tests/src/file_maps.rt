@@ -1,12 +1,12 @@
 //! Guests that map files: which bytes the pages have, what changes them, where they go, and that
 //! they can be executed.
 use crate::byte_asks::Access::{FdPread, FdPwrite, FdReadTo, FdSeek, FdWriteFrom, MemMap};
-use crate::calls::{Given, check};
 use crate::file_runs::Ask::{Bytes, Names, Other, StatFget, StatFput};
 use crate::file_runs::Told::{Done, Number, Read, Refused, Shown, Stat};
-use crate::file_runs::{Node, Row, Run, WITH_HISTORY, check_run};
-use crate::guests::program_of;
+use crate::file_runs::{Node, Row, Run, WITH_HISTORY, check_call, check_run};
 use crate::name_asks::Naming::Unlink;
+use crate::numbers::{ANON, CUR, FIXED, PRIVATE, PROT_EXEC, PROT_READ, PROT_WRITE, SET, SIZE};
+use run_kit::{Given, program_of};
 use std::test::Fail;
 
 // 5 is `d`, 6 is `f`.
@@ -33,28 +33,6 @@ const DIR: u64 = 1;
 const FILE: u64 = 2;
 
 const OTHER_OPEN: u64 = 3;
-
-// Protections.
-const PROT_EXEC: u64 = 1;
-
-const PROT_WRITE: u64 = 2;
-
-const PROT_READ: u64 = 4;
-
-// Flags of mappings.
-const ANON: u64 = 1;
-
-const FIXED: u64 = 2;
-
-const PRIVATE: u64 = 4;
-
-// From where fd_seek counts.
-const CUR: u64 = 1;
-
-const SET: u64 = 3;
-
-// What of a filestat is put.
-const SIZE: u64 = 16;
 
 // ---- what pages have
 
@@ -271,6 +249,5 @@ const WITH_TREE: &[&str] = &["run", "--tree=tree", "p"];
 fn runs_what_is_mapped(rt: HostRuntime) -> Result<(), Fail> {
     let program = program_of(rt.alloc(), RUN_MAPPED)?;
     let given = Given::over(WITH_TREE, &program, b"!file {path: c}", CODE);
-    check(&rt, rt.alloc(), &given, 1, RAN)?;
-    Ok(())
+    check_call(&rt, rt.alloc(), &given, 1, RAN)
 }

@@ -1,10 +1,9 @@
 //! Guests that call the kernel about files, and the reports of their runs. Each call has 64 bytes of its own for its output; at
 //! the end the guest writes all of them to descriptor 0, which is standard output. `--history` shows each answer.
 use crate::byte_asks::{Access, call_on_bytes, name_on_bytes};
-use crate::calls::{Given, check};
-use crate::guests::program_with;
 use crate::name_asks::{Asked, Naming, call_on_names, name_on_names, place_asked};
 use guest_kit::{CALL_LIST, CallList};
+use run_kit::{Given, answered, program_with};
 use std::alloc::{AllocError, Global};
 use std::process::Abort;
 use std::test::Fail;
@@ -332,11 +331,23 @@ fn report_of(alloc: Global, run: &Run<'_>) -> Result<Vec<u8>, AllocError> {
     Ok(report)
 }
 
+/// Looks whether a call of the top answers this status and writes this.
+pub(crate) fn check_call(
+    rt: &impl Abort,
+    alloc: Global,
+    given: &Given<'_>,
+    status: u8,
+    written: &[u8],
+) -> Result<(), Fail> {
+    let (finished, sink) = answered(alloc, given)?;
+    assert_eq!(rt; sink.bytes(), written, "of {:?}", given.words);
+    assert_eq!(rt; finished.status, status, "of {:?}", given.words);
+    Ok(())
+}
+
 /// Looks whether a run has its report.
 pub(crate) fn check_run(rt: &impl Abort, alloc: Global, run: &Run<'_>) -> Result<(), Fail> {
     let program = program_for(alloc, run.rows)?;
     let given = Given::over(run.words, &program, run.text.as_bytes(), run.tree);
-    let report = report_of(alloc, run)?;
-    check(rt, alloc, &given, 0, &report)?;
-    Ok(())
+    check_call(rt, alloc, &given, 0, &report_of(alloc, run)?)
 }

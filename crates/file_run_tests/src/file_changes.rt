@@ -6,6 +6,7 @@ use crate::file_runs::Ask::{
 use crate::file_runs::Path::Is;
 use crate::file_runs::Told::{Done, Read, Refused, Stat};
 use crate::file_runs::{FROM_FIVE, Node, Row, Run, WITH_HISTORY, check_run};
+use crate::numbers::{LAST, MOST, SIZE};
 use std::test::Fail;
 
 // 5 is `d`, 6 is `f`, 7 is `l`.
@@ -47,21 +48,14 @@ const MTIM: u64 = 4;
 
 const MTIM_NOW: u64 = 8;
 
-const SIZE: u64 = 16;
-
 // No flag has this bit.
 const UNKNOWN: u64 = 32;
 
 // Nothing that is looked at.
 const UNREAD: [u64; 3] = [u64::MAX; 3];
 
-// How many bytes a file can have, and one more.
-const MOST: u64 = 67_108_864;
-
+// One byte more than a file can have.
 const OVER: [u64; 3] = [67_108_865, 0, 0];
-
-// The greatest number that an advice's range may end at.
-const LAST: u64 = 0x7fff_ffff_ffff_ffff;
 
 const CHANGES: &[Row] = &[
     (StatFput(FILE, UNREAD, MTIM_NOW), Done),

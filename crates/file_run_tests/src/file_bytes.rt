@@ -7,6 +7,7 @@ use crate::file_runs::Told::{Done, Number, Opened, Read, Refused, Stat};
 use crate::file_runs::{FROM_FIVE, Node, Row, Run, check_run};
 use crate::name_asks::Asked;
 use crate::name_asks::Naming::{Open, Unlink};
+use crate::numbers::{CREAT, CUR, END, LAST, MINUS_1, MOST, PAST, SET, SIZE, TRUNC};
 use std::test::Fail;
 
 // 5 is `d`, 6 is `f`. What the process makes is numbered from 1 on.
@@ -35,33 +36,10 @@ const FILE: u64 = 2;
 
 const OTHER_OPEN: u64 = 3;
 
-// From where fd_seek counts.
-const CUR: u64 = 1;
-
-const END: u64 = 2;
-
-const SET: u64 = 3;
-
-// The flags of opening.
-const CREAT: u64 = 1;
-
-const TRUNC: u64 = 8;
-
 // The flag of an fdstat with which writes go to the end, and what of it is put.
 const APPEND: u64 = 1;
 
 const FLAGS: u64 = 1;
-
-// What of a filestat is put.
-const SIZE: u64 = 16;
-
-// How many bytes a file can have.
-const MOST: u64 = 67_108_864;
-
-// The greatest offset, and the first number that is none.
-const LAST: u64 = 0x7fff_ffff_ffff_ffff;
-
-const PAST: u64 = 0x8000_0000_0000_0000;
 
 // ---- reads
 
@@ -109,8 +87,6 @@ const READS: &[Row] = &[
 // ---- offsets that are set
 
 // Signed numbers.
-const MINUS_1: u64 = 0xffff_ffff_ffff_ffff;
-
 const MINUS_10: u64 = 0xffff_ffff_ffff_fff6;
 
 const MINUS_11: u64 = 0xffff_ffff_ffff_fff5;

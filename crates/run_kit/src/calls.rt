@@ -2,37 +2,35 @@
 use input_output::{MemSink, MemSource};
 use launch_run::{Finished, run_launch};
 use std::alloc::{AllocError, Global};
-use std::process::Abort;
-use std::test::Fail;
 
-// The words of a run without options.
-pub(crate) const WORDS: &[&str] = &["cloudabi-run", "p"];
+/// The words of a run without options.
+pub const WORDS: &[&str] = &["cloudabi-run", "p"];
 
-// What the first program's report is.
-pub(crate) const REPORT: &str =
+/// What the first program's report is.
+pub const REPORT: &str =
     "== stdout 6\nhello\n== stderr 0\n== status exit 0\n== run ended\n== denials 0\n== tree 0\n";
 
-// What a call is given: its words, the inputs `p`, `input` and `tree`, standard input, and the numbers of the reads and the
-// writes that fail. There are the inputs `empty` and `faulty` besides.
+/// What a call is given: its words, the inputs `p`, `input` and `tree`, standard input, and the numbers of the reads and the
+/// writes that fail. There are the inputs `empty` and `faulty` besides.
 #[derive(Drop)]
-pub(crate) struct Given<'a> {
-    pub(crate) words: &'a [&'a str],
-    pub(crate) program: &'a [u8],
-    pub(crate) input: &'a [u8],
-    pub(crate) text: &'a [u8],
-    pub(crate) tree: &'a [u8],
-    pub(crate) failing_reads: &'a [u64],
-    pub(crate) failing_writes: &'a [u64],
+pub struct Given<'a> {
+    pub words: &'a [&'a str],
+    pub program: &'a [u8],
+    pub input: &'a [u8],
+    pub text: &'a [u8],
+    pub tree: &'a [u8],
+    pub failing_reads: &'a [u64],
+    pub failing_writes: &'a [u64],
 }
 
 impl<'a> Given<'a> {
-    // No read and no write fails, `input` has ten bytes, and `tree` has a file.
-    pub(crate) fn new(words: &'a [&'a str], program: &'a [u8], text: &'a [u8]) -> Given<'a> {
+    /// No read and no write fails, `input` has ten bytes, and `tree` has a file.
+    pub fn new(words: &'a [&'a str], program: &'a [u8], text: &'a [u8]) -> Given<'a> {
         Given::over(words, program, text, b"file 3 a\nabc\n")
     }
 
-    // The same with another tree document.
-    pub(crate) fn over(
+    /// The same with another tree document.
+    pub fn over(
         words: &'a [&'a str],
         program: &'a [u8],
         text: &'a [u8],
@@ -85,29 +83,11 @@ fn finished(
     run_launch(alloc, words, source, sink)
 }
 
-// What the top call answers, and the sink that it wrote to.
-pub(crate) fn answered(
-    alloc: Global,
-    given: &Given<'_>,
-) -> Result<(Finished, MemSink), AllocError> {
+/// What the top call answers, and the sink that it wrote to.
+pub fn answered(alloc: Global, given: &Given<'_>) -> Result<(Finished, MemSink), AllocError> {
     let words = words_of(alloc, given.words)?;
     let mut source = source_of(alloc, given)?;
     let mut sink = MemSink::new(alloc, given.failing_writes.to_vec(alloc)?);
     let finished = finished(alloc, &words, &mut source, &mut sink);
     Ok((finished, sink))
-}
-
-// Looks whether the call answers this status and writes this; how many entries the history has of the record that it
-// keeps, if it keeps one.
-pub(crate) fn check(
-    rt: &impl Abort,
-    alloc: Global,
-    given: &Given<'_>,
-    status: u8,
-    written: &[u8],
-) -> Result<Option<usize>, Fail> {
-    let (finished, sink) = answered(alloc, given)?;
-    assert_eq!(rt; sink.bytes(), written, "of {:?}", given.words);
-    assert_eq!(rt; finished.status, status, "of {:?}", given.words);
-    Ok(finished.kept.map(|record| record.history.len()))
 }

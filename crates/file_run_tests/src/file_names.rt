@@ -7,14 +7,11 @@ use crate::file_runs::Path::Is;
 use crate::file_runs::Told::{Done, FdStat, Opened, Read, Refused, Stat};
 use crate::file_runs::{FROM_FIVE, Node, Row, Run, WITH_HISTORY, check_run};
 use crate::name_asks::Naming::{Create, Link, Open, Rename, Symlink, Unlink};
+use crate::numbers::{CREAT, DIRECTORY};
 use std::alloc::{AllocError, Global};
 use std::test::Fail;
 
-// The flags of opening, and the flag with which a directory is unlinked.
-const CREAT: u64 = 1;
-
-const DIRECTORY: u64 = 2;
-
+// The flag with which a directory is unlinked.
 const REMOVEDIR: u64 = 1;
 
 // The directory's descriptor, the same as a lookup that follows a symlink at the path's end, and one that isn't there.

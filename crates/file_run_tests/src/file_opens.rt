@@ -5,17 +5,9 @@ use crate::file_runs::Told::{Done, FdStat, Opened, Refused, Stat};
 use crate::file_runs::{FROM_FIVE, Node, Row, Run, WITH_HISTORY, check_run};
 use crate::name_asks::Asked;
 use crate::name_asks::Naming::{Create, Link, Open, Symlink};
+use crate::numbers::{CREAT, DIRECTORY, EXCL, TRUNC};
 use std::alloc::{AllocError, Global};
 use std::test::Fail;
-
-// The flags of opening.
-const CREAT: u64 = 1;
-
-const DIRECTORY: u64 = 2;
-
-const EXCL: u64 = 4;
-
-const TRUNC: u64 = 8;
 
 // The rights of these tests.
 const FD_READ: u64 = 0x2;

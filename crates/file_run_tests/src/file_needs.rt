@@ -5,6 +5,9 @@ use crate::byte_asks::Access::{
 use crate::file_runs::Ask::{Bytes, FdStatPut, Other, StatFget};
 use crate::file_runs::Told::{Done, Number, Opened, Read, Refused, Shown, Stat};
 use crate::file_runs::{Node, Row, Run, WITH_HISTORY, check_run};
+use crate::numbers::{
+    CUR, END, FIXED, MINUS_1, MOST, PAST, PRIVATE, PROT_EXEC, PROT_READ, PROT_WRITE, SET,
+};
 use std::test::Fail;
 
 // 5 is `d`, 6 is `f`.
@@ -15,25 +18,6 @@ const F: Node = Node {
     kind: 96,
     nlink: 1,
 };
-
-// From where fd_seek counts.
-const CUR: u64 = 1;
-
-const END: u64 = 2;
-
-const SET: u64 = 3;
-
-// -1 as an offset.
-const MINUS_1: u64 = 0xffff_ffff_ffff_ffff;
-
-// Protections, and the flag of a mapping that others don't see.
-const PROT_EXEC: u64 = 1;
-
-const PROT_WRITE: u64 = 2;
-
-const PROT_READ: u64 = 4;
-
-const PRIVATE: u64 = 4;
 
 // ---- rights
 
@@ -233,18 +217,11 @@ const FILE: u64 = 2;
 
 const ABSENT: u64 = 9;
 
-// Other flags of mappings.
-const FIXED: u64 = 2;
-
+// The flag of a mapping that others see.
 const SHARED: u64 = 8;
 
 // Bytes of the guest, which it may read and not write.
 const CODE: u64 = 0x1_0078;
-
-// How many bytes a file can have, and the first number that is no offset.
-const MOST: u64 = 67_108_864;
-
-const PAST: u64 = 0x8000_0000_0000_0000;
 
 const ORDER: &[Row] = &[
     // what the arguments show, then memory, then the descriptor, its rights, and the rest

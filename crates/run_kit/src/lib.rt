@@ -1,0 +1,8 @@
+//! What tests of the top call share: its calls over inputs in memory, programs of guests, and reports.
+#![tactic(auto)]
+
+pub use calls::{Given, REPORT, WORDS, answered};
+pub use guests::{loud_report, placed_program_of, program_of, program_with, quiet_report};
+
+mod calls;
+mod guests;

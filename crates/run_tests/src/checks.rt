@@ -1,0 +1,33 @@
+//! What a call of the top, or a guest, comes to.
+use run_kit::{Given, WORDS, answered, program_of};
+use std::alloc::Global;
+use std::process::Abort;
+use std::test::Fail;
+
+// Looks whether the call answers this status and writes this; how many entries the history has of the record that it
+// keeps, if it keeps one.
+pub(crate) fn check(
+    rt: &impl Abort,
+    alloc: Global,
+    given: &Given<'_>,
+    status: u8,
+    written: &[u8],
+) -> Result<Option<usize>, Fail> {
+    let (finished, sink) = answered(alloc, given)?;
+    assert_eq!(rt; sink.bytes(), written, "of {:?}", given.words);
+    assert_eq!(rt; finished.status, status, "of {:?}", given.words);
+    Ok(finished.kept.map(|record| record.history.len()))
+}
+
+// Looks whether a guest that is given a descriptor ends with this exit status and report; how many entries its history has.
+pub(crate) fn check_guest(
+    rt: &impl Abort,
+    alloc: Global,
+    guest: &str,
+    status: u8,
+    report: &[u8],
+) -> Result<Option<usize>, Fail> {
+    let program = program_of(alloc, guest)?;
+    let given = Given::new(WORDS, &program, b"!fd stdout\n");
+    check(rt, alloc, &given, status, report)
+}
