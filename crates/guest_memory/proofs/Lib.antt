@@ -8,5 +8,4 @@ pub mod Numbers
 pub mod EachWritten
 pub mod Changes
 pub mod ListedPages
-pub mod Tables
 pub mod Stores

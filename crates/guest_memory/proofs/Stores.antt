@@ -7,7 +7,7 @@ use Rattle.number_map.specs.Maps.{get-insert-other}
 use Rattle.guest_memory.specs.declared.access.Access.TheVariants.{Write}
 use Rattle.guest_memory.specs.Limits.{KeepsLimits}
 use Rattle.guest_memory.specs.Page.{Page, Pages}
-use Rattle.guest_memory.specs.Table.{IsStored}
+use Rattle.page_table.specs.Table.{IsStored}
 use Rattle.guest_memory.specs.Words.{bytes_of, store_of}
 use Rattle.guest_memory.specs.Written.{KeepsUnwritable}
 use Rattle.guest_memory.proofs.Numbers.{length-bytes_of}

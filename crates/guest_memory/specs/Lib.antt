@@ -1,4 +1,4 @@
-pub mod Page
+pub use Rattle.page_table.specs.Page
 pub mod Access
 pub mod Bytes
 pub mod Written
@@ -8,5 +8,3 @@ pub mod Mapping
 pub mod Limits
 pub mod Changes
 pub mod Fixed
-pub mod Table
-pub mod Lending

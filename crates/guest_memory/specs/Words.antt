@@ -1,24 +1,17 @@
 -- Numbers in a guest's memory, little-endian.
-use Rattle.std.specs.Prelude.{◌≡◌, ◌⊎◌, ℕ, zero, suc, ◌+◌, ◌*◌, ◌/◌, ◌%◌, List, [], ◌∷◌, Result, Ok, Err}
+use Rattle.std.specs.Prelude.{ℕ, ◌+◌, ◌*◌, List, [], ◌∷◌, Result, Ok, Err}
 use Rattle.guest_memory.specs.declared.access.Access.TheVariants.{Read, Exec}
 use Rattle.guest_memory.specs.declared.fault.MemFault.{MemFault}
 use Rattle.guest_memory.specs.Page.{Pages}
 use Rattle.guest_memory.specs.Bytes.{bytes_from}
 use Rattle.guest_memory.specs.Written.{write_of}
-
--- how many bytes a load or a store has
-abbrev pub IsWidth : ℕ → Type 0
-IsWidth n = (n ≡ 1) ⊎ ((n ≡ 2) ⊎ ((n ≡ 4) ⊎ (n ≡ 8)))
+-- how many bytes a load or a store has, and the bytes of a number
+pub use Rattle.page_table.specs.Numbers.{IsWidth, bytes_of}
 
 -- the number of bytes, the lowest first
 abbrev pub number_of : List ℕ → ℕ
 number_of [] = 0
 number_of (b ∷ bs) = b + 256 * number_of bs
-
--- the n lowest bytes of a number, the lowest first
-abbrev pub bytes_of : ℕ → ℕ → List ℕ
-bytes_of zero v = []
-bytes_of (suc n) v = v % 256 ∷ bytes_of n (v / 256)
 
 abbrev pub number_in : Result (List ℕ) MemFault → Result ℕ MemFault
 number_in (Ok bytes) = Ok (number_of bytes)

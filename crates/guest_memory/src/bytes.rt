@@ -1,14 +1,15 @@
 //! Bytes of a memory in a row.
-ghost use Rattle.std.specs.Prelude.{◌≡◌, ◌≤◌, ◌+◌, ◌/◌, ◌%◌, length, IfErr, IfOk, IfSome, IsOk, IsSome, MatchResult, OnErr, OnOk, Ok, Err};
+ghost use Rattle.std.specs.Prelude.{◌≡◌, ◌≤◌, ◌+◌, ◌/◌, ◌%◌, length, IfErr, IfOk, IfSome, IsOk, IsSome, MatchResult, OnErr, OnOk, Ok, Err, Some};
 ghost use Rattle.std.specs.FinMap.{get};
 ghost use Rattle.guest_memory.specs.declared.access.Access.TheVariants as access;
-ghost use Rattle.guest_memory.specs.Bytes.{bytes_at, bytes_from, run_at};
+ghost use Rattle.guest_memory.specs.Bytes.{bytes_at, bytes_from, run_at, run_in};
 ghost use Rattle.guest_memory.specs.Written.{KeepsUnwritable, set_bytes, write_of};
 
 use crate::access::Access;
 use crate::fault::MemFault;
 use crate::memory::GuestMemory;
 use abi_base::PAGE_SIZE;
+use page_table::MappedPage;
 
 impl GuestMemory {
     /// Whether this may be done with the bytes from an address on, else the first fault. Addresses go modulo 2^64.
@@ -31,7 +32,7 @@ impl GuestMemory {
         ensures len { IfOk result (λ run. length run.now + at % PAGE_SIZE ≡ PAGE_SIZE) }
     {
         match self.pages.get(at / PAGE_SIZE) {
-            Some(page) => page.run(access, at),
+            Some(page) => run_in_page(page, access, at),
             None => Err(MemFault::NotMapped(at)),
         }
     }
@@ -44,7 +45,7 @@ impl GuestMemory {
         ensures len { IfSome result (λ run. length run.now + at % PAGE_SIZE ≡ PAGE_SIZE) }
     {
         match self.pages.hinted(at / PAGE_SIZE) {
-            Some(page) => page.run(access, at).ok(),
+            Some(page) => run_in_page(page, access, at).ok(),
             None => None,
         }
     }
@@ -111,5 +112,18 @@ impl GuestMemory {
         self.check(Access::Write, at, bytes.len())?;
         self.copy_in(at, bytes);
         Ok(())
+    }
+}
+
+// The bytes from an address in a page to the page's end.
+#[inline(always)]
+fn run_in_page(page: &MappedPage, access: Access, at: u64) -> Result<&[u8], MemFault>
+    ensures run { MatchResult result (λ run. run_in access at (Some page.now) ≡ Ok run.now) (λ fault. run_in access at (Some page.now) ≡ Err fault) }
+    ensures len { IfOk result (λ run. length run.now + at % PAGE_SIZE ≡ PAGE_SIZE) }
+{
+    if access.is_allowed_by(page.prot()) {
+        Ok(page.bytes_from((at % PAGE_SIZE) as usize))
+    } else {
+        Err(MemFault::NoRight(at))
     }
 }

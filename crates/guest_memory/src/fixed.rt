@@ -6,10 +6,9 @@ ghost use Rattle.guest_memory.specs.Mapping.{AreThere, AreMapped, AreSameOutside
 ghost use Rattle.guest_memory.specs.Changes.{without_pages};
 ghost use Rattle.guest_memory.specs.Fixed.{without_each};
 
-use crate::mapped_page::MappedPage;
 use crate::memory::GuestMemory;
-use crate::page_table::PageTable;
 use abi_base::{GUEST_BEGIN, GUEST_END, PAGE_LIMIT, PAGE_SIZE, Prot};
+use page_table::{MappedPage, PageTable};
 use std::alloc::{AllocError, Global};
 
 impl GuestMemory {

@@ -3,7 +3,7 @@ ghost use Rattle.std.specs.Prelude.{◌≡◌, IfOk};
 ghost use Rattle.std.specs.FinMap as map;
 ghost use Rattle.guest_memory.specs.Limits.{KeepsLimits};
 
-use crate::page_table::PageTable;
+use page_table::PageTable;
 use std::alloc::{AllocError, Global};
 use std::marker::Model;
 
@@ -47,7 +47,7 @@ impl GuestMemory {
         let mut from = 0;
         while let Some(number) = self.pages.first_from(from) {
             let page = self.pages.get(number).unwrap();
-            pages.insert(number, page.copy()?)?;
+            pages.insert(number, page.copy(alloc)?)?;
             from = number + 1;
         }
         Ok(GuestMemory { pages })

@@ -5,9 +5,8 @@ ghost use Rattle.guest_memory.specs.Ranges.{IsFirstNumber};
 ghost use Rattle.guest_memory.specs.Mapping.{AreFree, AreThere, AreMapped, AreUnmapped, AreProtected, AreSameOutside};
 ghost use Rattle.guest_memory.specs.Changes.{without_pages};
 
-use crate::mapped_page::MappedPage;
-use crate::page_table::PageTable;
 use abi_base::Prot;
+use page_table::{MappedPage, PageTable};
 use std::alloc::{AllocError, Global};
 
 /// The lowest page of the range that is there.

@@ -1,8 +1,0 @@
-use Rattle.std.proofs.Common.{ap, ◌∙◌}
-use Rattle.std.specs.FinMap.{len}
-use Rattle.guest_memory.specs.Page.{Pages}
-use Rattle.guest_memory.proofs.Tables.{len_content}
-use Rattle.guest_memory.proofs.page_table.PageTable.len.Goals as goal
-
-pub returns : goal.returns
-returns c = c.len.ensures.len ∙ len_content c.self.inside.index c.self.inside.slots.items ∙ ap (λ (m : Pages). len m) c.self.view_is

@@ -1,8 +1,0 @@
-use Rattle.guest_memory.proofs.Tables.{new_indexed, new_content}
-use Rattle.guest_memory.proofs.page_table.PageTable.new.Goals as goal
-
-pub invariant_of-result : goal.invariant_of-result
-invariant_of-result c = new_indexed c.new.result c.new-2.result.items c.new.ensures c.new-2.ensures.items
-
-pub returns : goal.returns
-returns c = new_content c.new.result c.new-2.result.items c.new.ensures c.new-2.ensures.items

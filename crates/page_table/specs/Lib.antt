@@ -1,0 +1,4 @@
+pub mod Page
+pub mod Numbers
+pub mod Table
+pub mod Lending
