@@ -1,6 +1,8 @@
 //! Atomic instructions ("A" Extension for Atomic Instructions). Their address has to be a multiple of their width, which
-//! is looked at first.
+//! is looked at first. They are rare, so their code is called and not inlined, and each call has a copy of the pc: where the
+//! place of the caller's pc were passed on, the host could not keep it in a register.
 ghost use Rattle.std.specs.Prelude.{◌≡◌, ◌<◌, ◌^◌};
+ghost use Rattle.abi_base.specs.Registers.{with_pc};
 ghost use Rattle.guest_memory.specs.Words.{IsWidth};
 ghost use Rattle.guest_memory.specs.Written.{KeepsUnwritable};
 ghost use Rattle.rv_code.specs.Formats.{NamesRegisters};
@@ -19,9 +21,9 @@ use guest_memory::{Access, GuestMemory};
 use rv_code::Instr;
 
 // Reads a number and writes another in its place, at a multiple of the width.
-fn exchange(regs: &mut Regs, mem: &mut GuestMemory, instr: &Instr, at: u64) -> Outcome
+fn exchange(regs: &mut Regs, pc: &mut u64, mem: &mut GuestMemory, instr: &Instr, at: u64) -> Outcome
     requires { NamesRegisters instr.now }
-    ensures exact { exchange_of regs.old mem.old instr.now at (load_of mem.old at (width_of instr.now.op)) ≡ record { outcome = result; regs = regs.new; memory = mem.new } }
+    ensures exact { exchange_of (with_pc regs.old pc.old) mem.old instr.now at (load_of mem.old at (width_of instr.now.op)) ≡ record { outcome = result; regs = with_pc regs.new pc.new; memory = mem.new } }
     ensures unwritable { KeepsUnwritable mem.old mem.new }
 {
     let width = width(instr.op);
@@ -30,36 +32,50 @@ fn exchange(regs: &mut Regs, mem: &mut GuestMemory, instr: &Instr, at: u64) -> O
     };
     let value = atomic_value(width, instr.op, v, regs.get(instr.rs2));
     match mem.store(at, width, value) {
-        Ok(()) => done(regs, instr.rd, loaded_value(instr.op, v)),
+        Ok(()) => done(regs, pc, instr.rd, loaded_value(instr.op, v)),
         Err(_) => Outcome::Trap(Signal::Segv),
     }
 }
 
-/// AMO.
+// AMO.
 #[inline(never)]
-pub fn atomic(regs: &mut Regs, mem: &mut GuestMemory, instr: &Instr) -> Outcome
+fn exchange_aligned(regs: &mut Regs, pc: &mut u64, mem: &mut GuestMemory, instr: &Instr) -> Outcome
     requires { NamesRegisters instr.now }
-    ensures exact { atomic_step regs.old mem.old instr.now ≡ record { outcome = result; regs = regs.new; memory = mem.new } }
+    ensures exact { atomic_step (with_pc regs.old pc.old) mem.old instr.now ≡ record { outcome = result; regs = with_pc regs.new pc.new; memory = mem.new } }
     ensures unwritable { KeepsUnwritable mem.old mem.new }
 {
     let at = regs.get(instr.rs1);
     if at % u64::from(width(instr.op)) == 0 {
-        exchange(regs, mem, instr, at)
+        exchange(regs, pc, mem, instr, at)
     } else {
         Outcome::Trap(Signal::Bus)
     }
 }
 
-/// LR.
+/// AMO.
+#[inline(always)]
+pub fn atomic(regs: &mut Regs, pc: &mut u64, mem: &mut GuestMemory, instr: &Instr) -> Outcome
+    requires { NamesRegisters instr.now }
+    ensures exact { atomic_step (with_pc regs.old pc.old) mem.old instr.now ≡ record { outcome = result; regs = with_pc regs.new pc.new; memory = mem.new } }
+    ensures unwritable { KeepsUnwritable mem.old mem.new }
+{
+    let mut next = *pc;
+    let outcome = exchange_aligned(regs, &mut next, mem, instr);
+    *pc = next;
+    outcome
+}
+
+// LR.
 #[inline(never)]
-pub fn load_reserved(
+fn reserve(
     regs: &mut Regs,
+    pc: &mut u64,
     mem: &mut GuestMemory,
     held: &mut Reservation,
     instr: &Instr,
 ) -> Outcome
     requires { NamesRegisters instr.now }
-    ensures exact { reserve_step (machine regs.old mem.old held.old) instr.now ≡ record { outcome = result; after = machine regs.new mem.new held.new } }
+    ensures exact { reserve_step (machine (with_pc regs.old pc.old) mem.old held.old) instr.now ≡ record { outcome = result; after = machine (with_pc regs.new pc.new) mem.new held.new } }
     ensures same { mem.new ≡ mem.old }
 {
     let at = regs.get(instr.rs1);
@@ -71,19 +87,39 @@ pub fn load_reserved(
         return Outcome::Trap(Signal::Segv);
     };
     held.held = Some((at, width));
-    done(regs, instr.rd, loaded_value(instr.op, v))
+    done(regs, pc, instr.rd, loaded_value(instr.op, v))
+}
+
+/// LR.
+#[inline(always)]
+pub fn load_reserved(
+    regs: &mut Regs,
+    pc: &mut u64,
+    mem: &mut GuestMemory,
+    held: &mut Reservation,
+    instr: &Instr,
+) -> Outcome
+    requires { NamesRegisters instr.now }
+    ensures exact { reserve_step (machine (with_pc regs.old pc.old) mem.old held.old) instr.now ≡ record { outcome = result; after = machine (with_pc regs.new pc.new) mem.new held.new } }
+    ensures same { mem.new ≡ mem.old }
+{
+    let mut next = *pc;
+    let outcome = reserve(regs, &mut next, mem, held, instr);
+    *pc = next;
+    outcome
 }
 
 // Stores where the address and the width are reserved, and else looks whether it might have, at a multiple of the width.
 fn store_reserved(
     regs: &mut Regs,
+    pc: &mut u64,
     mem: &mut GuestMemory,
     held: &mut Reservation,
     instr: &Instr,
     at: u64,
 ) -> Outcome
     requires { NamesRegisters instr.now }
-    ensures exact { conditional_of (machine regs.old mem.old held.old) instr.now at (store_of mem.old at (width_of instr.now.op) (register regs.old instr.now.rs2)) ≡ record { outcome = result; after = machine regs.new mem.new held.new } }
+    ensures exact { conditional_of (machine (with_pc regs.old pc.old) mem.old held.old) instr.now at (store_of mem.old at (width_of instr.now.op) (register regs.old instr.now.rs2)) ≡ record { outcome = result; after = machine (with_pc regs.new pc.new) mem.new held.new } }
     ensures unwritable { KeepsUnwritable mem.old mem.new }
 {
     let width = width(instr.op);
@@ -96,28 +132,48 @@ fn store_reserved(
     match may_store {
         Ok(()) => {
             *held = Reservation::none();
-            done(regs, instr.rd, u64::from(!holds))
+            done(regs, pc, instr.rd, u64::from(!holds))
         }
         Err(_) => Outcome::Trap(Signal::Segv),
     }
 }
 
-/// SC.
+// SC.
 #[inline(never)]
-pub fn store_conditional(
+fn store_aligned(
     regs: &mut Regs,
+    pc: &mut u64,
     mem: &mut GuestMemory,
     held: &mut Reservation,
     instr: &Instr,
 ) -> Outcome
     requires { NamesRegisters instr.now }
-    ensures exact { conditional_step (machine regs.old mem.old held.old) instr.now ≡ record { outcome = result; after = machine regs.new mem.new held.new } }
+    ensures exact { conditional_step (machine (with_pc regs.old pc.old) mem.old held.old) instr.now ≡ record { outcome = result; after = machine (with_pc regs.new pc.new) mem.new held.new } }
     ensures unwritable { KeepsUnwritable mem.old mem.new }
 {
     let at = regs.get(instr.rs1);
     if at % u64::from(width(instr.op)) == 0 {
-        store_reserved(regs, mem, held, instr, at)
+        store_reserved(regs, pc, mem, held, instr, at)
     } else {
         Outcome::Trap(Signal::Bus)
     }
+}
+
+/// SC.
+#[inline(always)]
+pub fn store_conditional(
+    regs: &mut Regs,
+    pc: &mut u64,
+    mem: &mut GuestMemory,
+    held: &mut Reservation,
+    instr: &Instr,
+) -> Outcome
+    requires { NamesRegisters instr.now }
+    ensures exact { conditional_step (machine (with_pc regs.old pc.old) mem.old held.old) instr.now ≡ record { outcome = result; after = machine (with_pc regs.new pc.new) mem.new held.new } }
+    ensures unwritable { KeepsUnwritable mem.old mem.new }
+{
+    let mut next = *pc;
+    let outcome = store_aligned(regs, &mut next, mem, held, instr);
+    *pc = next;
+    outcome
 }

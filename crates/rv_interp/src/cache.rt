@@ -1,5 +1,6 @@
 //! Decoded instructions, kept over turns.
-ghost use Rattle.std.specs.Prelude.{◌≡◌, Err, IfErr, IfOk, Ok};
+ghost use Rattle.std.specs.Prelude.{◌≡◌, ◌<◌, length, Err, IfErr, IfOk, Ok, OnOk};
+ghost use Rattle.abi_base.specs.Registers.{with_pc};
 ghost use Rattle.guest_memory.specs.Page.{Pages};
 ghost use Rattle.rv_code.specs.declared.instr.Instr.{Instr};
 ghost use Rattle.rv_code.specs.Formats.{NamesRegisters};
@@ -20,16 +21,15 @@ const FEWEST_SLOTS: usize = 1024;
 
 const MOST_SLOTS: usize = 65536;
 
-/// A decoded instruction, and the address that it is at.
+/// A decoded instruction, and the address that it is at. The instruction comes first, so that it is where its slot is.
 #[derive(Clone, Copy)]
 pub struct Slot {
-    pub pc: u64,
     pub instr: Instr,
+    pub pc: u64,
 }
 
 // No instruction is at an odd address.
 const EMPTY: Slot = Slot {
-    pc: 1,
     instr: Instr {
         op: Op::Fence,
         rd: 0,
@@ -37,6 +37,7 @@ const EMPTY: Slot = Slot {
         rs2: 0,
         imm: 0,
     },
+    pc: 1,
 };
 
 /// Instructions of pages that can't be written, by their addresses. Each of them is the one that is at its address, as long as
@@ -100,24 +101,26 @@ impl Cache {
         self.mask = (count as u64).wrapping_sub(1);
     }
 
-    /// Does the instruction at the pc, which is decoded once for each address while no other takes its slot.
+    /// Does the instruction at the pc, which is passed beside the registers. It is decoded once for each address while no
+    /// other takes its slot.
     #[inline(always)]
     pub fn step(
         &mut self,
         regs: &mut Regs,
+        pc: &mut u64,
         mem: &mut GuestMemory,
         held: &mut Reservation,
     ) -> Outcome
         requires { AreTrue mem.old self.old }
-        ensures exact { step_of (machine regs.old mem.old held.old) ≡ record { outcome = result; after = machine regs.new mem.new held.new } }
+        ensures exact { step_of (machine (with_pc regs.old pc.old) mem.old held.old) ≡ record { outcome = result; after = machine (with_pc regs.new pc.new) mem.new held.new } }
         ensures slots { AreTrue mem.new self.new }
     {
-        let place = match self.place_of(mem, regs.pc()) {
+        let place = match self.place_of(mem, *pc) {
             Ok(place) => place,
             Err(signal) => return Outcome::Trap(signal),
         };
         let slot = &self.slots[place];
-        execute(regs, mem, held, &slot.instr)
+        execute(regs, pc, mem, held, &slot.instr)
     }
 
     // The place of a slot that has the instruction at an address.
@@ -134,24 +137,28 @@ impl Cache {
         if slot.pc == pc && pc % 4 == 0 {
             return Ok(place);
         }
-        self.fill(mem, pc)
+        match self.fill(mem, pc, place) {
+            Ok(()) => Ok(place),
+            Err(signal) => Err(signal),
+        }
     }
 
-    // Decodes the instruction at an address into its slot.
+    // Decodes the instruction at an address into the slot at a place. What it gives is small enough for a register: a result
+    // that has the place too would lie in memory, and be cleared before each instruction.
     #[inline(never)]
-    fn fill(&mut self, mem: &mut GuestMemory, pc: u64) -> Result<usize, Signal>
-        requires { AreTrue mem.old self.old }
-        ensures ok { IfOk result (HoldsAt mem.old pc self.new) }
+    fn fill(&mut self, mem: &mut GuestMemory, pc: u64, place: usize) -> Result<(), Signal>
+        requires slots { AreTrue mem.old self.old }
+        requires place { place < length self.old }
+        ensures ok { OnOk result (HoldsAt mem.old pc self.new place) }
         ensures err { IfErr result (λ signal. instruction_at mem.old pc ≡ Err signal) }
         ensures slots { AreTrue mem.new self.new }
         ensures same { mem.new ≡ mem.old }
     {
         let instr = instruction(mem, pc)?;
         let kept = kept_address(mem, pc);
-        let place = ((pc / 4) & self.mask) as usize;
-        self.slots[place] = Slot { pc: kept, instr };
+        self.slots[place] = Slot { instr, pc: kept };
         self.decoded = self.decoded.wrapping_add(1);
-        Ok(place)
+        Ok(())
     }
 }
 

@@ -1,5 +1,6 @@
 //! One instruction.
 ghost use Rattle.std.specs.Prelude.{◌≡◌, ◌≢◌, IfOk};
+ghost use Rattle.abi_base.specs.Registers.{with_pc};
 ghost use Rattle.guest_memory.specs.Written.{KeepsUnwritable};
 ghost use Rattle.rv_code.specs.Formats.{NamesRegisters};
 ghost use Rattle.rv_interp.specs.Instructions.{execute_of, instruction_at, step_of};
@@ -46,102 +47,122 @@ pub fn step(regs: &mut Regs, mem: &mut GuestMemory, held: &mut Reservation) -> O
     ensures unchanged { result ≢ Outcome.Done → (regs.new ≡ regs.old) × (mem.new ≡ mem.old) × (held.new ≡ held.old) }
     ensures unwritable { KeepsUnwritable mem.old mem.new }
 {
-    match instruction(mem, regs.pc()) {
-        Ok(instr) => execute(regs, mem, held, &instr),
+    let mut pc = regs.pc();
+    match instruction(mem, pc) {
+        Ok(instr) => {
+            let outcome = execute(regs, &mut pc, mem, held, &instr);
+            regs.set_pc(pc);
+            outcome
+        }
         Err(signal) => Outcome::Trap(signal),
     }
 }
 
-/// Does a decoded instruction. It is one match over all operations with one caller, `Cache::step`, into which it is
-/// inlined with what its arms call.
+// ECALL and EBREAK. It is called and not inlined: where an arm of `execute` only gave a constant, that constant would be
+// set before each instruction.
+#[inline(never)]
+fn environment(instr: &Instr) -> Outcome
+    ensures ecall { instr.now.op ≡ Op.Ecall → result ≡ Outcome.Ecall }
+    ensures ebreak { instr.now.op ≡ Op.Ebreak → result ≡ Outcome.Trap Signal.Trap }
+{
+    if instr.op == Op::Ecall {
+        Outcome::Ecall
+    } else {
+        Outcome::Trap(Signal::Trap)
+    }
+}
+
+/// Does a decoded instruction, which is at the pc that is passed beside the registers. It is one match over all operations,
+/// and is inlined into `Cache::step` with what its arms call.
 #[inline(always)]
 #[tactic(auto, unfolding(crate::specs::Instructions::execute_of))]
 pub fn execute(
     regs: &mut Regs,
+    pc: &mut u64,
     mem: &mut GuestMemory,
     held: &mut Reservation,
     instr: &Instr,
 ) -> Outcome
     requires { NamesRegisters instr.now }
-    ensures exact { execute_of instr.now (machine regs.old mem.old held.old) ≡ record { outcome = result; after = machine regs.new mem.new held.new } }
+    ensures exact { execute_of instr.now (machine (with_pc regs.old pc.old) mem.old held.old) ≡ record { outcome = result; after = machine (with_pc regs.new pc.new) mem.new held.new } }
     ensures unwritable { KeepsUnwritable mem.old mem.new }
 {
     match instr.op {
-        Op::Lui => load_upper(regs, instr),
-        Op::Auipc => add_upper(regs, instr),
-        Op::Jal => jump_near(regs, instr),
-        Op::Jalr => jump_register(regs, instr),
-        Op::Beq => branch(regs, instr, Op::Beq),
-        Op::Bne => branch(regs, instr, Op::Bne),
-        Op::Blt => branch(regs, instr, Op::Blt),
-        Op::Bge => branch(regs, instr, Op::Bge),
-        Op::Bltu => branch(regs, instr, Op::Bltu),
-        Op::Bgeu => branch(regs, instr, Op::Bgeu),
-        Op::Lb => load(regs, mem, instr, Op::Lb),
-        Op::Lh => load(regs, mem, instr, Op::Lh),
-        Op::Lw => load(regs, mem, instr, Op::Lw),
-        Op::Ld => load(regs, mem, instr, Op::Ld),
-        Op::Lbu => load(regs, mem, instr, Op::Lbu),
-        Op::Lhu => load(regs, mem, instr, Op::Lhu),
-        Op::Lwu => load(regs, mem, instr, Op::Lwu),
-        Op::Sb => store(regs, mem, instr, Op::Sb),
-        Op::Sh => store(regs, mem, instr, Op::Sh),
-        Op::Sw => store(regs, mem, instr, Op::Sw),
-        Op::Sd => store(regs, mem, instr, Op::Sd),
-        Op::Addi => immediate(regs, instr, Op::Addi),
-        Op::Slti => immediate(regs, instr, Op::Slti),
-        Op::Sltiu => immediate(regs, instr, Op::Sltiu),
-        Op::Xori => immediate(regs, instr, Op::Xori),
-        Op::Ori => immediate(regs, instr, Op::Ori),
-        Op::Andi => immediate(regs, instr, Op::Andi),
-        Op::Slli => immediate(regs, instr, Op::Slli),
-        Op::Srli => immediate(regs, instr, Op::Srli),
-        Op::Srai => immediate(regs, instr, Op::Srai),
-        Op::Addiw => immediate(regs, instr, Op::Addiw),
-        Op::Slliw => immediate(regs, instr, Op::Slliw),
-        Op::Srliw => immediate(regs, instr, Op::Srliw),
-        Op::Sraiw => immediate(regs, instr, Op::Sraiw),
-        Op::Add => registers(regs, instr, Op::Add),
-        Op::Sub => registers(regs, instr, Op::Sub),
-        Op::Sll => registers(regs, instr, Op::Sll),
-        Op::Slt => registers(regs, instr, Op::Slt),
-        Op::Sltu => registers(regs, instr, Op::Sltu),
-        Op::Xor => registers(regs, instr, Op::Xor),
-        Op::Srl => registers(regs, instr, Op::Srl),
-        Op::Sra => registers(regs, instr, Op::Sra),
-        Op::Or => registers(regs, instr, Op::Or),
-        Op::And => registers(regs, instr, Op::And),
-        Op::Mul => registers(regs, instr, Op::Mul),
-        Op::Mulh => registers(regs, instr, Op::Mulh),
-        Op::Mulhsu => registers(regs, instr, Op::Mulhsu),
-        Op::Mulhu => registers(regs, instr, Op::Mulhu),
-        Op::Div => registers(regs, instr, Op::Div),
-        Op::Divu => registers(regs, instr, Op::Divu),
-        Op::Rem => registers(regs, instr, Op::Rem),
-        Op::Remu => registers(regs, instr, Op::Remu),
-        Op::Addw => registers(regs, instr, Op::Addw),
-        Op::Subw => registers(regs, instr, Op::Subw),
-        Op::Sllw => registers(regs, instr, Op::Sllw),
-        Op::Srlw => registers(regs, instr, Op::Srlw),
-        Op::Sraw => registers(regs, instr, Op::Sraw),
-        Op::Mulw => registers(regs, instr, Op::Mulw),
-        Op::Divw => registers(regs, instr, Op::Divw),
-        Op::Divuw => registers(regs, instr, Op::Divuw),
-        Op::Remw => registers(regs, instr, Op::Remw),
-        Op::Remuw => registers(regs, instr, Op::Remuw),
-        Op::LrW | Op::LrD => load_reserved(regs, mem, held, instr),
-        Op::ScW | Op::ScD => store_conditional(regs, mem, held, instr),
+        Op::Lui => load_upper(regs, pc, instr),
+        Op::Auipc => add_upper(regs, pc, instr),
+        Op::Jal => jump_near(regs, pc, instr),
+        Op::Jalr => jump_register(regs, pc, instr),
+        Op::Beq => branch(regs, pc, instr, Op::Beq),
+        Op::Bne => branch(regs, pc, instr, Op::Bne),
+        Op::Blt => branch(regs, pc, instr, Op::Blt),
+        Op::Bge => branch(regs, pc, instr, Op::Bge),
+        Op::Bltu => branch(regs, pc, instr, Op::Bltu),
+        Op::Bgeu => branch(regs, pc, instr, Op::Bgeu),
+        Op::Lb => load(regs, pc, mem, instr, Op::Lb),
+        Op::Lh => load(regs, pc, mem, instr, Op::Lh),
+        Op::Lw => load(regs, pc, mem, instr, Op::Lw),
+        Op::Ld => load(regs, pc, mem, instr, Op::Ld),
+        Op::Lbu => load(regs, pc, mem, instr, Op::Lbu),
+        Op::Lhu => load(regs, pc, mem, instr, Op::Lhu),
+        Op::Lwu => load(regs, pc, mem, instr, Op::Lwu),
+        Op::Sb => store(regs, pc, mem, instr, Op::Sb),
+        Op::Sh => store(regs, pc, mem, instr, Op::Sh),
+        Op::Sw => store(regs, pc, mem, instr, Op::Sw),
+        Op::Sd => store(regs, pc, mem, instr, Op::Sd),
+        Op::Addi => immediate(regs, pc, instr, Op::Addi),
+        Op::Slti => immediate(regs, pc, instr, Op::Slti),
+        Op::Sltiu => immediate(regs, pc, instr, Op::Sltiu),
+        Op::Xori => immediate(regs, pc, instr, Op::Xori),
+        Op::Ori => immediate(regs, pc, instr, Op::Ori),
+        Op::Andi => immediate(regs, pc, instr, Op::Andi),
+        Op::Slli => immediate(regs, pc, instr, Op::Slli),
+        Op::Srli => immediate(regs, pc, instr, Op::Srli),
+        Op::Srai => immediate(regs, pc, instr, Op::Srai),
+        Op::Addiw => immediate(regs, pc, instr, Op::Addiw),
+        Op::Slliw => immediate(regs, pc, instr, Op::Slliw),
+        Op::Srliw => immediate(regs, pc, instr, Op::Srliw),
+        Op::Sraiw => immediate(regs, pc, instr, Op::Sraiw),
+        Op::Add => registers(regs, pc, instr, Op::Add),
+        Op::Sub => registers(regs, pc, instr, Op::Sub),
+        Op::Sll => registers(regs, pc, instr, Op::Sll),
+        Op::Slt => registers(regs, pc, instr, Op::Slt),
+        Op::Sltu => registers(regs, pc, instr, Op::Sltu),
+        Op::Xor => registers(regs, pc, instr, Op::Xor),
+        Op::Srl => registers(regs, pc, instr, Op::Srl),
+        Op::Sra => registers(regs, pc, instr, Op::Sra),
+        Op::Or => registers(regs, pc, instr, Op::Or),
+        Op::And => registers(regs, pc, instr, Op::And),
+        Op::Mul => registers(regs, pc, instr, Op::Mul),
+        Op::Mulh => registers(regs, pc, instr, Op::Mulh),
+        Op::Mulhsu => registers(regs, pc, instr, Op::Mulhsu),
+        Op::Mulhu => registers(regs, pc, instr, Op::Mulhu),
+        Op::Div => registers(regs, pc, instr, Op::Div),
+        Op::Divu => registers(regs, pc, instr, Op::Divu),
+        Op::Rem => registers(regs, pc, instr, Op::Rem),
+        Op::Remu => registers(regs, pc, instr, Op::Remu),
+        Op::Addw => registers(regs, pc, instr, Op::Addw),
+        Op::Subw => registers(regs, pc, instr, Op::Subw),
+        Op::Sllw => registers(regs, pc, instr, Op::Sllw),
+        Op::Srlw => registers(regs, pc, instr, Op::Srlw),
+        Op::Sraw => registers(regs, pc, instr, Op::Sraw),
+        Op::Mulw => registers(regs, pc, instr, Op::Mulw),
+        Op::Divw => registers(regs, pc, instr, Op::Divw),
+        Op::Divuw => registers(regs, pc, instr, Op::Divuw),
+        Op::Remw => registers(regs, pc, instr, Op::Remw),
+        Op::Remuw => registers(regs, pc, instr, Op::Remuw),
+        Op::LrW | Op::LrD => load_reserved(regs, pc, mem, held, instr),
+        Op::ScW | Op::ScD => store_conditional(regs, pc, mem, held, instr),
         Op::AmoswapW | Op::AmoswapD | Op::AmoaddW | Op::AmoaddD | Op::AmoxorW | Op::AmoxorD =>
-            atomic(regs, mem, instr),
+            atomic(regs, pc, mem, instr),
         Op::AmoandW | Op::AmoandD | Op::AmoorW | Op::AmoorD | Op::AmominW | Op::AmominD => atomic(
-            regs, mem, instr,
+            regs, pc, mem, instr,
         ),
         Op::AmomaxW | Op::AmomaxD | Op::AmominuW | Op::AmominuD | Op::AmomaxuW => atomic(
-            regs, mem, instr,
+            regs, pc, mem, instr,
         ),
-        Op::AmomaxuD => atomic(regs, mem, instr),
-        Op::Fence | Op::FenceI => done(regs, 0, 0),
-        Op::Ecall => Outcome::Ecall,
-        Op::Ebreak => Outcome::Trap(Signal::Trap),
+        Op::AmomaxuD => atomic(regs, pc, mem, instr),
+        Op::Fence | Op::FenceI => done(regs, pc, 0, 0),
+        Op::Ecall => environment(instr),
+        Op::Ebreak => environment(instr),
     }
 }

@@ -1,5 +1,6 @@
 //! A turn of instructions.
 ghost use Rattle.std.specs.Prelude.{◌≡◌};
+ghost use Rattle.abi_base.specs.Registers.{with_pc};
 ghost use Rattle.rv_interp.specs.Cache.{AreTrue};
 ghost use Rattle.rv_interp.specs.Turns.{Turns, TurnIsOne, TurnOfIsTurn, turn_of};
 
@@ -32,9 +33,22 @@ pub fn turn(regs: &mut Regs, mem: &mut GuestMemory, cache: &mut Cache) -> TurnEn
     ensures slots { AreTrue mem.new cache.new }
 {
     cache.widen();
+    let mut pc = regs.pc();
+    let end = run(regs, &mut pc, mem, cache);
+    regs.set_pc(pc);
+    end
+}
+
+// A turn whose pc is beside the registers.
+#[inline(always)]
+fn run(regs: &mut Regs, pc: &mut u64, mem: &mut GuestMemory, cache: &mut Cache) -> TurnEnd
+    requires { AreTrue mem.old cache.old }
+    ensures turns { Turns mem.old (with_pc regs.old pc.old) result mem.new (with_pc regs.new pc.new) }
+    ensures slots { AreTrue mem.new cache.new }
+{
     let mut held = Reservation::none();
     for _ in 0..QUANTUM {
-        match cache.step(regs, mem, &mut held) {
+        match cache.step(regs, pc, mem, &mut held) {
             Outcome::Done => {}
             Outcome::Ecall => return TurnEnd::Ecall,
             Outcome::Trap(signal) => return TurnEnd::Trap(signal),

@@ -1,62 +1,20 @@
-use Rattle.std.proofs.Common.{◌≡◌, ◌+◌, suc, refl, sym, subst, arith}
-use Rattle.rv_interp.specs.declared.execution.Outcome.TheVariants as outcome
-use Rattle.rv_interp.specs.declared.turns.TurnEnd.TheVariants as turn_end
-use Rattle.rv_interp.specs.Machine.{machine}
-use Rattle.rv_interp.specs.Turns.{Does, fresh, Turns}
-use Rattle.rv_interp.proofs.TurnLaws.{does-none, does-more, finished, only, stopped}
+use Rattle.std.proofs.Common.{ap, subst, sym}
+use Rattle.abi_base.specs.Registers.{with_pc}
+use Rattle.rv_interp.specs.Turns.{Turns}
+use Rattle.rv_interp.proofs.TurnLaws.{only}
 use Rattle.rv_interp.proofs.turns.turn.Goals as goal
 
--- the turn that ends at an ECALL
-ecall : (c : goal.In-Ecall) → Turns c.args.mem.now c.args.regs.now turn_end.Ecall c.step.new.mem c.step.new.regs
-ecall c = (
-  c.step.new.held,
-  stopped c.loop.counter (fresh c.args.mem.now c.args.regs.now) (machine c.loop.regs c.loop.mem c.loop.held) (machine c.step.new.regs c.step.new.mem c.step.new.held) turn_end.Ecall outcome.Ecall refl
-      c.loop.invariant.done c.loop-test.true c.in-Ecall.ensures.exact,
-)
+pub run-end-requires : goal.run-end-requires
+run-end-requires c = c.widen.ensures c.args.mem.now c.requires
 
--- the turn that ends at a trap
-trap : (c : goal.In-Trap) → Turns c.args.mem.now c.args.regs.now (turn_end.Trap c.in-Trap.signal) c.step.new.mem c.step.new.regs
-trap c = (
-  c.step.new.held,
-  stopped c.loop.counter (fresh c.args.mem.now c.args.regs.now) (machine c.loop.regs c.loop.mem c.loop.held) (machine c.step.new.regs c.step.new.mem c.step.new.held) (turn_end.Trap c.in-Trap.signal)
-      (outcome.Trap c.in-Trap.signal) refl c.loop.invariant.done c.loop-test.true c.in-Trap.ensures.exact,
-)
-
-pub loop-init : goal.loop-init
-loop-init c =
-    record {
-      done = subst (λ h. Does 0 (fresh c.args.mem.now c.args.regs.now) (machine c.args.regs.now c.args.mem.now h)) (sym c.none-held.ensures) (does-none (fresh c.args.mem.now c.args.regs.now));
-      slots = c.widen.ensures c.args.mem.now c.requires;
-    }
-
-pub loop-preserved : goal.loop-preserved
-loop-preserved c =
-    let one : suc c.loop.counter ≡ c.loop.counter + 1 = omega arith in
-    record {
-      done =
-          subst (λ n. Does n (fresh c.args.mem.now c.args.regs.now) (machine c.step.new.regs c.step.new.mem c.step.new.held)) one
-          (does-more c.loop.counter (fresh c.args.mem.now c.args.regs.now) (machine c.loop.regs c.loop.mem c.loop.held) _ c.loop.invariant.done c.in-Done.ensures.exact);
-      slots = c.step.ensures.slots;
-    }
-
-pub returns-in-Ecall-clause-exact : goal.returns-in-Ecall-clause-exact
-returns-in-Ecall-clause-exact c = only c.args.mem.now c.args.regs.now turn_end.Ecall c.step.new.mem c.step.new.regs (ecall c)
-
-pub returns-in-Ecall-clause-turns : goal.returns-in-Ecall-clause-turns
-returns-in-Ecall-clause-turns c = ecall c
-
-pub returns-in-Trap-clause-exact : goal.returns-in-Trap-clause-exact
-returns-in-Trap-clause-exact c = only c.args.mem.now c.args.regs.now (turn_end.Trap c.in-Trap.signal) c.step.new.mem c.step.new.regs (trap c)
-
-pub returns-in-Trap-clause-turns : goal.returns-in-Trap-clause-turns
-returns-in-Trap-clause-turns c = trap c
-
--- the turn of as many instructions as a turn may have
-whole : (c : goal.After-loop) → Turns c.args.mem.now c.args.regs.now turn_end.Quantum c.loop.mem c.loop.regs
-whole c = (c.loop.held, finished c.loop.counter (fresh c.args.mem.now c.args.regs.now) (machine c.loop.regs c.loop.mem c.loop.held) (omega arith) c.loop.invariant.done)
+-- the turn, with the pc among the registers
+whole : (c : goal.After-set_pc) → Turns c.args.mem.now c.args.regs.now c.run-end.result c.run-end.new.mem c.set_pc.new.self
+whole c =
+    subst (Turns c.args.mem.now c.args.regs.now c.run-end.result c.run-end.new.mem) (sym c.set_pc.ensures)
+    (subst (λ r. Turns c.args.mem.now r c.run-end.result c.run-end.new.mem (with_pc c.run-end.new.regs c.run-end.new.pc)) (ap (with_pc c.args.regs.now) c.pc-pc.ensures) c.run-end.ensures.turns)
 
 pub returns-clause-exact : goal.returns-clause-exact
-returns-clause-exact c = only c.args.mem.now c.args.regs.now turn_end.Quantum c.loop.mem c.loop.regs (whole c)
+returns-clause-exact c = only c.args.mem.now c.args.regs.now c.run-end.result c.run-end.new.mem c.set_pc.new.self (whole c)
 
 pub returns-clause-turns : goal.returns-clause-turns
 returns-clause-turns c = whole c

@@ -1,4 +1,5 @@
-use Rattle.std.proofs.Common.{◌≡◌, ◌<◌, Ok, get_or, length, sym, ap, subst, ◌∙◌, arith}
+use Rattle.std.proofs.Common.{◌≡◌, ◌<◌, Ok, get_or, length, refl, sym, ap, subst, ◌∙◌, arith}
+use Rattle.abi_base.specs.Registers.{with_pc}
 use Rattle.rv_interp.specs.declared.cache.Slot.{Slot}
 use Rattle.rv_interp.specs.Cache.{AreTrue}
 use Rattle.rv_interp.specs.Instructions.{execute_of, instruction_at}
@@ -18,14 +19,15 @@ execute-requires c =
 pub returns-clause-exact : goal.returns-clause-exact
 returns-clause-exact c =
     let slot = c.index-slot.result.now in
-    let had : instruction_at c.args.mem.now c.pc.result ≡ Ok slot.instr =
+    let regs = with_pc c.args.regs.now c.args.pc.now in
+    let had : instruction_at c.args.mem.now c.args.pc.now ≡ Ok slot.instr =
     c.in-Ok.ensures.ok.instruction slot ∙ ap (λ xs. Ok (get_or xs c.in-Ok.place slot).instr) (sym c.self.view_is) ∙ ap (λ (s : Slot). Ok s.instr) (sym c.index-slot.ensures) in
-    decoded c.args.mem.now c.args.regs.now c.args.held.now c.pc.result slot.instr _ (sym c.pc.ensures) had
-    (ap (λ m. execute_of slot.instr (machine c.args.regs.now m c.args.held.now)) (sym c.place_of.ensures.same) ∙ c.execute.ensures.exact)
+    decoded c.args.mem.now regs c.args.held.now c.args.pc.now slot.instr _ refl had
+    (ap (λ m. execute_of slot.instr (machine regs m c.args.held.now)) (sym c.place_of.ensures.same) ∙ c.execute.ensures.exact)
 
 pub returns-clause-slots : goal.returns-clause-slots
 returns-clause-slots c = all_kept c.place_of.new.mem c.execute.new.mem c.place_of.new.self c.execute.ensures.unwritable c.place_of.ensures.slots
 
 pub returns-in-Err-clause-exact : goal.returns-in-Err-clause-exact
 returns-in-Err-clause-exact c =
-    rw (c.place_of.ensures.same) (none c.args.mem.now c.args.regs.now c.args.held.now c.pc.result c.in-Err.signal (sym c.pc.ensures) c.in-Err.ensures.err)
+    rw (c.place_of.ensures.same) (none c.args.mem.now (with_pc c.args.regs.now c.args.pc.now) c.args.held.now c.args.pc.now c.in-Err.signal refl c.in-Err.ensures.err)
