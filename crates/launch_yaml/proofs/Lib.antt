@@ -3,10 +3,3 @@ pub mod Refusals
 pub mod Splits
 pub mod Loops
 pub mod Depths
-pub mod LineEnds
-pub mod Dedents
-pub mod TagRows
-pub mod FlowNumbers
-pub mod BlockNumbers
-pub mod LineNumbers
-pub mod FaultsStay

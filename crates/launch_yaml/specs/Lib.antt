@@ -4,4 +4,3 @@ pub mod Document
 pub mod Parsing
 pub mod TaggingViews
 pub mod Renumbering
-pub mod Laws

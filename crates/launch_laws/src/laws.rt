@@ -1,5 +1,5 @@
 //! Laws of what texts mean. The functions do nothing.
-ghost use Rattle.launch_yaml.specs.Laws.{LinesAreTold, MarkChangesNothing, ReturnsChangeNothing, EmptyLinesAreNoRows, EmptyLinesChangeNumbers, FaultsStay, TagRowChangesTheTag};
+ghost use Rattle.launch_laws.specs.Laws.{LinesAreTold, MarkChangesNothing, ReturnsChangeNothing, EmptyLinesAreNoRows, EmptyLinesChangeNumbers, FaultsStay, TagRowChangesTheTag};
 
 /// U+FEFF before a text, and a carriage return before each line feed, change nothing: neither the document that a text is nor
 /// its first fault.
@@ -27,8 +27,9 @@ pub fn tag_lines_change_the_tag()
     ensures { TagRowChangesTheTag }
 {}
 
-/// Rows that are added behind those of a document at fault leave the fault that is told of them, unless it is Tag: `!!binary` with
-/// nothing behind it is at fault for what is missing.
+/// A line feed behind a text at fault, and anything behind that, leave the fault that is told of it, with its line, its column and
+/// its kind. The text doesn't end with a carriage return, and the fault isn't told for what is missing at the text's end: the
+/// scalar behind a `!!binary` that ends the last row, or the `---` behind the `%TAG` line.
 pub fn faults_stay()
     ensures { FaultsStay }
 {}

@@ -17,8 +17,8 @@ use Rattle.launch_rows.specs.Rows.{Row, behind_key, is_before_space, is_marker, 
 use Rattle.launch_yaml.specs.Entries.{after_while}
 use Rattle.launch_yaml.specs.Blocks.{Tagging, untagged, tagged, tagging_of, wrong_in, begins_block, value_in, unless_key, value_below, block_at}
 use Rattle.launch_yaml.specs.Document.{is_inside, root_of, after_document, body_of}
-use Rattle.launch_yaml.specs.Laws.{IsTagOf, with_tag, TagRowChangesTheTag}
-use Rattle.launch_yaml.proofs.Dedents.{end_of, then_fault, block_before}
+use Rattle.launch_laws.specs.Laws.{IsTagOf, with_tag, TagRowChangesTheTag}
+use Rattle.launch_laws.proofs.Dedents.{end_of, then_fault, block_before}
 
 true_false : true ≡ false → ⊥
 true_false h = cc

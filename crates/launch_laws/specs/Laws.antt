@@ -4,13 +4,13 @@ use Rattle.std.specs.List.{AllByRecursion}
 use Rattle.yaml_scalars.specs.Spaces.{after_gap}
 use Rattle.yaml_scalars.specs.declared.kind.YamlKind.TheVariants as kinds
 use Rattle.yaml_values.specs.Shape.{Shape, node}
-use Rattle.yaml_values.specs.Tags.{named, tag_at}
+use Rattle.yaml_values.specs.Tags.{named, bytes_in_base64, tag_at}
 use Rattle.refusals.specs.Results.{◌>>=◌}
 use Rattle.launch_rows.specs.declared.fault.Fault.{Fault}
 use Rattle.launch_rows.specs.Faults.{comes_before}
 use Rattle.launch_rows.specs.Lines.{without_mark, lines, plain_fault}
-use Rattle.launch_rows.specs.Rows.{Row, rows_from, row_of, is_marker}
-use Rattle.launch_yaml.specs.Blocks.{begins_block}
+use Rattle.launch_rows.specs.Rows.{Row, rows_from, row_of, is_marker, is_directive}
+use Rattle.launch_yaml.specs.Blocks.{begins_block, wrong_in}
 use Rattle.launch_yaml.specs.Document.{body_of, document_in, parse_at}
 use Rattle.launch_yaml.specs.Renumbering.{renumbered, one_more}
 
@@ -76,9 +76,29 @@ TagRowChangesTheTag =
     (name : List ℕ) (t r : Row) (rows : List Row) → IsTagOf name t → t.column ≤ r.column → begins_block r.content ≡ true → is_marker r ≡ false
     → body_of (t ∷ r ∷ rows) ≡ (body_of (r ∷ rows) >>= λ x. Ok (with_tag t.number name x))
 
--- ---- rows behind a fault
+-- ---- lines behind a fault
 
--- Rows that are added behind a document at fault leave its fault. `!!binary` with nothing behind it is at fault for what is
--- missing, so Tag is left out.
+-- what stands in the row ends with `!!binary` and perhaps a comment, and a fault of the kind Tag is told there
+abbrev pub EndsWithBinary : Row → Fault → Type 0
+EndsWithBinary r e =
+    (front behind rest : List ℕ) × (r.content ≡ front ++ 33 ∷ behind) × (tag_at false behind ≡ Ok (bytes_in_base64, rest)) × (after_gap rest ≡ [])
+    × (e ≡ wrong_in r kinds.Tag (33 ∷ behind))
+
+-- the fault is that of a `!!binary` in the last row, behind which its scalar is missing
+abbrev pub LacksScalar : List Row → Fault → Type 0
+LacksScalar rows e = (front : List Row) × (last : Row) × (rows ≡ front ++ last ∷ []) × EndsWithBinary last e
+
+-- the fault is that of a directive, the only row, behind which `---` is missing
+abbrev pub LacksStart : List Row → Fault → Type 0
+LacksStart rows e = (r : Row) × (rows ≡ r ∷ []) × (is_directive r ≡ true) × (e ≡ record { line = r.number; column = r.column; kind = kinds.Character })
+
+abbrev pub EndsWithReturn : List ℕ → Type 0
+EndsWithReturn text = (front : List ℕ) × (text ≡ front ++ 13 ∷ [])
+
+-- A line feed behind a text at fault, and whatever stands behind that, leave its fault, unless it is for what is missing. Behind
+-- a carriage return a line feed would make it an end of a line.
 abbrev pub FaultsStay : Type 0
-FaultsStay = (rows more : List Row) (e : Fault) → body_of rows ≡ Err e → e.kind ≢ kinds.Tag → body_of (rows ++ more) ≡ Err e
+FaultsStay =
+    (text more : List ℕ) (e : Fault) → parse_at text ≡ Err e
+    → (EndsWithReturn text → ⊥) → (LacksScalar (rows_from 1 (lines text)) e → ⊥) → (LacksStart (rows_from 1 (lines text)) e → ⊥)
+    → parse_at (text ++ 10 ∷ more) ≡ Err e

@@ -14,8 +14,8 @@ use Rattle.launch_rows.specs.Lines.{tab_at, or_further, first_line, plain_fault}
 use Rattle.launch_rows.specs.Rows.{Row, indentation, unless_nothing, row_of, rows_from}
 use Rattle.launch_yaml.specs.Document.{document_of}
 use Rattle.launch_yaml.specs.Renumbering.{renumber, renumber_fault, renumber_row, renumbered, one_more}
-use Rattle.launch_yaml.specs.Laws.{EmptyLinesChangeNumbers}
-use Rattle.launch_yaml.proofs.BlockNumbers.{Keeps, told, first_told, document_told}
+use Rattle.launch_laws.specs.Laws.{EmptyLinesChangeNumbers}
+use Rattle.launch_laws.proofs.BlockNumbers.{Keeps, told, first_told, document_told}
 
 -- ---- the numbers
 

@@ -21,8 +21,8 @@ use Rattle.launch_yaml.specs.Entries.{Entry, is_deeper, is_item_at, begins_with_
 use Rattle.launch_yaml.specs.Blocks.{Tagging, untagged, tagged, in_base64, is_untagged, tagging_of, mode_of, node_of, unless_binary, absent, wrong_in, tagging_at, text_behind, rows_behind, alone, Block, begins_block, value_in, unless_key, tagged_value_in, value_below, value_with, no_entry, behind_dash, item_of, items_of, key_of, wrong_key, new_key, new_key_of, key_at, value_of_entry, pair_of, pairs_of, too_deep, deepest, block_at}
 use Rattle.launch_yaml.specs.Document.{after_directive, after_head, first_column, is_inside, root_of, end_at, after_document, body_of, document_of}
 use Rattle.launch_yaml.specs.Renumbering.{renumber, renumber_value, renumber_fault, renumber_row}
-use Rattle.launch_yaml.proofs.FlowNumbers.{mapped, renumber_pair, renumber_read, list_renumbered, pairs_renumbered, content_renumbered, keys_renumbered, scalar_stays, line_alike}
-use Rattle.launch_yaml.proofs.TagRows.{after_while-cons}
+use Rattle.launch_laws.proofs.FlowNumbers.{mapped, renumber_pair, renumber_read, list_renumbered, pairs_renumbered, content_renumbered, keys_renumbered, scalar_stays, line_alike}
+use Rattle.launch_laws.proofs.TagRows.{after_while-cons}
 
 -- f keeps the order of numbers
 abbrev pub Keeps : (ℕ → ℕ) → Type 0

@@ -11,7 +11,7 @@ use Rattle.launch_rows.specs.Faults.{comes_before, beside}
 use Rattle.launch_rows.specs.Lines.{without_mark, onto_first, pieces, without_return, without_returns, lines_of, lines, plain_fault}
 use Rattle.launch_rows.specs.Rows.{Row, indentation, unless_nothing, row_of, rows_from}
 use Rattle.launch_yaml.specs.Document.{document_of, parse_at}
-use Rattle.launch_yaml.specs.Laws.{LinesAreTold, MarkChangesNothing, with_returns, HasNoReturn, ReturnsChangeNothing, place_of, EmptyLinesAreNoRows}
+use Rattle.launch_laws.specs.Laws.{LinesAreTold, MarkChangesNothing, with_returns, HasNoReturn, ReturnsChangeNothing, place_of, EmptyLinesAreNoRows}
 
 -- ---- what is read of lines
 
@@ -135,7 +135,7 @@ lines_of_returned text h = ap without_returns (pieces_returned text) ∙ returns
 abbrev NoEnds : List ℕ → Type 0
 NoEnds front = AllByRecursion (λ m. (m ≢ 10) × (m ≢ 13)) front
 
-other_byte : (m x : ℕ) → m ≢ x → (m == x) ≡ false
+pub other_byte : (m x : ℕ) → m ≢ x → (m == x) ≡ false
 other_byte m x differs = elim (cases_Bool (m == x)) [
   | inl e ↦ absurd (differs (grind (arith, nat_tests, e)))
   | inr e ↦ e
@@ -154,7 +154,7 @@ front_stays (b ∷ bs) (m ∷ ms) h = by_test (b == 10) refl (front_stays bs ms 
         ∙ sym (ap (λ (x : ℕ). (m == x) && starts_with nat_eq bs ms) feed ∙ ap (λ (t : Bool). t && starts_with nat_eq bs ms) (other_byte m 10 h.0.0))
     by_test false e more = ap (λ (t : Bool). (m == b) && t) more
 
-both_true : (x y : Bool) → (x && y) ≡ true → (x ≡ true) × (y ≡ true)
+pub both_true : (x y : Bool) → (x && y) ≡ true → (x ≡ true) × (y ≡ true)
 both_true true true k = (refl, refl)
 both_true true false k = absurd cc
 both_true false y k = absurd cc
@@ -171,7 +171,7 @@ rest_stays (b ∷ bs) (m ∷ ms) h e = by_test (b == 10) refl (rest_stays bs ms 
         absurd (h.0.0 (grind (arith, nat_tests, tests.0, k)))
     by_test false k more = more (both_true (m == b) (starts_with nat_eq bs ms) e).1
 
-abbrev mark : List ℕ
+abbrev pub mark : List ℕ
 mark = 0xef ∷ 0xbb ∷ 0xbf ∷ []
 
 mark_has_no_ends : NoEnds mark

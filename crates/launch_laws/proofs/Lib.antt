@@ -1,0 +1,10 @@
+pub mod LineEnds
+pub mod Dedents
+pub mod TagRows
+pub mod FlowNumbers
+pub mod BlockNumbers
+pub mod LineNumbers
+pub mod FaultPlaces
+pub mod BinaryEnds
+pub mod AddedRows
+pub mod FaultsStay

@@ -1,6 +1,0 @@
-use Rattle.launch_yaml.proofs.LineEnds.{empty_lines_are_no_rows}
-use Rattle.launch_yaml.proofs.LineNumbers.{empty_lines_change_numbers as numbers_change}
-use Rattle.launch_yaml.proofs.laws.empty_lines_change_numbers.Goals as goal
-
-pub returns : goal.returns
-returns c = record { rows = empty_lines_are_no_rows; numbers = numbers_change }

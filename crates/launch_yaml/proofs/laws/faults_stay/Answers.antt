@@ -1,5 +1,0 @@
-use Rattle.launch_yaml.proofs.FaultsStay.{faults_stay as they_stay}
-use Rattle.launch_yaml.proofs.laws.faults_stay.Goals as goal
-
-pub returns : goal.returns
-returns c = they_stay

@@ -1,5 +1,0 @@
-use Rattle.launch_yaml.proofs.LineEnds.{mark_changes_nothing, returns_change_nothing}
-use Rattle.launch_yaml.proofs.laws.marks_and_returns_change_nothing.Goals as goal
-
-pub returns : goal.returns
-returns c = record { mark = mark_changes_nothing; returns = returns_change_nothing }

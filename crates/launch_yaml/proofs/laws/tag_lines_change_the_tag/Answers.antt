@@ -1,5 +1,0 @@
-use Rattle.launch_yaml.proofs.TagRows.{tag_row_changes_the_tag}
-use Rattle.launch_yaml.proofs.laws.tag_lines_change_the_tag.Goals as goal
-
-pub returns : goal.returns
-returns c = tag_row_changes_the_tag
