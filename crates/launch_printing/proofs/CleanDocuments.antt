@@ -30,11 +30,11 @@ tagged_clean in_flow name value h inner =
     (clean_append name (behind_tag value (printed_value value)) (clean_text name h.0 h.1) (behind_clean value (printed_value value) inner))
 
 mutual
-  node_clean : (x : Shape) → IsSound x → IsSpellable x → IsClean (printed x)
+  node_clean : (x : Shape) → IsSound x → IsSpellable true x → IsClean (printed x)
   node_clean (node line None value) sound spells = value_clean value sound spells.1
   node_clean (node line (Some name) value) sound spells = tagged_clean true name value spells.0.0 (value_clean value sound spells.1)
 
-  value_clean : (c : Content) → IsSoundContent c → IsSpellableValue c → IsClean (printed_value c)
+  value_clean : (c : Content) → IsSoundContent c → IsSpellableValue true c → IsClean (printed_value c)
   value_clean null sound spells = scalar_clean null refl sound
   value_clean (boolean b) sound spells = scalar_clean (boolean b) refl sound
   value_clean (integer i) sound spells = scalar_clean (integer i) refl sound
@@ -48,13 +48,13 @@ mutual
       clean_append (91 ∷ []) (printed_items xs ++ codes "]") (clean_visible (91 ∷ []) refl)
       (clean_append (printed_items xs) (codes "]") (items_clean xs sound spells).0 (clean_visible (codes "]") refl))
 
-  items_clean : (xs : Shapes) → AreSoundItems xs → AreSpellableItems xs → IsClean (printed_items xs) × IsClean (further_items xs)
+  items_clean : (xs : Shapes) → AreSoundItems xs → AreSpellableItems true xs → IsClean (printed_items xs) × IsClean (further_items xs)
   items_clean no_items sound spells = (clean_nil, clean_nil)
   items_clean (item x xs) sound spells =
       let all = clean_append (printed x) (further_items xs) (node_clean x sound.0 spells.0) (items_clean xs sound.1 spells.1).1 in
       (all, clean_append (44 ∷ 32 ∷ []) (printed x ++ further_items xs) (clean_visible (44 ∷ 32 ∷ []) refl) all)
 
-  pairs_clean : (ps : Pairs) → AreSoundPairs ps → AreSpellablePairs ps → IsClean (printed_pairs ps) × IsClean (further_pairs ps)
+  pairs_clean : (ps : Pairs) → AreSoundPairs ps → AreSpellablePairs true ps → IsClean (printed_pairs ps) × IsClean (further_pairs ps)
   pairs_clean no_pairs sound spells = (clean_nil, clean_nil)
   pairs_clean (pair k v ps) sound spells =
       let values = clean_append (printed v) (further_pairs ps) (node_clean v sound.1 spells.1) (pairs_clean ps sound.2 spells.2).1 in

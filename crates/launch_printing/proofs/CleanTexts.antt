@@ -1,5 +1,5 @@
 -- Bytes that may stand in a text.
-use Rattle.std.proofs.Common.{◌≡◌, ◌≢◌, ℕ, suc, ◌+◌, ◌/◌, ◌%◌, ◌<◌, ◌≤◌, ◌==◌, inl, inr, Bool, true, false, cond, leb, ltb, ◌&&◌, List, [], ◌∷◌, ◌++◌, length, Option, Some, None, option_map, refl, sym, ap, subst, ◌∙◌, append_assoc, arith}
+use Rattle.std.proofs.Common.{◌≡◌, ◌≢◌, ℕ, suc, ◌+◌, ◌/◌, ◌%◌, ◌<◌, ◌≤◌, ◌==◌, inl, inr, Bool, true, false, cond, if◌then◌else◌, leb, ltb, ◌&&◌, List, [], ◌∷◌, ◌++◌, length, Option, Some, None, option_map, refl, sym, ap, subst, ◌∙◌, append_assoc, arith}
 use Rattle.std.specs.Char.{encode_utf8, IsScalar, is_control}
 use Rattle.std.specs.List.{AllByRecursion}
 use Rattle.std.specs.Str.{IsUtf8, chars}
@@ -45,6 +45,14 @@ bad_none bytes h =
 calm_step : (b : ℕ) (bs : List ℕ) → begins_control b bs ≡ false → control_at bs ≡ None → control_at (b ∷ bs) ≡ None
 calm_step b bs h none =
     cond-false (begins_control b bs) (some_place 0) (option_map {U = ℕ} suc (control_at bs)) h ∙ ap (λ (place : Option ℕ). option_map {U = ℕ} suc place) none
+
+pub calm_parts : (b : ℕ) (bs : List ℕ) → control_at (b ∷ bs) ≡ None → (begins_control b bs ≡ false) × (control_at bs ≡ None)
+calm_parts b bs e = by_test (begins_control b bs) (control_at bs) e
+  where
+    by_test : (t : Bool) (o : Option ℕ) → (if t then some_place 0 else option_map {U = ℕ} suc o) ≡ None → (t ≡ false) × (o ≡ None)
+    by_test true o h = cc (h)
+    by_test false None h = (refl, refl)
+    by_test false (Some n) h = cc (h)
 
 no_control : (b : ℕ) (bs : List ℕ) → 32 ≤ b → b ≢ 127 → b ≢ 194 → begins_control b bs ≡ false
 no_control b bs low h k =

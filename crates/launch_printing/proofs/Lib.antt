@@ -6,3 +6,9 @@ pub mod PrintedLists
 pub mod CleanDocuments
 pub mod PrintedRoots
 pub mod PrintedDocuments
+pub mod ReadNames
+pub mod ReadBytes
+pub mod ReadKeys
+pub mod ReadFlow
+pub mod ReadRows
+pub mod ReadDocuments

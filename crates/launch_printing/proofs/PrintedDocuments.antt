@@ -16,7 +16,7 @@ use Rattle.launch_rows.specs.Rows.{Row, is_indentation, indentation, unless_noth
 use Rattle.launch_yaml.specs.Document.{after_directive, after_head, is_inside, root_of, after_document, body_of, document_of, document_in, parse_at}
 use Rattle.launch_printing.specs.Laws.{PrintedReadsBack}
 use Rattle.launch_printing.specs.Printed.{printed}
-use Rattle.launch_printing.proofs.CleanTexts.{IsClean, calm_alone, bad_none}
+use Rattle.launch_printing.proofs.CleanTexts.{IsClean, calm_alone, calm_parts, bad_none}
 use Rattle.launch_printing.proofs.CleanDocuments.{root_clean}
 use Rattle.launch_printing.proofs.PrintedScalars.{IsNone, Starts, outside}
 use Rattle.launch_printing.proofs.PrintedFlow.{isnt, node_starts}
@@ -26,14 +26,6 @@ use Rattle.launch_printing.proofs.PrintedRoots.{only_row, read_root, IsBare, sta
 
 abbrev some_place : ℕ → Option ℕ
 some_place n = Some n
-
-calm_parts : (b : ℕ) (bs : List ℕ) → control_at (b ∷ bs) ≡ None → (begins_control b bs ≡ false) × (control_at bs ≡ None)
-calm_parts b bs e = by_test (begins_control b bs) (control_at bs) e
-  where
-    by_test : (t : Bool) (o : Option ℕ) → (if t then some_place 0 else option_map {U = ℕ} suc o) ≡ None → (t ≡ false) × (o ≡ None)
-    by_test true o h = cc (h)
-    by_test false None h = (refl, refl)
-    by_test false (Some n) h = cc (h)
 
 one_piece : (bytes : List ℕ) → control_at bytes ≡ None → pieces bytes ≡ bytes ∷ []
 one_piece [] h = refl

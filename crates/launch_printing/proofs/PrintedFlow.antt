@@ -22,7 +22,7 @@ use Rattle.yaml_values.specs.KeySets.{IsScalarKey}
 use Rattle.yaml_values.specs.Resolution.{scalar_value}
 use Rattle.yaml_values.specs.Shape.{Shape, Content, node, null, boolean, integer, text, binary, mapping, sequence}
 use Rattle.yaml_values.specs.Tags.{Tag, named, bytes_in_base64, ends_name, name_length, is_name, is_binary, tag_with, tag_at}
-use Rattle.launch_printing.specs.Printed.{in_quotes, printed, printed_value, IsTagName, IsTagOn, IsSpellable, IsSpellableValue}
+use Rattle.launch_printing.specs.Printed.{in_quotes, printed, printed_value, IsTagName, IsTagOn, IsSpellableValue}
 use Rattle.launch_yaml.specs.Renumbering.{renumber, renumber_value}
 use Rattle.launch_printing.proofs.CleanTexts.{clean_text, bad_none}
 use Rattle.launch_printing.proofs.PrintedScalars.{IsNone, IsEnd, Starts, outside, no_scalar, starts_with, quotes_start, scalar_starts, scalar_read, verbatim_read, bytes_read}
@@ -210,7 +210,7 @@ is_collection (sequence xs) = true
 
 pub node_from : (coll : Values) (line : ℕ) (tag : Option (List ℕ)) (value : Content) (rest : List ℕ)
     → (is_collection value ≡ true → coll (printed_value value ++ rest) ≡ read_value (renumber_value one value) rest)
-    → IsSoundContent value → IsTagOn true tag value → IsSpellableValue value → Follows rest
+    → IsSoundContent value → IsTagOn true tag value → IsSpellableValue true value → Follows rest
     → node_with coll 1 (printed (node line tag value) ++ rest) ≡ read_node (renumber one (node line tag value)) rest
 node_from coll line None null rest inner sound tag spells follows = scalar_node coll null rest refl sound follows
 node_from coll line None (boolean b) rest inner sound tag spells follows = scalar_node coll (boolean b) rest refl sound follows

@@ -170,7 +170,7 @@ key_starts k key sound =
     let both = key_sound k key sound in
     subst (Starts outside) (sym (key_text k key).0) (wider (printed_value (content_of k)) (scalar_starts (content_of k) both.0 both.1))
 
-pairs_go_on : (depth fuel : ℕ) (p : Shape × Shape) (keys : List Content) (ps : Pairs) (rest : List ℕ) → PairsAreRead depth ps → AreSoundPairs ps → AreSpellablePairs ps → count_pairs ps < fuel → AreNew keys ps
+pairs_go_on : (depth fuel : ℕ) (p : Shape × Shape) (keys : List Content) (ps : Pairs) (rest : List ℕ) → PairsAreRead depth ps → AreSoundPairs ps → AreSpellablePairs true ps → count_pairs ps < fuel → AreNew keys ps
     → goes_on 125 (pairs_with (nodes_at depth) 1 keys fuel) p (further_pairs ps ++ 125 ∷ rest) ≡ read_pairs (p ∷ to_pairs (renumber_pairs one ps)) rest
 pairs_go_on depth fuel p keys no_pairs rest read sound spells enough new = refl
 pairs_go_on depth fuel p keys (pair k v ps) rest read sound spells enough new =
@@ -181,7 +181,7 @@ pairs_go_on depth fuel p keys (pair k v ps) rest read sound spells enough new =
 
 pairs_step : (depth fuel : ℕ) (k v : Shape) (ps : Pairs) (keys : List Content) (bytes rest : List ℕ) → IsKey k → IsSound k
     → Starts outside (printed v) → ((behind : List ℕ) → Follows behind → nodes_at depth (printed v ++ behind) ≡ read_node (renumber one v) behind)
-    → PairsAreRead depth ps → AreSoundPairs ps → AreSpellablePairs ps
+    → PairsAreRead depth ps → AreSoundPairs ps → AreSpellablePairs true ps
     → after_gap bytes ≡ printed_pairs (pair k v ps) ++ 125 ∷ rest → suc (count_pairs ps) < suc fuel → AreNew keys (pair k v ps)
     → pairs_with (nodes_at depth) 1 keys (suc fuel) bytes ≡ read_pairs (to_pairs (renumber_pairs one (pair k v ps))) rest
 pairs_step depth fuel k v ps keys bytes rest key key_is starts reads more sound spells gap enough new =
@@ -203,7 +203,7 @@ pairs_step depth fuel k v ps keys bytes rest key key_is starts reads more sound 
 
 pairs_from : (depth : ℕ) (k v : Shape) (ps : Pairs) → IsKey k → IsSound k
     → Starts outside (printed v) → ((behind : List ℕ) → Follows behind → nodes_at depth (printed v ++ behind) ≡ read_node (renumber one v) behind)
-    → PairsAreRead depth ps → AreSoundPairs ps → AreSpellablePairs ps → PairsAreRead depth (pair k v ps)
+    → PairsAreRead depth ps → AreSoundPairs ps → AreSpellablePairs true ps → PairsAreRead depth (pair k v ps)
 pairs_from depth k v ps key key_is starts reads more sound spells keys zero bytes rest gap enough new = absurd (omega (arith, enough))
 pairs_from depth k v ps key key_is starts reads more sound spells keys (suc fuel) bytes rest gap enough new =
     pairs_step depth fuel k v ps keys bytes rest key key_is starts reads more sound spells gap enough new
@@ -216,7 +216,7 @@ no_pairs_from depth keys (suc fuel) bytes rest gap enough new =
 
 -- ---- keys that differ
 
-same_sym : (a b : Content) → same_key a b ≡ same_key b a
+pub same_sym : (a b : Content) → same_key a b ≡ same_key b a
 same_sym (boolean a) (boolean b) = bool_eq_equiv.symm a b
 same_sym (integer i) (integer j) = int_eq_equiv.symm i j
 same_sym (text a) (text b) = nat_list_eq_equiv.symm a b
@@ -282,7 +282,7 @@ items_ungapped (item x xs) rest sound =
     ap after_gap (append_assoc (printed x) (further_items xs) (93 ∷ rest)) ∙ no_gap (printed x) (further_items xs ++ 93 ∷ rest) (node_starts x sound.0)
     ∙ sym (append_assoc (printed x) (further_items xs) (93 ∷ rest))
 
-pairs_ungapped : (ps : Pairs) (rest : List ℕ) → AreSoundPairs ps → AreSpellablePairs ps → after_gap (printed_pairs ps ++ 125 ∷ rest) ≡ printed_pairs ps ++ 125 ∷ rest
+pairs_ungapped : (ps : Pairs) (rest : List ℕ) → AreSoundPairs ps → AreSpellablePairs true ps → after_gap (printed_pairs ps ++ 125 ∷ rest) ≡ printed_pairs ps ++ 125 ∷ rest
 pairs_ungapped no_pairs rest sound spells = refl
 pairs_ungapped (pair k v ps) rest sound spells =
     ap after_gap (pair_text k v ps rest) ∙ no_gap (printed k) (58 ∷ 32 ∷ printed v ++ (further_pairs ps ++ 125 ∷ rest)) (key_starts k spells.0 sound.0)
@@ -298,7 +298,7 @@ sequence_from depth xs rest read sound =
     (read (suc (length bytes)) bytes rest (items_ungapped xs rest sound) (all_items_fit xs rest))
     ∙ ap (λ (ys : Shapes). read_value (sequence ys) rest) (listed (renumber_items one xs))
 
-mapping_from : (depth : ℕ) (ps : Pairs) (rest : List ℕ) → PairsAreRead depth ps → AreSoundPairs ps → AreSpellablePairs ps → IsDistinct same_key (keys_of ps)
+mapping_from : (depth : ℕ) (ps : Pairs) (rest : List ℕ) → PairsAreRead depth ps → AreSoundPairs ps → AreSpellablePairs true ps → IsDistinct same_key (keys_of ps)
     → collection_at (suc depth) 1 (printed_value (mapping ps) ++ rest) ≡ read_value (mapping (renumber_pairs one ps)) rest
 unfolding collection_at pairs_of
 mapping_from depth ps rest read sound spells distinct =
@@ -314,11 +314,11 @@ in_depth P below zero deep h = absurd (omega (arith, deep))
 in_depth P below (suc d) deep h = h d (omega (arith, deep))
 
 mutual
-  pub node_read : (x : Shape) (depth : ℕ) (rest : List ℕ) → depth_of x ≤ depth → IsSound x → IsSpellable x → Follows rest → nodes_at depth (printed x ++ rest) ≡ read_node (renumber one x) rest
+  pub node_read : (x : Shape) (depth : ℕ) (rest : List ℕ) → depth_of x ≤ depth → IsSound x → IsSpellable true x → Follows rest → nodes_at depth (printed x ++ rest) ≡ read_node (renumber one x) rest
   node_read (node line tag value) depth rest deep sound spells follows =
       node_from (collection_at depth 1) line tag value rest (λ h. value_read value depth rest deep sound spells.1 h) sound spells.0 spells.1 follows
 
-  pub value_read : (c : Content) (depth : ℕ) (rest : List ℕ) → depth_of_content c ≤ depth → IsSoundContent c → IsSpellableValue c → is_collection c ≡ true
+  pub value_read : (c : Content) (depth : ℕ) (rest : List ℕ) → depth_of_content c ≤ depth → IsSoundContent c → IsSpellableValue true c → is_collection c ≡ true
       → collection_at depth 1 (printed_value c ++ rest) ≡ read_value (renumber_value one c) rest
   value_read null depth rest deep sound spells h = cc (h)
   value_read (boolean b) depth rest deep sound spells h = cc (h)
@@ -332,13 +332,13 @@ mutual
       in_depth (λ d. collection_at d 1 (printed_value (sequence xs) ++ rest) ≡ read_value (sequence (renumber_items one xs)) rest) (depth_of_items xs) depth deep
       (λ d inner. sequence_from d xs rest (items_read xs d inner sound spells) sound)
 
-  items_read : (xs : Shapes) (depth : ℕ) → depth_of_items xs ≤ depth → AreSoundItems xs → AreSpellableItems xs → ItemsAreRead depth xs
+  items_read : (xs : Shapes) (depth : ℕ) → depth_of_items xs ≤ depth → AreSoundItems xs → AreSpellableItems true xs → ItemsAreRead depth xs
   items_read no_items depth deep sound spells = no_items_from depth
   items_read (item x xs) depth deep sound spells =
       items_from depth x xs (node_starts x sound.0) (λ behind follows. node_read x depth behind (omega (arith, deep)) sound.0 spells.0 follows)
       (items_read xs depth (omega (arith, deep)) sound.1 spells.1) sound.1
 
-  pairs_read : (ps : Pairs) (depth : ℕ) → depth_of_pairs ps ≤ depth → AreSoundPairs ps → AreSpellablePairs ps → PairsAreRead depth ps
+  pairs_read : (ps : Pairs) (depth : ℕ) → depth_of_pairs ps ≤ depth → AreSoundPairs ps → AreSpellablePairs true ps → PairsAreRead depth ps
   pairs_read no_pairs depth deep sound spells = no_pairs_from depth
   pairs_read (pair k v ps) depth deep sound spells =
       pairs_from depth k v ps spells.0 sound.0 (node_starts v sound.1) (λ behind follows. node_read v depth behind (omega (arith, deep)) sound.1 spells.1 follows)

@@ -186,7 +186,7 @@ collection_root mode (binary bytes) h = cc (h)
 collection_root mode (mapping ps) h = refl
 collection_root mode (sequence xs) h = refl
 
-collection_value_root : (mode : Mode) (c : Content) → depth_of_content c ≤ 64 → IsSoundContent c → IsSpellableValue c → is_collection c ≡ true → value_at 64 1 mode (printed_value c) ≡ read_value (renumber_value one c) []
+collection_value_root : (mode : Mode) (c : Content) → depth_of_content c ≤ 64 → IsSoundContent c → IsSpellableValue true c → is_collection c ≡ true → value_at 64 1 mode (printed_value c) ≡ read_value (renumber_value one c) []
 collection_value_root mode c deep sound spells h =
     collection_root mode c h ∙ ap (collection_at 64 1) (sym (append-nil (printed_value c))) ∙ value_read c 64 [] deep sound spells h
 

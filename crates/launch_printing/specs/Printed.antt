@@ -1,6 +1,7 @@
 -- Documents as texts: one flow line.
 --     printed x      a document's text
 --     IsPrintable x      a flow line can spell the document
+--     HasFlowNames x      the names of the tags inside its maps and sequences can stand in a flow value
 use Rattle.std.specs.Prelude.{ℕ, ◌<◌, ◌≡◌, ◌==◌, ◌||◌, ◌/◌, ◌%◌, if◌then◌else◌, Bool, true, false, IsTrue, List, [], ◌∷◌, ◌++◌, map, codes, Option, Some, None}
 use Rattle.std.specs.Char.{encode_utf8, is_control}
 use Rattle.std.specs.Fmt.{digit_glyph, signed_decimal}
@@ -8,6 +9,7 @@ use Rattle.std.specs.List.{AllByRecursion, IsDistinct, flat_map}
 use Rattle.std.specs.Str.{IsUtf8, chars}
 use Rattle.base64.specs.GeneralPurpose.{encode_of}
 use Rattle.base64.specs.Engines.{standard}
+use Rattle.yaml_scalars.specs.Spaces.{is_one_of}
 use Rattle.yaml_values.specs.Shape.{Shape, Content, Shapes, Pairs, node, null, boolean, integer, text, binary, mapping, sequence, no_items, item, no_pairs, pair, to_pairs, content_of}
 use Rattle.yaml_values.specs.Documents.{IsDocument}
 use Rattle.yaml_values.specs.KeySets.{IsScalarKey}
@@ -98,32 +100,67 @@ IsKey (node line tag value) = (tag ≡ None) × IsScalarKey value
 abbrev pub keys_of : Pairs → List Content
 keys_of ps = map (λ (p : Shape × Shape). content_of p.0) (to_pairs ps)
 
+-- The tags and keys can stand where they are. in_flow says whether each name must be one that a flow value can have, or may be one
+-- that only rows can have.
 abbrev mutual
-  pub IsSpellable : Shape → Type 0
-  IsSpellable (node line tag value) = IsTagOn true tag value × IsSpellableValue value
+  pub IsSpellable : Bool → Shape → Type 0
+  IsSpellable in_flow (node line tag value) = IsTagOn in_flow tag value × IsSpellableValue in_flow value
 
-  pub IsSpellableValue : Content → Type 0
-  IsSpellableValue null = Unit {0}
-  IsSpellableValue (boolean b) = Unit {0}
-  IsSpellableValue (integer i) = Unit {0}
-  IsSpellableValue (text bytes) = Unit {0}
-  IsSpellableValue (binary bytes) = AllByRecursion (λ b. b < 256) bytes
-  IsSpellableValue (mapping ps) = IsDistinct same_key (keys_of ps) × AreSpellablePairs ps
-  IsSpellableValue (sequence xs) = AreSpellableItems xs
+  pub IsSpellableValue : Bool → Content → Type 0
+  IsSpellableValue in_flow null = Unit {0}
+  IsSpellableValue in_flow (boolean b) = Unit {0}
+  IsSpellableValue in_flow (integer i) = Unit {0}
+  IsSpellableValue in_flow (text bytes) = Unit {0}
+  IsSpellableValue in_flow (binary bytes) = AllByRecursion (λ b. b < 256) bytes
+  IsSpellableValue in_flow (mapping ps) = IsDistinct same_key (keys_of ps) × AreSpellablePairs in_flow ps
+  IsSpellableValue in_flow (sequence xs) = AreSpellableItems in_flow xs
 
-  pub AreSpellableItems : Shapes → Type 0
-  AreSpellableItems no_items = Unit {0}
-  AreSpellableItems (item x xs) = IsSpellable x × AreSpellableItems xs
+  pub AreSpellableItems : Bool → Shapes → Type 0
+  AreSpellableItems in_flow no_items = Unit {0}
+  AreSpellableItems in_flow (item x xs) = IsSpellable in_flow x × AreSpellableItems in_flow xs
 
-  pub AreSpellablePairs : Pairs → Type 0
-  AreSpellablePairs no_pairs = Unit {0}
-  AreSpellablePairs (pair k v ps) = IsKey k × IsSpellable v × AreSpellablePairs ps
+  pub AreSpellablePairs : Bool → Pairs → Type 0
+  AreSpellablePairs in_flow no_pairs = Unit {0}
+  AreSpellablePairs in_flow (pair k v ps) = IsKey k × IsSpellable in_flow v × AreSpellablePairs in_flow ps
 
 -- the same of a document, whose own tag stands in no flow value
 abbrev pub IsSpellableRoot : Shape → Type 0
-IsSpellableRoot (node line tag value) = IsTagOn false tag value × IsSpellableValue value
+IsSpellableRoot (node line tag value) = IsTagOn false tag value × IsSpellableValue true value
 
 -- A document of at most 64 maps and sequences inside each other, with integers in range and texts without a zero byte, in which
 -- the tags and the keys can stand.
 abbrev pub IsPrintable : Shape → Type 0
 IsPrintable x = IsDocument x × IsSpellableRoot x
+
+-- ---- names that can stand in a flow value
+
+-- no comma, bracket or brace is in the name of a tag
+abbrev pub HasFlowName : Option (List ℕ) → Type 0
+HasFlowName None = Unit {0}
+HasFlowName (Some name) = AllByRecursion (λ b. is_one_of (codes ",[]{}") b ≡ false) name
+
+-- none is in the name of a tag inside a value
+abbrev mutual
+  pub HasFlowNamesInside : Content → Type 0
+  HasFlowNamesInside null = Unit {0}
+  HasFlowNamesInside (boolean b) = Unit {0}
+  HasFlowNamesInside (integer i) = Unit {0}
+  HasFlowNamesInside (text bytes) = Unit {0}
+  HasFlowNamesInside (binary bytes) = Unit {0}
+  HasFlowNamesInside (mapping ps) = PairsHaveFlowNames ps
+  HasFlowNamesInside (sequence xs) = ItemsHaveFlowNames xs
+
+  pub ItemsHaveFlowNames : Shapes → Type 0
+  ItemsHaveFlowNames no_items = Unit {0}
+  ItemsHaveFlowNames (item x xs) = NodeHasFlowNames x × ItemsHaveFlowNames xs
+
+  pub PairsHaveFlowNames : Pairs → Type 0
+  PairsHaveFlowNames no_pairs = Unit {0}
+  PairsHaveFlowNames (pair k v ps) = NodeHasFlowNames v × PairsHaveFlowNames ps
+
+  pub NodeHasFlowNames : Shape → Type 0
+  NodeHasFlowNames (node line tag value) = HasFlowName tag × HasFlowNamesInside value
+
+-- none is in the name of a tag inside a map or a sequence
+abbrev pub HasFlowNames : Shape → Type 0
+HasFlowNames x = HasFlowNamesInside (content_of x)
