@@ -95,8 +95,8 @@ LacksStart rows e = (r : Row) × (rows ≡ r ∷ []) × (is_directive r ≡ true
 abbrev pub EndsWithReturn : List ℕ → Type 0
 EndsWithReturn text = (front : List ℕ) × (text ≡ front ++ 13 ∷ [])
 
--- A line feed behind a text at fault, and whatever stands behind that, leave its fault, unless it is for what is missing. Behind
--- a carriage return a line feed would make it an end of a line.
+-- A line feed behind a text at fault, and whatever stands behind that, leave its fault, unless it is for what is missing. A
+-- carriage return at the text's end would go, since a line feed follows.
 abbrev pub FaultsStay : Type 0
 FaultsStay =
     (text more : List ℕ) (e : Fault) → parse_at text ≡ Err e
