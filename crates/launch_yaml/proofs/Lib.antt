@@ -1,5 +1,4 @@
 pub mod SoundRows
-pub mod Refusals
 pub mod Splits
 pub mod Loops
 pub mod Depths
