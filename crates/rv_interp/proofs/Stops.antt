@@ -9,6 +9,7 @@ use Rattle.guest_memory.specs.Words.{load_of, store_of}
 use Rattle.rv_code.specs.declared.instr.Instr.{Instr}
 use Rattle.rv_interp.specs.declared.execution.Outcome.{Outcome}
 use Rattle.rv_interp.specs.declared.execution.Outcome.TheVariants as outcome
+use Rattle.rv_interp.specs.declared.values.AtomicOperation.{AtomicOperation}
 use Rattle.rv_interp.specs.Kinds as kind
 use Rattle.rv_interp.specs.declared.reservation.Reservation.{Reservation}
 use Rattle.rv_interp.specs.Kinds.{Kind, kind_of, width_of}
@@ -47,13 +48,13 @@ exchanged_keeps : (r : Registers) (m : Pages) (i : Instr) (v : ℕ) (written : R
 exchanged_keeps r m i v (Ok after) = record { regs = λ n. absurd (n refl); memory = λ n. absurd (n refl) }
 exchanged_keeps r m i v (Err fault) = record { regs = λ n. refl; memory = λ n. refl }
 
-exchange_keeps : (r : Registers) (m : Pages) (i : Instr) (a : ℕ) (read : Result ℕ MemFault) → KeepsBoth (exchange_of r m i a read) r m
-exchange_keeps r m i a (Ok v) = exchanged_keeps r m i v (store_of m a (width_of i.op) (atomic_value (width_of i.op) i.op v (register r i.rs2)))
-exchange_keeps r m i a (Err fault) = record { regs = λ n. refl; memory = λ n. refl }
+exchange_keeps : (r : Registers) (m : Pages) (x : AtomicOperation) (i : Instr) (a : ℕ) (read : Result ℕ MemFault) → KeepsBoth (exchange_of r m x i a read) r m
+exchange_keeps r m x i a (Ok v) = exchanged_keeps r m i v (store_of m a (width_of i.op) (atomic_value (width_of i.op) x v (register r i.rs2)))
+exchange_keeps r m x i a (Err fault) = record { regs = λ n. refl; memory = λ n. refl }
 
-atomic_keeps : (b : Bool) (r : Registers) (m : Pages) (i : Instr) (a : ℕ) → KeepsBoth (cond b (exchange_of r m i a (load_of m a (width_of i.op))) (memory_trapped r m signal.Bus)) r m
-atomic_keeps true r m i a = exchange_keeps r m i a (load_of m a (width_of i.op))
-atomic_keeps false r m i a = record { regs = λ n. refl; memory = λ n. refl }
+atomic_keeps : (b : Bool) (r : Registers) (m : Pages) (x : AtomicOperation) (i : Instr) (a : ℕ) → KeepsBoth (cond b (exchange_of r m x i a (load_of m a (width_of i.op))) (memory_trapped r m signal.Bus)) r m
+atomic_keeps true r m x i a = exchange_keeps r m x i a (load_of m a (width_of i.op))
+atomic_keeps false r m x i a = record { regs = λ n. refl; memory = λ n. refl }
 
 reserved_keeps : (s : Machine) (i : Instr) (a : ℕ) (read : Result ℕ MemFault) → KeepsAll (reserved_of s i a read) s
 reserved_keeps s i a (Ok v) = λ n. absurd (n refl)
@@ -88,10 +89,10 @@ meaning_keeps kind.LoadUpper i s = λ n. absurd (n refl)
 meaning_keeps kind.AddUpper i s = λ n. absurd (n refl)
 meaning_keeps kind.Jump i s = in_registers_keeps s _ (jump_keeps (plus_immediate s.regs.pc i % 4 == 0) s.regs _ signal.Bus)
 meaning_keeps kind.JumpRegister i s = in_registers_keeps s _ (jump_keeps _ s.regs _ signal.Bus)
-meaning_keeps kind.Branch i s = in_registers_keeps s _ (branch_keeps (is_taken i.op (register s.regs i.rs1) (register s.regs i.rs2)) s.regs (plus_immediate s.regs.pc i))
+meaning_keeps (kind.Branch c) i s = in_registers_keeps s _ (branch_keeps (is_taken c (register s.regs i.rs1) (register s.regs i.rs2)) s.regs (plus_immediate s.regs.pc i))
 meaning_keeps kind.Load i s = in_registers_keeps s _ (load_keeps s.regs i (load_of s.memory (address s.regs i) (width_of i.op)))
 meaning_keeps kind.Store i s = in_memory_keeps s _ (store_keeps s.regs s.memory (store_of s.memory (address s.regs i) (width_of i.op) (register s.regs i.rs2)))
-meaning_keeps kind.Atomic i s = in_memory_keeps s _ (atomic_keeps (register s.regs i.rs1 % width_of i.op == 0) s.regs s.memory i (register s.regs i.rs1))
+meaning_keeps (kind.Atomic x) i s = in_memory_keeps s _ (atomic_keeps (register s.regs i.rs1 % width_of i.op == 0) s.regs s.memory x i (register s.regs i.rs1))
 meaning_keeps kind.LoadReserved i s = reserve_keeps (register s.regs i.rs1 % width_of i.op == 0) s i (register s.regs i.rs1)
 meaning_keeps kind.StoreConditional i s = conditional_keeps (register s.regs i.rs1 % width_of i.op == 0) s i (register s.regs i.rs1)
 meaning_keeps kind.Fence i s = λ n. absurd (n refl)

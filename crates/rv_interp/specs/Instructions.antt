@@ -11,6 +11,8 @@ use Rattle.rv_code.specs.declared.instr.Instr.{Instr}
 use Rattle.rv_code.specs.Decoding.{decode_of}
 use Rattle.rv_code.specs.Operations.{alu_of, register as bits_of}
 use Rattle.rv_interp.specs.declared.execution.Outcome.TheVariants as outcome
+use Rattle.rv_interp.specs.declared.values.Condition.{Condition}
+use Rattle.rv_interp.specs.declared.values.AtomicOperation.{AtomicOperation}
 use Rattle.rv_interp.specs.Kinds as kind
 use Rattle.rv_interp.specs.Kinds.{Kind, kind_of, width_of}
 use Rattle.rv_interp.specs.Machine.{Machine, Step, RegistersStep, MemoryStep, machine, in_registers, in_memory, nothing_held, holding, holds}
@@ -52,9 +54,9 @@ abbrev pub jump_register_of : Registers → Instr → RegistersStep
 jump_register_of r i = jumped_of r i.rd (next r) (address r i - address r i % 2)
 
 -- a branch; register x0 isn't changed
-abbrev pub branch_of : Registers → Instr → RegistersStep
-branch_of r i =
-    cond (is_taken i.op (register r i.rs1) (register r i.rs2)) (jumped_of r 0 0 (plus_immediate r.pc i)) (done_of r 0 0)
+abbrev pub branch_of : Registers → Condition → Instr → RegistersStep
+branch_of r c i =
+    cond (is_taken c (register r i.rs1) (register r i.rs2)) (jumped_of r 0 0 (plus_immediate r.pc i)) (done_of r 0 0)
 
 -- ---- memory
 
@@ -88,17 +90,17 @@ exchanged_of r m i v (Ok n) = memory_done r n i.rd (loaded_value i.op v)
 exchanged_of r m i v (Err fault) = memory_trapped r m signal.Segv
 
 -- an atomic instruction at an address that read this, or is a segmentation fault
-abbrev pub exchange_of : Registers → Pages → Instr → ℕ → Result ℕ MemFault → MemoryStep
-exchange_of r m i a (Ok v) =
-    exchanged_of r m i v (store_of m a (width_of i.op) (atomic_value (width_of i.op) i.op v (register r i.rs2)))
-exchange_of r m i a (Err fault) = memory_trapped r m signal.Segv
+abbrev pub exchange_of : Registers → Pages → AtomicOperation → Instr → ℕ → Result ℕ MemFault → MemoryStep
+exchange_of r m x i a (Ok v) =
+    exchanged_of r m i v (store_of m a (width_of i.op) (atomic_value (width_of i.op) x v (register r i.rs2)))
+exchange_of r m x i a (Err fault) = memory_trapped r m signal.Segv
 
 -- an atomic instruction at an address; one that isn't a multiple of the width is a bus error
-abbrev pub atomic_at : Registers → Pages → Instr → ℕ → MemoryStep
-atomic_at r m i a = cond (a % width_of i.op == 0) (exchange_of r m i a (load_of m a (width_of i.op))) (memory_trapped r m signal.Bus)
+abbrev pub atomic_at : Registers → Pages → AtomicOperation → Instr → ℕ → MemoryStep
+atomic_at r m x i a = cond (a % width_of i.op == 0) (exchange_of r m x i a (load_of m a (width_of i.op))) (memory_trapped r m signal.Bus)
 
-abbrev pub atomic_step : Registers → Pages → Instr → MemoryStep
-atomic_step r m i = atomic_at r m i (register r i.rs1)
+abbrev pub atomic_step : Registers → Pages → AtomicOperation → Instr → MemoryStep
+atomic_step r m x i = atomic_at r m x i (register r i.rs1)
 
 -- ---- reservations ("Load-Reserved/Store-Conditional Instructions")
 
@@ -144,10 +146,10 @@ meaning_of kind.LoadUpper i s = in_registers s (done_of s.regs i.rd (bits_of i.i
 meaning_of kind.AddUpper i s = in_registers s (done_of s.regs i.rd (plus_immediate s.regs.pc i))
 meaning_of kind.Jump i s = in_registers s (jumped_of s.regs i.rd (next s.regs) (plus_immediate s.regs.pc i))
 meaning_of kind.JumpRegister i s = in_registers s (jump_register_of s.regs i)
-meaning_of kind.Branch i s = in_registers s (branch_of s.regs i)
+meaning_of (kind.Branch c) i s = in_registers s (branch_of s.regs c i)
 meaning_of kind.Load i s = in_registers s (load_step s.regs s.memory i)
 meaning_of kind.Store i s = in_memory s (store_step s.regs s.memory i)
-meaning_of kind.Atomic i s = in_memory s (atomic_step s.regs s.memory i)
+meaning_of (kind.Atomic x) i s = in_memory s (atomic_step s.regs s.memory x i)
 meaning_of kind.LoadReserved i s = reserve_step s i
 meaning_of kind.StoreConditional i s = conditional_step s i
 meaning_of kind.Fence i s = in_registers s (done_of s.regs 0 0)

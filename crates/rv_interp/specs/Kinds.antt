@@ -2,8 +2,12 @@
 use Rattle.std.specs.Prelude.{ℕ}
 use Rattle.rv_code.specs.declared.instr.Op.{Op}
 use Rattle.rv_code.specs.declared.instr.Op.TheVariants as op
+use Rattle.rv_interp.specs.declared.values.Condition.{Condition}
+use Rattle.rv_interp.specs.declared.values.Condition.TheVariants as condition
+use Rattle.rv_interp.specs.declared.values.AtomicOperation.{AtomicOperation}
+use Rattle.rv_interp.specs.declared.values.AtomicOperation.TheVariants as operation
 
--- what an instruction does, but for its operation
+-- what an instruction does, but for an operation on registers, and the width and sign of what is read or written
 pub data Kind : Type 0 where
   -- an operation on two registers
   Registers : Kind
@@ -17,7 +21,8 @@ pub data Kind : Type 0 where
   Jump : Kind
   -- JALR
   JumpRegister : Kind
-  Branch : Kind
+  -- BEQ, BNE, BLT, BGE, BLTU and BGEU
+  Branch : Condition → Kind
   Load : Kind
   Store : Kind
   -- LR
@@ -25,7 +30,7 @@ pub data Kind : Type 0 where
   -- SC
   StoreConditional : Kind
   -- AMO
-  Atomic : Kind
+  Atomic : AtomicOperation → Kind
   -- FENCE and FENCE.I, which are nothing here
   Fence : Kind
   Ecall : Kind
@@ -37,12 +42,12 @@ kind_of op.Lui = LoadUpper
 kind_of op.Auipc = AddUpper
 kind_of op.Jal = Jump
 kind_of op.Jalr = JumpRegister
-kind_of op.Beq = Branch
-kind_of op.Bne = Branch
-kind_of op.Blt = Branch
-kind_of op.Bge = Branch
-kind_of op.Bltu = Branch
-kind_of op.Bgeu = Branch
+kind_of op.Beq = Branch condition.Equal
+kind_of op.Bne = Branch condition.NotEqual
+kind_of op.Blt = Branch condition.Less
+kind_of op.Bge = Branch condition.NotLess
+kind_of op.Bltu = Branch condition.LessUnsigned
+kind_of op.Bgeu = Branch condition.NotLessUnsigned
 kind_of op.Lb = Load
 kind_of op.Lh = Load
 kind_of op.Lw = Load
@@ -99,24 +104,24 @@ kind_of op.LrW = LoadReserved
 kind_of op.LrD = LoadReserved
 kind_of op.ScW = StoreConditional
 kind_of op.ScD = StoreConditional
-kind_of op.AmoswapW = Atomic
-kind_of op.AmoswapD = Atomic
-kind_of op.AmoaddW = Atomic
-kind_of op.AmoaddD = Atomic
-kind_of op.AmoxorW = Atomic
-kind_of op.AmoxorD = Atomic
-kind_of op.AmoandW = Atomic
-kind_of op.AmoandD = Atomic
-kind_of op.AmoorW = Atomic
-kind_of op.AmoorD = Atomic
-kind_of op.AmominW = Atomic
-kind_of op.AmominD = Atomic
-kind_of op.AmomaxW = Atomic
-kind_of op.AmomaxD = Atomic
-kind_of op.AmominuW = Atomic
-kind_of op.AmominuD = Atomic
-kind_of op.AmomaxuW = Atomic
-kind_of op.AmomaxuD = Atomic
+kind_of op.AmoswapW = Atomic operation.Swap
+kind_of op.AmoswapD = Atomic operation.Swap
+kind_of op.AmoaddW = Atomic operation.Add
+kind_of op.AmoaddD = Atomic operation.Add
+kind_of op.AmoxorW = Atomic operation.Xor
+kind_of op.AmoxorD = Atomic operation.Xor
+kind_of op.AmoandW = Atomic operation.And
+kind_of op.AmoandD = Atomic operation.And
+kind_of op.AmoorW = Atomic operation.Or
+kind_of op.AmoorD = Atomic operation.Or
+kind_of op.AmominW = Atomic operation.Min
+kind_of op.AmominD = Atomic operation.Min
+kind_of op.AmomaxW = Atomic operation.Max
+kind_of op.AmomaxD = Atomic operation.Max
+kind_of op.AmominuW = Atomic operation.MinUnsigned
+kind_of op.AmominuD = Atomic operation.MinUnsigned
+kind_of op.AmomaxuW = Atomic operation.MaxUnsigned
+kind_of op.AmomaxuD = Atomic operation.MaxUnsigned
 kind_of op.Fence = Fence
 kind_of op.FenceI = Fence
 kind_of op.Ecall = Ecall

@@ -1,25 +1,28 @@
 -- What instructions decide and compute besides the operations on registers: whether a branch is taken, what a load
 -- gives, and what an atomic instruction writes. A register is a number below 2^64; where an operation is signed, it is
 -- looked at in two's complement.
-use Rattle.std.specs.Prelude.{ℕ, ◌+◌, ◌%◌, ◌^◌, ◌==◌, Bool, false, not, cond, nat_lt, ℤ, int_lt, bit_and, bit_or}
+use Rattle.std.specs.Prelude.{ℕ, ◌+◌, ◌%◌, ◌^◌, ◌==◌, Bool, not, cond, nat_lt, ℤ, int_lt, bit_and, bit_or}
 use Rattle.std.specs.Int.{w8, w16, w32, cast_signed}
 use Rattle.std.specs.Int.Bits.{bit_xor}
 use Rattle.rv_code.specs.declared.instr.Op.{Op}
 use Rattle.rv_code.specs.declared.instr.Op.TheVariants as op
 use Rattle.rv_code.specs.Operations.{signed, register as bits_of}
+use Rattle.rv_interp.specs.declared.values.Condition.{Condition}
+use Rattle.rv_interp.specs.declared.values.Condition.TheVariants as condition
+use Rattle.rv_interp.specs.declared.values.AtomicOperation.{AtomicOperation}
+use Rattle.rv_interp.specs.declared.values.AtomicOperation.TheVariants as operation
 
 abbrev pub signed_word : ℕ → ℤ
 signed_word a = cast_signed w32 a
 
--- whether the branch is taken ("Conditional Branches")
-abbrev pub is_taken : Op → ℕ → ℕ → Bool
-is_taken op.Beq a b = a == b
-is_taken op.Bne a b = not (a == b)
-is_taken op.Blt a b = int_lt (signed a) (signed b)
-is_taken op.Bge a b = not (int_lt (signed a) (signed b))
-is_taken op.Bltu a b = nat_lt a b
-is_taken op.Bgeu a b = not (nat_lt a b)
-is_taken _ a b = false
+-- whether a branch of this condition is taken ("Conditional Branches")
+abbrev pub is_taken : Condition → ℕ → ℕ → Bool
+is_taken condition.Equal a b = a == b
+is_taken condition.NotEqual a b = not (a == b)
+is_taken condition.Less a b = int_lt (signed a) (signed b)
+is_taken condition.NotLess a b = not (int_lt (signed a) (signed b))
+is_taken condition.LessUnsigned a b = nat_lt a b
+is_taken condition.NotLessUnsigned a b = not (nat_lt a b)
 
 -- a byte, a half word and a word, sign-extended to 64 bits
 abbrev pub extended_byte : ℕ → ℕ
@@ -124,31 +127,29 @@ loaded_value op.Ecall v = v
 loaded_value op.Ebreak v = v
 
 -- what an atomic instruction writes to memory, where a was read and b is the second register's number, of which those on
--- words use the low words ("Atomic Memory Operations"); 0 for other operations
-abbrev pub double_value : Op → ℕ → ℕ → ℕ
-double_value op.AmoswapD a b = b
-double_value op.AmoaddD a b = (a + b) % 2 ^ 64
-double_value op.AmoxorD a b = bit_xor a b
-double_value op.AmoandD a b = bit_and a b
-double_value op.AmoorD a b = bit_or a b
-double_value op.AmominD a b = cond (int_lt (signed a) (signed b)) a b
-double_value op.AmomaxD a b = cond (int_lt (signed a) (signed b)) b a
-double_value op.AmominuD a b = cond (nat_lt a b) a b
-double_value op.AmomaxuD a b = cond (nat_lt a b) b a
-double_value _ a b = 0
+-- words use the low words ("Atomic Memory Operations")
+abbrev pub double_value : AtomicOperation → ℕ → ℕ → ℕ
+double_value operation.Swap a b = b
+double_value operation.Add a b = (a + b) % 2 ^ 64
+double_value operation.Xor a b = bit_xor a b
+double_value operation.And a b = bit_and a b
+double_value operation.Or a b = bit_or a b
+double_value operation.Min a b = cond (int_lt (signed a) (signed b)) a b
+double_value operation.Max a b = cond (int_lt (signed a) (signed b)) b a
+double_value operation.MinUnsigned a b = cond (nat_lt a b) a b
+double_value operation.MaxUnsigned a b = cond (nat_lt a b) b a
 
-abbrev pub word_value : Op → ℕ → ℕ → ℕ
-word_value op.AmoswapW a b = b
-word_value op.AmoaddW a b = (a + b) % 2 ^ 32
-word_value op.AmoxorW a b = bit_xor a b
-word_value op.AmoandW a b = bit_and a b
-word_value op.AmoorW a b = bit_or a b
-word_value op.AmominW a b = cond (int_lt (signed_word a) (signed_word b)) a b
-word_value op.AmomaxW a b = cond (int_lt (signed_word a) (signed_word b)) b a
-word_value op.AmominuW a b = cond (nat_lt a b) a b
-word_value op.AmomaxuW a b = cond (nat_lt a b) b a
-word_value _ a b = 0
+abbrev pub word_value : AtomicOperation → ℕ → ℕ → ℕ
+word_value operation.Swap a b = b
+word_value operation.Add a b = (a + b) % 2 ^ 32
+word_value operation.Xor a b = bit_xor a b
+word_value operation.And a b = bit_and a b
+word_value operation.Or a b = bit_or a b
+word_value operation.Min a b = cond (int_lt (signed_word a) (signed_word b)) a b
+word_value operation.Max a b = cond (int_lt (signed_word a) (signed_word b)) b a
+word_value operation.MinUnsigned a b = cond (nat_lt a b) a b
+word_value operation.MaxUnsigned a b = cond (nat_lt a b) b a
 
 -- the number that an atomic instruction of this width writes
-abbrev pub atomic_value : ℕ → Op → ℕ → ℕ → ℕ
-atomic_value n op a b = cond (n == 4) (word_value op (a % 2 ^ 32) (b % 2 ^ 32)) (double_value op a b)
+abbrev pub atomic_value : ℕ → AtomicOperation → ℕ → ℕ → ℕ
+atomic_value n x a b = cond (n == 4) (word_value x (a % 2 ^ 32) (b % 2 ^ 32)) (double_value x a b)

@@ -14,23 +14,30 @@ ghost use Rattle.guest_memory.specs.Words.{load_of, store_of};
 use crate::execution::Outcome;
 use crate::jumps::done;
 use crate::reservation::Reservation;
-use crate::values::{atomic_value, loaded_value};
+use crate::values::{AtomicOperation, atomic_value, loaded_value};
 use crate::width::width;
 use abi_base::{Regs, Signal};
 use guest_memory::{Access, GuestMemory};
 use rv_code::Instr;
 
 // Reads a number and writes another in its place, at a multiple of the width.
-fn exchange(regs: &mut Regs, pc: &mut u64, mem: &mut GuestMemory, instr: &Instr, at: u64) -> Outcome
+fn exchange(
+    regs: &mut Regs,
+    pc: &mut u64,
+    mem: &mut GuestMemory,
+    instr: &Instr,
+    operation: AtomicOperation,
+    at: u64,
+) -> Outcome
     requires { NamesRegisters instr.now }
-    ensures exact { exchange_of (with_pc regs.old pc.old) mem.old instr.now at (load_of mem.old at (width_of instr.now.op)) ≡ record { outcome = result; regs = with_pc regs.new pc.new; memory = mem.new } }
+    ensures exact { exchange_of (with_pc regs.old pc.old) mem.old operation instr.now at (load_of mem.old at (width_of instr.now.op)) ≡ record { outcome = result; regs = with_pc regs.new pc.new; memory = mem.new } }
     ensures unwritable { KeepsUnwritable mem.old mem.new }
 {
     let width = width(instr.op);
     let Ok(v) = mem.load(at, width) else {
         return Outcome::Trap(Signal::Segv);
     };
-    let value = atomic_value(width, instr.op, v, regs.get(instr.rs2));
+    let value = atomic_value(width, operation, v, regs.get(instr.rs2));
     match mem.store(at, width, value) {
         Ok(()) => done(regs, pc, instr.rd, loaded_value(instr.op, v)),
         Err(_) => Outcome::Trap(Signal::Segv),
@@ -39,28 +46,40 @@ fn exchange(regs: &mut Regs, pc: &mut u64, mem: &mut GuestMemory, instr: &Instr,
 
 // AMO.
 #[inline(never)]
-fn exchange_aligned(regs: &mut Regs, pc: &mut u64, mem: &mut GuestMemory, instr: &Instr) -> Outcome
+fn exchange_aligned(
+    regs: &mut Regs,
+    pc: &mut u64,
+    mem: &mut GuestMemory,
+    instr: &Instr,
+    operation: AtomicOperation,
+) -> Outcome
     requires { NamesRegisters instr.now }
-    ensures exact { atomic_step (with_pc regs.old pc.old) mem.old instr.now ≡ record { outcome = result; regs = with_pc regs.new pc.new; memory = mem.new } }
+    ensures exact { atomic_step (with_pc regs.old pc.old) mem.old operation instr.now ≡ record { outcome = result; regs = with_pc regs.new pc.new; memory = mem.new } }
     ensures unwritable { KeepsUnwritable mem.old mem.new }
 {
     let at = regs.get(instr.rs1);
     if at % u64::from(width(instr.op)) == 0 {
-        exchange(regs, pc, mem, instr, at)
+        exchange(regs, pc, mem, instr, operation, at)
     } else {
         Outcome::Trap(Signal::Bus)
     }
 }
 
-/// AMO.
+/// AMO. Its operation is passed beside it, for words and double words alike.
 #[inline(always)]
-pub fn atomic(regs: &mut Regs, pc: &mut u64, mem: &mut GuestMemory, instr: &Instr) -> Outcome
+pub fn atomic(
+    regs: &mut Regs,
+    pc: &mut u64,
+    mem: &mut GuestMemory,
+    instr: &Instr,
+    operation: AtomicOperation,
+) -> Outcome
     requires { NamesRegisters instr.now }
-    ensures exact { atomic_step (with_pc regs.old pc.old) mem.old instr.now ≡ record { outcome = result; regs = with_pc regs.new pc.new; memory = mem.new } }
+    ensures exact { atomic_step (with_pc regs.old pc.old) mem.old operation instr.now ≡ record { outcome = result; regs = with_pc regs.new pc.new; memory = mem.new } }
     ensures unwritable { KeepsUnwritable mem.old mem.new }
 {
     let mut next = *pc;
-    let outcome = exchange_aligned(regs, &mut next, mem, instr);
+    let outcome = exchange_aligned(regs, &mut next, mem, instr, operation);
     *pc = next;
     outcome
 }

@@ -11,6 +11,7 @@ use crate::jumps::{branch, done, jump_near, jump_register};
 use crate::loads::{load, store};
 use crate::operations::{add_upper, immediate, load_upper, registers};
 use crate::reservation::Reservation;
+use crate::values::{AtomicOperation, Condition};
 use abi_base::{Regs, Signal};
 use guest_memory::GuestMemory;
 use rv_code::{Instr, Op, decode};
@@ -92,12 +93,12 @@ pub fn execute(
         Op::Auipc => add_upper(regs, pc, instr),
         Op::Jal => jump_near(regs, pc, instr),
         Op::Jalr => jump_register(regs, pc, instr),
-        Op::Beq => branch(regs, pc, instr, Op::Beq),
-        Op::Bne => branch(regs, pc, instr, Op::Bne),
-        Op::Blt => branch(regs, pc, instr, Op::Blt),
-        Op::Bge => branch(regs, pc, instr, Op::Bge),
-        Op::Bltu => branch(regs, pc, instr, Op::Bltu),
-        Op::Bgeu => branch(regs, pc, instr, Op::Bgeu),
+        Op::Beq => branch(regs, pc, instr, Condition::Equal),
+        Op::Bne => branch(regs, pc, instr, Condition::NotEqual),
+        Op::Blt => branch(regs, pc, instr, Condition::Less),
+        Op::Bge => branch(regs, pc, instr, Condition::NotLess),
+        Op::Bltu => branch(regs, pc, instr, Condition::LessUnsigned),
+        Op::Bgeu => branch(regs, pc, instr, Condition::NotLessUnsigned),
         Op::Lb => load(regs, pc, mem, instr, Op::Lb),
         Op::Lh => load(regs, pc, mem, instr, Op::Lh),
         Op::Lw => load(regs, pc, mem, instr, Op::Lw),
@@ -152,15 +153,15 @@ pub fn execute(
         Op::Remuw => registers(regs, pc, instr, Op::Remuw),
         Op::LrW | Op::LrD => load_reserved(regs, pc, mem, held, instr),
         Op::ScW | Op::ScD => store_conditional(regs, pc, mem, held, instr),
-        Op::AmoswapW | Op::AmoswapD | Op::AmoaddW | Op::AmoaddD | Op::AmoxorW | Op::AmoxorD =>
-            atomic(regs, pc, mem, instr),
-        Op::AmoandW | Op::AmoandD | Op::AmoorW | Op::AmoorD | Op::AmominW | Op::AmominD => atomic(
-            regs, pc, mem, instr,
-        ),
-        Op::AmomaxW | Op::AmomaxD | Op::AmominuW | Op::AmominuD | Op::AmomaxuW => atomic(
-            regs, pc, mem, instr,
-        ),
-        Op::AmomaxuD => atomic(regs, pc, mem, instr),
+        Op::AmoswapW | Op::AmoswapD => atomic(regs, pc, mem, instr, AtomicOperation::Swap),
+        Op::AmoaddW | Op::AmoaddD => atomic(regs, pc, mem, instr, AtomicOperation::Add),
+        Op::AmoxorW | Op::AmoxorD => atomic(regs, pc, mem, instr, AtomicOperation::Xor),
+        Op::AmoandW | Op::AmoandD => atomic(regs, pc, mem, instr, AtomicOperation::And),
+        Op::AmoorW | Op::AmoorD => atomic(regs, pc, mem, instr, AtomicOperation::Or),
+        Op::AmominW | Op::AmominD => atomic(regs, pc, mem, instr, AtomicOperation::Min),
+        Op::AmomaxW | Op::AmomaxD => atomic(regs, pc, mem, instr, AtomicOperation::Max),
+        Op::AmominuW | Op::AmominuD => atomic(regs, pc, mem, instr, AtomicOperation::MinUnsigned),
+        Op::AmomaxuW | Op::AmomaxuD => atomic(regs, pc, mem, instr, AtomicOperation::MaxUnsigned),
         Op::Fence | Op::FenceI => done(regs, pc, 0, 0),
         Op::Ecall => environment(instr),
         Op::Ebreak => environment(instr),

@@ -6,9 +6,9 @@ ghost use Rattle.rv_code.specs.Formats.{NamesRegisters};
 ghost use Rattle.rv_interp.specs.Instructions.{next, done_of, plus_immediate, jumped_of, jump_register_of, branch_of, address};
 
 use crate::execution::Outcome;
-use crate::values::is_taken;
+use crate::values::{Condition, is_taken};
 use abi_base::{Regs, Signal};
-use rv_code::{Instr, Op};
+use rv_code::Instr;
 
 /// The address after the instruction at the pc.
 #[inline(always)]
@@ -82,14 +82,13 @@ pub fn jump_register(regs: &mut Regs, pc: &mut u64, instr: &Instr) -> Outcome
     jump(regs, pc, instr.rd, link, target - target % 2)
 }
 
-/// A branch. Its operation is passed beside it, so that where it is a constant no test of it is left.
+/// A branch. Its condition is passed beside it, so that where it is a constant no test of it is left.
 #[inline(always)]
-pub fn branch(regs: &mut Regs, pc: &mut u64, instr: &Instr, op: Op) -> Outcome
-    requires names { NamesRegisters instr.now }
-    requires op { op ≡ instr.now.op }
-    ensures { branch_of (with_pc regs.old pc.old) instr.now ≡ record { outcome = result; regs = with_pc regs.new pc.new } }
+pub fn branch(regs: &mut Regs, pc: &mut u64, instr: &Instr, condition: Condition) -> Outcome
+    requires { NamesRegisters instr.now }
+    ensures { branch_of (with_pc regs.old pc.old) condition instr.now ≡ record { outcome = result; regs = with_pc regs.new pc.new } }
 {
-    if is_taken(op, regs.get(instr.rs1), regs.get(instr.rs2)) {
+    if is_taken(condition, regs.get(instr.rs1), regs.get(instr.rs2)) {
         let target = plus_immediate(*pc, instr);
         jump(regs, pc, 0, 0, target)
     } else {

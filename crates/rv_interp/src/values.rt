@@ -4,19 +4,59 @@ ghost use Rattle.rv_interp.specs.Values.{is_taken, extended_byte, extended_half,
 
 use rv_code::Op;
 
+/// When a branch is taken, by the numbers of its two registers (RISC-V unprivileged manual, "Conditional Branches").
+#[derive(Clone, Copy)]
+pub enum Condition {
+    /// BEQ: both are the same number.
+    Equal,
+    /// BNE: they are different numbers.
+    NotEqual,
+    /// BLT: the first is less, both in two's complement.
+    Less,
+    /// BGE: the first is greater or the same, both in two's complement.
+    NotLess,
+    /// BLTU: the first is less, both below 2^64.
+    LessUnsigned,
+    /// BGEU: the first is greater or the same, both below 2^64.
+    NotLessUnsigned,
+}
+
+/// What an atomic instruction writes to memory, by what it read and the second register's number, both words or both
+/// double words (RISC-V unprivileged manual, "Atomic Memory Operations").
+#[derive(Clone, Copy)]
+pub enum AtomicOperation {
+    /// AMOSWAP: the second register's number.
+    Swap,
+    /// AMOADD: the sum, modulo 2^32 or 2^64.
+    Add,
+    /// AMOXOR: the exclusive or, bit by bit.
+    Xor,
+    /// AMOAND: the and, bit by bit.
+    And,
+    /// AMOOR: the or, bit by bit.
+    Or,
+    /// AMOMIN: the smaller, both in two's complement.
+    Min,
+    /// AMOMAX: the greater, both in two's complement.
+    Max,
+    /// AMOMINU: the smaller, both without a sign.
+    MinUnsigned,
+    /// AMOMAXU: the greater, both without a sign.
+    MaxUnsigned,
+}
+
 /// Whether a branch on these two numbers is taken.
 #[inline(always)]
-pub fn is_taken(op: Op, a: u64, b: u64) -> bool
-    ensures { result ≡ is_taken op a b }
+pub fn is_taken(condition: Condition, a: u64, b: u64) -> bool
+    ensures { result ≡ is_taken condition a b }
 {
-    match op {
-        Op::Beq => a == b,
-        Op::Bne => a != b,
-        Op::Blt => a.cast_signed() < b.cast_signed(),
-        Op::Bge => !(a.cast_signed() < b.cast_signed()),
-        Op::Bltu => a < b,
-        Op::Bgeu => !(a < b),
-        _ => false,
+    match condition {
+        Condition::Equal => a == b,
+        Condition::NotEqual => a != b,
+        Condition::Less => a.cast_signed() < b.cast_signed(),
+        Condition::NotLess => !(a.cast_signed() < b.cast_signed()),
+        Condition::LessUnsigned => a < b,
+        Condition::NotLessUnsigned => !(a < b),
     }
 }
 
@@ -75,50 +115,48 @@ pub fn loaded_value(op: Op, v: u64) -> u64
 }
 
 // What an atomic instruction on words writes, where `a` was read and `b` is the second register's low word.
-fn word_value(op: Op, a: u32, b: u32) -> u32
-    ensures { result ≡ word_value op a b }
+fn word_value(operation: AtomicOperation, a: u32, b: u32) -> u32
+    ensures { result ≡ word_value operation a b }
 {
     let is_less = a.cast_signed() < b.cast_signed();
-    match op {
-        Op::AmoswapW => b,
-        Op::AmoaddW => a.wrapping_add(b),
-        Op::AmoxorW => a ^ b,
-        Op::AmoandW => a & b,
-        Op::AmoorW => a | b,
-        Op::AmominW => if is_less { a } else { b },
-        Op::AmomaxW => if is_less { b } else { a },
-        Op::AmominuW => if a < b { a } else { b },
-        Op::AmomaxuW => if a < b { b } else { a },
-        _ => 0,
+    match operation {
+        AtomicOperation::Swap => b,
+        AtomicOperation::Add => a.wrapping_add(b),
+        AtomicOperation::Xor => a ^ b,
+        AtomicOperation::And => a & b,
+        AtomicOperation::Or => a | b,
+        AtomicOperation::Min => if is_less { a } else { b },
+        AtomicOperation::Max => if is_less { b } else { a },
+        AtomicOperation::MinUnsigned => if a < b { a } else { b },
+        AtomicOperation::MaxUnsigned => if a < b { b } else { a },
     }
 }
 
 // What an atomic instruction on double words writes, where `a` was read and `b` is the second register's number.
-fn double_value(op: Op, a: u64, b: u64) -> u64
-    ensures { result ≡ double_value op a b }
+fn double_value(operation: AtomicOperation, a: u64, b: u64) -> u64
+    ensures { result ≡ double_value operation a b }
 {
     let is_less = a.cast_signed() < b.cast_signed();
-    match op {
-        Op::AmoswapD => b,
-        Op::AmoaddD => a.wrapping_add(b),
-        Op::AmoxorD => a ^ b,
-        Op::AmoandD => a & b,
-        Op::AmoorD => a | b,
-        Op::AmominD => if is_less { a } else { b },
-        Op::AmomaxD => if is_less { b } else { a },
-        Op::AmominuD => if a < b { a } else { b },
-        Op::AmomaxuD => if a < b { b } else { a },
-        _ => 0,
+    match operation {
+        AtomicOperation::Swap => b,
+        AtomicOperation::Add => a.wrapping_add(b),
+        AtomicOperation::Xor => a ^ b,
+        AtomicOperation::And => a & b,
+        AtomicOperation::Or => a | b,
+        AtomicOperation::Min => if is_less { a } else { b },
+        AtomicOperation::Max => if is_less { b } else { a },
+        AtomicOperation::MinUnsigned => if a < b { a } else { b },
+        AtomicOperation::MaxUnsigned => if a < b { b } else { a },
     }
 }
 
 /// What an atomic instruction of this width writes, where `a` was read and `b` is the second register's number.
-pub fn atomic_value(width: u32, op: Op, a: u64, b: u64) -> u64
-    ensures { result ≡ atomic_value width op a b }
+pub fn atomic_value(width: u32, operation: AtomicOperation, a: u64, b: u64) -> u64
+    ensures { result ≡ atomic_value width operation a b }
 {
     if width == 4 {
-        u64::from(word_value(op, low(a), low(b)))
+        u64::from(word_value(operation, low(a), low(b)))
     } else {
-        double_value(op, a, b)
+        double_value(operation, a, b)
     }
 }
