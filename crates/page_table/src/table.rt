@@ -16,15 +16,20 @@ use std::marker::Model;
 // How many hints there are at least, from the first page on.
 const FEWEST_HINTS: usize = 1024;
 
-/// The pages of a memory by their numbers, which contracts see as a finite map. The pages stand in a list, in no order, with
-/// their numbers at the same places of another, and the index has each number's place, in the order of the numbers. A hint
-/// is the place where a page may be: it is a guess that is checked wherever it is used, so that nothing has to hold of it.
-/// The numbers are apart from the pages, so that finding a page's bytes need not wait for that check.
+/// A page with its number.
+#[derive(Drop)]
+pub struct Slot {
+    number: u64,
+    page: MappedPage,
+}
+
+/// The pages of a memory by their numbers, which contracts see as a finite map. The pages stand in slots, in no order, and
+/// the index has each number's slot, in the order of the numbers. A hint is where a page may be: it is a guess that is
+/// checked wherever it is used, so that nothing has to hold of it.
 #[derive(Drop)]
 pub struct PageTable {
     index: NumMap<usize>,
-    numbers: Vec<u64>,
-    pages: Vec<MappedPage>,
+    slots: Vec<Slot>,
     hints: Vec<u32>,
     mask: u64,
 }
@@ -40,9 +45,9 @@ impl Model for PageTable {
 
     ghost use Rattle.page_table.specs.Table.{content, IsIndexed};
 
-    ghost view = { λ t. content t.index t.pages.items };
+    ghost view = { λ t. content t.index t.slots.items };
 
-    ghost invariant = { λ t. IsIndexed t.index t.numbers.items t.pages.items };
+    ghost invariant = { λ t. IsIndexed t.index t.slots.items };
 }
 
 // Which of the hints is that of a page. Numbers that lie close together have hints of their own.
@@ -51,22 +56,22 @@ fn place_of_hint(number: u64, mask: u64) -> usize {
     ((number ^ (number >> 8) ^ (number >> 16)) & mask) as usize
 }
 
-// The place that the hint of a page's number names.
+// The slot that the hint of a page's number names.
 #[inline(always)]
-fn hinted_place(hints: &[u32], mask: u64, number: u64) -> usize {
-    let hint = place_of_hint(number, mask);
-    if hint < hints.len() {
-        hints[hint] as usize
+fn hinted_slot(hints: &[u32], mask: u64, number: u64) -> usize {
+    let place = place_of_hint(number, mask);
+    if place < hints.len() {
+        hints[place] as usize
     } else {
         0
     }
 }
 
-// Makes the hint of a page's number name this place.
-fn set_hint(hints: &mut [u32], mask: u64, number: u64, place: usize) {
-    let hint = place_of_hint(number, mask);
-    if hint < hints.len() {
-        hints[hint] = (place % 0x1_0000_0000) as u32;
+// Makes the hint of a page's number name this slot.
+fn set_hint(hints: &mut [u32], mask: u64, number: u64, slot: usize) {
+    let place = place_of_hint(number, mask);
+    if place < hints.len() {
+        hints[place] = (slot % 0x1_0000_0000) as u32;
     }
 }
 
@@ -77,8 +82,7 @@ impl PageTable {
     {
         PageTable {
             index: NumMap::new(alloc),
-            numbers: Vec::new(alloc),
-            pages: Vec::new(alloc),
+            slots: Vec::new(alloc),
             hints: Vec::new(alloc),
             mask: 0,
         }
@@ -110,12 +114,13 @@ impl PageTable {
     pub fn hinted(&self, number: u64) -> Option<&MappedPage>
         ensures { IfSome result (λ page. map.get self.now number ≡ Some page.now) }
     {
-        let place = hinted_place(&self.hints, self.mask, number);
-        if place >= self.numbers.len() {
+        let place = hinted_slot(&self.hints, self.mask, number);
+        if place >= self.slots.len() {
             return None;
         }
-        if self.numbers[place] == number {
-            Some(&self.pages[place])
+        let slot = &self.slots[place];
+        if slot.number == number {
+            Some(&slot.page)
         } else {
             None
         }
@@ -138,7 +143,10 @@ impl PageTable {
         ensures { option_copied result ≡ map.get self.now number }
     {
         match self.index.get(number) {
-            Some(place) => Some(&self.pages[*place]),
+            Some(place) => {
+                let slot = &self.slots[*place];
+                Some(&slot.page)
+            }
             None => None,
         }
     }
@@ -160,7 +168,8 @@ impl PageTable {
         ensures value { Some result.now ≡ map.get self.old number }
     {
         let place = *self.index.get(number).unwrap();
-        &mut self.pages[place]
+        let slot = &mut self.slots[place];
+        &mut slot.page
     }
 
     /// Writes the `n` lowest bytes of a number into the page of this number from a place in it on, where its hint leads to
@@ -172,18 +181,18 @@ impl PageTable {
         ensures stored { IsTrue result → IsStored self.old number place n v self.new }
         ensures same { IsFalse result → self.new ≡ self.old }
     {
-        let at = hinted_place(&self.hints, self.mask, number);
-        if at >= self.numbers.len() {
+        let at = hinted_slot(&self.hints, self.mask, number);
+        if at >= self.slots.len() {
             return false;
         }
-        if self.numbers[at] != number {
+        let slot = &mut self.slots[at];
+        if slot.number != number {
             return false;
         }
-        let page = &mut self.pages[at];
-        if !page.prot().write {
+        if !slot.page.prot().write {
             return false;
         }
-        page.store(place, n, v);
+        slot.page.store(place, n, v);
         true
     }
 
@@ -194,14 +203,8 @@ impl PageTable {
         ensures err { OnErr result (self.new ≡ self.old) }
     {
         self.widen()?;
-        let place = self.numbers.len();
-        insert_page(
-            &mut self.index,
-            &mut self.numbers,
-            &mut self.pages,
-            number,
-            page,
-        )?;
+        let place = self.slots.len();
+        insert_slot(&mut self.index, &mut self.slots, number, page)?;
         set_hint(&mut self.hints, self.mask, number, place);
         Ok(())
     }
@@ -210,11 +213,11 @@ impl PageTable {
     fn widen(&mut self) -> Result<(), AllocError>
         ensures { self.new ≡ self.old }
     {
-        if self.hints.len() > self.numbers.len() {
+        if self.hints.len() > self.slots.len() {
             return Ok(());
         }
         let count = self.hints.len().saturating_mul(2).max(FEWEST_HINTS);
-        self.hints = vec![in *self.numbers.allocator(); 0; count]?;
+        self.hints = vec![in *self.slots.allocator(); 0; count]?;
         self.mask = (count as u64).wrapping_sub(1);
         Ok(())
     }
@@ -223,61 +226,46 @@ impl PageTable {
     pub fn remove(&mut self, number: u64)
         ensures new { self.new ≡ map.remove self.old number }
     {
-        remove_page(&mut self.index, &mut self.numbers, &mut self.pages, number);
+        remove_slot(&mut self.index, &mut self.slots, number);
     }
 }
 
-// Adds a page under a number that has none. Want of memory changes nothing.
-fn insert_page(
+// Adds a slot with a page under a number that has none. Want of memory changes nothing.
+fn insert_slot(
     index: &mut NumMap<usize>,
-    numbers: &mut Vec<u64>,
-    pages: &mut Vec<MappedPage>,
+    slots: &mut Vec<Slot>,
     number: u64,
     page: MappedPage,
 ) -> Result<(), AllocError>
     requires absent { map.get index.old number ≡ None }
-    requires indexed { IsIndexed index.old numbers.old.items pages.old.items }
-    ensures indexed { IsIndexed index.new numbers.new.items pages.new.items }
-    ensures ok { OnOk result (content index.new pages.new.items ≡ map.insert (content index.old pages.old.items) number page) }
-    ensures err { OnErr result (content index.new pages.new.items ≡ content index.old pages.old.items) }
+    requires indexed { IsIndexed index.old slots.old.items }
+    ensures indexed { IsIndexed index.new slots.new.items }
+    ensures ok { OnOk result (content index.new slots.new.items ≡ map.insert (content index.old slots.old.items) number page) }
+    ensures err { OnErr result (content index.new slots.new.items ≡ content index.old slots.old.items) }
 {
-    let place = numbers.len();
-    numbers.push(number)?;
-    if pages.push(page).is_err() {
-        numbers.pop();
-        return Err(AllocError);
-    }
+    let place = slots.len();
+    slots.push(Slot { number, page })?;
     if index.insert(number, place).is_err() {
-        numbers.pop();
-        pages.pop();
+        slots.pop();
         return Err(AllocError);
     }
     Ok(())
 }
 
-// Takes the page of a number away, if it has one. The last page takes its place.
-fn remove_page(
-    index: &mut NumMap<usize>,
-    numbers: &mut Vec<u64>,
-    pages: &mut Vec<MappedPage>,
-    number: u64,
-)
-    requires { IsIndexed index.old numbers.old.items pages.old.items }
-    ensures indexed { IsIndexed index.new numbers.new.items pages.new.items }
-    ensures content { content index.new pages.new.items ≡ map.remove (content index.old pages.old.items) number }
+// Takes the slot of a number away, if it has one. The last slot takes its place.
+fn remove_slot(index: &mut NumMap<usize>, slots: &mut Vec<Slot>, number: u64)
+    requires { IsIndexed index.old slots.old.items }
+    ensures indexed { IsIndexed index.new slots.new.items }
+    ensures content { content index.new slots.new.items ≡ map.remove (content index.old slots.old.items) number }
 {
     let Some(place) = index.remove(number) else {
         return;
     };
-    let Some(last) = numbers.pop() else {
+    let Some(last) = slots.pop() else {
         return;
     };
-    let Some(page) = pages.pop() else {
-        return;
-    };
-    if place < numbers.len() {
-        index.replace(last, place);
-        numbers[place] = last;
-        pages[place] = page;
+    if place < slots.len() {
+        index.replace(last.number, place);
+        slots[place] = last;
     }
 }

@@ -20,9 +20,9 @@ abbrev pub is_taken : Condition → ℕ → ℕ → Bool
 is_taken condition.Equal a b = a == b
 is_taken condition.NotEqual a b = not (a == b)
 is_taken condition.Less a b = int_lt (signed a) (signed b)
-is_taken condition.NotLess a b = not (int_lt (signed a) (signed b))
+is_taken condition.GreaterOrEqual a b = not (int_lt (signed a) (signed b))
 is_taken condition.LessUnsigned a b = nat_lt a b
-is_taken condition.NotLessUnsigned a b = not (nat_lt a b)
+is_taken condition.GreaterOrEqualUnsigned a b = not (nat_lt a b)
 
 -- a byte, a half word and a word, sign-extended to 64 bits
 abbrev pub extended_byte : ℕ → ℕ

@@ -14,11 +14,11 @@ pub enum Condition {
     /// BLT: the first is less, both in two's complement.
     Less,
     /// BGE: the first is greater or the same, both in two's complement.
-    NotLess,
+    GreaterOrEqual,
     /// BLTU: the first is less, both below 2^64.
     LessUnsigned,
     /// BGEU: the first is greater or the same, both below 2^64.
-    NotLessUnsigned,
+    GreaterOrEqualUnsigned,
 }
 
 /// What an atomic instruction writes to memory, by what it read and the second register's number, both words or both
@@ -54,9 +54,9 @@ pub fn is_taken(condition: Condition, a: u64, b: u64) -> bool
         Condition::Equal => a == b,
         Condition::NotEqual => a != b,
         Condition::Less => a.cast_signed() < b.cast_signed(),
-        Condition::NotLess => !(a.cast_signed() < b.cast_signed()),
+        Condition::GreaterOrEqual => !(a.cast_signed() < b.cast_signed()),
         Condition::LessUnsigned => a < b,
-        Condition::NotLessUnsigned => !(a < b),
+        Condition::GreaterOrEqualUnsigned => !(a < b),
     }
 }
 

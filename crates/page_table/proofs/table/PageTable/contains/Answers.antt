@@ -6,5 +6,5 @@ use Rattle.page_table.proofs.table.PageTable.contains.Goals as goal
 
 pub returns : goal.returns
 returns c =
-    c.contains.ensures ∙ contains_content c.self.inside.index c.self.inside.pages.items c.args.number
+    c.contains.ensures ∙ contains_content c.self.inside.index c.self.inside.slots.items c.args.number
     ∙ ap (λ (m : Pages). contains_key m c.args.number) c.self.view_is

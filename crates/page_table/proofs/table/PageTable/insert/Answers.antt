@@ -4,7 +4,7 @@ use Rattle.page_table.specs.Page.{Pages}
 use Rattle.page_table.proofs.Tables.{not_indexed}
 use Rattle.page_table.proofs.table.PageTable.insert.Goals as goal
 
-pub insert_page-requires-clause-absent : goal.insert_page-requires-clause-absent
-insert_page-requires-clause-absent c =
-    not_indexed c.self.inside.index c.self.inside.pages.items c.args.number
+pub insert_slot-requires-clause-absent : goal.insert_slot-requires-clause-absent
+insert_slot-requires-clause-absent c =
+    not_indexed c.self.inside.index c.self.inside.slots.items c.args.number
     (ap (λ (m : Pages). get m c.args.number) (c.self.view_is ∙ c.widen.ensures) ∙ c.requires)

@@ -5,4 +5,4 @@ use Rattle.page_table.proofs.Tables.{len_content}
 use Rattle.page_table.proofs.table.PageTable.len.Goals as goal
 
 pub returns : goal.returns
-returns c = c.len.ensures.len ∙ len_content c.self.inside.index c.self.inside.pages.items ∙ ap (λ (m : Pages). len m) c.self.view_is
+returns c = c.len.ensures.len ∙ len_content c.self.inside.index c.self.inside.slots.items ∙ ap (λ (m : Pages). len m) c.self.view_is
