@@ -7,7 +7,7 @@ use Rattle.std.proofs.Math.Seq.{take-append_seam, drop-append_seam}
 use Rattle.std.proofs.lemmas.Bool.{cases_eq, cond-false, cond-true, ne_eqb}
 use Rattle.base64.specs.Engines.{standard}
 use Rattle.base64.specs.GeneralPurpose.{encode_of}
-use Rattle.refusals.specs.Results.{◌>>=◌}
+use Rattle.lists.specs.Results.{◌>>=◌}
 use Rattle.yaml_scalars.specs.declared.kind.YamlKind.TheVariants as kinds
 use Rattle.yaml_scalars.specs.declared.fault.LineFault.{LineFault}
 use Rattle.yaml_scalars.specs.Characters.{bad_at}

@@ -13,7 +13,7 @@ use Rattle.std.proofs.lemmas.List.{append-nil}
 use lib.Pointwise.{pointwise}
 use Rattle.base64.specs.Engines.{standard}
 use Rattle.base64.specs.GeneralPurpose.{encode_of}
-use Rattle.refusals.specs.Results.{◌>>=◌}
+use Rattle.lists.specs.Results.{◌>>=◌}
 use Rattle.yaml_scalars.specs.declared.kind.YamlKind.TheVariants as kinds
 use Rattle.yaml_scalars.specs.declared.fault.LineFault.{LineFault}
 use Rattle.yaml_scalars.specs.Plain.{begins_plain, is_space_or_end, plain_length}

@@ -16,7 +16,7 @@ use Rattle.base64.specs.Engines.{standard}
 use Rattle.base64.specs.GeneralPurpose.{IsBytes, encode_of}
 use Rattle.base64.specs.Rfc4648.{encode_symbols, padding_len}
 use Rattle.base64.proofs.EngineFacts.{IsAscii-encode_of, decode_of-encode_of}
-use Rattle.refusals.specs.Results.{◌>>=◌}
+use Rattle.lists.specs.Results.{◌>>=◌}
 use Rattle.yaml_scalars.specs.declared.kind.YamlKind.{YamlKind}
 use Rattle.yaml_scalars.specs.declared.fault.LineFault.{LineFault}
 use Rattle.yaml_scalars.specs.Characters.{bad_at}

@@ -2,7 +2,7 @@
 use Rattle.std.proofs.Common.{◌≡◌, ℕ, ◌==◌, Bool, true, false, ◌||◌, List, [], ◌∷◌, codes, Option, Some, None, Result, Ok, Err, subst}
 use Rattle.std.specs.Prelude.{IfOk}
 use Rattle.std.specs.List.{AllByRecursion, take_while}
-use Rattle.refusals.proofs.Steps.{on_bind, on_any}
+use Rattle.lists.proofs.Steps.{on_bind, on_any}
 use Rattle.yaml_scalars.specs.Spaces.{is_one_of}
 use Rattle.yaml_values.specs.Documents.{IsDocument}
 use Rattle.yaml_values.specs.Shape.{Shape, Content, Shapes, Pairs, node, null, boolean, integer, text, binary, mapping, sequence, no_items, item, no_pairs, pair}

@@ -6,7 +6,7 @@ use Rattle.std.specs.Str.{IsUtf8}
 use Rattle.std.proofs.lemmas.Bool.{or_parts}
 use Rattle.base64.specs.Engines.{standard}
 use Rattle.base64.specs.GeneralPurpose.{decode_of}
-use Rattle.refusals.proofs.Steps.{on_both, on_bind}
+use Rattle.lists.proofs.Steps.{on_both, on_bind}
 use Rattle.yaml_scalars.specs.declared.kind.YamlKind.{YamlKind}
 use Rattle.yaml_scalars.specs.declared.kind.YamlKind.TheVariants as kinds
 use Rattle.yaml_scalars.specs.Numbers.{integer_of, is_float, is_in_range, is_word}

@@ -8,7 +8,7 @@ use Rattle.std.proofs.Math.Utf8.{encodes}
 use Rattle.std.proofs.lemmas.Bool.{eq-eqb, le-ltb, lt-ltb, or_parts}
 use Rattle.std.proofs.lemmas.Bool.Decides.{nat_tests}
 use Rattle.std.proofs.lemmas.Str.{encodes-chars}
-use Rattle.refusals.proofs.Steps.{on_both}
+use Rattle.lists.proofs.Steps.{on_both}
 use Rattle.yaml_scalars.specs.declared.kind.YamlKind.TheVariants as kinds
 use Rattle.yaml_scalars.specs.declared.fault.LineFault.{LineFault}
 use Rattle.yaml_scalars.specs.Characters.{is_upper_control, control_at, invalid_at, earlier, bad_at}

@@ -1,7 +1,7 @@
 -- Readings that say what is wrong, and what a program answers of them.
 use Rattle.std.specs.Prelude.{◌≡◌, Result, Ok, Err}
-use Rattle.refusals.specs.declared.refusal.Refusal.{Refusal}
-use Rattle.refusals.specs.declared.refusal.Refusal.TheVariants.{At, Memory}
+use Rattle.lists.specs.declared.refusal.Refusal.{Refusal}
+use Rattle.lists.specs.declared.refusal.Refusal.TheVariants.{At, Memory}
 
 infixl 10 ◌>>=◌
 abbrev pub ◌>>=◌ : {F A B : Type 0} → Result A F → (A → Result B F) → Result B F

@@ -1,8 +1,8 @@
 -- One step of reading after another, where faults aren't told.
 use Rattle.std.proofs.Common.{◌≡◌, Option, Some, None, refl}
-use Rattle.refusals.specs.declared.refusal.Refusal.{Refusal}
-use Rattle.refusals.specs.declared.refusal.Refusal.TheVariants.{At, Memory}
-use Rattle.refusals.specs.Options.{◌>>=◌, Refuses}
+use Rattle.lists.specs.declared.refusal.Refusal.{Refusal}
+use Rattle.lists.specs.declared.refusal.Refusal.TheVariants.{At, Memory}
+use Rattle.lists.specs.Options.{◌>>=◌, Refuses}
 
 -- a step that did not fail
 pub bind_some : {A B : Type 0} (r : Option A) (f : A → Option B) (y : B) → (r >>= f) ≡ Some y → (x : A) × (r ≡ Some x) × (f x ≡ Some y)

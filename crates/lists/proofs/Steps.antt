@@ -2,9 +2,9 @@
 use Rattle.std.proofs.Common.{◌≡◌, Bool, true, false, if◌then◌else◌, List, [], ◌∷◌, ◌++◌, map, Result, Ok, Err, refl, ap, ◌∙◌}
 use Rattle.std.proofs.lemmas.List.{map-append}
 use Rattle.std.specs.Prelude.{IfOk}
-use Rattle.refusals.specs.declared.refusal.Refusal.{Refusal}
-use Rattle.refusals.specs.declared.refusal.Refusal.TheVariants.{At, Memory}
-use Rattle.refusals.specs.Results.{◌>>=◌, Refuses}
+use Rattle.lists.specs.declared.refusal.Refusal.{Refusal}
+use Rattle.lists.specs.declared.refusal.Refusal.TheVariants.{At, Memory}
+use Rattle.lists.specs.Results.{◌>>=◌, Refuses}
 
 -- a step that did not fail
 pub bind_ok : {F A B : Type 0} (r : Result A F) (f : A → Result B F) (y : B) → (r >>= f) ≡ Ok y → (x : A) × (r ≡ Ok x) × (f x ≡ Ok y)

@@ -1,2 +1,2 @@
-pub mod Results
 pub mod Options
+pub mod Results

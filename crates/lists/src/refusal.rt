@@ -1,6 +1,6 @@
 //! Why a reader gave no value.
 ghost use Rattle.std.specs.Prelude.{◌≡◌};
-ghost use Rattle.refusals.specs.declared.refusal.Refusal.TheVariants.{Memory};
+ghost use Rattle.lists.specs.declared.refusal.Refusal.TheVariants.{Memory};
 
 use std::alloc::{AllocError, AllocFailed};
 
