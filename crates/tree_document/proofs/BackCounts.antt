@@ -1,6 +1,6 @@
 -- No node has more rows than it counts names.
 use Rattle.std.proofs.Common.{◌≡◌, ◌⊎◌, inl, inr, ℕ, ◌+◌, ◌≤◌, List, [], ◌∷◌, ◌++◌, Some, sym, ap, ◌∙◌, append_assoc, append-nil, arith}
-use Rattle.number_map.specs.Maps.{weight}
+use Rattle.maps.specs.Maps.{weight}
 use Rattle.lists.proofs.Chosen.{some_is}
 use Rattle.tree_model.specs.declared.limits.TheConstants.{ROOT}
 use Rattle.tree_model.specs.Changes.{drop_name}

@@ -7,7 +7,7 @@ use Rattle.lists.proofs.Chosen.{some_is}
 use Rattle.abi_types.specs.declared.node.Node.{Node}
 use Rattle.abi_types.specs.declared.node.NodeKind.{NodeKind}
 use Rattle.abi_types.specs.declared.node.NodeKind.TheVariants as kind
-use Rattle.name_map.specs.Names as name_map
+use Rattle.maps.specs.Names as name_map
 use Rattle.tree_model.specs.declared.limits.TheConstants.{MOST_LINKS, ROOT}
 use Rattle.tree_model.specs.Changes.{is_file, is_file_kind, linked, made}
 use Rattle.tree_model.specs.Facts.{directory_there}

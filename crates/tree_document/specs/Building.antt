@@ -9,7 +9,7 @@ use Rattle.abi_types.specs.declared.node.Node.{Node}
 use Rattle.abi_types.specs.declared.node.NodeKind.{NodeKind}
 use Rattle.abi_types.specs.declared.node.NodeKind.TheVariants as kind
 use Rattle.abi_types.specs.declared.node.Times.{Times}
-use Rattle.name_map.specs.Names.{Names}
+use Rattle.maps.specs.Names.{Names}
 use Rattle.tree_model.specs.declared.limits.TheConstants.{ROOT}
 use Rattle.tree_model.specs.Start.{root_tree}
 use Rattle.tree_model.specs.Tree.{Tree, entry_of}

@@ -11,7 +11,7 @@ use crate::walking::{node_of, parent_of};
 use abi_types::{Bytes, Node, NodeKind, ObjId, Times};
 use file_tree::Tree;
 use lists::Refusal;
-use name_map::NameMap;
+use maps::NameMap;
 use std::alloc::{AllocError, Global};
 use tree_model::{ROOT, TreeFault};
 use tree_records::{Malformed, Path, Read, Record};
