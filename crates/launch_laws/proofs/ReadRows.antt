@@ -19,10 +19,10 @@ use Rattle.launch_rows.specs.Faults.{unless}
 use Rattle.launch_rows.specs.Rows.{Row, is_dash, begins_key, behind_key, after_key, at_row, in_row}
 use Rattle.launch_yaml.specs.Entries.{Entry, map_entries, sequence_entries}
 use Rattle.launch_yaml.specs.Blocks.{Tagging, untagged, tagged, in_base64, is_untagged, tagging_of, mode_of, node_of, binary_place, unless_binary, absent, wrong_in, tagging_at, text_behind, rows_behind, alone, Block, begins_block, value_in, unless_key, tagged_value_in, value_below, value_with, no_entry, behind_dash, item_of, items_of, key_of, wrong_key, new_key, new_key_of, key_at, value_of_entry, pair_of, pairs_of, too_deep, items_at, pairs_at, block_at}
-use Rattle.launch_printing.specs.Printed.{IsTagName, IsSpellable, AreSpellableItems}
-use Rattle.launch_printing.proofs.ReadNames.{IsReadTag, tag_is_read}
-use Rattle.launch_printing.proofs.ReadKeys.{IsRead, any_mode, null_is_read, scalar_is_key, ArePairsRead, IsPairRead, no_pairs_read, more_pairs_read, on_test}
-use Rattle.launch_printing.proofs.ReadFlow.{ValueRead, line_is_read}
+use Rattle.launch_laws.specs.Printed.{IsTagName, IsSpellable, AreSpellableItems}
+use Rattle.launch_laws.proofs.ReadNames.{IsReadTag, tag_is_read}
+use Rattle.launch_laws.proofs.ReadKeys.{IsRead, any_mode, null_is_read, scalar_is_key, ArePairsRead, IsPairRead, no_pairs_read, more_pairs_read, on_test}
+use Rattle.launch_laws.proofs.ReadFlow.{ValueRead, line_is_read}
 
 -- ---- results
 

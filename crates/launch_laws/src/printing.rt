@@ -1,5 +1,5 @@
 //! That documents which are printed are read back, and which documents can be printed.
-ghost use Rattle.launch_printing.specs.Laws.{PrintedReadsBack, ReadIsSpellable, ReadIsPrintable};
+ghost use Rattle.launch_laws.specs.PrintingLaws.{PrintedReadsBack, ReadIsSpellable, ReadIsPrintable};
 
 /// A document that one flow line can spell is read back from that line: texts in double quotes, integers in decimal, bytes
 /// behind `!!binary`. Each line is then the first.

@@ -17,10 +17,10 @@ use Rattle.yaml_values.specs.KeySets.{IsScalarKey}
 use Rattle.yaml_values.specs.Keys.{same_key, unless_there}
 use Rattle.yaml_values.specs.Resolution.{scalar_value}
 use Rattle.yaml_values.specs.Shape.{Shape, Content, Shapes, Pairs, node, null, boolean, integer, text, binary, mapping, sequence, no_items, item, no_pairs, pair, of_list, of_pairs, to_list, to_pairs, content_of, depth_of, depth_of_content, depth_of_items, depth_of_pairs}
-use Rattle.launch_printing.specs.Printed.{printed, printed_value, printed_items, further_items, printed_pairs, further_pairs, IsKey, keys_of, IsSpellable, IsSpellableValue, AreSpellableItems, AreSpellablePairs}
+use Rattle.launch_laws.specs.Printed.{printed, printed_value, printed_items, further_items, printed_pairs, further_pairs, IsKey, keys_of, IsSpellable, IsSpellableValue, AreSpellableItems, AreSpellablePairs}
 use Rattle.launch_yaml.specs.Renumbering.{renumber, renumber_value, renumber_items, renumber_pairs}
-use Rattle.launch_printing.proofs.PrintedScalars.{Starts, outside, no_scalar, scalar_starts, scalar_read}
-use Rattle.launch_printing.proofs.PrintedFlow.{Nodes, read_value, read_node, one, isnt, among_none, wider, gap_drops, no_gap, begins_other, is_there, Follows, comma_follows, bracket_follows, brace_follows, is_collection, node_from, node_starts}
+use Rattle.launch_laws.proofs.PrintedScalars.{Starts, outside, no_scalar, scalar_starts, scalar_read}
+use Rattle.launch_laws.proofs.PrintedFlow.{Nodes, read_value, read_node, one, isnt, among_none, wider, gap_drops, no_gap, begins_other, is_there, Follows, comma_follows, bracket_follows, brace_follows, is_collection, node_from, node_starts}
 
 -- what reads the nodes in a map or a sequence of this depth
 abbrev nodes_at : ℕ → Nodes

@@ -34,9 +34,9 @@ use Rattle.yaml_values.specs.Documents.{IsText, IsSoundContent}
 use Rattle.yaml_values.specs.KeySets.{IsScalarKey}
 use Rattle.yaml_values.specs.Resolution.{decoded, meaning, number_or_text, ranged, resolved, scalar_value}
 use Rattle.yaml_values.specs.Shape.{Content, null, boolean, integer, text, binary, mapping, sequence}
-use Rattle.launch_printing.specs.Printed.{in_quotes, printed_value}
-use Rattle.launch_printing.proofs.CleanTexts.{IsClean, bad_none, clean_append, clean_byte, clean_nil, clean_visible}
-use Rattle.launch_printing.proofs.PrintedTexts.{clean_quotes, text_read}
+use Rattle.launch_laws.specs.Printed.{in_quotes, printed_value}
+use Rattle.launch_laws.proofs.CleanTexts.{IsClean, bad_none, clean_append, clean_byte, clean_nil, clean_visible}
+use Rattle.launch_laws.proofs.PrintedTexts.{clean_quotes, text_read}
 
 -- ---- tests of bytes
 

@@ -17,8 +17,8 @@ use Rattle.yaml_scalars.specs.Scalars.{unless_at}
 use Rattle.yaml_scalars.specs.Spaces.{is_one_of}
 use Rattle.yaml_scalars.proofs.ScalarSteps.{good_utf8}
 use Rattle.yaml_values.specs.Tags.{Tag, named, bytes_in_base64, ends_name, name_length, is_name, is_binary, tag_at}
-use Rattle.launch_printing.specs.Printed.{IsTagName}
-use Rattle.launch_printing.proofs.CleanTexts.{calm_parts, either}
+use Rattle.launch_laws.specs.Printed.{IsTagName}
+use Rattle.launch_laws.proofs.CleanTexts.{calm_parts, either}
 
 -- ---- characters in bytes of which none is bad
 

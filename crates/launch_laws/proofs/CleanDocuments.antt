@@ -4,11 +4,11 @@ use Rattle.base64.specs.Engines.{standard}
 use Rattle.base64.specs.GeneralPurpose.{encode_of}
 use Rattle.yaml_values.specs.Documents.{IsSound, IsSoundContent, AreSoundItems, AreSoundPairs}
 use Rattle.yaml_values.specs.Shape.{Shape, Content, Shapes, Pairs, node, null, boolean, integer, text, binary, mapping, sequence, no_items, item, no_pairs, pair, content_of}
-use Rattle.launch_printing.specs.Printed.{in_quotes, printed, printed_value, behind_tag, printed_items, further_items, printed_pairs, further_pairs, IsTagName, IsKey, IsSpellable, IsSpellableRoot, IsSpellableValue, AreSpellableItems, AreSpellablePairs}
-use Rattle.launch_printing.proofs.CleanTexts.{IsClean, clean_nil, clean_append, clean_visible, clean_text}
-use Rattle.launch_printing.proofs.PrintedTexts.{clean_quotes}
-use Rattle.launch_printing.proofs.PrintedScalars.{base64_text, scalar_clean}
-use Rattle.launch_printing.proofs.PrintedLists.{key_text, key_sound}
+use Rattle.launch_laws.specs.Printed.{in_quotes, printed, printed_value, behind_tag, printed_items, further_items, printed_pairs, further_pairs, IsTagName, IsKey, IsSpellable, IsSpellableRoot, IsSpellableValue, AreSpellableItems, AreSpellablePairs}
+use Rattle.launch_laws.proofs.CleanTexts.{IsClean, clean_nil, clean_append, clean_visible, clean_text}
+use Rattle.launch_laws.proofs.PrintedTexts.{clean_quotes}
+use Rattle.launch_laws.proofs.PrintedScalars.{base64_text, scalar_clean}
+use Rattle.launch_laws.proofs.PrintedLists.{key_text, key_sound}
 
 behind_clean : (value : Content) (bytes : List ℕ) → IsClean bytes → IsClean (behind_tag value bytes)
 behind_clean null bytes h = clean_nil

@@ -19,9 +19,9 @@ use Rattle.yaml_values.specs.KeySets.{IsScalarKey}
 use Rattle.yaml_values.specs.Keys.{same_key}
 use Rattle.yaml_values.specs.Resolution.{decoded, meaning, number_or_text, resolved, scalar_value}
 use Rattle.yaml_values.specs.Shape.{Shape, Content, null, boolean, integer, text, binary, mapping, sequence, content_of, of_pairs}
-use Rattle.launch_printing.specs.Printed.{is_taggable, IsKey, keys_of, IsSpellable, IsSpellableValue, AreSpellablePairs}
-use Rattle.launch_printing.proofs.PrintedLists.{same_sym}
-use Rattle.launch_printing.proofs.ReadBytes.{AreBytes, decoded_are_bytes}
+use Rattle.launch_laws.specs.Printed.{is_taggable, IsKey, keys_of, IsSpellable, IsSpellableValue, AreSpellablePairs}
+use Rattle.launch_laws.proofs.PrintedLists.{same_sym}
+use Rattle.launch_laws.proofs.ReadBytes.{AreBytes, decoded_are_bytes}
 
 -- ---- what a value that is read may be
 

@@ -14,9 +14,9 @@ use Rattle.launch_rows.specs.Rows.{Row, rows_from}
 use Rattle.launch_yaml.specs.Document.{after_head, first_column, is_inside, root_of, after_document, body_of, document_of, parse_at}
 use Rattle.launch_yaml.specs.Entries.{after_while}
 use Rattle.launch_yaml.proofs.SoundRows.{parsed_is_document}
-use Rattle.launch_printing.specs.Laws.{ReadIsSpellable, ReadIsPrintable}
-use Rattle.launch_printing.specs.Printed.{IsTagOn, IsSpellable, IsSpellableRoot, IsSpellableValue, AreSpellableItems, AreSpellablePairs, HasFlowName, HasFlowNamesInside, NodeHasFlowNames, ItemsHaveFlowNames, PairsHaveFlowNames, HasFlowNames}
-use Rattle.launch_printing.proofs.ReadRows.{on_unless, NodeRead, root_at_read}
+use Rattle.launch_laws.specs.PrintingLaws.{ReadIsSpellable, ReadIsPrintable}
+use Rattle.launch_laws.specs.Printed.{IsTagOn, IsSpellable, IsSpellableRoot, IsSpellableValue, AreSpellableItems, AreSpellablePairs, HasFlowName, HasFlowNamesInside, NodeHasFlowNames, ItemsHaveFlowNames, PairsHaveFlowNames, HasFlowNames}
+use Rattle.launch_laws.proofs.ReadRows.{on_unless, NodeRead, root_at_read}
 
 -- ---- documents
 

@@ -22,10 +22,10 @@ use Rattle.yaml_values.specs.KeySets.{IsScalarKey}
 use Rattle.yaml_values.specs.Resolution.{scalar_value}
 use Rattle.yaml_values.specs.Shape.{Shape, Content, node, null, boolean, integer, text, binary, mapping, sequence}
 use Rattle.yaml_values.specs.Tags.{Tag, named, bytes_in_base64, ends_name, name_length, is_name, is_binary, tag_with, tag_at}
-use Rattle.launch_printing.specs.Printed.{in_quotes, printed, printed_value, IsTagName, IsTagOn, IsSpellableValue}
+use Rattle.launch_laws.specs.Printed.{in_quotes, printed, printed_value, IsTagName, IsTagOn, IsSpellableValue}
 use Rattle.launch_yaml.specs.Renumbering.{renumber, renumber_value}
-use Rattle.launch_printing.proofs.CleanTexts.{clean_text, bad_none}
-use Rattle.launch_printing.proofs.PrintedScalars.{IsNone, IsEnd, Starts, outside, no_scalar, starts_with, quotes_start, scalar_starts, scalar_read, verbatim_read, bytes_read}
+use Rattle.launch_laws.proofs.CleanTexts.{clean_text, bad_none}
+use Rattle.launch_laws.proofs.PrintedScalars.{IsNone, IsEnd, Starts, outside, no_scalar, starts_with, quotes_start, scalar_starts, scalar_read, verbatim_read, bytes_read}
 
 -- ---- characters that bytes don't begin with
 

@@ -33,12 +33,12 @@ use Rattle.launch_rows.specs.Faults.{unless}
 use Rattle.launch_rows.specs.Rows.{Row, is_dash, behind_colon, behind_quoted, behind_key, in_row}
 use Rattle.launch_yaml.specs.Blocks.{Tagging, untagged, tagged, in_base64, tagging_of, mode_of, node_of, unless_binary, wrong_in, text_behind, rows_behind, alone, begins_block, value_in, unless_key, value_below, block_at}
 use Rattle.launch_yaml.specs.Document.{root_of}
-use Rattle.launch_printing.specs.Printed.{in_quotes, spelled, printed, printed_value, IsTagName, IsSpellableRoot, IsSpellableValue}
+use Rattle.launch_laws.specs.Printed.{in_quotes, spelled, printed, printed_value, IsTagName, IsSpellableRoot, IsSpellableValue}
 use Rattle.launch_yaml.specs.Renumbering.{renumber, renumber_value}
-use Rattle.launch_printing.proofs.PrintedTexts.{double_read}
-use Rattle.launch_printing.proofs.PrintedScalars.{Starts, outside, no_scalar, are_inner, inner_length, base64_text, digits_inner, not_true, on_digit, quotes_start, scalar_starts, scalar_read, verbatim_read, bytes_read}
-use Rattle.launch_printing.proofs.PrintedFlow.{read_tag, read_value, one, isnt, among_none, wider, gap_drops, tag_read, binary_tag, is_collection}
-use Rattle.launch_printing.proofs.PrintedLists.{value_read}
+use Rattle.launch_laws.proofs.PrintedTexts.{double_read}
+use Rattle.launch_laws.proofs.PrintedScalars.{Starts, outside, no_scalar, are_inner, inner_length, base64_text, digits_inner, not_true, on_digit, quotes_start, scalar_starts, scalar_read, verbatim_read, bytes_read}
+use Rattle.launch_laws.proofs.PrintedFlow.{read_tag, read_value, one, isnt, among_none, wider, gap_drops, tag_read, binary_tag, is_collection}
+use Rattle.launch_laws.proofs.PrintedLists.{value_read}
 
 -- the one row of a text
 abbrev pub only_row : List ℕ → Row

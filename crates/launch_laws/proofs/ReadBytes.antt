@@ -14,7 +14,7 @@ use Rattle.base64.specs.Engines.{standard}
 use Rattle.base64.specs.GeneralPurpose.{decode_of}
 use Rattle.base64.proofs.Decoding.{IsLeftover, IsLeftover_next, scan-cons_err, scan-cons_ok, scan-nil}
 use Rattle.base64.proofs.Tables.{are_tables_inverse, IsDecodeTable_from}
-use Rattle.launch_printing.proofs.CleanTexts.{either}
+use Rattle.launch_laws.proofs.CleanTexts.{either}
 
 abbrev pub AreBytes : List ℕ → Type 0
 AreBytes bytes = AllByRecursion (λ b. b < 256) bytes

@@ -14,13 +14,13 @@ use Rattle.launch_rows.specs.Faults.{unless, first_fault, beside}
 use Rattle.launch_rows.specs.Lines.{onto_first, pieces, without_returns, lines_of, lines, tab_at, or_further, plain_fault}
 use Rattle.launch_rows.specs.Rows.{Row, is_indentation, indentation, unless_nothing, rows_from, is_alone, is_start, is_stop, is_marker, is_directive, at_row}
 use Rattle.launch_yaml.specs.Document.{after_directive, after_head, is_inside, root_of, after_document, body_of, document_of, document_in, parse_at}
-use Rattle.launch_printing.specs.Laws.{PrintedReadsBack}
-use Rattle.launch_printing.specs.Printed.{printed}
-use Rattle.launch_printing.proofs.CleanTexts.{IsClean, calm_alone, calm_parts, bad_none}
-use Rattle.launch_printing.proofs.CleanDocuments.{root_clean}
-use Rattle.launch_printing.proofs.PrintedScalars.{IsNone, Starts, outside}
-use Rattle.launch_printing.proofs.PrintedFlow.{isnt, node_starts}
-use Rattle.launch_printing.proofs.PrintedRoots.{only_row, read_root, IsBare, starts_other, root_bare, root_read}
+use Rattle.launch_laws.specs.PrintingLaws.{PrintedReadsBack}
+use Rattle.launch_laws.specs.Printed.{printed}
+use Rattle.launch_laws.proofs.CleanTexts.{IsClean, calm_alone, calm_parts, bad_none}
+use Rattle.launch_laws.proofs.CleanDocuments.{root_clean}
+use Rattle.launch_laws.proofs.PrintedScalars.{IsNone, Starts, outside}
+use Rattle.launch_laws.proofs.PrintedFlow.{isnt, node_starts}
+use Rattle.launch_laws.proofs.PrintedRoots.{only_row, read_root, IsBare, starts_other, root_bare, root_read}
 
 -- ---- one line
 

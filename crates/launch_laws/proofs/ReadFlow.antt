@@ -16,10 +16,10 @@ use Rattle.yaml_values.specs.Keys.{same_key, unless_there}
 use Rattle.yaml_values.specs.Resolution.{scalar_value}
 use Rattle.yaml_values.specs.Shape.{Shape, Content, node, null, mapping, sequence, of_list, of_pairs, content_of}
 use Rattle.yaml_values.specs.Tags.{Tag, named, bytes_in_base64, tag_at}
-use Rattle.launch_printing.specs.Printed.{IsTagName, IsSpellable, AreSpellableItems}
-use Rattle.launch_printing.proofs.PrintedFlow.{Values, Nodes}
-use Rattle.launch_printing.proofs.ReadNames.{IsReadTag, tag_is_read}
-use Rattle.launch_printing.proofs.ReadKeys.{IsRead, any_mode, scalar_is_read, scalar_is_key, ArePairsRead, IsPairRead, no_pairs_read, more_pairs_read, on_test}
+use Rattle.launch_laws.specs.Printed.{IsTagName, IsSpellable, AreSpellableItems}
+use Rattle.launch_laws.proofs.PrintedFlow.{Values, Nodes}
+use Rattle.launch_laws.proofs.ReadNames.{IsReadTag, tag_is_read}
+use Rattle.launch_laws.proofs.ReadKeys.{IsRead, any_mode, scalar_is_read, scalar_is_key, ArePairsRead, IsPairRead, no_pairs_read, more_pairs_read, on_test}
 
 -- a value, and what stands behind it
 abbrev pub ValueRead : Mode → Content × List ℕ → Type 0

@@ -18,8 +18,8 @@ use Rattle.yaml_scalars.specs.Scalars.{Scalar, unless_at, unless_bad, quoted_sca
 use Rattle.yaml_scalars.proofs.Escaped.{AreNonzero}
 use Rattle.yaml_scalars.proofs.Utf8.{nonzero_left, nonzero_right}
 use Rattle.yaml_values.specs.Documents.{IsText}
-use Rattle.launch_printing.specs.Printed.{escape_of, spelled, in_quotes}
-use Rattle.launch_printing.proofs.CleanTexts.{IsClean, clean_nil, clean_append, clean_byte, clean_visible, clean_character, bad_none, either}
+use Rattle.launch_laws.specs.Printed.{escape_of, spelled, in_quotes}
+use Rattle.launch_laws.proofs.CleanTexts.{IsClean, clean_nil, clean_append, clean_byte, clean_visible, clean_character, bad_none, either}
 
 -- ---- hexadecimal digits
 

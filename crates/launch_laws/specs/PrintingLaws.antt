@@ -4,7 +4,7 @@ use Rattle.yaml_values.specs.Documents.{IsDocument}
 use Rattle.yaml_values.specs.Shape.{Shape}
 use Rattle.launch_yaml.specs.Document.{parse_at}
 use Rattle.launch_yaml.specs.Renumbering.{renumber}
-use Rattle.launch_printing.specs.Printed.{printed, IsSpellable, IsPrintable, HasFlowNames}
+use Rattle.launch_laws.specs.Printed.{printed, IsSpellable, IsPrintable, HasFlowNames}
 
 -- the document, with each line the first
 abbrev pub on_line_one : Shape → Shape
