@@ -6,7 +6,7 @@ use Rattle.std.proofs.lemmas.List.{take-append-le}
 use Rattle.argdata_codec.specs.declared.turn.Turn.{Turn}
 use Rattle.argdata_codec.specs.Shape.{Shape}
 use Rattle.argdata_codec.specs.Places.{next_turn, room_after, field_size, field_place, fields_place}
-use Rattle.refusals.proofs.Chosen.{none_some}
+use Rattle.lists.proofs.Chosen.{none_some}
 use Rattle.argdata_codec.proofs.Fields.{AreBytes}
 use Rattle.argdata_codec.proofs.Begins.{Begins, Longest, HasLength, FitsIn, Sized, IsRead, bytes_append, bytes_take, bytes_drop, rest_fits, rest_length, space_for, whole_length, at_end, stops, goes_on}
 use Rattle.argdata_codec.proofs.FieldSets.{Fields, Rest, Blanks, apart, together}

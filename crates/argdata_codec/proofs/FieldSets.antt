@@ -4,12 +4,12 @@ use Rattle.std.proofs.lemmas.Bool.{ltb-false}
 use Rattle.argdata_codec.specs.declared.turn.Turn.{Turn}
 use Rattle.argdata_codec.specs.declared.turn.Turn.TheVariants as turns
 use Rattle.argdata_codec.specs.Shape.{Shape}
-use Rattle.refusals.specs.Options.{◌>>=◌}
+use Rattle.lists.specs.Options.{◌>>=◌}
 use Rattle.argdata_codec.specs.Reading.{field_at, entry_at, items_of, pairs_of}
 use Rattle.argdata_codec.specs.Places.{next_turn}
-use Rattle.refusals.proofs.Chosen.{chosen, none_some, some_is}
+use Rattle.lists.proofs.Chosen.{chosen, none_some, some_is}
 use Rattle.argdata_codec.proofs.Fields.{AreBytes, field_again}
-use Rattle.refusals.proofs.OptionSteps.{bind_some}
+use Rattle.lists.proofs.OptionSteps.{bind_some}
 use Rattle.argdata_codec.proofs.Loops.{items_end, items_more, pairs_end, pairs_more}
 use Rattle.argdata_codec.proofs.Begins.{IsRead, zeros, length_zeros, bytes_zeros, bytes_append}
 

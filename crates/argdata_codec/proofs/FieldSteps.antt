@@ -7,7 +7,7 @@ use Rattle.argdata_codec.specs.declared.turn.LengthStep.TheVariants.{Stops, Goes
 use Rattle.argdata_codec.specs.Shape.{Shape}
 use Rattle.argdata_codec.specs.Reading.{field_at}
 use Rattle.argdata_codec.specs.Places.{next_turn, may_leave, has_place, may_grow, length_step}
-use Rattle.refusals.proofs.Chosen.{chosen, none_some, some_is}
+use Rattle.lists.proofs.Chosen.{chosen, none_some, some_is}
 use Rattle.argdata_codec.proofs.Fields.{AreBytes}
 use Rattle.argdata_codec.proofs.Begins.{Begins, HasLength, Sized, IsRead, bytes_append}
 use Rattle.argdata_codec.proofs.Outcomes.{nonzero, positive, cons_nil}

@@ -5,7 +5,7 @@ use Rattle.std.proofs.lemmas.Bool.{cases_lt, cases_eq, lt-ltb, le-ltb, ltb-true,
 use Rattle.argdata_codec.specs.Spelling.{steps, IsInRange, IsWithin}
 use Rattle.argdata_codec.specs.Writing.{width_of}
 use Rattle.argdata_codec.specs.Reading.{number_after, signed, is_in_range, integer_at}
-use Rattle.refusals.proofs.Chosen.{chosen, none_some}
+use Rattle.lists.proofs.Chosen.{chosen, none_some}
 use Rattle.argdata_codec.proofs.Fields.{AreBytes}
 use Rattle.argdata_codec.proofs.Groups.{width_within, width_least}
 use Rattle.argdata_codec.proofs.Numbers.{range_is, range_test, number_below, power_small, power_some}

@@ -3,10 +3,10 @@ use Rattle.std.proofs.Common.{◌≡◌, ℕ, zero, suc, ◌<◌, ◌≤◌, Lis
 use Rattle.std.proofs.Math.Dec.{eqb-suc-zero}
 use Rattle.std.proofs.lemmas.List.{append-nil}
 use Rattle.argdata_codec.specs.Shape.{Shape}
-use Rattle.refusals.specs.Options.{◌>>=◌}
-use Rattle.refusals.proofs.OptionSteps.{bind_some, bind_alike}
+use Rattle.lists.specs.Options.{◌>>=◌}
+use Rattle.lists.proofs.OptionSteps.{bind_some, bind_alike}
 use Rattle.argdata_codec.specs.Reading.{field_at, entry_at, items_with, items_of, pairs_with, pairs_of}
-use Rattle.refusals.proofs.Chosen.{some_is}
+use Rattle.lists.proofs.Chosen.{some_is}
 use Rattle.argdata_codec.proofs.Fields.{field_shorter}
 
 -- what was read before, and what is still read

@@ -8,7 +8,7 @@ use Rattle.std.proofs.lemmas.Bool.{cases_lt, ltb-false, ltb-true, lt-ltb, le-ltb
 use Rattle.argdata_codec.specs.Spelling.{steps, IsInteger, IsInRange, IsWithin, complement_bytes}
 use Rattle.argdata_codec.specs.Writing.{width_of}
 use Rattle.argdata_codec.specs.Reading.{number_after, signed, is_in_range, integer_at}
-use Rattle.refusals.proofs.Chosen.{chosen, none_some, some_is}
+use Rattle.lists.proofs.Chosen.{chosen, none_some, some_is}
 use Rattle.argdata_codec.proofs.Fields.{AreBytes}
 use Rattle.argdata_codec.proofs.Groups.{width_within, width_least, width_in_range, length_high}
 

@@ -4,7 +4,7 @@ use Rattle.std.proofs.lemmas.Bool.{cases_lt}
 use Rattle.argdata_codec.specs.Shape.{Shape, Shapes, Pairs, null, binary, boolean, descriptor, integer, mapping, sequence, text, no_items, item, no_pairs, pair, depth_of}
 use Rattle.argdata_codec.specs.Spelling.{IsLength, IsInteger, IsField, complement_bytes, Spells, AreItems, ArePairs, IsSpellable, ItemsAreSpellable, PairsAreSpellable}
 use Rattle.argdata_codec.specs.Writing.{groups_of, length_bytes, width_of, field_of, spelling, item_fields, pair_fields}
-use Rattle.refusals.proofs.Chosen.{some_is}
+use Rattle.lists.proofs.Chosen.{some_is}
 use Rattle.argdata_codec.proofs.Groups.{no_groups, more_groups, width_within, width_least}
 use Rattle.argdata_codec.proofs.Again.{value_again}
 

@@ -4,7 +4,7 @@ use Rattle.std.specs.Int.{w32, from_be_bytes}
 use Rattle.std.proofs.lemmas.Bool.{eqb-true, eq-eqb, true≢false}
 use Rattle.argdata_codec.specs.Places.{at_most, exactly, boolean_place}
 use Rattle.argdata_codec.specs.Reading.{boolean_at, descriptor_at}
-use Rattle.refusals.proofs.Chosen.{chosen, none_some}
+use Rattle.lists.proofs.Chosen.{chosen, none_some}
 use Rattle.argdata_codec.proofs.Fields.{AreBytes}
 use Rattle.argdata_codec.proofs.Outcomes.{cons_nil, few, many}
 use Rattle.argdata_codec.proofs.Begins.{Begins, Longest, HasLength, FitsIn, Sized, IsRead, zeros, length_zeros, bytes_zeros, at_end, stops, goes_on, at_most_of}

@@ -5,11 +5,11 @@ use Rattle.std.proofs.lemmas.Bool.{eqb-true}
 use Rattle.std.proofs.lemmas.Nat.{be_bytes_4}
 use Rattle.argdata_codec.specs.Shape.{Shape, null, binary, boolean, descriptor, integer, mapping, sequence, text, of_list, of_pairs, depth_of, depth_of_items, depth_of_pairs}
 use Rattle.argdata_codec.specs.Spelling.{IsField, Spells, AreItems, ArePairs}
-use Rattle.refusals.specs.Options.{◌>>=◌}
+use Rattle.lists.specs.Options.{◌>>=◌}
 use Rattle.argdata_codec.specs.Reading.{field_at, boolean_at, descriptor_at, integer_at, text_at, entry_at, items_with, items_of, items_at, pairs_with, pairs_of, pairs_at, value_with, value_at}
-use Rattle.refusals.proofs.Chosen.{chosen, none_some, some_is}
+use Rattle.lists.proofs.Chosen.{chosen, none_some, some_is}
 use Rattle.argdata_codec.proofs.Fields.{AreBytes, field_parts}
-use Rattle.refusals.proofs.OptionSteps.{bind_some}
+use Rattle.lists.proofs.OptionSteps.{bind_some}
 use Rattle.argdata_codec.proofs.Numbers.{integer_sound}
 use Rattle.argdata_codec.proofs.Texts.{text_sound}
 

@@ -4,7 +4,7 @@ use Rattle.std.proofs.Math.Dec.{eqb-suc-zero}
 use Rattle.std.proofs.lemmas.Bool.{cases_lt, cases_eq, lt-ltb, le-ltb, ltb-false, ne_eqb, true≢false, or_parts}
 use Rattle.std.proofs.Math.Utf8.{scalar, encode, scalar_cases}
 use Rattle.argdata_codec.specs.Places.{Tail, tail_of, begins_in, text_step, is_end}
-use Rattle.refusals.proofs.Chosen.{chosen, none_some, some_is}
+use Rattle.lists.proofs.Chosen.{chosen, none_some, some_is}
 use Rattle.argdata_codec.proofs.Outcomes.{nonzero}
 
 -- the rest of a text and its zero byte, where a tail is to come first

@@ -4,7 +4,7 @@ use Rattle.std.proofs.Math.Dec.{eqb-suc-zero}
 use Rattle.std.proofs.lemmas.Bool.{cases_lt, cases_eq, cases_Bool, ltb-true, ltb-false, eqb-true, eq-eqb, true≢false}
 use Rattle.argdata_codec.specs.Reading.{text_at}
 use Rattle.argdata_codec.specs.Places.{Tail, tail_of, begins_in, text_step, is_end, text_place, room_after, exactly, more_than, one_more}
-use Rattle.refusals.proofs.Chosen.{chosen, none_some, some_is}
+use Rattle.lists.proofs.Chosen.{chosen, none_some, some_is}
 use Rattle.argdata_codec.proofs.Fields.{AreBytes}
 use Rattle.argdata_codec.proofs.Begins.{Begins, Longest, HasLength, FitsIn, Sized, IsRead, rest_fits, rest_length, space_for, whole_length, at_end, stops, goes_on, alike}
 use Rattle.argdata_codec.proofs.Outcomes.{cons_nil}

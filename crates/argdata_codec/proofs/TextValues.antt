@@ -6,7 +6,7 @@ use Rattle.std.proofs.lemmas.Bool.{cases_lt, cases_eq, lt-ltb, le-ltb, le-leb, e
 use Rattle.std.proofs.lemmas.Str.{encode_ascii}
 use Rattle.argdata_codec.specs.Reading.{text_at}
 use Rattle.argdata_codec.specs.Places.{Tail, tail_of, begins_in}
-use Rattle.refusals.proofs.Chosen.{none_some, some_is}
+use Rattle.lists.proofs.Chosen.{none_some, some_is}
 use Rattle.argdata_codec.proofs.Begins.{IsRead}
 use Rattle.argdata_codec.proofs.Outcomes.{positive}
 use Rattle.argdata_codec.proofs.Texts.{text_sound, text_again}

@@ -6,8 +6,8 @@ use Rattle.std.proofs.Math.Dec.{eqb-suc-zero}
 use Rattle.std.proofs.lemmas.Str.{IsUtf8-from_is_utf8, is_utf8-from_IsUtf8}
 use Rattle.argdata_codec.specs.Spelling.{IsText}
 use Rattle.argdata_codec.specs.Reading.{before_zero, text_at}
-use Rattle.refusals.proofs.Chosen.{chosen, none_some, some_is}
-use Rattle.refusals.proofs.OptionSteps.{bind_some}
+use Rattle.lists.proofs.Chosen.{chosen, none_some, some_is}
+use Rattle.lists.proofs.OptionSteps.{bind_some}
 
 pub text_found : (body content : List ℕ) → before_zero body ≡ Some content → IsUtf8 content → text_at body ≡ Some content
 unfolding text_at

@@ -6,7 +6,7 @@ use Rattle.argdata_codec.specs.declared.turn.Turn.TheVariants as turns
 use Rattle.argdata_codec.specs.Shape.{Shape, null, binary, boolean, descriptor, integer, mapping, sequence, text, of_list, of_pairs}
 use Rattle.argdata_codec.specs.Reading.{boolean_at, descriptor_at, integer_at, text_at, items_of, items_at, pairs_of, value_at}
 use Rattle.argdata_codec.specs.Places.{room_after, has_place, at_most, exactly, more_than, boolean_place, integer_place, text_place, fields_place, container_place, value_place}
-use Rattle.refusals.proofs.Chosen.{none_some}
+use Rattle.lists.proofs.Chosen.{none_some}
 use Rattle.argdata_codec.proofs.Fields.{AreBytes}
 use Rattle.argdata_codec.proofs.Sound.{mapped_some}
 use Rattle.argdata_codec.proofs.Begins.{Begins, Longest, HasLength, FitsIn, HasSpace, Sized, IsRead, map_read, zeros, length_zeros, bytes_zeros, rest_fits, rest_length, space_for, whole_length, at_end, stops, goes_on, all_of}

@@ -8,7 +8,7 @@ ghost use Rattle.argdata_codec.specs.Faults.{Decodes, Names};
 use crate::fault::Malformed;
 use crate::value::Value;
 use crate::{place, reading};
-use refusals::Refusal;
+use lists::Refusal;
 use std::alloc::{AllocError, Global};
 use thiserror::Error;
 

@@ -6,7 +6,7 @@ ghost use Rattle.argdata_codec.specs.Reading.{value_at};
 use crate::fault::Malformed;
 use crate::turn::{LengthStep, Turn};
 use crate::{reading, tag};
-use refusals::Refusal;
+use lists::Refusal;
 use std::alloc::{AllocError, Global};
 
 // The room behind so many bytes.

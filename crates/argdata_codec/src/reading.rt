@@ -1,7 +1,7 @@
 //! The value that bytes spell, without the place of a fault.
 ghost use Rattle.std.specs.Prelude.{◌≡◌, ◌<◌, ◌≤◌, ◌^◌, map, length, IfOk};
 ghost use Rattle.argdata_codec.specs.Views.{shape_of, pair_of};
-ghost use Rattle.refusals.specs.Options.{Reads};
+ghost use Rattle.lists.specs.Options.{Reads};
 ghost use Rattle.argdata_codec.specs.Reading.{field_at, boolean_at, descriptor_at, integer_at, before_zero, text_at, entry_at, items_of, pairs_of, items_at, pairs_at, value_at, number_after, signed, is_in_range};
 
 use crate::encoding::width;
@@ -10,8 +10,7 @@ use crate::pair_list::PairList;
 use crate::tag;
 use crate::value::Value;
 use crate::value_list::ValueList;
-use lists::{Bytes, Text};
-use refusals::Refusal;
+use lists::{Bytes, Refusal, Text};
 use std::alloc::Global;
 
 #[cycle(read)]

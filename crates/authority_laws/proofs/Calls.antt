@@ -19,7 +19,7 @@ use Rattle.abi_types.specs.declared.node.NodeKind.TheVariants.{Link}
 use Rattle.abi_types.specs.declared.open_kind.OpenKind.{OpenKind}
 use Rattle.abi_types.specs.declared.place.Place.{Place}
 use Rattle.abi_types.specs.declared.who.Who.{Who}
-use Rattle.number_map.specs.Maps.{get-insert-same}
+use Rattle.maps.specs.Maps.{get-insert-same}
 use Rattle.kernel_model.specs.Calls.{meaning_of, refusal_of}
 use Rattle.kernel_model.specs.DescriptorCalls.{with_table, lowest_free, dup_at, dup_of, replaced_by, stat_open, stat_get, with_flags, lowered_to, stat_set, stat_put}
 use Rattle.kernel_model.specs.ClockCalls.{real_time}

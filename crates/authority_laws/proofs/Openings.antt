@@ -12,7 +12,7 @@ use Rattle.abi_types.specs.declared.call.Lookup.{Lookup}
 use Rattle.abi_types.specs.declared.descriptor.Descriptor.{Descriptor}
 use Rattle.abi_types.specs.declared.open_kind.OpenKind.{OpenKind}
 use Rattle.abi_types.specs.declared.reply.Answer.TheVariants as answer
-use Rattle.number_map.specs.Maps.{get-insert-same}
+use Rattle.maps.specs.Maps.{get-insert-same}
 use Rattle.kernel_model.specs.FilePaths.{Walked, Ends, Fails, LeadsOutside}
 use Rattle.kernel_model.specs.Numbers.{can_number, made_more, next_object, object_of, own_updates}
 use Rattle.kernel_model.specs.Opening.{Opened, NotOpened, OpenedOutside, Opens, open_at, open_end, open_walked, opened_descriptor, opened_outcome}

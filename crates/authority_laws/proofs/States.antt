@@ -21,7 +21,7 @@ use Rattle.abi_types.specs.declared.reply.Reply.{Reply}
 use Rattle.abi_types.specs.declared.status.Status.{Status}
 use Rattle.abi_types.specs.declared.status.Status.TheVariants.{Live, Exit, Killed}
 use Rattle.abi_types.specs.declared.who.Who.{Who}
-use Rattle.number_map.specs.Maps.{get-insert-same, get-insert-other}
+use Rattle.maps.specs.Maps.{get-insert-same, get-insert-other}
 use Rattle.kernel_model.specs.Opening.{opened_descriptor}
 use Rattle.kernel_model.specs.Release.{is_ending, release}
 use Rattle.kernel_model.specs.Start.{granted_descriptor, granted_table}

@@ -17,7 +17,7 @@ use Rattle.guest_memory.specs.Written.{set_bytes, write_of, written_over}
 use Rattle.guest_memory.proofs.PageRanges.{is_inside, is_outside}
 use Rattle.guest_memory.proofs.Runs.{in_page}
 use Rattle.guest_memory.proofs.Writes.{set_in_page, with_bytes}
-use Rattle.number_map.specs.Maps.{get-insert-same, get-insert-other, same_around}
+use Rattle.maps.specs.Maps.{get-insert-same, get-insert-other, same_around}
 use Rattle.elf_image.specs.declared.elf.Segment.{Segment}
 use Rattle.call_codec.specs.Image.{content, page_count, page_of, page_with, with_pages, with_segment}
 use Rattle.call_codec.proofs.Rooms.{not_unprotected}

@@ -7,7 +7,7 @@ use Rattle.std.proofs.Math.ListN.{length-set}
 use Rattle.std.proofs.lemmas.Bool.Decides.{eqb_tells, leb_tells}
 use Rattle.std.proofs.lemmas.List.{get_or_past, get_or-replicate, length-replicate, length-take, take_min}
 use Rattle.std.specs.FinMap.{get}
-use Rattle.number_map.specs.Maps.{get-insert-same, get-insert-other}
+use Rattle.maps.specs.Maps.{get-insert-same, get-insert-other}
 use Rattle.abi_base.specs.declared.prot.Prot.{Prot}
 use Rattle.abi_types.specs.declared.call.Call.TheVariants.{MemMap}
 use Rattle.abi_types.specs.declared.place.Place.TheVariants.{At}

@@ -17,7 +17,7 @@ use Rattle.guest_memory.specs.Mapping.{AreFree, MapFails, MayMap, ProtectFails}
 use Rattle.guest_memory.specs.Page.{Page, Pages}
 use Rattle.guest_memory.specs.Ranges.{in_range}
 use Rattle.guest_memory.proofs.PageRanges.{end_outside, inside, is_inside, is_outside, not_both}
-use Rattle.number_map.specs.Maps.{get-insert-other, len-insert_new}
+use Rattle.maps.specs.Maps.{get-insert-other, len-insert_new}
 use Rattle.call_codec.specs.Image.{FitTogether, IsPlaced, ShareNoPage, first_page, page_count, page_of, with_pages, with_segment, with_segments}
 
 -- ---- what keeps a page from being mapped or protected

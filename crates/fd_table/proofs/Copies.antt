@@ -4,7 +4,7 @@ use Rattle.std.proofs.lemmas.Bool.Decides.{eqb_tells, leb_tells}
 use Rattle.std.proofs.lemmas.Bool.{le-leb, leb-true}
 use Rattle.std.specs.Ordering.{nat_cmp}
 use Rattle.std.specs.FinMap.{empty, get, insert, get-empty}
-use Rattle.number_map.specs.Maps.{passes, least_key, least_key-entry, least_key-least, least_key-none, get-insert-same, get-insert-other, same_numbers}
+use Rattle.maps.specs.Maps.{passes, least_key, least_key-entry, least_key-least, least_key-none, get-insert-same, get-insert-other, same_numbers}
 use Rattle.abi_types.specs.declared.descriptor.Descriptor.{Descriptor}
 use Rattle.fd_table.specs.Table.{Table}
 

@@ -4,7 +4,7 @@ use Rattle.std.proofs.lemmas.Bool.Decides.{eqb_tells, leb_tells}
 use Rattle.std.proofs.lemmas.Option.{slice_get_past, slice_get-get_or}
 use Rattle.std.specs.Ordering.{nat_cmp}
 use Rattle.std.specs.FinMap.{empty, get, insert, get-empty}
-use Rattle.number_map.specs.Maps.{get-insert-same, get-insert-other}
+use Rattle.maps.specs.Maps.{get-insert-same, get-insert-other}
 use Rattle.abi_types.specs.declared.descriptor.Descriptor.{Descriptor}
 use Rattle.fd_table.specs.Table.{Table, IsPicked}
 

@@ -10,7 +10,7 @@ use Rattle.std.proofs.Common.{◌≡◌, ◌≢◌, ℕ, zero, suc, ◌+◌, ◌
 use Rattle.std.proofs.lemmas.Bool.Decides.{eqb_tells}
 use Rattle.std.specs.Ordering.{nat_cmp}
 use Rattle.std.specs.FinMap.{FinMap, empty, get, insert, remove, len, get-empty, len-empty}
-use Rattle.number_map.specs.Maps.{get-insert-other, get-remove-same, get-remove-other, same_numbers, len-removed, remove_absent}
+use Rattle.maps.specs.Maps.{get-insert-other, get-remove-same, get-remove-other, same_numbers, len-removed, remove_absent}
 
 -- each key is below n
 abbrev pub KeysBelow : {X : Type 0} → ℕ → FinMap nat_cmp X → Type 0

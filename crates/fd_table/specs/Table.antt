@@ -11,7 +11,7 @@ use Rattle.std.proofs.lemmas.Bool.Decides.{leb_tells}
 use Rattle.std.specs.Ordering.{nat_cmp}
 use Rattle.std.specs.Coded.{Coded, coded_ℕ}
 use Rattle.std.specs.FinMap.{FinMap, code, get, insert, len, contains_key}
-use Rattle.number_map.specs.Maps.{same_numbers}
+use Rattle.maps.specs.Maps.{same_numbers}
 use Rattle.abi_base.specs.declared.limits.TheConstants.{MOST_DESCRIPTORS}
 use Rattle.abi_base.specs.declared.rights.Rights.{Rights}
 use Rattle.abi_base.specs.Rights.{has_all}

@@ -8,7 +8,7 @@ ghost use Rattle.fd_table.specs.declared.faults.PickFault.TheVariants as pick_fa
 use crate::faults::{InsertFault, PickFault};
 use abi_base::MOST_DESCRIPTORS;
 use abi_types::{Descriptor, Rights, TryClone};
-use number_map::NumMap;
+use maps::NumMap;
 use std::alloc::{AllocError, Global};
 use std::marker::Model;
 

@@ -18,7 +18,7 @@ use Rattle.abi_types.specs.declared.node.NodeKind.TheVariants as kind
 use Rattle.abi_types.specs.declared.node.Times.{Times}
 use Rattle.abi_types.specs.declared.reply.Answer.TheVariants as answer
 use Rattle.abi_types.specs.declared.reply.Reply.{Reply}
-use Rattle.number_map.specs.Maps.{same_numbers}
+use Rattle.maps.specs.Maps.{same_numbers}
 use Rattle.tree_model.specs.Changes.{bytes_of, is_file, with_bytes, with_times}
 use Rattle.tree_model.specs.Entries.{here_or_other, with_bytes-changes, with_times-changes}
 use Rattle.tree_model.specs.Files.{after_write, is_beyond, resized}

@@ -12,7 +12,7 @@ use abi_layout::write_dirent;
 use abi_structures::Dirent;
 use abi_types::{Bytes, Errno, Node, ObjId, OpenKind, Payload, Reply};
 use file_tree::Tree;
-use name_map::NameEntries;
+use maps::NameEntries;
 use right_rules::{refused, success_with};
 use std::alloc::{AllocError, Global};
 

@@ -3,8 +3,8 @@ use Rattle.std.proofs.Common.{◌≡◌, ◌≢◌, ℕ, false, List, Option, So
 use Rattle.std.proofs.lemmas.Bool.{false_from_ne_true}
 use Rattle.std.proofs.lemmas.Option.{none-some}
 use Rattle.std.specs.FinMap.{get, len, len-empty}
-use Rattle.number_map.specs.Closure.{member}
-use Rattle.name_map.specs.Names as name_map
+use Rattle.maps.specs.Closure.{member}
+use Rattle.maps.specs.Names as name_map
 use Rattle.tree_model.specs.Tree.{Tree, Names, HasName, below, entry_of, names_in}
 use Rattle.tree_model.specs.Below.{below_cases}
 use Rattle.file_tree.specs.declared.slot.Slot.{Slot}

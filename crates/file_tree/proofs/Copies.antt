@@ -6,9 +6,9 @@ use Rattle.std.specs.declared.cmp.Ordering.{Ordering}
 use Rattle.std.specs.Ordering.{nat_cmp, eq_by_cmp, is_eq, is_lt}
 use Rattle.std.specs.FinMap.{FinMap, empty, get, insert, entries, find, is_sorted, entries_sorted, get-empty, get-entries}
 use Rattle.std.specs.FinMap.Entries.{below_all}
-use Rattle.number_map.specs.Maps.{passes, least_key, least_key-entry, least_key-least, least_key-none, get-insert-same, get-insert-other, same_numbers}
-use Rattle.name_map.specs.Names as names
-use Rattle.name_map.specs.Names.{Name, Names, name_cmp, tie_same, tie_other, same_or_not, same_names}
+use Rattle.maps.specs.Maps.{passes, least_key, least_key-entry, least_key-least, least_key-none, get-insert-same, get-insert-other, same_numbers}
+use Rattle.maps.specs.Names as names
+use Rattle.maps.specs.Names.{Name, Names, name_cmp, tie_same, tie_other, same_or_not, same_names}
 use Rattle.tree_model.specs.Changes.{is_above}
 
 none_either : {A : Type 0} (b : Bool) → cond {A = Option A} b None None ≡ None

@@ -6,8 +6,8 @@ use Rattle.abi_types.specs.declared.node.Node.{Node}
 use Rattle.abi_types.specs.declared.node.NodeKind.{NodeKind}
 use Rattle.abi_types.specs.declared.node.NodeKind.TheVariants as kind
 use Rattle.abi_types.specs.declared.node.Times.{Times}
-use Rattle.number_map.specs.Closure.{changed-insert}
-use Rattle.number_map.specs.Maps.{get-insert-same, get-insert-other, insert_self, same_numbers}
+use Rattle.maps.specs.Closure.{changed-insert}
+use Rattle.maps.specs.Maps.{get-insert-same, get-insert-other, insert_self, same_numbers}
 use Rattle.tree_model.specs.Tree.{Tree, IsTree, entry_of, is_directory_kind, names_in}
 use Rattle.tree_model.specs.Changes.{put_node, with_bytes, with_bytes_in, with_times, with_times_in, bytes_of, bytes_in, bytes_of_kind, is_file, is_file_kind, is_file_node}
 use Rattle.tree_model.specs.Entries.{here_or_other}

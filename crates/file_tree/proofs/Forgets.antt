@@ -3,8 +3,8 @@ use Rattle.std.proofs.Common.{◌≡◌, ◌≢◌, ℕ, Bool, true, false, ◌&
 use Rattle.std.proofs.lemmas.Bool.{false≢true}
 use Rattle.std.specs.FinMap.{get, remove}
 use Rattle.abi_types.specs.declared.node.Node.{Node}
-use Rattle.number_map.specs.Closure.{changed-remove}
-use Rattle.number_map.specs.Maps.{get-remove-same, get-remove-other, least_key, least_same, passes, same_numbers}
+use Rattle.maps.specs.Closure.{changed-remove}
+use Rattle.maps.specs.Maps.{get-remove-same, get-remove-other, least_key, least_same, passes, same_numbers}
 use Rattle.tree_model.specs.Tree.{Tree, entry_of, is_directory, links_of}
 use Rattle.tree_model.specs.Changes.{forgotten, is_above, nameless_after}
 use Rattle.tree_model.specs.Entries.{here_or_other}

@@ -7,8 +7,8 @@ use Rattle.std.specs.FinMap as map
 use Rattle.std.specs.FinMap.{FinMap, get-empty}
 use Rattle.slab.specs.Slab.{Slab, get, with_value, Updates}
 use Rattle.slab.proofs.SlabLemmas.{Updates-with_value}
-use Rattle.number_map.specs.Closure.{get-changed, changed-empty}
-use Rattle.number_map.specs.Maps.{get-insert-same, get-insert-other, get-remove-same, get-remove-other, passes, least_key, least_same, same_around, remove_absent}
+use Rattle.maps.specs.Closure.{get-changed, changed-empty}
+use Rattle.maps.specs.Maps.{get-insert-same, get-insert-other, get-remove-same, get-remove-other, passes, least_key, least_same, same_around, remove_absent}
 use Rattle.file_tree.specs.declared.slot.Slot.{Slot}
 use Rattle.file_tree.specs.Slots.{slot_or, slots_of, IsKeyed}
 

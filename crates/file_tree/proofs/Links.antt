@@ -3,7 +3,7 @@ use Rattle.std.proofs.Common.{◌≡◌, ◌≢◌, ℕ, ◌+◌, ◌<◌, ◌^�
 use Rattle.std.proofs.lemmas.Bool.{eqb-true, false≢true, false_from_ne_true}
 use Rattle.std.proofs.lemmas.Option.{none-some, same_Some}
 use Rattle.std.specs.FinMap.{get, insert, remove}
-use Rattle.number_map.specs.Maps.{get-insert-same, get-insert-other, get-remove-same, get-remove-other}
+use Rattle.maps.specs.Maps.{get-insert-same, get-insert-other, get-remove-same, get-remove-other}
 use Rattle.tree_model.specs.declared.limits.TheConstants.{ROOT}
 use Rattle.tree_model.specs.Tree.{Tree, entry_of, is_directory, is_directory_kind, links_in, links_of}
 use Rattle.tree_model.specs.Changes.{first_fault, link_faults, linked, one_more, one_more_in, put_name, with_count}

@@ -3,8 +3,8 @@ use Rattle.std.proofs.Common.{◌≡◌, ◌≢◌, ℕ, true, false, cond, List
 use Rattle.std.proofs.lemmas.Option.{none-some, same_Some}
 use Rattle.std.specs.FinMap.{empty, get, insert}
 use Rattle.abi_types.specs.declared.node.Node.{Node}
-use Rattle.number_map.specs.Closure.{changed-insert}
-use Rattle.number_map.specs.Maps.{get-insert-same, get-insert-other, same_numbers}
+use Rattle.maps.specs.Closure.{changed-insert}
+use Rattle.maps.specs.Maps.{get-insert-same, get-insert-other, same_numbers}
 use Rattle.tree_model.specs.Tree.{Tree, HasName, IsTree, entry_of, is_directory, is_directory_kind}
 use Rattle.tree_model.specs.Changes.{first_fault, is_absent, made, make_faults, new_node, put_name}
 use Rattle.tree_model.specs.Entries.{HasName-put_name, entry_of-new_node, here_or_other, table-new_node-other}

@@ -5,8 +5,8 @@ use Rattle.std.proofs.lemmas.Bool.{eq-eqb, false≢true}
 use Rattle.std.proofs.lemmas.Bool.Decides.{eqb_tells}
 use Rattle.std.proofs.lemmas.Option.{same_Some, none-some}
 use Rattle.std.specs.FinMap.{get, insert, remove}
-use Rattle.number_map.specs.Maps.{insert-again, insert-insert, weight}
-use Rattle.name_map.specs.Names as name_map
+use Rattle.maps.specs.Maps.{insert-again, insert-insert, weight}
+use Rattle.maps.specs.Names as name_map
 use Rattle.tree_model.specs.declared.limits.TheConstants.{ROOT}
 use Rattle.tree_model.specs.Tree.{Tree, HasName, IsTree, entry_of, is_directory, names_in, names_of, one_for}
 use Rattle.tree_model.specs.Changes.{drop_name, first_fault, is_same, moved_to, put_name, rename_faults, renamed, replaced, without_old}

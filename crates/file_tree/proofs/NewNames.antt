@@ -2,7 +2,7 @@
 use Rattle.std.proofs.Common.{◌≡◌, ◌≢◌, ℕ, true, cond, List, Option, Some, None, IsSome, is_some, option_map, refl, sym, ap, ◌∙◌}
 use Rattle.std.proofs.lemmas.Bool.{false≢true}
 use Rattle.std.specs.FinMap.{get, insert}
-use Rattle.number_map.specs.Maps.{get-insert-same, get-insert-other, same_numbers}
+use Rattle.maps.specs.Maps.{get-insert-same, get-insert-other, same_numbers}
 use Rattle.tree_model.specs.Tree.{is_directory, is_directory_kind, names_in, names_of}
 use Rattle.tree_model.specs.Changes.{put_name}
 use Rattle.tree_model.specs.Entries.{here_or_other}

@@ -8,8 +8,8 @@ use Rattle.std.specs.Prelude.{if◌then◌else◌}
 use Rattle.std.proofs.lemmas.Bool.{false≢true, false_from_ne_true, eqb-true, eq-eqb}
 use Rattle.std.proofs.lemmas.Bool.Decides.{same_from_decides}
 use Rattle.std.specs.FinMap.{get, insert, remove}
-use Rattle.number_map.specs.Closure.{changed-insert}
-use Rattle.number_map.specs.Maps.{get-insert-same, get-insert-other, insert_self, same_numbers}
+use Rattle.maps.specs.Closure.{changed-insert}
+use Rattle.maps.specs.Maps.{get-insert-same, get-insert-other, insert_self, same_numbers}
 use Rattle.tree_model.specs.declared.limits.TheConstants.{ROOT}
 use Rattle.tree_model.specs.Tree.{Tree, Names, HasName, IsTree, is_directory, is_directory_kind, links_in, names_in, names_of}
 use Rattle.tree_model.specs.Changes.{drop_name, one_less, one_less_in, put_name, with_count, without_old}

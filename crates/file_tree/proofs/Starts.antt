@@ -3,8 +3,8 @@ use Rattle.std.proofs.Common.{◌≡◌, ◌≢◌, ℕ, false, Some, None, is_s
 use Rattle.std.specs.Ordering.{nat_cmp}
 use Rattle.std.specs.FinMap.{FinMap, empty, get, insert, get-empty}
 use Rattle.abi_types.specs.declared.node.Times.{Times}
-use Rattle.number_map.specs.Closure.{changed-empty, changed-insert}
-use Rattle.number_map.specs.Maps.{get-insert-same, get-insert-other, same_numbers}
+use Rattle.maps.specs.Closure.{changed-empty, changed-insert}
+use Rattle.maps.specs.Maps.{get-insert-same, get-insert-other, same_numbers}
 use Rattle.tree_model.specs.declared.limits.TheConstants.{ROOT}
 use Rattle.tree_model.specs.Tree.{Names, entry_of}
 use Rattle.tree_model.specs.Start.{root_node, root_tree, root_tree-no_name, root_tree-tree}

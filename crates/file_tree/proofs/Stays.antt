@@ -2,7 +2,7 @@
 use Rattle.std.proofs.Common.{◌≡◌, ◌≢◌, ◌↔◌, ℕ, ◌==◌, ◌&&◌, not, Bool, false, List, Option, Some, None, is_some, option_map, inl, inr, refl, sym, ap, ◌∙◌}
 use Rattle.std.proofs.lemmas.Option.{same_Some, none-some}
 use Rattle.std.specs.FinMap.{get}
-use Rattle.number_map.specs.Maps.{passes}
+use Rattle.maps.specs.Maps.{passes}
 use Rattle.tree_model.specs.declared.limits.TheConstants.{ROOT}
 use Rattle.tree_model.specs.Tree.{Tree, HasName, entry_of}
 use Rattle.tree_model.specs.Entries.{IsElsewhere, same_place_or_not}

@@ -3,8 +3,8 @@ use Rattle.std.proofs.Common.{◌≡◌, ℕ, cond, List, [], ◌∷◌, length,
 use Rattle.std.specs.Ordering.{nat_cmp}
 use Rattle.std.specs.Cmp.Lexicographic.{slice_cmp}
 use Rattle.std.specs.FinMap.{empty, get, entries, get-empty, len-empty, len-entries}
-use Rattle.number_map.specs.Closure.{changed, get-changed}
-use Rattle.number_map.specs.Maps.{get-retain}
+use Rattle.maps.specs.Closure.{changed, get-changed}
+use Rattle.maps.specs.Maps.{get-retain}
 use Rattle.tree_model.specs.Tree.{Names, Tree, names_in, is_directory, is_directory_node}
 use Rattle.file_tree.specs.declared.slot.Slot.{Slot}
 use Rattle.file_tree.specs.SlotNames.{names_in_slot}

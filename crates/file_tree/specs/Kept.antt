@@ -6,8 +6,8 @@ use Rattle.std.specs.Prelude.{◌≡◌, ◌↔◌, ℕ, ◌+◌, ◌-◌, ◌==
 use Rattle.std.specs.Ordering.{nat_cmp}
 use Rattle.std.specs.FinMap.{FinMap, empty, get, insert, remove, retain_keys}
 use Rattle.abi_types.specs.declared.node.Node.{Node}
-use Rattle.number_map.specs.Closure.{changed}
-use Rattle.number_map.specs.Maps.{passes}
+use Rattle.maps.specs.Closure.{changed}
+use Rattle.maps.specs.Maps.{passes}
 use Rattle.tree_model.specs.declared.limits.TheConstants.{ROOT}
 use Rattle.tree_model.specs.Tree.{Names, Tree, HasName, IsTree, is_directory, is_directory_kind}
 use Rattle.tree_model.specs.Changes.{with_count}

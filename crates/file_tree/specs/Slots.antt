@@ -5,7 +5,7 @@ use Rattle.std.specs.FinMap as map
 use Rattle.std.specs.FinMap.{FinMap}
 use Rattle.slab.specs.Slab.{Slab, get}
 use Rattle.abi_types.specs.declared.node.NodeKind.TheVariants as kind
-use Rattle.number_map.specs.Closure.{changed}
+use Rattle.maps.specs.Closure.{changed}
 use Rattle.file_tree.specs.declared.slot.Slot.{Slot}
 
 -- what stands for a slot where there is none

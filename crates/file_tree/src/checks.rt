@@ -1,6 +1,6 @@
 //! Whether a change of names is refused, and with what fault: the first of its table.
 ghost use Rattle.std.specs.Prelude.{◌≡◌, Some, true, IfOk};
-ghost use Rattle.number_map.specs.Closure.{member};
+ghost use Rattle.maps.specs.Closure.{member};
 ghost use Rattle.tree_model.specs.Tree.{below, entry_of, is_directory};
 ghost use Rattle.tree_model.specs.Changes.{directory_faults, has_names, is_same, link_faults, make_faults, rename_faults, replace_faults, unlink_faults};
 ghost use Rattle.file_tree.specs.Checks.{Checks, place_faults};

@@ -6,8 +6,7 @@ use crate::slot::Slot;
 use crate::slots::Slots;
 use crate::tree::Tree;
 use abi_types::{Node, NodeKind, ObjId, TryClone};
-use name_map::NameMap;
-use number_map::NumMap;
+use maps::{NameMap, NumMap};
 use std::alloc::{AllocError, Global};
 
 impl TryClone for Tree {

@@ -2,7 +2,7 @@
 ghost use Rattle.std.specs.Prelude.{◌≡◌};
 ghost use Rattle.path_lookup.specs.Laws.{EndsAtPlace, EndsIn};
 ghost use Rattle.path_lookup.specs.Walk.{walk_of};
-ghost use Rattle.number_map.specs.Closure.{member};
+ghost use Rattle.maps.specs.Closure.{member};
 ghost use Rattle.tree_model.specs.Finds.{finds};
 ghost use Rattle.tree_model.specs.Tree.{below};
 

@@ -7,7 +7,7 @@ ghost use Rattle.file_tree.specs.Kept.{first_slot, links_at, listed_if_last, lis
 use crate::slot::Slot;
 use crate::slots::Slots;
 use abi_types::{Node, ObjId};
-use number_map::NumMap;
+use maps::NumMap;
 use std::alloc::{AllocError, Global};
 
 /// A new name in a directory, or another node for a name that is there.

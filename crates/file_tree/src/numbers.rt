@@ -1,10 +1,10 @@
 //! The numbers of a map in their order.
 ghost use Rattle.std.specs.Prelude.{◌≡◌};
 ghost use Rattle.tree_model.specs.Changes.{is_above};
-ghost use Rattle.number_map.specs.Maps.{least_key};
+ghost use Rattle.maps.specs.Maps.{least_key};
 
 use abi_types::ObjId;
-use number_map::NumMap;
+use maps::NumMap;
 
 /// The least of the map's numbers above `after`, and the least of all with no `after`.
 pub fn least<V>(map: &NumMap<V>, after: Option<ObjId>) -> Option<u64>

@@ -8,7 +8,7 @@ ghost use Rattle.file_tree.specs.SlotBytes.{with_file};
 
 use crate::file_bytes::{resize, write_over};
 use abi_types::{Node, NodeKind, ObjId};
-use name_map::NameMap;
+use maps::NameMap;
 use std::alloc::{AllocError, Global};
 
 /// A node; of a directory also the names in it, and the directory that has a name of it.

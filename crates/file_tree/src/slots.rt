@@ -2,14 +2,14 @@
 ghost use Rattle.std.specs.Prelude.{◌≡◌, ◌<◌, ◌^◌, None, IsSome, IfSome, OnOk, OnErr, option_copied};
 ghost use Rattle.std.specs.FinMap as map;
 ghost use Rattle.std.specs.Borrow.{sem};
-ghost use Rattle.number_map.specs.Maps.{least_key};
+ghost use Rattle.maps.specs.Maps.{least_key};
 ghost use Rattle.tree_model.specs.Changes.{is_above};
 ghost use Rattle.file_tree.specs.Lending.{LendsSlot};
 
 use crate::numbers::least;
 use crate::slot::Slot;
 use abi_types::ObjId;
-use number_map::NumMap;
+use maps::NumMap;
 use slab::Slab;
 use std::alloc::{AllocError, Global};
 use std::marker::Model;

@@ -9,7 +9,7 @@ use Rattle.std.proofs.Common.{◌≡◌, ◌≢◌, ◌↔◌, ℕ, zero, suc, �
 use Rattle.std.proofs.lemmas.Bool.{le-leb, leb-true}
 use Rattle.std.proofs.lemmas.Bool.Decides.{eqb_tells}
 use Rattle.std.specs.FinMap.{get, insert, remove, len}
-use Rattle.number_map.specs.Maps.{get-retain, get-remove-same, get-remove-other, get-insert-same, get-insert-other, same_numbers, len-removed}
+use Rattle.maps.specs.Maps.{get-retain, get-remove-same, get-remove-other, get-insert-same, get-insert-other, same_numbers, len-removed}
 use Rattle.abi_base.specs.declared.prot.Prot.{Prot}
 use Rattle.guest_memory.specs.Page.{Page, Pages, zero_page, with_prot}
 use Rattle.guest_memory.specs.Ranges.{in_range, IsFirstNumber}

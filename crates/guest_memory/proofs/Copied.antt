@@ -4,7 +4,7 @@ use Rattle.std.proofs.lemmas.Bool.{lt-ltb, lt-leb, leb-true}
 use Rattle.std.proofs.lemmas.Bool.Decides.{eqb_tells, leb_tells}
 use Rattle.std.specs.Ordering.{nat_cmp}
 use Rattle.std.specs.FinMap.{get, insert, empty, get-empty}
-use Rattle.number_map.specs.Maps.{passes, get-insert-same, get-insert-other, same_numbers, least_key, least_key-entry, least_key-least, least_key-none}
+use Rattle.maps.specs.Maps.{passes, get-insert-same, get-insert-other, same_numbers, least_key, least_key-entry, least_key-least, least_key-none}
 use Rattle.guest_memory.specs.Page.{Page, Pages}
 use Rattle.guest_memory.specs.Limits.{KeepsLimits}
 use Rattle.guest_memory.proofs.PageRanges.{no_page_unless, passes_from, not_both}

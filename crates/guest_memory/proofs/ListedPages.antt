@@ -7,7 +7,7 @@ use Rattle.std.proofs.Common.{◌≡◌, ◌≢◌, ℕ, ◌+◌, ◌*◌, ◌<�
 use Rattle.std.proofs.lemmas.Bool.Decides.{eqb_tells}
 use Rattle.std.proofs.lemmas.List.{take_more}
 use Rattle.std.specs.FinMap.{get, insert, remove, len}
-use Rattle.number_map.specs.Maps.{get-remove-same, get-remove-other, same_numbers, remove_absent, remove-inserted}
+use Rattle.maps.specs.Maps.{get-remove-same, get-remove-other, same_numbers, remove_absent, remove-inserted}
 use Rattle.abi_base.specs.declared.prot.Prot.{Prot}
 use Rattle.guest_memory.specs.Page.{Page, Pages, zero_page}
 use Rattle.guest_memory.specs.Ranges.{in_range}

@@ -7,7 +7,7 @@ use Rattle.std.proofs.Common.{◌≡◌, ◌≢◌, ℕ, zero, suc, ◌+◌, ◌
 use Rattle.std.proofs.lemmas.Bool.{le-leb, lt-ltb, leb-true, ltb-true}
 use Rattle.std.proofs.lemmas.Bool.Decides.{eqb_tells}
 use Rattle.std.specs.FinMap.{get, insert, remove, len}
-use Rattle.number_map.specs.Maps.{get-insert-same, get-insert-other, get-remove-same, get-remove-other, same_numbers, len-insert_new, len-insert_again, len-removed, remove_absent, passes, least_key, least_key-entry, least_key-least, least_key-none}
+use Rattle.maps.specs.Maps.{get-insert-same, get-insert-other, get-remove-same, get-remove-other, same_numbers, len-insert_new, len-insert_again, len-removed, remove_absent, passes, least_key, least_key-entry, least_key-least, least_key-none}
 use Rattle.abi_base.specs.declared.prot.Prot.{Prot}
 use Rattle.guest_memory.specs.Page.{Page, Pages, zero_page, with_prot}
 use Rattle.guest_memory.specs.Ranges.{in_range, IsFirstNumber}

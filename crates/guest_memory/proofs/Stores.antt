@@ -3,7 +3,7 @@
 use Rattle.std.proofs.Common.{◌≡◌, ℕ, ◌+◌, ◌/◌, ◌%◌, ◌^◌, ◌<◌, ◌≤◌, Bool, true, false, inl, inr, length, Some, Ok, IsTrue, IsFalse, refl, sym, ap, subst, ◌∙◌}
 use Rattle.std.proofs.lemmas.Bool.Decides.{eqb_tells}
 use Rattle.std.specs.FinMap.{get}
-use Rattle.number_map.specs.Maps.{get-insert-other}
+use Rattle.maps.specs.Maps.{get-insert-other}
 use Rattle.guest_memory.specs.declared.access.Access.TheVariants.{Write}
 use Rattle.guest_memory.specs.Limits.{KeepsLimits}
 use Rattle.guest_memory.specs.Page.{Page, Pages}

@@ -14,7 +14,7 @@ use Rattle.std.proofs.lemmas.Bool.Decides.{eqb_tells}
 use Rattle.std.specs.FinMap.{get, insert, empty, get-empty, len-empty}
 use Rattle.std.specs.Ordering.{nat_cmp}
 use Rattle.abi_base.specs.declared.prot.Prot.{Prot}
-use Rattle.number_map.specs.Maps.{get-insert-same, get-insert-other, insert-again, insert_self, len-insert_again}
+use Rattle.maps.specs.Maps.{get-insert-same, get-insert-other, insert-again, insert_self, len-insert_again}
 use Rattle.guest_memory.specs.declared.access.Access.{Access}
 use Rattle.guest_memory.specs.declared.access.Access.TheVariants.{Write}
 use Rattle.guest_memory.specs.declared.fault.MemFault.{MemFault}

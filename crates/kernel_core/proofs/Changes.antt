@@ -7,7 +7,7 @@ use Rattle.abi_base.specs.declared.limits.TheConstants.{MOST_DESCRIPTORS}
 use Rattle.abi_structures.specs.declared.structures.FdStat.{FdStat}
 use Rattle.abi_types.specs.declared.descriptor.Descriptor.{Descriptor}
 use Rattle.abi_types.specs.declared.open_kind.OpenKind.{OpenKind}
-use Rattle.number_map.specs.Maps.{number, weight, total, insert-again, insert_self, get-insert-same, total-insert}
+use Rattle.maps.specs.Maps.{number, weight, total, insert-again, insert_self, get-insert-same, total-insert}
 use Rattle.fd_table.specs.Sizes.{below-insert, below-insert_again, below-remove}
 use Rattle.fd_table.specs.Table.{IsTable}
 use Rattle.kernel_model.specs.DescriptorCalls.{dup_at, dup_of, free_from, lowest_free, lowered_to, replaced_by, stat_put, stat_set, with_flags}

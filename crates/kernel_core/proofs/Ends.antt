@@ -3,7 +3,7 @@ use Rattle.std.proofs.Common.{◌≡◌, ℕ, ◌+◌, ◌≤◌, ◌==◌, Bool
 use Rattle.std.proofs.lemmas.Bool.{eqb-true}
 use Rattle.std.specs.Ordering.{nat_cmp}
 use Rattle.std.specs.FinMap.{FinMap, empty, get, insert, retain_keys}
-use Rattle.number_map.specs.Maps.{number, total, total_at_least, get-retain}
+use Rattle.maps.specs.Maps.{number, total, total_at_least, get-retain}
 use Rattle.object_store.specs.Objects.{is_held}
 use Rattle.kernel_model.specs.Release.{count_in}
 use Rattle.kernel_model.specs.State.{Table}

@@ -7,7 +7,7 @@ use Rattle.std.specs.Ordering.{nat_cmp}
 use Rattle.std.specs.FinMap.{FinMap, empty, get, insert, len}
 use Rattle.abi_base.specs.declared.limits.TheConstants.{MOST_DESCRIPTORS}
 use Rattle.abi_types.specs.declared.descriptor.Descriptor.{Descriptor}
-use Rattle.number_map.specs.Maps.{get-insert-same, get-insert-other, len-insert_new, map_induction, total, total-empty, total-insert_new}
+use Rattle.maps.specs.Maps.{get-insert-same, get-insert-other, len-insert_new, map_induction, total, total-empty, total-insert_new}
 use Rattle.fd_table.specs.Sizes.{KeysBelow, below-empty, len_at_most}
 use Rattle.fd_table.specs.Table.{IsTable}
 use Rattle.kernel_model.specs.Release.{count_in, holders, names_open}

@@ -9,7 +9,7 @@ use Rattle.std.specs.FinMap.{get, insert}
 use Rattle.abi_base.specs.declared.errno.Errno.TheVariants.{Again}
 use Rattle.abi_types.specs.declared.descriptor.Descriptor.{Descriptor}
 use Rattle.abi_types.specs.declared.reply.Answer.TheVariants as answer
-use Rattle.number_map.specs.Maps.{insert_self, total_none, weight}
+use Rattle.maps.specs.Maps.{insert_self, total_none, weight}
 use Rattle.tree_model.specs.Opens.{is_used}
 use Rattle.tree_model.specs.Retained.{retained}
 use Rattle.kernel_model.specs.NameMeaning.{Comes, Refuses, LeadsOut, Changes, outcome_of}

@@ -22,7 +22,7 @@ use Rattle.abi_types.specs.declared.reply.Answer.TheVariants as answer
 use Rattle.abi_types.specs.declared.reply.Reply.{Reply}
 use Rattle.abi_types.specs.declared.stream.Stream.{Stream}
 use Rattle.abi_types.specs.declared.who.Who.{Who}
-use Rattle.number_map.specs.Maps.{insert_self}
+use Rattle.maps.specs.Maps.{insert_self}
 use Rattle.tree_model.specs.Files.{is_beyond}
 use Rattle.tree_model.specs.Opens.{one_of_node}
 use Rattle.tree_model.specs.Releasing.{used-set}

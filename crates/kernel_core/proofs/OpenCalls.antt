@@ -23,7 +23,7 @@ use Rattle.fd_table.specs.Table.{IsLowestFree}
 use Rattle.file_calls.specs.Walks.{reply_of}
 use Rattle.file_calls.specs.declared.refusal.Refusal.{Refusal}
 use Rattle.file_calls.specs.declared.refusal.Refusal.TheVariants as refusal
-use Rattle.number_map.specs.Maps.{get-insert-other, total, total-insert, total-insert_new, weight}
+use Rattle.maps.specs.Maps.{get-insert-other, total, total-insert, total-insert_new, weight}
 use Rattle.tree_model.specs.Opens.{is_used}
 use Rattle.tree_model.specs.Retained.{retained}
 use Rattle.kernel_model.specs.ClockCalls.{real_time}

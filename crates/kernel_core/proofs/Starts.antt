@@ -7,7 +7,7 @@ use Rattle.std.specs.Cmp.{nat_cmp_total}
 use Rattle.std.specs.FinMap.{FinMap, get, get-empty, get-from_entries, insert, empty, from_entries}
 use Rattle.abi_base.specs.declared.grant.Grant.{Grant}
 use Rattle.abi_types.specs.declared.open_kind.OpenKind.{OpenKind}
-use Rattle.number_map.specs.Maps.{number, get-insert-same, get-insert-other, insert-again, total, total-empty, total-insert_new}
+use Rattle.maps.specs.Maps.{number, get-insert-same, get-insert-other, insert-again, total, total-empty, total-insert_new}
 use Rattle.kernel_core.specs.Kernel.{IsKept}
 use Rattle.object_store.specs.Objects.{Held}
 use Rattle.fd_table.specs.Sizes.{KeysBelow, below-empty, below-insert, none_there}

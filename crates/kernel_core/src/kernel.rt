@@ -34,8 +34,8 @@ use file_tree::Tree;
 use kernel_parts::{
     Own, TableChange, Terminal, answer_of, granted, let_go_all, release, single, streams,
 };
+use maps::NumMap;
 use name_calls::named_fds;
-use number_map::NumMap;
 use object_store::Objects;
 use right_rules::{refusal, refused, success, success_with};
 use run_types::Launch;

@@ -8,8 +8,8 @@ use Rattle.std.proofs.lemmas.Bool.{eq-eqb}
 use Rattle.std.proofs.lemmas.Bool.Decides.{eqb_tells}
 use Rattle.std.specs.Prelude.{⊤}
 use Rattle.std.specs.FinMap.{get}
-use Rattle.number_map.specs.Closure.{member}
-use Rattle.number_map.specs.Maps.{get-retain}
+use Rattle.maps.specs.Closure.{member}
+use Rattle.maps.specs.Maps.{get-retain}
 use Rattle.abi_types.specs.declared.open_kind.OpenKind.{OpenKind}
 use Rattle.abi_types.specs.declared.open_kind.OpenKind.TheVariants.{File, Directory, End, Terminal, Process}
 use Rattle.tree_model.specs.Finds.{HasSameBelow}

@@ -2,7 +2,7 @@
 use Rattle.std.proofs.Common.{◌≡◌, ℕ, ◌==◌, Bool, true, false, List, [], IsSome, refl}
 use Rattle.std.proofs.lemmas.Bool.{eqb-true, eq-eqb}
 use Rattle.std.specs.FinMap.{get}
-use Rattle.number_map.specs.Closure.{member, closure_closed, closure_ready, closure_least}
+use Rattle.maps.specs.Closure.{member, closure_closed, closure_ready, closure_least}
 use Rattle.kernel_model.specs.Release.{holders, without, is_unheld, ends, IsEnd}
 use Rattle.kernel_model.specs.State.{State}
 use Rattle.kernel_model.proofs.Tests.{not_true}

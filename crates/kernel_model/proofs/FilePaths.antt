@@ -15,7 +15,7 @@ use Rattle.abi_base.specs.declared.errno.Errno.TheVariants.{Badf, Ilseq, Inval, 
 use Rattle.abi_types.specs.declared.open_kind.OpenKind.{OpenKind}
 use Rattle.abi_types.specs.declared.open_kind.OpenKind.TheVariants.{File, Directory, End, Terminal, Process}
 use Rattle.abi_types.specs.declared.reply.Reply.{Reply}
-use Rattle.number_map.specs.Closure.{member}
+use Rattle.maps.specs.Closure.{member}
 use Rattle.path_lookup.proofs.Agreeing.{reads_below}
 use Rattle.path_lookup.proofs.Below.{stays_below}
 use Rattle.path_lookup.specs.Laws.{EndsIn, IsIn}

@@ -7,7 +7,7 @@ use Rattle.std.specs.FinMap.{entries, entries_sorted, find, get, get-entries, is
 use Rattle.std.specs.FinMap.Entries.{below_all}
 use Rattle.std.specs.List.{AllByRecursion}
 use Rattle.std.specs.Ordering.{is_eq, is_lt}
-use Rattle.name_map.specs.Names.{name_cmp, tie_other, tie_same}
+use Rattle.maps.specs.Names.{name_cmp, tie_other, tie_same}
 use Rattle.kernel_model.specs.State.{Names}
 use Rattle.kernel_model.proofs.Lists.{all_weaker}
 use Rattle.kernel_model.proofs.Tests.{not_true}

@@ -6,8 +6,8 @@ use Rattle.std.proofs.Common.{◌≡◌, ◌≢◌, ℕ, ◌-◌, true, false, L
 use Rattle.std.specs.Prelude.{if◌then◌else◌}
 use Rattle.std.specs.FinMap.{get}
 use Rattle.abi_types.specs.declared.node.Node.{Node}
-use Rattle.number_map.specs.Closure.{member}
-use Rattle.number_map.specs.Maps.{get-insert-other}
+use Rattle.maps.specs.Closure.{member}
+use Rattle.maps.specs.Maps.{get-insert-other}
 use Rattle.tree_model.specs.Changes.{drop_name, first_fault, is_file_node, is_same, link_faults, linked, moved_to, one_more, rename_faults, renamed, replaced, with_count, without_old}
 use Rattle.tree_model.specs.Entries.{ChangesNode, KeepsNodes-itself, KeepsNodes-one_more, KeepsNodes-put_name, KeepsNodes-twice, names-without_old, one_more-changes}
 use Rattle.tree_model.specs.Facts.{table_of_directory}

@@ -15,8 +15,8 @@ use Rattle.abi_base.specs.declared.errno.Errno.TheVariants.{Again, Exist, Ilseq,
 use Rattle.abi_types.specs.declared.node.Node.{Node}
 use Rattle.abi_types.specs.declared.node.NodeKind.{NodeKind}
 use Rattle.abi_types.specs.declared.node.NodeKind.TheVariants as kind
-use Rattle.number_map.specs.Closure.{member}
-use Rattle.number_map.specs.Maps.{get-insert-same, get-insert-other}
+use Rattle.maps.specs.Closure.{member}
+use Rattle.maps.specs.Maps.{get-insert-same, get-insert-other}
 use Rattle.tree_model.specs.Changes.{Faults, first_fault, made, make_faults, new_node, with_count}
 use Rattle.tree_model.specs.Entries.{here_or_other, table-new_node-other}
 use Rattle.tree_model.specs.Tree.{IsTree, is_directory_node, links_in, names_in}

@@ -10,7 +10,7 @@ use Rattle.abi_base.specs.declared.errno.Errno.{Errno}
 use Rattle.abi_base.specs.declared.errno.Errno.TheVariants.{Again, Nomem}
 use Rattle.abi_types.specs.declared.node.Node.{Node}
 use Rattle.abi_types.specs.declared.open_kind.OpenKind.{OpenKind}
-use Rattle.number_map.specs.Closure.{member}
+use Rattle.maps.specs.Closure.{member}
 use Rattle.tree_model.specs.Changes.{is_file}
 use Rattle.tree_model.specs.Tree.{IsTree, is_directory}
 use Rattle.kernel_model.specs.NameMeaning.{Comes, Refuses, LeadsOut, Changes, NameMeaning}

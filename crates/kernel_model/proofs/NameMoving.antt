@@ -13,7 +13,7 @@ use Rattle.abi_base.specs.declared.errno.Errno.TheVariants.{Isdir, Noent, Nomem,
 use Rattle.abi_types.specs.declared.node.Node.{Node}
 use Rattle.abi_types.specs.declared.open_kind.OpenKind.{OpenKind}
 use Rattle.abi_types.specs.declared.open_kind.OpenKind.TheVariants.{Directory}
-use Rattle.number_map.specs.Closure.{member}
+use Rattle.maps.specs.Closure.{member}
 use Rattle.tree_model.specs.Changes.{Faults, drop_name, first_fault, is_below, is_full, is_same, leads_to_directory, one_less, put_name, rename_faults, replace_faults, replaced, without_old}
 use Rattle.tree_model.specs.Entries.{one_less-changes}
 use Rattle.tree_model.specs.Finds.{below_alike as below_in_both}

@@ -12,7 +12,7 @@ use Rattle.abi_base.specs.declared.errno.Errno.{Errno}
 use Rattle.abi_base.specs.declared.errno.Errno.TheVariants.{Noent, Nomem, Notdir, Notempty, Perm}
 use Rattle.abi_types.specs.declared.node.Node.{Node}
 use Rattle.abi_types.specs.declared.open_kind.OpenKind.{OpenKind}
-use Rattle.number_map.specs.Maps.{get-insert-same}
+use Rattle.maps.specs.Maps.{get-insert-same}
 use Rattle.tree_model.specs.Changes.{Faults, first_fault, is_absent, is_full, one_less, unlinked, unlink_faults, with_count, without_old}
 use Rattle.tree_model.specs.Entries.{here_or_other, names-without_old, one_less-changes}
 use Rattle.tree_model.specs.Tree.{HasName, IsTree, entry_of, is_directory, is_directory_node, names_in}

@@ -14,8 +14,8 @@ use Rattle.abi_types.specs.declared.node.NodeKind.{NodeKind}
 use Rattle.abi_types.specs.declared.node.NodeKind.TheVariants as kind
 use Rattle.abi_types.specs.declared.open_kind.OpenKind.{OpenKind}
 use Rattle.abi_types.specs.declared.open_kind.OpenKind.TheVariants.{File, Directory, End, Terminal, Process}
-use Rattle.number_map.specs.Closure.{member}
-use Rattle.number_map.specs.Maps.{get-insert-same}
+use Rattle.maps.specs.Closure.{member}
+use Rattle.maps.specs.Maps.{get-insert-same}
 use Rattle.path_lookup.specs.Laws.{IsIn}
 use Rattle.path_lookup.specs.declared.ends.End.{End as PathEnd}
 use Rattle.path_lookup.specs.declared.ends.End.TheVariants as end

@@ -3,7 +3,7 @@ use Rattle.std.proofs.Common.{◌≡◌, ◌≢◌, inl, ℕ, ◌||◌, false, [
 use Rattle.std.specs.FinMap.{get}
 use Rattle.abi_types.specs.declared.status.Status.{Status}
 use Rattle.abi_types.specs.declared.status.Status.TheVariants.{Live, Exit}
-use Rattle.number_map.specs.Maps.{get-insert-same}
+use Rattle.maps.specs.Maps.{get-insert-same}
 use Rattle.kernel_model.specs.ProcessCalls.{end_updates, exit_of, proc_exit}
 use Rattle.kernel_model.specs.Proper.{IsProper}
 use Rattle.kernel_model.specs.Sight.{own_parts}

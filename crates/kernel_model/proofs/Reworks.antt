@@ -13,7 +13,7 @@ use Rattle.abi_types.specs.declared.node.NodeKind.TheVariants as kind
 use Rattle.abi_types.specs.declared.node.Times.{Times}
 use Rattle.abi_types.specs.declared.open_kind.OpenKind.{OpenKind}
 use Rattle.abi_types.specs.declared.open_kind.OpenKind.TheVariants.{File, Directory, End, Terminal, Process}
-use Rattle.number_map.specs.Maps.{get-insert-same, get-insert-other, same_numbers}
+use Rattle.maps.specs.Maps.{get-insert-same, get-insert-other, same_numbers}
 use Rattle.tree_model.specs.Changes.{is_file, is_file_kind, is_file_node, with_bytes, with_times}
 use Rattle.tree_model.specs.Entries.{here_or_other, with_bytes-changes, with_times-changes}
 use Rattle.tree_model.specs.Keeps.{with_bytes-tree, with_times-tree}

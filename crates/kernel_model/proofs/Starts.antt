@@ -14,7 +14,7 @@ use Rattle.abi_types.specs.declared.open_kind.OpenKind.{OpenKind}
 use Rattle.abi_types.specs.declared.status.Status.TheVariants.{Live}
 use Rattle.abi_types.specs.declared.stream.Stream.{Stream}
 use Rattle.abi_types.specs.declared.thread.Thread.TheVariants.{Runnable}
-use Rattle.number_map.specs.Maps.{get-insert-same, get-insert-other}
+use Rattle.maps.specs.Maps.{get-insert-same, get-insert-other}
 use Rattle.abi_types.specs.declared.node.Node.{Node}
 use Rattle.abi_types.specs.declared.node.NodeKind.TheVariants as node_kind
 use Rattle.abi_types.specs.declared.open_kind.OpenKind.TheVariants as kind

@@ -7,7 +7,7 @@ use Rattle.abi_types.specs.declared.constants.Constants.{Constants}
 use Rattle.abi_types.specs.declared.status.Status.{Status}
 use Rattle.abi_types.specs.declared.status.Status.TheVariants.{Live}
 use Rattle.abi_types.specs.declared.who.Who.{Who}
-use Rattle.number_map.specs.Maps.{get-insert-same}
+use Rattle.maps.specs.Maps.{get-insert-same}
 use Rattle.kernel_model.specs.Laws.{HasSameProcess, MovesOnly, EndsOnly}
 use Rattle.kernel_model.specs.Outcome.{Outcome}
 use Rattle.kernel_model.specs.ProcessCalls.{end_updates}

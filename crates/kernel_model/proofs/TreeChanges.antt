@@ -14,8 +14,8 @@ use Rattle.std.specs.List.{AllByRecursion}
 use Rattle.std.specs.Option.{option_map}
 use Rattle.abi_types.specs.declared.node.Node.{Node}
 use Rattle.abi_types.specs.declared.node.Times.{Times}
-use Rattle.number_map.specs.Closure.{member}
-use Rattle.number_map.specs.Maps.{get-insert-other}
+use Rattle.maps.specs.Closure.{member}
+use Rattle.maps.specs.Maps.{get-insert-other}
 use Rattle.tree_model.specs.Changes.{first_fault, is_file, is_file_kind, is_file_node, made, make_faults, new_node, one_less, one_more, unlinked, unlink_faults, without_old}
 use Rattle.tree_model.specs.Entries.{ChangesNode, KeepsNodes, KeepsNodes-drop_name, KeepsNodes-twice, KeepsNodes-without_old, get-new_node-other, here_or_other, names-without_old, node_there-changed, one_less-changes, one_more-changes, with_times-changes}
 use Rattle.tree_model.specs.Facts.{table_of_directory}

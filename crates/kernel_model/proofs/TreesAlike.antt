@@ -8,7 +8,7 @@ use Rattle.std.specs.FinMap.{get, insert, remove}
 use Rattle.std.specs.Option.{option_map}
 use Rattle.abi_types.specs.declared.node.Node.{Node}
 use Rattle.abi_types.specs.declared.node.Times.{Times}
-use Rattle.number_map.specs.Maps.{get-insert-same, get-insert-other}
+use Rattle.maps.specs.Maps.{get-insert-same, get-insert-other}
 use Rattle.tree_model.specs.Changes.{drop_name, put_name}
 use Rattle.tree_model.specs.Entries.{ChangesNode, here_or_other, with_times-changes}
 use Rattle.tree_model.specs.Tree.{names_in, names_of}

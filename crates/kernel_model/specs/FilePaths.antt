@@ -6,7 +6,7 @@ use Rattle.abi_base.specs.declared.errno.Errno.TheVariants.{Badf, Ilseq, Inval, 
 use Rattle.abi_types.specs.declared.descriptor.Denial.TheVariants.{Outside}
 use Rattle.abi_types.specs.declared.open_kind.OpenKind.{OpenKind}
 use Rattle.abi_types.specs.declared.open_kind.OpenKind.TheVariants.{Directory}
-use Rattle.number_map.specs.Closure.{member}
+use Rattle.maps.specs.Closure.{member}
 use Rattle.path_lookup.specs.Walk.{WalkEnd, walk_of}
 use Rattle.path_lookup.specs.declared.ends.End.{End}
 use Rattle.path_lookup.specs.declared.ends.End.TheVariants as end

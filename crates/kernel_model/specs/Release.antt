@@ -2,8 +2,8 @@
 use Rattle.std.specs.Prelude.{◌≡◌, ℕ, ◌==◌, not, Bool, true, false, List, [], IsSome, if◌then◌else◌}
 use Rattle.std.specs.FinMap.{get, retain_keys}
 use Rattle.abi_types.specs.declared.descriptor.Descriptor.{Descriptor}
-use Rattle.number_map.specs.Closure.{member, closure}
-use Rattle.number_map.specs.Maps.{total}
+use Rattle.maps.specs.Closure.{member, closure}
+use Rattle.maps.specs.Maps.{total}
 use Rattle.tree_model.specs.Opens.{is_used}
 use Rattle.kernel_model.specs.State.{State, Table, tree_of, Part, at_clock, at_proc, at_status, at_open, at_node, at_names, at_term}
 

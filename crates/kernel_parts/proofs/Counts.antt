@@ -4,7 +4,7 @@ use Rattle.std.proofs.lemmas.Bool.Decides.{eqb_tells}
 use Rattle.std.specs.Ordering.{nat_cmp}
 use Rattle.std.specs.FinMap.{FinMap, get, insert, remove}
 use Rattle.abi_types.specs.declared.descriptor.Descriptor.{Descriptor}
-use Rattle.number_map.specs.Maps.{number, weight, get-insert-same, get-insert-other, get-remove-same, get-remove-other, total-insert, total-insert_new, total-remove, total_at_least}
+use Rattle.maps.specs.Maps.{number, weight, get-insert-same, get-insert-other, get-remove-same, get-remove-other, total-insert, total-insert_new, total-remove, total_at_least}
 use Rattle.kernel_model.specs.Release.{names_open, count_in}
 use Rattle.kernel_model.specs.State.{Table}
 use Rattle.kernel_parts.specs.Changes.{IsMoved}

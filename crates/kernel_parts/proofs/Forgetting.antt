@@ -10,8 +10,8 @@ use Rattle.std.specs.Ordering.{nat_cmp}
 use Rattle.std.specs.FinMap.{FinMap, get, remove, retain_keys}
 use Rattle.abi_types.specs.declared.node.Node.{Node}
 use Rattle.abi_types.specs.declared.open_kind.OpenKind.{OpenKind}
-use Rattle.number_map.specs.Closure.{total_below}
-use Rattle.number_map.specs.Maps.{get-remove-same, get-remove-other, get-retain, total, total-remove, weight, least_key-entry, least_key-least, least_key-none, passes}
+use Rattle.maps.specs.Closure.{total_below}
+use Rattle.maps.specs.Maps.{get-remove-same, get-remove-other, get-retain, total, total-remove, weight, least_key-entry, least_key-least, least_key-none, passes}
 use Rattle.tree_model.specs.Changes.{forgotten, is_above, nameless_after}
 use Rattle.tree_model.specs.Opens.{is_used, opens_of_node}
 use Rattle.tree_model.specs.Releasing.{releasing_end, retained-forgotten}

@@ -5,7 +5,7 @@ use Rattle.std.specs.Cmp.{nat_cmp_total}
 use Rattle.std.specs.FinMap.{get, get-from_entries, insert}
 use Rattle.abi_base.specs.declared.grant.Grant.{Grant}
 use Rattle.abi_types.specs.declared.open_kind.OpenKind.{OpenKind}
-use Rattle.number_map.specs.Maps.{number, get-insert-same, insert-again}
+use Rattle.maps.specs.Maps.{number, get-insert-same, insert-again}
 use Rattle.object_store.specs.Objects.{Held}
 use Rattle.kernel_parts.specs.Start.{granted_objects}
 use Rattle.kernel_model.specs.Start.{first_open, granted_descriptor, granted_open, granted_table}

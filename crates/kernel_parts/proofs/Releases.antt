@@ -3,7 +3,7 @@ use Rattle.std.proofs.Common.{◌≡◌, ◌≢◌, ℕ, ◌<◌, Bool, true, fa
 use Rattle.std.specs.Ordering.{nat_cmp}
 use Rattle.std.specs.FinMap.{FinMap, get, len, remove}
 use Rattle.abi_types.specs.declared.open_kind.OpenKind.{OpenKind}
-use Rattle.number_map.specs.Maps.{get-retain}
+use Rattle.maps.specs.Maps.{get-retain}
 use Rattle.object_store.specs.Objects.{Held, is_held, unheld_removed}
 use Rattle.object_store.proofs.Unheld.{popped}
 use Rattle.tree_model.specs.Changes.{forgotten}

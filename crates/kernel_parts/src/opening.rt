@@ -1,7 +1,7 @@
 //! Putting what is opened in the table, among the opens and in the tree.
 ghost use Rattle.std.specs.Prelude.{◌≡◌, ◌<◌, ℕ, None, OnOk, OnErr};
 ghost use Rattle.std.specs.FinMap as map;
-ghost use Rattle.number_map.specs.Maps.{number};
+ghost use Rattle.maps.specs.Maps.{number};
 ghost use Rattle.kernel_parts.specs.Changes.{IsMoved};
 ghost use Rattle.abi_base.specs.declared.limits.TheConstants.{MOST_DESCRIPTORS};
 ghost use Rattle.name_calls.specs.Done.{IsNew};

@@ -8,7 +8,7 @@ ghost use Rattle.kernel_model.specs.Start.{first_own};
 
 use crate::start::{LAUNCH_PROCESS, single};
 use abi_types::{Counts, ObjId, Pid, Thread, Tid};
-use number_map::NumMap;
+use maps::NumMap;
 use std::alloc::{AllocError, Global};
 use std::marker::Model;
 

@@ -9,7 +9,7 @@ use abi_base::MOST_DESCRIPTORS;
 use abi_types::{Bytes, Descriptor, Grant, GrantTarget, NodeKind, ObjId, OpenKind, TryClone};
 use fd_table::FdTable;
 use file_tree::Tree;
-use number_map::NumMap;
+use maps::NumMap;
 use object_store::Objects;
 use std::alloc::{AllocError, Global};
 

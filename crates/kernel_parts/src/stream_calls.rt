@@ -7,7 +7,7 @@ ghost use Rattle.kernel_model.specs.StreamCalls.{read_term, write_term};
 
 use crate::terminal::Terminal;
 use abi_types::{Answer, Bytes, Call, Errno, Payload};
-use number_map::NumMap;
+use maps::NumMap;
 use right_rules::{refused, success, success_with};
 use std::alloc::{AllocError, Global};
 

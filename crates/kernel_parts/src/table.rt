@@ -1,7 +1,7 @@
 //! Letting go of all descriptors of a table.
 ghost use Rattle.std.specs.Prelude.{◌≡◌, ℕ, ◌+◌, ◌≤◌};
 ghost use Rattle.std.specs.FinMap as map;
-ghost use Rattle.number_map.specs.Maps.{number};
+ghost use Rattle.maps.specs.Maps.{number};
 ghost use Rattle.kernel_model.specs.Release.{count_in};
 
 use fd_table::FdTable;

@@ -1,5 +1,5 @@
 //! The calls of a number map by example.
-use number_map::NumMap;
+use maps::NumMap;
 use std::alloc::AllocFailed;
 
 // Entries that are put in, one after another, and what was at each one's key before.

@@ -7,7 +7,7 @@ use Rattle.yaml_scalars.specs.Spaces.{is_one_of, begins_with, after_gap}
 use Rattle.yaml_values.specs.Shape.{Shape, Content, node, mapping, sequence, of_list, of_pairs, content_of}
 use Rattle.yaml_values.specs.Flow.{value_at}
 use Rattle.launch_rows.specs.declared.fault.Fault.{Fault}
-use Rattle.refusals.specs.Results.{◌>>=◌}
+use Rattle.lists.specs.Results.{◌>>=◌}
 use Rattle.launch_rows.specs.Faults.{unless}
 use Rattle.launch_rows.specs.Rows.{Row, is_dash, is_open, behind_key, after_key, at_row, in_row, is_start, is_stop, is_marker, is_directive}
 use Rattle.launch_rows.specs.Views.{IsEndOf}

@@ -9,8 +9,8 @@ use Rattle.yaml_scalars.specs.Quoted.{closed, unclosed, put, in_single, escape, 
 use Rattle.yaml_scalars.specs.Scalars.{is_quote}
 use Rattle.yaml_values.specs.Tags.{Tag, named, bytes_in_base64, tag_at}
 use Rattle.launch_rows.specs.declared.fault.Fault.{Fault}
-use Rattle.refusals.specs.Results.{◌>>=◌}
-use Rattle.refusals.proofs.Chosen.{ok_is, err_ok}
+use Rattle.lists.specs.Results.{◌>>=◌}
+use Rattle.lists.proofs.Chosen.{ok_is, err_ok}
 use Rattle.launch_rows.specs.Rows.{Row, behind_colon, behind_quoted, behind_key, after_key, in_row}
 use Rattle.launch_rows.specs.Views.{IsEndOf}
 use Rattle.launch_rows.proofs.Ends.{end_further, gap_end}

@@ -14,7 +14,7 @@ use Rattle.yaml_values.specs.Tags.{Tag, named, bytes_in_base64, tag_at}
 use Rattle.yaml_values.specs.Keys.{same_key}
 use Rattle.yaml_values.specs.Flow.{value_at}
 use Rattle.launch_rows.specs.declared.fault.Fault.{Fault}
-use Rattle.refusals.specs.Results.{◌>>=◌}
+use Rattle.lists.specs.Results.{◌>>=◌}
 use Rattle.launch_rows.specs.Faults.{unless, number_of_kind, comes_before, first_of}
 use Rattle.launch_rows.specs.Rows.{Row, is_dash, is_open, begins_key, behind_key, after_key, at_row, in_row, is_start, is_stop, is_marker, is_directive}
 use Rattle.launch_yaml.specs.Entries.{Entry, is_deeper, is_item_at, begins_with_item_at, belongs_there, belongs, entries_after, never, is_key_awaiting, map_entries, sequence_entries, after_while}

@@ -12,8 +12,8 @@ use Rattle.yaml_values.specs.Tags.{Tag, named, bytes_in_base64, tag_at}
 use Rattle.yaml_values.specs.Keys.{same_key}
 use Rattle.yaml_values.specs.Flow.{value_at}
 use Rattle.launch_rows.specs.declared.fault.Fault.{Fault}
-use Rattle.refusals.specs.Results.{◌>>=◌}
-use Rattle.refusals.proofs.Chosen.{ok_is, err_ok}
+use Rattle.lists.specs.Results.{◌>>=◌}
+use Rattle.lists.proofs.Chosen.{ok_is, err_ok}
 use Rattle.launch_rows.specs.Faults.{unless, comes_before}
 use Rattle.launch_rows.specs.Rows.{Row, is_dash, begins_key, behind_key, after_key, at_row, place_in, in_row, is_start, is_stop, is_marker, is_directive}
 use Rattle.launch_yaml.specs.Entries.{Entry, belongs, entries_after, never, is_key_awaiting, map_entries, sequence_entries, after_while}

@@ -8,3 +8,17 @@ pub mod FaultPlaces
 pub mod BinaryEnds
 pub mod AddedRows
 pub mod FaultsStay
+pub mod CleanTexts
+pub mod PrintedTexts
+pub mod PrintedScalars
+pub mod PrintedFlow
+pub mod PrintedLists
+pub mod CleanDocuments
+pub mod PrintedRoots
+pub mod PrintedDocuments
+pub mod ReadNames
+pub mod ReadBytes
+pub mod ReadKeys
+pub mod ReadFlow
+pub mod ReadRows
+pub mod ReadDocuments

@@ -11,7 +11,7 @@ use Rattle.yaml_values.specs.Shape.{Shape, Content, node}
 use Rattle.yaml_values.specs.Tags.{Tag, tag_at}
 use Rattle.yaml_scalars.specs.declared.fault.LineFault.{LineFault}
 use Rattle.launch_rows.specs.declared.fault.Fault.{Fault}
-use Rattle.refusals.specs.Results.{◌>>=◌}
+use Rattle.lists.specs.Results.{◌>>=◌}
 use Rattle.launch_rows.specs.Faults.{unless}
 use Rattle.launch_rows.specs.Rows.{Row, behind_key, is_before_space, is_marker, is_stop, in_row}
 use Rattle.launch_yaml.specs.Entries.{after_while}

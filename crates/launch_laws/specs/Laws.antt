@@ -5,7 +5,7 @@ use Rattle.yaml_scalars.specs.Spaces.{after_gap}
 use Rattle.yaml_scalars.specs.declared.kind.YamlKind.TheVariants as kinds
 use Rattle.yaml_values.specs.Shape.{Shape, node}
 use Rattle.yaml_values.specs.Tags.{named, bytes_in_base64, tag_at}
-use Rattle.refusals.specs.Results.{◌>>=◌}
+use Rattle.lists.specs.Results.{◌>>=◌}
 use Rattle.launch_rows.specs.declared.fault.Fault.{Fault}
 use Rattle.launch_rows.specs.Faults.{comes_before}
 use Rattle.launch_rows.specs.Lines.{without_mark, lines, plain_fault}

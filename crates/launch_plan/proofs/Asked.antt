@@ -8,7 +8,7 @@ use Rattle.tree_model.specs.Grants.{IsGrant}
 use Rattle.tree_model.specs.Tree.{Tree}
 use Rattle.launch_plan.specs.declared.fault.PlanFault.{PlanFault}
 use Rattle.launch_plan.specs.declared.fault.PlanFault.TheVariants as faults
-use Rattle.refusals.specs.Results.{◌>>=◌}
+use Rattle.lists.specs.Results.{◌>>=◌}
 use Rattle.launch_plan.specs.Files.{file_grant}
 use Rattle.launch_plan.specs.Tagged.{Tagged, is_text, stream_or_fault, grant_of, grants_of}
 use Rattle.launch_plan.proofs.FileGrants.{file_is}

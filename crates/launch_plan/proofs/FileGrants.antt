@@ -10,7 +10,7 @@ use Rattle.abi_base.specs.declared.grant.Grant.{Grant}
 use Rattle.abi_base.specs.declared.rights.Rights.{Rights}
 use Rattle.abi_base.specs.Rights.{has_all}
 use Rattle.abi_types.specs.declared.open_type.OpenType.{OpenType}
-use Rattle.refusals.specs.Results.{◌>>=◌}
+use Rattle.lists.specs.Results.{◌>>=◌}
 use Rattle.tree_model.specs.Grants.{IsGrant, HasRightsOfType, type_of_node}
 use Rattle.tree_model.specs.Tree.{Tree}
 use Rattle.yaml_values.specs.Shape.{Content, Pairs, null, boolean, integer, text, binary, mapping, sequence}

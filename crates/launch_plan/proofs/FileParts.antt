@@ -6,7 +6,7 @@ use Rattle.std.proofs.lemmas.List.{drop_all}
 use Rattle.std.specs.Int.Bits.{or_zero_r}
 use Rattle.std.proofs.lemmas.Nat.Bits.{bit_at_or, same_from_bits}
 use Rattle.abi_base.specs.declared.rights.Rights.{Rights}
-use Rattle.refusals.specs.Results.{◌>>=◌}
+use Rattle.lists.specs.Results.{◌>>=◌}
 use Rattle.tree_model.specs.Tree.{Tree}
 use Rattle.yaml_values.specs.declared.node.Node.{Node}
 use Rattle.yaml_values.specs.Shape.{Shapes, Pairs, item, pair, of_list, of_pairs}

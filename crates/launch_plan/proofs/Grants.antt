@@ -10,7 +10,7 @@ use Rattle.yaml_values.specs.Views.{shape_of, pair_of}
 use Rattle.launch_plan.specs.declared.fault.PlanFault.{PlanFault}
 use Rattle.launch_plan.specs.declared.fault.PlanFault.TheVariants as faults
 use Rattle.launch_plan.specs.Answers.{IsFault}
-use Rattle.refusals.specs.Results.{◌>>=◌}
+use Rattle.lists.specs.Results.{◌>>=◌}
 use Rattle.launch_plan.specs.Tagged.{Tagged, tagged, tagged_in_items, tagged_in_pairs, grant_of, grants_of, grants_behind}
 
 step : (tree : Tree) (before : List Grant) (ts us : List Tagged) (r : Result Grant PlanFault)

@@ -7,7 +7,7 @@ use Rattle.tree_model.specs.Tree.{Tree}
 use Rattle.yaml_values.specs.Shape.{Shape}
 use Rattle.launch_plan.specs.declared.fault.PlanFault.{PlanFault}
 use Rattle.launch_plan.specs.declared.fault.PlanFault.TheVariants as faults
-use Rattle.refusals.specs.Results.{◌>>=◌}
+use Rattle.lists.specs.Results.{◌>>=◌}
 use Rattle.launch_plan.specs.Tagged.{tagged, grants_of}
 use Rattle.launch_plan.specs.Values.{value_of}
 

@@ -1,7 +1,7 @@
 -- The nodes of a document that have a tag, and what each asks for.
 use Rattle.std.specs.Prelude.{ℕ, if◌then◌else◌, nat_eq, Bool, false, List, [], ◌∷◌, ◌++◌, codes, Option, Some, None, Result, Ok, Err}
 use lib.Pointwise.{pointwise}
-use Rattle.refusals.specs.Results.{◌>>=◌}
+use Rattle.lists.specs.Results.{◌>>=◌}
 use Rattle.abi_base.specs.declared.grant.Grant.{Grant}
 use Rattle.abi_base.specs.declared.grant.GrantTarget.TheVariants.{Terminal}
 use Rattle.abi_base.specs.Grants.{stream_rights}

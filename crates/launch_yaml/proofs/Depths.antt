@@ -3,7 +3,7 @@ use Rattle.std.proofs.Common.{◌≡◌, ℕ, suc, ◌-◌, ◌≤◌, List, Boo
 use Rattle.std.specs.Prelude.{if◌then◌else◌}
 use Rattle.yaml_values.specs.Shape.{Shape, Content, sequence, mapping, of_list, of_pairs}
 use Rattle.launch_rows.specs.declared.fault.Fault.{Fault}
-use Rattle.refusals.specs.Results.{◌>>=◌}
+use Rattle.lists.specs.Results.{◌>>=◌}
 use Rattle.launch_rows.specs.Rows.{Row, is_dash}
 use Rattle.launch_yaml.specs.Blocks.{items_at, pairs_at, block_at}
 

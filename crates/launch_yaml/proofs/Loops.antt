@@ -9,12 +9,12 @@ use Rattle.yaml_values.specs.Keys.{same_key}
 use Rattle.yaml_scalars.specs.declared.kind.YamlKind.TheVariants as kinds
 use Rattle.launch_rows.specs.declared.fault.Fault.{Fault}
 use Rattle.launch_rows.specs.declared.line.Line.{Line}
-use Rattle.refusals.specs.declared.refusal.Refusal.{Refusal}
-use Rattle.refusals.specs.Results.{◌>>=◌, Gives}
+use Rattle.lists.specs.declared.refusal.Refusal.{Refusal}
+use Rattle.lists.specs.Results.{◌>>=◌, Gives}
 use Rattle.yaml_values.specs.declared.node.Node.{Node}
 use Rattle.yaml_values.specs.Views.{shape_of}
 use Rattle.std.proofs.lemmas.Bool.Decides.{nat_tests}
-use Rattle.refusals.proofs.Steps.{bind_alike}
+use Rattle.lists.proofs.Steps.{bind_alike}
 use Rattle.launch_rows.specs.Rows.{Row, is_dash, at_row, begins_key, behind_key}
 use Rattle.launch_yaml.specs.Entries.{Entry, after_while, belongs, entries_after, never, is_key_awaiting, map_entries, sequence_entries}
 use Rattle.launch_yaml.specs.Blocks.{Block, untagged, value_with, behind_dash, item_of, items_of, pairs_of, pair_of, key_of, new_key_of, key_at, no_entry, wrong_key, value_of_entry, block_at}

@@ -17,8 +17,8 @@ use Rattle.launch_yaml.specs.declared.document.Doc.{Doc}
 use Rattle.launch_yaml.specs.declared.document.YamlFault.{YamlFault}
 use Rattle.launch_yaml.specs.Parsing.{Parses}
 use Rattle.launch_rows.specs.declared.fault.Fault.{Fault}
-use Rattle.refusals.specs.Results.{◌>>=◌}
-use Rattle.refusals.proofs.Steps.{on_both, on_bind, on_any}
+use Rattle.lists.specs.Results.{◌>>=◌}
+use Rattle.lists.proofs.Steps.{on_both, on_bind, on_any}
 use Rattle.launch_rows.specs.Faults.{unless, beside}
 use Rattle.launch_rows.specs.Rows.{Row, rows_from, is_dash, begins_key, behind_key, after_key, at_row, in_row}
 use Rattle.launch_yaml.specs.Entries.{Entry, map_entries, sequence_entries, after_while}

@@ -13,7 +13,7 @@ use Rattle.yaml_values.specs.Tags.{Tag, named, bytes_in_base64, tag_at}
 use Rattle.yaml_values.specs.Keys.{same_key}
 use Rattle.yaml_values.specs.Flow.{value_at}
 use Rattle.launch_rows.specs.declared.fault.Fault.{Fault}
-use Rattle.refusals.specs.Results.{◌>>=◌}
+use Rattle.lists.specs.Results.{◌>>=◌}
 use Rattle.launch_rows.specs.Faults.{unless, first_of}
 use Rattle.launch_rows.specs.Rows.{Row, is_dash, begins_key, behind_key, after_key, behind_colon, at_row, place_in, in_row, from}
 use Rattle.launch_yaml.specs.Entries.{Entry, map_entries, sequence_entries}

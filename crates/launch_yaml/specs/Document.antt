@@ -4,7 +4,7 @@ use Rattle.std.specs.List.{take_while}
 use Rattle.yaml_scalars.specs.declared.kind.YamlKind.TheVariants as kinds
 use Rattle.yaml_values.specs.Shape.{Shape, node, null}
 use Rattle.launch_rows.specs.declared.fault.Fault.{Fault}
-use Rattle.refusals.specs.Results.{◌>>=◌}
+use Rattle.lists.specs.Results.{◌>>=◌}
 use Rattle.launch_rows.specs.Faults.{unless, beside}
 use Rattle.launch_rows.specs.Lines.{lines, plain_fault}
 use Rattle.launch_rows.specs.Rows.{Row, rows_from, at_row, is_start, is_stop, is_marker, is_directive}

@@ -2,7 +2,7 @@
 ghost use Rattle.std.specs.Prelude.{◌≡◌, ◌∷◌, true, map};
 ghost use Rattle.yaml_values.specs.Shape.{node as shape_node};
 ghost use Rattle.yaml_values.specs.Views.{shape_of, content_of_value, pair_of as pair_view};
-ghost use Rattle.refusals.specs.Results.{Gives};
+ghost use Rattle.lists.specs.Results.{Gives};
 ghost use Rattle.launch_rows.specs.Views.{row, rows, IsWithin, AllWithin};
 ghost use Rattle.launch_yaml.specs.Entries.{Entry};
 ghost use Rattle.launch_yaml.specs.Blocks.{begins_block, value_in, value_below, value_with, value_of_entry, item_of, items_at, pairs_at, block_at, root_at};
@@ -15,7 +15,7 @@ use crate::tagging::Tagging;
 use launch_rows::fault::Fault;
 use launch_rows::line::{Line, at_line, content, from};
 use launch_rows::rows;
-use refusals::Refusal;
+use lists::Refusal;
 use std::alloc::Global;
 use yaml_scalars::{YamlKind, spaces};
 use yaml_values::keys::KeySet;

@@ -6,7 +6,7 @@ ghost use Rattle.yaml_values.specs.Views.{content_of_value};
 ghost use Rattle.yaml_values.specs.Keys.{same_key};
 ghost use Rattle.yaml_values.specs.KeySets.{IsScalarKey};
 ghost use Rattle.launch_yaml.specs.Blocks.{wrong_key, key_of, new_key_of, key_at, deepest};
-ghost use Rattle.refusals.specs.Results.{Gives, Refuses};
+ghost use Rattle.lists.specs.Results.{Gives, Refuses};
 ghost use Rattle.launch_rows.specs.Views.{row, IsWithin};
 
 use crate::single::{kind_of_end, refusal_in};
@@ -14,7 +14,7 @@ use launch_rows::fault::Fault;
 use launch_rows::faults::first_of;
 use launch_rows::line::{Line, at_line, content};
 use launch_rows::rows;
-use refusals::Refusal;
+use lists::Refusal;
 use std::alloc::Global;
 use yaml_scalars::{YamlKind, plain};
 use yaml_values::keys::KeySet;

@@ -5,7 +5,7 @@ ghost use Rattle.yaml_values.specs.Flow.{value_at};
 ghost use Rattle.yaml_values.specs.TagViews.{tag_view};
 ghost use Rattle.launch_rows.specs.Rows.{in_row};
 ghost use Rattle.launch_yaml.specs.Blocks.{kind_of_end, wrong_in, text_behind, rows_behind, alone, tagging_of, tagging_at};
-ghost use Rattle.refusals.specs.Results.{Gives};
+ghost use Rattle.lists.specs.Results.{Gives};
 ghost use Rattle.launch_rows.specs.Views.{row, rows, IsWithin, refusal_in};
 ghost use Rattle.launch_yaml.specs.TaggingViews.{tagging_view};
 
@@ -13,7 +13,7 @@ use crate::tagging::Tagging;
 use launch_rows::fault::Fault;
 use launch_rows::line::{Line, at_line, place_in};
 use launch_rows::rows;
-use refusals::Refusal;
+use lists::Refusal;
 use std::alloc::Global;
 use yaml_scalars::{LineFault, YamlKind, spaces};
 use yaml_values::tags::Tag;

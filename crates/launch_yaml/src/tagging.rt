@@ -2,12 +2,11 @@
 ghost use Rattle.std.specs.Prelude.{◌≡◌};
 ghost use Rattle.yaml_values.specs.Views.{shape_of, content_of_value};
 ghost use Rattle.launch_yaml.specs.Blocks.{is_untagged, mode_of, node_of, absent, binary_place};
-ghost use Rattle.refusals.specs.Results.{Gives};
+ghost use Rattle.lists.specs.Results.{Gives};
 ghost use Rattle.launch_yaml.specs.TaggingViews.{tagging_view};
 
 use launch_rows::fault::Fault;
-use lists::Text;
-use refusals::Refusal;
+use lists::{Refusal, Text};
 use yaml_values::{Mode, Node, NodeValue};
 
 /// What stands before a value.

@@ -3,8 +3,8 @@ use Rattle.std.proofs.Common.{◌≡◌, inl, inr, ℕ, ◌+◌, ◌<◌, ◌≤
 use Rattle.std.proofs.lemmas.Bool.Decides.{eqb_tells}
 use Rattle.std.specs.Ordering.{nat_cmp}
 use Rattle.std.specs.FinMap.{FinMap, empty, get, insert, remove, len, len-empty}
-use Rattle.number_map.specs.Closure.{changed-empty, total_below, total_ones}
-use Rattle.number_map.specs.Maps.{weight, total, total-empty, total-insert, total-remove, len-insert_new, len-insert_again, len-removed}
+use Rattle.maps.specs.Closure.{changed-empty, total_below, total_ones}
+use Rattle.maps.specs.Maps.{weight, total, total-empty, total-insert, total-remove, len-insert_new, len-insert_again, len-removed}
 use Rattle.object_store.specs.Entries.{place_of, counts_of, AreListed, unheld_one, IsKept}
 use Rattle.object_store.specs.declared.entry.Entry.{Entry}
 use Rattle.object_store.proofs.Views.{count_at, count_absent, counts-insert, counts-remove}

@@ -5,8 +5,8 @@ use Rattle.std.specs.Ordering.{nat_cmp}
 use Rattle.std.specs.FinMap.{FinMap, empty, get, get-empty, insert, remove, len}
 use Rattle.abi_types.specs.declared.open_kind.OpenKind.{OpenKind}
 use Rattle.abi_types.specs.declared.open_kind.OpenKind.TheVariants.{File, Directory, End, Terminal, Process}
-use Rattle.number_map.specs.Closure.{changed-empty, len-changed, total_below, total_ones}
-use Rattle.number_map.specs.Maps.{number, get-insert-same, get-insert-other, get-remove-same, get-remove-other, weight, total, total-empty, total-insert, total-insert_new, total-remove, total_at_least}
+use Rattle.maps.specs.Closure.{changed-empty, len-changed, total_below, total_ones}
+use Rattle.maps.specs.Maps.{number, get-insert-same, get-insert-other, get-remove-same, get-remove-other, weight, total, total-empty, total-insert, total-insert_new, total-remove, total_at_least}
 use Rattle.tree_model.specs.Opens.{one_of_node, opens_of_node}
 use Rattle.tree_model.specs.Tree.{one_for}
 use Rattle.object_store.specs.Entries.{kinds_of}

@@ -4,7 +4,7 @@ use Rattle.std.proofs.lemmas.Option.{same_Some, slice_get_within, slice_get-get_
 use Rattle.std.specs.Ordering.{nat_cmp}
 use Rattle.std.specs.FinMap.{FinMap, get, remove, len}
 use Rattle.abi_types.specs.declared.open_kind.OpenKind.{OpenKind}
-use Rattle.number_map.specs.Maps.{len-removed}
+use Rattle.maps.specs.Maps.{len-removed}
 use Rattle.object_store.specs.Entries.{place_of, counts_of, held_of, AreListed}
 use Rattle.object_store.specs.Objects.{Held, HasCounts, unheld_removed}
 use Rattle.object_store.specs.Removed.{unheld_removed-once, unheld_removed-none}

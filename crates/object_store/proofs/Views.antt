@@ -2,8 +2,8 @@
 use Rattle.std.proofs.Common.{◌≡◌, ℕ, Option, Some, None, IsSome, is_some, option_map, refl, sym, ap, ◌∙◌, ◌<◌, arith}
 use Rattle.std.specs.Ordering.{nat_cmp}
 use Rattle.std.specs.FinMap.{FinMap, empty, get, insert, remove}
-use Rattle.number_map.specs.Closure.{get-changed, changed-empty, changed-insert, changed-remove}
-use Rattle.number_map.specs.Maps.{number, insert_self}
+use Rattle.maps.specs.Closure.{get-changed, changed-empty, changed-insert, changed-remove}
+use Rattle.maps.specs.Maps.{number, insert_self}
 use Rattle.object_store.specs.Entries.{kinds_of, counts_of, held_of}
 use Rattle.object_store.specs.Objects.{Held, HasCounts, no_objects}
 use Rattle.object_store.specs.declared.entry.Entry.{Entry}

@@ -3,8 +3,8 @@ use Rattle.std.specs.Prelude.{◌≡◌, ◌≢◌, ◌↔◌, ℕ, ◌==◌, �
 use Rattle.std.specs.Ordering.{nat_cmp}
 use Rattle.std.specs.FinMap.{FinMap, get, len}
 use Rattle.abi_types.specs.declared.open_kind.OpenKind.{OpenKind}
-use Rattle.number_map.specs.Closure.{changed}
-use Rattle.number_map.specs.Maps.{total}
+use Rattle.maps.specs.Closure.{changed}
+use Rattle.maps.specs.Maps.{total}
 use Rattle.object_store.specs.Nodes.{AreCounted}
 use Rattle.object_store.specs.Objects.{Held}
 use Rattle.object_store.specs.declared.entry.Entry.{Entry}

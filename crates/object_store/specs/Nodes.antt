@@ -3,7 +3,7 @@ use Rattle.std.specs.Prelude.{◌≡◌, ◌≢◌, ℕ, Some}
 use Rattle.std.specs.Ordering.{nat_cmp}
 use Rattle.std.specs.FinMap.{FinMap, get}
 use Rattle.abi_types.specs.declared.open_kind.OpenKind.{OpenKind}
-use Rattle.number_map.specs.Maps.{number}
+use Rattle.maps.specs.Maps.{number}
 use Rattle.tree_model.specs.Opens.{one_of_node, opens_of_node}
 
 -- no node has the number 0: what no open is of has no entry

@@ -5,7 +5,7 @@ use Rattle.std.specs.FinMap.{FinMap, code, empty, get, retain_keys}
 use Rattle.std.specs.Coded.{Coded, code_by, coded×, coded_ℕ}
 use Rattle.abi_types.specs.declared.open_kind.OpenKind.{OpenKind}
 use Rattle.abi_types.specs.contracts.open_kind.OpenKind as open_kind
-use Rattle.number_map.specs.Maps.{number}
+use Rattle.maps.specs.Maps.{number}
 
 -- what each open is, and how many hold it
 pub record Held : Type 0 where

@@ -5,7 +5,7 @@ use Rattle.std.proofs.Common.{◌≡◌, ◌≢◌, ℕ, ◌==◌, Bool, true, f
 use Rattle.std.proofs.lemmas.Bool.Decides.{eqb_tells}
 use Rattle.std.specs.Ordering.{nat_cmp}
 use Rattle.std.specs.FinMap.{FinMap, get, remove, retain_keys}
-use Rattle.number_map.specs.Maps.{number, get-remove-same, get-remove-other, get-retain, same_numbers, same_around}
+use Rattle.maps.specs.Maps.{number, get-remove-same, get-remove-other, get-retain, same_numbers, same_around}
 use Rattle.object_store.specs.Objects.{Held, HasCounts, is_held, unheld_removed}
 
 -- nothing is left at a key that is not held

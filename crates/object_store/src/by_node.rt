@@ -1,13 +1,13 @@
 //! How many opens are of each node of the file tree.
 ghost use Rattle.std.specs.Prelude.{◌≡◌, ◌+◌, ◌<◌, ◌≤◌, ◌^◌, ℕ, OnOk, OnErr};
 ghost use Rattle.std.specs.FinMap as map;
-ghost use Rattle.number_map.specs.Maps.{number, weight};
+ghost use Rattle.maps.specs.Maps.{number, weight};
 ghost use Rattle.object_store.specs.Nodes.{HasNoZero};
 ghost use Rattle.tree_model.specs.Opens.{one_of_node};
 ghost use Rattle.tree_model.specs.Tree.{one_for};
 
 use abi_types::{ObjId, OpenKind};
-use number_map::NumMap;
+use maps::NumMap;
 use std::alloc::AllocError;
 
 /// The node that the open is of: a file's or a directory's. Any other open is of none.

@@ -1,7 +1,7 @@
 //! The opens that descriptors name, and how many name each.
 ghost use Rattle.std.specs.Prelude.{◌≡◌, ◌≢◌, ◌+◌, ◌-◌, ◌<◌, ◌^◌, ◌↔◌, ℕ, Some, None, IsSome, IsNone, IfSome, IfNone, IsTrue, OnOk, OnErr, option_copied, vec_len, vec_capacity};
 ghost use Rattle.std.specs.FinMap as map;
-ghost use Rattle.number_map.specs.Maps.{number};
+ghost use Rattle.maps.specs.Maps.{number};
 ghost use Rattle.object_store.specs.Entries.{kinds_of, counts_of, AreListed, AreListedBut};
 ghost use Rattle.object_store.specs.Nodes.{IsOfSameNode};
 ghost use Rattle.object_store.specs.Objects.{Held, no_objects, HasCounts, unheld_removed};
@@ -10,7 +10,7 @@ ghost use Rattle.tree_model.specs.Opens.{opens_of_node};
 use crate::by_node;
 use crate::entry::Entry;
 use abi_types::{ObjId, OpenKind};
-use number_map::NumMap;
+use maps::NumMap;
 use std::alloc::{AllocError, Global};
 use std::marker::Model;
 

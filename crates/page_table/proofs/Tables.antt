@@ -14,8 +14,8 @@ use Rattle.std.proofs.lemmas.Option.{same_Some}
 use Rattle.std.specs.Ordering.{nat_cmp}
 use Rattle.std.specs.Option.{option_copied, option_map}
 use Rattle.std.specs.FinMap.{FinMap, contains_key, empty, get, insert, len, remove, get-empty}
-use Rattle.number_map.specs.Closure.{get-changed, changed-empty, len-changed}
-use Rattle.number_map.specs.Maps.{get-insert-same, get-insert-other, get-remove-same, get-remove-other, remove_absent, same_around, passes, least_key, least_same}
+use Rattle.maps.specs.Closure.{get-changed, changed-empty, len-changed}
+use Rattle.maps.specs.Maps.{get-insert-same, get-insert-other, get-remove-same, get-remove-other, remove_absent, same_around, passes, least_key, least_same}
 use Rattle.page_table.specs.declared.table.Slot.{Slot}
 use Rattle.page_table.specs.Page.{Page}
 use Rattle.page_table.specs.Table.{IsIndexed, content, no_slot, slot_at}

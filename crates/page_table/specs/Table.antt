@@ -2,7 +2,7 @@
 use Rattle.std.specs.Prelude.{◌≡◌, ℕ, ◌<◌, ◌+◌, ◌++◌, true, false, take, drop, List, length, get_or, Some}
 use Rattle.std.specs.Ordering.{nat_cmp}
 use Rattle.std.specs.FinMap.{FinMap, get, insert}
-use Rattle.number_map.specs.Closure.{changed}
+use Rattle.maps.specs.Closure.{changed}
 use Rattle.page_table.specs.declared.table.Slot.{Slot}
 use Rattle.page_table.specs.Page.{Page, Pages, zero_page}
 use Rattle.page_table.specs.Numbers.{bytes_of}

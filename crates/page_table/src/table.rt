@@ -3,13 +3,13 @@ ghost use Rattle.std.specs.Prelude.{◌≡◌, ◌≤◌, ◌+◌, IfSome, IsSom
 ghost use Rattle.std.specs.FinMap as map;
 ghost use Rattle.std.specs.Borrow.{sem};
 ghost use Rattle.abi_base.specs.declared.address_space.TheConstants.{PAGE_SIZE};
-ghost use Rattle.number_map.specs.Maps.{least_key};
+ghost use Rattle.maps.specs.Maps.{least_key};
 ghost use Rattle.page_table.specs.Lending.{LendsPage};
 ghost use Rattle.page_table.specs.Table.{IsIndexed, IsStored, content};
 ghost use Rattle.page_table.specs.Numbers.{IsWidth};
 
 use crate::mapped_page::MappedPage;
-use number_map::NumMap;
+use maps::NumMap;
 use std::alloc::{AllocError, Global};
 use std::marker::Model;
 

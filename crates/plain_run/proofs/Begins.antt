@@ -6,7 +6,7 @@ use Rattle.run_types.specs.declared.history.Entry.{Entry}
 use Rattle.run_types.specs.declared.launch.Launch.{Launch}
 use Rattle.kernel_model.specs.Start.{start_state}
 use Rattle.kernel_model.specs.State.{State}
-use Rattle.number_map.specs.Maps.{get-insert-same, insert-again}
+use Rattle.maps.specs.Maps.{get-insert-same, insert-again}
 use Rattle.run_model.specs.Legal.{Legal, AreWhole, IsRunnable}
 use Rattle.run_model.specs.World.{World, Guest, world, start_world, guest_of, or_no_guest, first_guest, turned}
 use Rattle.call_codec.specs.Start.{first_registers}

@@ -14,7 +14,7 @@ use Rattle.run_types.specs.declared.history.Entry.{Entry}
 use Rattle.kernel_model.specs.State.{State, thread_in}
 use Rattle.kernel_model.specs.Step.{end_state, IsStep}
 use Rattle.kernel_model.proofs.Steps.{step_moves_only}
-use Rattle.number_map.specs.Maps.{get-insert-same, insert_self}
+use Rattle.maps.specs.Maps.{get-insert-same, insert_self}
 use Rattle.rv_interp.specs.declared.turns.TurnEnd.TheVariants as turn_end_is
 use Rattle.call_codec.specs.Args.{args_of}
 use Rattle.run_model.specs.Legal.{Legal, Fits, FitsAct}

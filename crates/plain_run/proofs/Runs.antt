@@ -6,7 +6,7 @@ use Rattle.abi_types.specs.declared.status.Status.{Status}
 use Rattle.abi_types.specs.declared.status.Status.TheVariants.{Live, Exit, Killed}
 use Rattle.abi_types.specs.declared.who.Who.{Who}
 use Rattle.kernel_model.specs.State.{State}
-use Rattle.number_map.specs.Maps.{get-insert-same, insert-again}
+use Rattle.maps.specs.Maps.{get-insert-same, insert-again}
 use Rattle.rv_interp.specs.declared.turns.TurnEnd.{TurnEnd}
 use Rattle.rv_interp.specs.declared.turns.TurnEnd.TheVariants as turn_end_is
 use Rattle.run_model.specs.Legal.{AreWhole, LastEnds, MayTurn}

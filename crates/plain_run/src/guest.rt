@@ -13,7 +13,7 @@ ghost use Rattle.run_model.specs.World.{first_guest, registers_of, turned_guest,
 use abi_types::{Answer, Call, Pid, Regs, Tid};
 use call_codec::{args, put_answer, start_memory};
 use guest_memory::GuestMemory;
-use number_map::NumMap;
+use maps::NumMap;
 use run_types::Launch;
 use rv_interp::{Cache, TurnEnd, turn};
 use std::alloc::{AllocError, Global};
@@ -122,7 +122,7 @@ impl Guest {
 
     /// Gives a thread the answer to the call that it spells. Want of memory, which only fd_pread, fd_read and mem_map meet,
     /// changes nothing.
-    #[tactic(auto, using(number_map::specs::Maps::number_laws))]
+    #[tactic(auto, using(maps::specs::Maps::number_laws))]
     pub fn answer(
         &mut self,
         alloc: Global,

@@ -8,7 +8,7 @@ ghost use Rattle.plain_run.specs.Run.{IsAt, IsBetween, IsBetweenTurns, IsStopped
 use crate::guest::{FIRST, FIRST_THREAD, Guest};
 use abi_types::{Pid, Signal, Status, TidList, Who};
 use kernel_core::Kernel;
-use number_map::NumMap;
+use maps::NumMap;
 use run_types::{Act, Entry, History, Launch, Record};
 use rv_interp::TurnEnd;
 use std::alloc::{AllocError, Global};

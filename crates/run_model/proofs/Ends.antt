@@ -17,7 +17,7 @@ use Rattle.run_types.specs.declared.launch.Launch.{Launch}
 use Rattle.kernel_model.specs.State.{State}
 use Rattle.kernel_model.proofs.Steps.{step_moves_only, end_ends_only}
 use Rattle.kernel_model.proofs.Tests.{none_is_no}
-use Rattle.number_map.specs.Maps.{get-insert-other}
+use Rattle.maps.specs.Maps.{get-insert-other}
 use Rattle.run_model.specs.Ends.{Ended, IsParked, Stalled}
 use Rattle.run_model.specs.Legal.{IsRunnable, FitsAct, Fits, FollowsFrom, Legal}
 use Rattle.run_model.specs.World.{World, Guest, start_world, guest_of, called_state, turned, acted, who_of, apply, apply_all, world}

@@ -19,7 +19,7 @@ use Rattle.kernel_model.specs.State.{State, Threads, threads_of, thread_in}
 use Rattle.kernel_model.specs.Step.{step_answer, step_state}
 use Rattle.kernel_model.proofs.Steps.{step_moves_only}
 use Rattle.kernel_model.proofs.Tests.{none_is_no}
-use Rattle.number_map.specs.Maps.{get-insert-same}
+use Rattle.maps.specs.Maps.{get-insert-same}
 use Rattle.rv_interp.specs.declared.turns.TurnEnd.{TurnEnd}
 use Rattle.rv_interp.specs.declared.turns.TurnEnd.TheVariants as turn_end_is
 use Rattle.guest_memory.specs.Page.{Pages}

@@ -16,7 +16,7 @@ use Rattle.run_types.specs.declared.history.Entry.{Entry}
 use Rattle.run_types.specs.declared.launch.Launch.{Launch}
 use Rattle.kernel_model.specs.Start.{first_own, start_state}
 use Rattle.kernel_model.specs.State.{State, Own, threads_of, thread_in}
-use Rattle.number_map.specs.Maps.{get-insert-same}
+use Rattle.maps.specs.Maps.{get-insert-same}
 use Rattle.rv_interp.specs.declared.turns.TurnEnd.TheVariants.{Quantum}
 use Rattle.run_model.specs.Legal.{IsRunnable, MayTurn, AreWhole, Fits, FollowsFrom, Legal}
 use Rattle.call_codec.specs.Start.{first_registers}

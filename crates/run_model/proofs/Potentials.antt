@@ -17,8 +17,8 @@ use Rattle.run_types.specs.declared.launch.Launch.{Launch}
 use Rattle.kernel_model.specs.State.{State}
 use Rattle.kernel_model.specs.Step.{end_state}
 use Rattle.kernel_model.proofs.Steps.{end_ends_only}
-use Rattle.number_map.specs.Closure.{total_below}
-use Rattle.number_map.specs.Maps.{get-insert-same, get-insert-other, same_around, total, weight, total-empty, total-insert}
+use Rattle.maps.specs.Closure.{total_below}
+use Rattle.maps.specs.Maps.{get-insert-same, get-insert-other, same_around, total, weight, total-empty, total-insert}
 use Rattle.rv_interp.specs.declared.turns.TurnEnd.{TurnEnd}
 use Rattle.rv_interp.specs.declared.turns.TurnEnd.TheVariants.{Ecall, Trap}
 use Rattle.run_model.specs.Ends.{live_number, potential}

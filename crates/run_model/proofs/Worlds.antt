@@ -12,7 +12,7 @@ use Rattle.kernel_model.specs.State.{State}
 use Rattle.kernel_model.specs.Valid.{IsValid}
 use Rattle.kernel_model.proofs.Starts.{start_valid}
 use Rattle.kernel_model.proofs.Steps.{step_keeps_valid, end_valid, step_moves_only, end_ends_only}
-use Rattle.number_map.specs.Maps.{get-insert-other}
+use Rattle.maps.specs.Maps.{get-insert-other}
 use Rattle.run_model.specs.Legal.{FitsAct, Fits, FollowsFrom, Legal}
 use Rattle.run_model.specs.World.{World, Guest, start_world, or_no_guest, guest_of, called_guest, called_state, turned_guest_by, turned, acted, who_of, apply, apply_all, world}
 use Rattle.run_model.proofs.Histories.{apply_is, first_state}

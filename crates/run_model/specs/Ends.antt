@@ -8,7 +8,7 @@ use Rattle.run_types.specs.declared.history.Entry.{Entry}
 use Rattle.run_types.specs.declared.launch.Launch.{Launch}
 use Rattle.kernel_model.specs.Ends.{NoneLive}
 use Rattle.kernel_model.specs.State.{State, thread_of}
-use Rattle.number_map.specs.Maps.{total}
+use Rattle.maps.specs.Maps.{total}
 use Rattle.run_model.specs.World.{World, Guest, world}
 
 -- the run is ended

@@ -1,6 +1,6 @@
 -- How a report says that the run came to its end, and what that tells.
 use Rattle.std.proofs.Common.{◌≡◌, ◌≢◌, ◌↔◌, ◌==◌, ℕ, List, Bool, true, false, if◌then◌else◌, length, codes, refl, sym, ap, ◌∙◌}
-use Rattle.number_map.specs.Maps.{least_key}
+use Rattle.maps.specs.Maps.{least_key}
 use Rattle.kernel_core.specs.Kernel.{any_live, is_live}
 use Rattle.kernel_core.proofs.Lives.{live_some, some_live}
 use Rattle.kernel_model.specs.Ends.{NoneLive, SomeLive}

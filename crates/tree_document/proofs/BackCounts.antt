@@ -1,7 +1,7 @@
 -- No node has more rows than it counts names.
 use Rattle.std.proofs.Common.{◌≡◌, ◌⊎◌, inl, inr, ℕ, ◌+◌, ◌≤◌, List, [], ◌∷◌, ◌++◌, Some, sym, ap, ◌∙◌, append_assoc, append-nil, arith}
-use Rattle.number_map.specs.Maps.{weight}
-use Rattle.refusals.proofs.Chosen.{some_is}
+use Rattle.maps.specs.Maps.{weight}
+use Rattle.lists.proofs.Chosen.{some_is}
 use Rattle.tree_model.specs.declared.limits.TheConstants.{ROOT}
 use Rattle.tree_model.specs.Changes.{drop_name}
 use Rattle.tree_model.specs.Counts.{names_count-drop_name}

@@ -4,8 +4,8 @@ use Rattle.std.proofs.lemmas.Bool.{false≢true}
 use Rattle.std.proofs.lemmas.List.{map-append}
 use Rattle.std.specs.FinMap.{get}
 use Rattle.std.specs.List.{AllByRecursion}
-use Rattle.refusals.specs.Options.{◌>>=◌}
-use Rattle.refusals.proofs.Chosen.{none_some, some_is}
+use Rattle.lists.specs.Options.{◌>>=◌}
+use Rattle.lists.proofs.Chosen.{none_some, some_is}
 use Rattle.abi_types.specs.declared.node.Node.{Node}
 use Rattle.abi_types.specs.declared.node.NodeKind.{NodeKind}
 use Rattle.abi_types.specs.declared.node.NodeKind.TheVariants as kind

@@ -4,7 +4,7 @@ use Rattle.std.proofs.lemmas.Bool.{eq-eqb, false≢true, ne_eqb}
 use Rattle.std.specs.FinMap.{get}
 use Rattle.abi_types.specs.declared.node.Node.{Node}
 use Rattle.abi_types.specs.declared.node.NodeKind.{NodeKind}
-use Rattle.name_map.specs.Names.{Names}
+use Rattle.maps.specs.Names.{Names}
 use Rattle.tree_model.specs.declared.limits.TheConstants.{ROOT}
 use Rattle.tree_model.specs.Changes.{is_absent, is_file, is_file_kind, is_file_node, made}
 use Rattle.tree_model.specs.Counts.{links_of-new_node-other, links_of-new_node-same, one_for-same}

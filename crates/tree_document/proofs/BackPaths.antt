@@ -5,9 +5,9 @@
 --     one_path      one path leads to a directory
 use Rattle.std.proofs.Common.{◌≡◌, ◌⊎◌, inl, inr, ℕ, zero, suc, ◌+◌, ◌≤◌, true, List, [], ◌∷◌, ◌++◌, length, Option, Some, None, IsSome, refl, sym, ap, subst, ◌∙◌, length-append, arith}
 use Rattle.std.specs.FinMap.{get}
-use Rattle.refusals.specs.Options.{◌>>=◌}
-use Rattle.refusals.proofs.Chosen.{some_is}
-use Rattle.refusals.proofs.OptionSteps.{bind_some}
+use Rattle.lists.specs.Options.{◌>>=◌}
+use Rattle.lists.proofs.Chosen.{some_is}
+use Rattle.lists.proofs.OptionSteps.{bind_some}
 use Rattle.tree_model.specs.declared.limits.TheConstants.{ROOT}
 use Rattle.tree_model.specs.Climbing.{climb_shortens, depth, no_parent, single_name}
 use Rattle.tree_model.specs.Facts.{directory_of_name}

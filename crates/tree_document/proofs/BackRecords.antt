@@ -3,11 +3,11 @@ use Rattle.std.proofs.Common.{◌≡◌, inl, inr, ℕ, ◌+◌, ◌<◌, ◌≤
 use Rattle.std.proofs.lemmas.Bool.{false≢true}
 use Rattle.std.proofs.lemmas.Bool.Decides.{eqb_tells}
 use Rattle.std.specs.FinMap.{get, insert}
-use Rattle.refusals.proofs.Chosen.{some_is}
+use Rattle.lists.proofs.Chosen.{some_is}
 use Rattle.abi_types.specs.declared.node.Node.{Node}
 use Rattle.abi_types.specs.declared.node.NodeKind.{NodeKind}
 use Rattle.abi_types.specs.declared.node.NodeKind.TheVariants as kind
-use Rattle.name_map.specs.Names as name_map
+use Rattle.maps.specs.Names as name_map
 use Rattle.tree_model.specs.declared.limits.TheConstants.{MOST_LINKS, ROOT}
 use Rattle.tree_model.specs.Changes.{is_file, is_file_kind, linked, made}
 use Rattle.tree_model.specs.Facts.{directory_there}

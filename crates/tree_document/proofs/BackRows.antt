@@ -11,9 +11,9 @@ use Rattle.std.specs.FinMap.{entries, entries_sorted, find, get, get-entries, is
 use Rattle.std.specs.FinMap.Entries.{below_all}
 use Rattle.std.specs.List.{AllByRecursion, flat_map}
 use Rattle.std.specs.Ordering.{eq_by_cmp}
-use Rattle.name_map.specs.Names.{name_cmp, same_or_not, tie_other, tie_same}
-use Rattle.refusals.proofs.Chosen.{some_is}
-use Rattle.refusals.proofs.OptionSteps.{bind_some}
+use Rattle.maps.specs.Names.{name_cmp, same_or_not, tie_other, tie_same}
+use Rattle.lists.proofs.Chosen.{some_is}
+use Rattle.lists.proofs.OptionSteps.{bind_some}
 use Rattle.tree_model.specs.declared.limits.TheConstants.{ROOT}
 use Rattle.tree_model.specs.Facts.{directory_of_name}
 use Rattle.tree_model.specs.Tree.{HasName, IsTree, Tree, entry_of, names_of}

@@ -1,8 +1,8 @@
 -- What is computed of a text is what the text means, or where it is faulty.
 use Rattle.std.proofs.Common.{◌≡◌, ℕ, zero, suc, ◌-◌, ◌≤◌, if◌then◌else◌, List, [], ◌∷◌, ◌++◌, length, Option, Some, None, Result, Ok, Err, inl, inr, refl, sym, ap, subst, ◌∙◌, arith}
-use Rattle.refusals.specs.Options.{◌>>=◌}
-use Rattle.refusals.proofs.Chosen.{chosen, none_some, some_is}
-use Rattle.refusals.proofs.OptionSteps.{bind_some}
+use Rattle.lists.specs.Options.{◌>>=◌}
+use Rattle.lists.proofs.Chosen.{chosen, none_some, some_is}
+use Rattle.lists.proofs.OptionSteps.{bind_some}
 use Rattle.abi_types.specs.declared.node.Times.{Times}
 use Rattle.tree_model.specs.Tree.{Tree}
 use Rattle.tree_records.specs.Reading.{record_at}

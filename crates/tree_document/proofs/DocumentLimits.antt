@@ -4,8 +4,8 @@ use Rattle.std.proofs.lemmas.Bool.{false≢true}
 use Rattle.std.specs.FinMap.{empty, get, get-empty}
 use Rattle.std.specs.List.{AllByRecursion}
 use Rattle.std.specs.Ordering.{nat_cmp}
-use Rattle.number_map.specs.Maps.{get-insert-other, get-insert-same}
-use Rattle.refusals.proofs.OptionSteps.{bind_some}
+use Rattle.maps.specs.Maps.{get-insert-other, get-insert-same}
+use Rattle.lists.proofs.OptionSteps.{bind_some}
 use Rattle.abi_types.specs.declared.node.Node.{Node}
 use Rattle.abi_types.specs.declared.node.NodeKind.{NodeKind}
 use Rattle.abi_types.specs.declared.node.NodeKind.TheVariants as kind

@@ -7,7 +7,7 @@ use Rattle.std.proofs.lemmas.List.{append-nil}
 use Rattle.abi_types.specs.declared.node.Node.{Node}
 use Rattle.abi_types.specs.declared.node.NodeKind.{NodeKind}
 use Rattle.abi_types.specs.declared.node.Times.{Times}
-use Rattle.number_map.specs.Maps.{get-insert-other}
+use Rattle.maps.specs.Maps.{get-insert-other}
 use Rattle.tree_model.specs.declared.limits.TheConstants.{ROOT}
 use Rattle.tree_model.specs.Changes.{is_absent, one_more_in, with_count}
 use Rattle.tree_model.specs.Start.{root_node}

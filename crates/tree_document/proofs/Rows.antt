@@ -8,9 +8,9 @@ use Rattle.std.specs.Ordering.{is_lt}
 use Rattle.std.specs.FinMap.{empty, entries, len-empty, len-entries, entries_sorted, find, get, get-entries, is_sorted, len, retain_keys}
 use Rattle.std.specs.FinMap.Entries.{below_all}
 use Rattle.std.specs.List.{AllByRecursion, flat_map}
-use Rattle.name_map.specs.Names.{Names, name_cmp, tie_other, tie_same}
-use Rattle.number_map.specs.Closure.{member, total_below, total_ones}
-use Rattle.number_map.specs.Maps.{get-retain, total, weight}
+use Rattle.maps.specs.Names.{Names, name_cmp, tie_other, tie_same}
+use Rattle.maps.specs.Closure.{member, total_below, total_ones}
+use Rattle.maps.specs.Maps.{get-retain, total, weight}
 use Rattle.abi_types.specs.declared.node.Node.{Node}
 use Rattle.tree_model.specs.Climbing.{climb_shortens, depth}
 use Rattle.abi_types.specs.declared.node.NodeKind.{NodeKind}

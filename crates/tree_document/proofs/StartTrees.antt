@@ -4,8 +4,8 @@ use Rattle.std.specs.FinMap.{empty, get, len, get-empty, len-empty}
 use Rattle.std.specs.Ordering.{nat_cmp}
 use Rattle.std.proofs.lemmas.Bool.{false≢true}
 use Rattle.std.proofs.lemmas.Bool.Decides.{eqb_tells}
-use Rattle.number_map.specs.Closure.{len_same}
-use Rattle.number_map.specs.Maps.{get-insert-other, len-insert_new}
+use Rattle.maps.specs.Closure.{len_same}
+use Rattle.maps.specs.Maps.{get-insert-other, len-insert_new}
 use Rattle.abi_types.specs.declared.node.Node.{Node}
 use Rattle.abi_types.specs.declared.node.NodeKind.{NodeKind}
 use Rattle.abi_types.specs.declared.node.Times.{Times}

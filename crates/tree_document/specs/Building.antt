@@ -4,12 +4,12 @@
 --     IsAllowed m r, with_record m r      a record that may stand next;  the tree with it
 use Rattle.std.specs.Prelude.{◌≡◌, ℕ, ◌+◌, ◌≤◌, true, List, [], ◌∷◌, Option, None, Some, IsSome}
 use Rattle.std.specs.FinMap.{empty, get, insert}
-use Rattle.refusals.specs.Options.{◌>>=◌}
+use Rattle.lists.specs.Options.{◌>>=◌}
 use Rattle.abi_types.specs.declared.node.Node.{Node}
 use Rattle.abi_types.specs.declared.node.NodeKind.{NodeKind}
 use Rattle.abi_types.specs.declared.node.NodeKind.TheVariants as kind
 use Rattle.abi_types.specs.declared.node.Times.{Times}
-use Rattle.name_map.specs.Names.{Names}
+use Rattle.maps.specs.Names.{Names}
 use Rattle.tree_model.specs.declared.limits.TheConstants.{ROOT}
 use Rattle.tree_model.specs.Start.{root_tree}
 use Rattle.tree_model.specs.Tree.{Tree, entry_of}

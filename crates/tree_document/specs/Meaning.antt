@@ -4,7 +4,7 @@
 --     meaning times bytes      the tree that the text means, or the byte at which the first faulty record begins
 use Rattle.std.specs.Prelude.{ℕ, zero, suc, ◌-◌, ◌&&◌, Bool, false, if◌then◌else◌, List, [], ◌∷◌, length, Option, Some, None, is_none, is_some, Result, Ok, Err}
 use Rattle.std.specs.FinMap.{get}
-use Rattle.refusals.specs.Options.{◌>>=◌}
+use Rattle.lists.specs.Options.{◌>>=◌}
 use Rattle.abi_types.specs.declared.node.Times.{Times}
 use Rattle.tree_model.specs.declared.limits.TheConstants.{ROOT}
 use Rattle.tree_model.specs.Tree.{Tree}

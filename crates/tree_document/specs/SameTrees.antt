@@ -5,7 +5,7 @@
 --     IsSameOrLacking t read      what was read is the same tree, or memory was wanting
 use Rattle.std.specs.Prelude.{◌≡◌, ◌↔◌, ℕ, true, Option, None, Some, is_some, Result, Ok, Err}
 use Rattle.std.specs.FinMap.{get}
-use Rattle.refusals.specs.Options.{◌>>=◌}
+use Rattle.lists.specs.Options.{◌>>=◌}
 use Rattle.abi_types.specs.declared.node.Node.{Node}
 use Rattle.abi_types.specs.declared.node.NodeKind.{NodeKind}
 use Rattle.tree_model.specs.declared.limits.TheConstants.{ROOT}

@@ -1,8 +1,8 @@
 -- What the program holds, as contracts speak of it.
 use Rattle.std.specs.Prelude.{◌≡◌, ℕ, List, [], ◌∷◌, Result, Ok, Err}
 use Rattle.abi_types.specs.declared.node.Times.{Times}
-use Rattle.refusals.specs.declared.refusal.Refusal.{Refusal}
-use Rattle.refusals.specs.declared.refusal.Refusal.TheVariants.{At, Memory}
+use Rattle.lists.specs.declared.refusal.Refusal.{Refusal}
+use Rattle.lists.specs.declared.refusal.Refusal.TheVariants.{At, Memory}
 use Rattle.tree_model.specs.Tree.{Tree}
 use Rattle.tree_records.specs.Paths.{Path}
 use Rattle.tree_records.specs.Reading.{names_in}

@@ -7,7 +7,7 @@ ghost use Rattle.tree_document.specs.Left.{IsPrinted, with_first};
 
 use abi_types::{Bytes, NodeKind, ObjId};
 use file_tree::Tree;
-use number_map::NumMap;
+use maps::NumMap;
 use std::alloc::{AllocError, Global};
 use tree_records::{push_dir, push_file, push_hard, push_link};
 

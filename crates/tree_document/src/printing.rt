@@ -8,7 +8,7 @@ ghost use Rattle.tree_document.specs.Left.{IsGoing, reach, rows_left, steps_left
 use crate::printed::Printed;
 use abi_types::{Bytes, NodeKind, ObjId};
 use file_tree::Tree;
-use name_map::NameEntries;
+use maps::NameEntries;
 use std::alloc::{AllocError, Global};
 use tree_model::ROOT;
 

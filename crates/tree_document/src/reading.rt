@@ -11,7 +11,7 @@ use crate::building::Building;
 use crate::fault::TreeDocFault;
 use abi_types::Times;
 use file_tree::Tree;
-use refusals::Refusal;
+use lists::Refusal;
 use std::alloc::{AllocError, Global};
 use tree_records::{Read, read_record};
 

@@ -18,9 +18,9 @@ use Rattle.std.specs.Bool.{nat_eq}
 use Rattle.std.specs.FinMap.{FinMap, get, get-empty, remove}
 use Rattle.std.specs.Ordering.{nat_cmp}
 use Rattle.abi_types.specs.declared.node.Node.{Node}
-use Rattle.number_map.specs.Closure.{member, IsSubset, IsMonotone, closure_induction, closure_start, closure_closed, closure_keys, closure_ready, closure_same}
-use Rattle.number_map.specs.Maps.{get-remove-same, get-remove-other}
-use Rattle.name_map.specs.Names as name_map
+use Rattle.maps.specs.Closure.{member, IsSubset, IsMonotone, closure_induction, closure_start, closure_closed, closure_keys, closure_ready, closure_same}
+use Rattle.maps.specs.Maps.{get-remove-same, get-remove-other}
+use Rattle.maps.specs.Names as name_map
 use Rattle.tree_model.specs.Counts.{one_for-same, one_for-other}
 use Rattle.tree_model.specs.Tree.{Tree, Names, HasName, names_in, one_for, count_in, has_node, leads, below}
 

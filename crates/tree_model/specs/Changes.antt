@@ -15,8 +15,8 @@ use Rattle.abi_types.specs.declared.node.Node.{Node}
 use Rattle.abi_types.specs.declared.node.NodeKind.{NodeKind}
 use Rattle.abi_types.specs.declared.node.NodeKind.TheVariants as kind
 use Rattle.abi_types.specs.declared.node.Times.{Times}
-use Rattle.number_map.specs.Closure.{member}
-use Rattle.number_map.specs.Maps.{least_key}
+use Rattle.maps.specs.Closure.{member}
+use Rattle.maps.specs.Maps.{least_key}
 use Rattle.tree_model.specs.declared.fault.TreeFault.{TreeFault}
 use Rattle.tree_model.specs.declared.fault.TreeFault.TheVariants.{Absent, Taken, NotDirectory, IsDirectory, NotEmpty, Below, Links, TooLarge, NoMemory}
 use Rattle.tree_model.specs.declared.limits.TheConstants.{ROOT, MOST_FILE_BYTES, MOST_LINKS}

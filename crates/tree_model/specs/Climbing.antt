@@ -13,8 +13,8 @@ use Rattle.std.proofs.lemmas.Bool.Decides.{eqb_tells, same_from_decides}
 use Rattle.std.specs.FinMap.{FinMap, get, insert, remove, len, retain_keys}
 use Rattle.std.specs.Ordering.{nat_cmp}
 use Rattle.abi_types.specs.declared.node.Node.{Node}
-use Rattle.number_map.specs.Closure.{member, total_ones, total_below}
-use Rattle.number_map.specs.Maps.{weight, total, map_induction, total-empty, total-insert_new, get-insert-same, get-insert-other, get-remove-other, get-retain, len-removed}
+use Rattle.maps.specs.Closure.{member, total_ones, total_below}
+use Rattle.maps.specs.Maps.{weight, total, map_induction, total-empty, total-insert_new, get-insert-same, get-insert-other, get-remove-other, get-retain, len-removed}
 use Rattle.tree_model.specs.declared.limits.TheConstants.{ROOT}
 use Rattle.tree_model.specs.Tree.{Tree, Names, HasName, IsTree, names_in, below, is_directory, links_of, one_for, count_in}
 use Rattle.tree_model.specs.Changes.{drop_name}

@@ -14,8 +14,8 @@ use Rattle.std.proofs.lemmas.Bool.{eq-eqb, false≢true}
 use Rattle.std.proofs.lemmas.Bool.Decides.{eqb_tells}
 use Rattle.std.specs.FinMap.{empty, get, insert, remove}
 use Rattle.abi_types.specs.declared.node.Node.{Node}
-use Rattle.number_map.specs.Maps.{weight, total, total-insert, total-remove, total_none, total_same}
-use Rattle.name_map.specs.Names as name_map
+use Rattle.maps.specs.Maps.{weight, total, total-insert, total-remove, total_none, total_same}
+use Rattle.maps.specs.Names as name_map
 use Rattle.tree_model.specs.Tree.{Tree, Names, HasName, count_in, entry_of, links_in, links_of, names_count, names_in, names_of, one_for}
 use Rattle.tree_model.specs.Changes.{drop_name, forgotten, new_node, one_less, one_more, put_name, without_old}
 use Rattle.tree_model.specs.Entries.{ChangesNode, get-new_node-same, get-new_node-other, here_or_other, links_of-changed, links_of-changed-other, names-without_old, names_of-new_node, one_less-changes, one_more-changes}

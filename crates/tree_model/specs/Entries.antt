@@ -15,8 +15,8 @@ use Rattle.std.specs.FinMap.{empty, get, insert, remove, get-empty}
 use Rattle.abi_types.specs.declared.node.Node.{Node}
 use Rattle.abi_types.specs.declared.node.NodeKind.TheVariants as kind
 use Rattle.abi_types.specs.declared.node.Times.{Times}
-use Rattle.number_map.specs.Maps.{get-insert-same, get-insert-other}
-use Rattle.name_map.specs.Names as name_map
+use Rattle.maps.specs.Maps.{get-insert-same, get-insert-other}
+use Rattle.maps.specs.Names as name_map
 use Rattle.tree_model.specs.Tree.{Tree, HasName, entry_of, is_directory, is_directory_kind, is_directory_node, links_in, links_of, names_in, names_of}
 use Rattle.tree_model.specs.Changes.{drop_name, new_node, one_less, one_less_in, one_more, one_more_in, put_name, put_node, with_bytes, with_bytes_in, with_count, with_times, with_times_in, without_old}
 

@@ -7,7 +7,7 @@ use Rattle.std.proofs.Common.{◌≡◌, ℕ, ◌<◌, Bool, true, false, not, �
 use Rattle.std.proofs.lemmas.Bool.{false≢true, not-false, not-true, leb-false, ltb-false, eqb-true, eq-eqb}
 use Rattle.std.specs.Prelude.{if◌then◌else◌, ⊤}
 use Rattle.std.specs.FinMap.{empty, get, len}
-use Rattle.name_map.specs.Names as name_map
+use Rattle.maps.specs.Names as name_map
 use Rattle.tree_model.specs.declared.fault.TreeFault.{TreeFault}
 use Rattle.tree_model.specs.declared.limits.TheConstants.{ROOT, MOST_LINKS}
 use Rattle.tree_model.specs.Tree.{Tree, HasName, entry_of, is_directory, links_of, names_of}

@@ -11,7 +11,7 @@ use Rattle.std.specs.FinMap.{get}
 use Rattle.abi_types.specs.declared.node.Node.{Node}
 use Rattle.abi_types.specs.declared.node.NodeKind.{NodeKind}
 use Rattle.abi_types.specs.declared.node.NodeKind.TheVariants as kind
-use Rattle.number_map.specs.Closure.{member}
+use Rattle.maps.specs.Closure.{member}
 use Rattle.path_lookup.specs.Finding.{Finding, Nothing, Directory, File, Link}
 use Rattle.path_lookup.specs.Laws.{FindsIn, IsClosed, Agree}
 use Rattle.path_lookup.specs.Walk.{Finds}

@@ -9,7 +9,7 @@
 use Rattle.std.proofs.Common.{◌≡◌, ℕ, ◌+◌, ◌<◌, ◌≤◌, true, false, cond, inl, inr, List, IsSome, refl, ap, ◌∙◌, arith}
 use Rattle.std.specs.Prelude.{if◌then◌else◌}
 use Rattle.std.specs.FinMap.{get}
-use Rattle.number_map.specs.Closure.{member}
+use Rattle.maps.specs.Closure.{member}
 use Rattle.tree_model.specs.Tree.{Tree, HasName, HasNoCycle, below}
 use Rattle.tree_model.specs.Changes.{put_name, drop_name}
 use Rattle.tree_model.specs.Entries.{HasName-put_name, HasName-drop_name}

@@ -13,8 +13,8 @@ use Rattle.abi_types.specs.declared.node.Node.{Node}
 use Rattle.abi_types.specs.declared.node.NodeKind.{NodeKind}
 use Rattle.abi_types.specs.declared.node.NodeKind.TheVariants as kind
 use Rattle.abi_types.specs.declared.node.Times.{Times}
-use Rattle.number_map.specs.Closure.{member}
-use Rattle.number_map.specs.Maps.{get-insert-same, get-insert-other, get-remove-same, get-remove-other, weight}
+use Rattle.maps.specs.Closure.{member}
+use Rattle.maps.specs.Maps.{get-insert-same, get-insert-other, get-remove-same, get-remove-other, weight}
 use Rattle.tree_model.specs.declared.limits.TheConstants.{ROOT}
 use Rattle.tree_model.specs.Tree.{Tree, HasName, HasNoCycle, IsTree, below, entry_of, is_directory, is_directory_kind, is_directory_node, links_in, links_of, names_count, names_in, names_of, one_for}
 use Rattle.tree_model.specs.Changes.{first_fault, forgotten, is_absent, is_file, is_file_kind, is_file_node, linked, link_faults, made, make_faults, new_node, one_more, unlinked, unlink_faults, with_bytes, with_times, without_old}

@@ -7,7 +7,7 @@ use Rattle.std.specs.Ordering.{nat_cmp}
 use Rattle.std.specs.FinMap.{FinMap}
 use Rattle.abi_types.specs.declared.open_kind.OpenKind.{OpenKind}
 use Rattle.abi_types.specs.declared.open_kind.OpenKind.TheVariants.{File, Directory}
-use Rattle.number_map.specs.Maps.{total}
+use Rattle.maps.specs.Maps.{total}
 use Rattle.tree_model.specs.declared.limits.TheConstants.{ROOT}
 use Rattle.tree_model.specs.Tree.{Tree, links_of, one_for}
 

@@ -13,7 +13,7 @@ use Rattle.std.specs.FinMap.{get}
 use Rattle.abi_types.specs.declared.node.Node.{Node}
 use Rattle.abi_types.specs.declared.node.NodeKind.TheVariants as kind
 use Rattle.abi_types.specs.declared.node.Times.{Times}
-use Rattle.number_map.specs.Maps.{get-remove-same, get-remove-other}
+use Rattle.maps.specs.Maps.{get-remove-same, get-remove-other}
 use Rattle.tree_model.specs.Tree.{Tree, HasName, IsTree, entry_of, links_of, one_for}
 use Rattle.tree_model.specs.Changes.{bytes_in, bytes_of, forgotten, is_absent, is_file, is_file_node, linked, made, new_node, one_more, unlinked, with_bytes, with_count, with_times, without_old}
 use Rattle.tree_model.specs.Entries.{IsElsewhere, entry_of-changed, entry_of-drop_name-other, entry_of-drop_name-same, entry_of-new_node, entry_of-put_name-other, entry_of-put_name-same, entry_of-without_old, get-new_node-other, get-new_node-same, one_less-changes, one_more-changes, with_bytes-changes, with_times-changes}

@@ -11,8 +11,8 @@ use Rattle.std.specs.Prelude.{nat_lt}
 use Rattle.std.specs.Ordering.{nat_cmp}
 use Rattle.std.specs.FinMap.{FinMap, get, insert, remove, retain_keys}
 use Rattle.abi_types.specs.declared.open_kind.OpenKind.{OpenKind}
-use Rattle.number_map.specs.Closure.{total_below}
-use Rattle.number_map.specs.Maps.{get-remove-same, get-remove-other, get-retain, same_numbers, total-insert, total-remove, weight}
+use Rattle.maps.specs.Closure.{total_below}
+use Rattle.maps.specs.Maps.{get-remove-same, get-remove-other, get-retain, same_numbers, total-insert, total-remove, weight}
 use Rattle.tree_model.specs.declared.limits.TheConstants.{ROOT}
 use Rattle.tree_model.specs.Changes.{forgotten}
 use Rattle.tree_model.specs.Facts.{directory_there}

@@ -16,8 +16,8 @@ use Rattle.std.proofs.lemmas.Bool.Decides.{eqb_tells}
 use Rattle.std.proofs.lemmas.Option.{none-some}
 use Rattle.std.specs.FinMap.{empty, get}
 use Rattle.std.specs.Option.{option_map}
-use Rattle.number_map.specs.Closure.{member}
-use Rattle.number_map.specs.Maps.{weight}
+use Rattle.maps.specs.Closure.{member}
+use Rattle.maps.specs.Maps.{weight}
 use Rattle.tree_model.specs.declared.limits.TheConstants.{ROOT}
 use Rattle.tree_model.specs.Tree.{Tree, HasName, HasNoCycle, IsTree, below, entry_of, is_directory, links_of, names_count, names_of, one_for}
 use Rattle.tree_model.specs.Changes.{first_fault, drop_name, is_full, is_same, leads_to_directory, moved_to, put_name, rename_faults, renamed, replace_faults, replaced, with_count, without_old}

@@ -6,7 +6,7 @@ use Rattle.std.proofs.Common.{◌≡◌, ◌↔◌, ℕ, zero, suc, ◌+◌, ◌
 use Rattle.std.proofs.lemmas.Bool.{false≢true}
 use Rattle.std.specs.FinMap.{empty, get, retain_keys}
 use Rattle.abi_types.specs.declared.node.Node.{Node}
-use Rattle.number_map.specs.Maps.{get-retain}
+use Rattle.maps.specs.Maps.{get-retain}
 use Rattle.tree_model.specs.declared.limits.TheConstants.{ROOT}
 use Rattle.tree_model.specs.Tree.{Tree, HasName, IsTree, is_directory, is_directory_node, links_in, links_of, names_in, names_of, one_for}
 use Rattle.tree_model.specs.Counts.{names_count-same}

@@ -7,7 +7,7 @@ use Rattle.std.specs.Ordering.{nat_cmp}
 use Rattle.abi_types.specs.declared.node.Node.{Node}
 use Rattle.abi_types.specs.declared.node.NodeKind.TheVariants as kind
 use Rattle.abi_types.specs.declared.node.Times.{Times}
-use Rattle.number_map.specs.Maps.{get-insert-same, get-insert-other}
+use Rattle.maps.specs.Maps.{get-insert-same, get-insert-other}
 use Rattle.tree_model.specs.declared.limits.TheConstants.{ROOT}
 use Rattle.tree_model.specs.Tree.{Tree, HasName, IsTree, is_directory, is_directory_node, links_in, links_of, names_count, names_in, names_of, one_for}
 use Rattle.tree_model.specs.Entries.{here_or_other}

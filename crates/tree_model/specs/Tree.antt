@@ -13,9 +13,9 @@ use Rattle.abi_types.specs.declared.node.Node.{Node}
 use Rattle.abi_types.specs.declared.node.NodeKind.{NodeKind}
 use Rattle.abi_types.specs.declared.node.NodeKind.TheVariants as kind
 use Rattle.abi_types.specs.contracts.node.Node as node
-use Rattle.number_map.specs.Closure.{closure}
-use Rattle.number_map.specs.Maps.{total}
-use Rattle.name_map.specs.Names as name_map
+use Rattle.maps.specs.Closure.{closure}
+use Rattle.maps.specs.Maps.{total}
+use Rattle.maps.specs.Names as name_map
 use Rattle.tree_model.specs.declared.limits.TheConstants.{ROOT}
 
 -- the names in a directory, in the order of their bytes, each with the number of its node

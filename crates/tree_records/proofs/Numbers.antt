@@ -11,7 +11,7 @@ use Rattle.std.specs.Fmt.{decimal}
 use Rattle.std.specs.Int.{IsInRange}
 use Rattle.std.specs.List.{AllByRecursion}
 use Rattle.std.specs.Str.Parse.{AllDigits, digits_value, digits_value_after}
-use Rattle.refusals.proofs.Chosen.{chosen, none_some, some_is}
+use Rattle.lists.proofs.Chosen.{chosen, none_some, some_is}
 use Rattle.tree_model.specs.declared.limits.TheConstants.{MOST_FILE_BYTES}
 use Rattle.tree_records.specs.Reading.{is_digit, number_at, number_behind}
 

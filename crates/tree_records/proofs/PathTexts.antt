@@ -4,9 +4,9 @@ use Rattle.std.proofs.lemmas.Bool.{cases_Bool, cases_lt, cond-false, cond-true, 
 use Rattle.std.proofs.lemmas.Bool.Decides.{nat_tests}
 use Rattle.std.specs.Fmt.{digit_glyph}
 use Rattle.std.specs.Prelude.{if◌then◌else◌}
-use Rattle.refusals.specs.Options.{◌>>=◌}
-use Rattle.refusals.proofs.Chosen.{chosen, none_some, some_is}
-use Rattle.refusals.proofs.OptionSteps.{bind_some}
+use Rattle.lists.specs.Options.{◌>>=◌}
+use Rattle.lists.proofs.Chosen.{chosen, none_some, some_is}
+use Rattle.lists.proofs.OptionSteps.{bind_some}
 use Rattle.tree_records.specs.Escapes.{escape, escaped, is_escaped}
 use Rattle.tree_records.specs.Paths.{Path, path_bytes, IsPath}
 use Rattle.tree_records.specs.Reading.{are_path, byte_at, digit_of, escape_at, is_digit, names_in, path_at, unescaped}

@@ -5,7 +5,7 @@ use Rattle.std.proofs.lemmas.List.{drop-drop, drop_at, drop_more, get_or_at, len
 use Rattle.std.specs.List.{AllByRecursion}
 use Rattle.std.specs.Option.{option_map}
 use Rattle.std.specs.Prelude.{slice_index}
-use Rattle.refusals.proofs.Chosen.{chosen, none_some, some_is}
+use Rattle.lists.proofs.Chosen.{chosen, none_some, some_is}
 use Rattle.tree_records.specs.Reading.{content_at, split_once}
 
 -- without this byte

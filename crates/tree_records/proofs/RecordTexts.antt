@@ -8,10 +8,10 @@ use Rattle.std.specs.List.{list_all}
 use Rattle.std.specs.Option.{option_map}
 use Rattle.std.specs.Prelude.{codes, if◌then◌else◌, nat_lt, IfOk}
 use Rattle.std.specs.Str.{is_utf8}
-use Rattle.refusals.specs.declared.refusal.Refusal.{Refusal}
-use Rattle.refusals.specs.Options.{◌>>=◌, Reads}
-use Rattle.refusals.proofs.Chosen.{chosen, none_some, some_is}
-use Rattle.refusals.proofs.OptionSteps.{bind_some}
+use Rattle.lists.specs.declared.refusal.Refusal.{Refusal}
+use Rattle.lists.specs.Options.{◌>>=◌, Reads}
+use Rattle.lists.proofs.Chosen.{chosen, none_some, some_is}
+use Rattle.lists.proofs.OptionSteps.{bind_some}
 use Rattle.tree_model.specs.declared.limits.TheConstants.{MOST_FILE_BYTES}
 use Rattle.tree_records.specs.declared.limits.TheConstants.{MOST_TEXT_BYTES}
 use Rattle.tree_records.specs.Escapes.{escaped}

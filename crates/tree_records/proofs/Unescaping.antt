@@ -2,9 +2,9 @@
 use Rattle.std.proofs.Common.{◌≡◌, ℕ, zero, suc, ◌+◌, ◌*◌, ◌<◌, ◌≤◌, Bool, true, false, eqb, List, [], ◌∷◌, ◌++◌, length, Option, Some, None, inl, inr, refl, sym, ap, subst, ◌∙◌, append_assoc, arith}
 use Rattle.std.proofs.Math.Dec.{eqb-suc-zero}
 use Rattle.std.proofs.lemmas.List.{append-nil}
-use Rattle.refusals.specs.Options.{◌>>=◌}
-use Rattle.refusals.proofs.Chosen.{chosen, some_is, none_some}
-use Rattle.refusals.proofs.OptionSteps.{bind_some, bind_alike}
+use Rattle.lists.specs.Options.{◌>>=◌}
+use Rattle.lists.proofs.Chosen.{chosen, some_is, none_some}
+use Rattle.lists.proofs.OptionSteps.{bind_some, bind_alike}
 use Rattle.tree_records.specs.Escapes.{is_escaped}
 use Rattle.tree_records.specs.Reading.{digit_of, escape_at, byte_at, unescaped_within, unescaped}
 

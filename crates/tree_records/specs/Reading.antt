@@ -8,7 +8,7 @@ use Rattle.std.specs.Prelude.{ℕ, zero, suc, ◌+◌, ◌-◌, ◌*◌, ◌==�
 use Rattle.std.specs.List.{list_all, slice_split}
 use Rattle.std.specs.Str.{is_utf8}
 use lib.Pointwise.{pointwise}
-use Rattle.refusals.specs.Options.{◌>>=◌}
+use Rattle.lists.specs.Options.{◌>>=◌}
 use Rattle.tree_model.specs.declared.limits.TheConstants.{MOST_FILE_BYTES}
 use Rattle.tree_records.specs.declared.limits.TheConstants.{MOST_NAME_BYTES, MOST_PATH_BYTES, MOST_TEXT_BYTES}
 use Rattle.tree_records.specs.Escapes.{is_escaped}

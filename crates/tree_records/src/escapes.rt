@@ -1,12 +1,12 @@
 //! How paths are written.
 ghost use Rattle.std.specs.Prelude.{◌≡◌, ◌++◌, ◌<◌, ◌≤◌, true, IfOk, OnOk, length};
 ghost use Rattle.std.specs.Fmt.{digit_glyph};
-ghost use Rattle.refusals.specs.Options.{Reads};
+ghost use Rattle.lists.specs.Options.{Reads};
 ghost use Rattle.tree_records.specs.Escapes.{is_escaped, escape, escaped};
 ghost use Rattle.tree_records.specs.Reading.{digit_of, escape_at, byte_at, unescaped};
 
 use crate::fault::{Malformed, Read};
-use refusals::Refusal;
+use lists::Refusal;
 use std::alloc::{AllocError, Global};
 
 // Whether a byte of a path is written as an escape.

@@ -1,5 +1,5 @@
 //! Why a text is no record.
-use refusals::Refusal;
+use lists::Refusal;
 
 /// No record stands at the front of the text.
 #[derive(Clone, Copy, Drop)]

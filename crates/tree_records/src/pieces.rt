@@ -1,11 +1,11 @@
 //! Pieces of a record's text: what stands before a byte, numbers, and contents.
 ghost use Rattle.std.specs.Prelude.{◌≡◌, ◌≤◌, ◌∷◌, [], IfOk};
-ghost use Rattle.refusals.specs.Options.{Reads};
+ghost use Rattle.lists.specs.Options.{Reads};
 ghost use Rattle.tree_model.specs.declared.limits.TheConstants.{MOST_FILE_BYTES};
 ghost use Rattle.tree_records.specs.Reading.{split_once, is_digit, number_behind, number_at, content_at};
 
 use crate::fault::{Malformed, Read};
-use refusals::Refusal;
+use lists::Refusal;
 use tree_model::MOST_FILE_BYTES;
 
 /// What stands before the first such byte, and what stands behind it.

@@ -2,7 +2,7 @@
 ghost use Rattle.std.specs.Prelude.{◌≡◌, ◌<◌, ◌++◌, ℕ, List, IfOk, Some, length, nat_lt};
 ghost use Rattle.std.specs.List.{list_all};
 ghost use Rattle.std.specs.Str.{is_utf8};
-ghost use Rattle.refusals.specs.Options.{Reads};
+ghost use Rattle.lists.specs.Options.{Reads};
 ghost use Rattle.tree_records.specs.Records.{Record as RecordOf, IsRecord, spelled};
 ghost use Rattle.tree_records.specs.Reading.{is_dots, is_sized, is_name, names_in, are_path, path_at, is_link_text, record_of, record_with_content, record_with, record_at};
 ghost use Rattle.tree_records.specs.Views.{read_seen, record_seen};
@@ -13,7 +13,7 @@ use crate::limits::{MOST_NAME_BYTES, MOST_PATH_BYTES, MOST_TEXT_BYTES};
 use crate::path::Path;
 use crate::pieces::{content, number, split_once};
 use crate::record::Record;
-use refusals::Refusal;
+use lists::Refusal;
 use std::alloc::Global;
 use std::str;
 

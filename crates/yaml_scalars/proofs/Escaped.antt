@@ -8,7 +8,7 @@ use Rattle.std.proofs.Math.Utf8.{low_scalar}
 use Rattle.std.proofs.lemmas.Bool.Decides.{nat_tests}
 use Rattle.std.proofs.lemmas.Str.{IsUtf8-encode, encode_ascii}
 use Rattle.yaml_scalars.specs.Quoted.{digit_of, with_digit, hexadecimal, is_escapable, character_of, letter_of, escape}
-use Rattle.refusals.proofs.Chosen.{chosen, some_is, none_some}
+use Rattle.lists.proofs.Chosen.{chosen, some_is, none_some}
 
 abbrev pub AreAscii : List ℕ → Type 0
 AreAscii bytes = AllByRecursion (λ b. b < 128) bytes

@@ -1,7 +1,7 @@
 -- Parts of a quoted scalar that are read one after the other.
 use Rattle.std.proofs.Common.{◌≡◌, ℕ, zero, suc, List, [], ◌∷◌, ◌++◌, length, drop, Option, Some, None, option_map, refl, sym, ap, ◌∙◌, append_assoc}
 use Rattle.yaml_scalars.specs.Quoted.{Quoted, put, spoiled, escape, escaped, in_double}
-use Rattle.refusals.proofs.Chosen.{some_is, none_some}
+use Rattle.lists.proofs.Chosen.{some_is, none_some}
 
 behind_taken : (taken : ℕ) (bytes : List ℕ) → in_double taken bytes ≡ in_double 0 (drop taken bytes)
 behind_taken zero bytes = refl

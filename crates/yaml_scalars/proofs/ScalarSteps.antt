@@ -9,15 +9,15 @@ use Rattle.std.proofs.lemmas.Bool.Decides.{nat_tests}
 use Rattle.std.proofs.lemmas.List.{length-append, length-take, take-append-drop}
 use Rattle.std.proofs.lemmas.Str.{IsUtf8-nil, IsUtf8-from_is_utf8, utf8_valid_len_le}
 use Rattle.yaml_scalars.specs.declared.fault.LineFault.{LineFault}
-use Rattle.refusals.specs.Results.{◌>>=◌}
-use Rattle.refusals.proofs.Steps.{on_both}
+use Rattle.lists.specs.Results.{◌>>=◌}
+use Rattle.lists.proofs.Steps.{on_both}
 use Rattle.yaml_scalars.specs.Results.{fault}
 use Rattle.yaml_scalars.specs.Characters.{begins_control, control_at, invalid_at, earlier, bad_at}
 use Rattle.yaml_scalars.specs.Spaces.{without_last_spaces}
 use Rattle.yaml_scalars.specs.Plain.{begins_plain, plain_length, wrong_beginning}
 use Rattle.yaml_scalars.specs.Quoted.{Quoted, quoted, told, if_right, if_closed, taken_of}
 use Rattle.yaml_scalars.specs.Scalars.{Scalar, is_quote, unless_at, quoted_scalar, plain_scalar, quoted_at, plain_at, scalar_at}
-use Rattle.refusals.proofs.Chosen.{chosen, some_is, none_some, ok_is, err_ok}
+use Rattle.lists.proofs.Chosen.{chosen, some_is, none_some, ok_is, err_ok}
 use Rattle.yaml_scalars.proofs.BadBytes.{bad_inside}
 use Rattle.yaml_scalars.proofs.Escaped.{AreNonzero}
 use Rattle.yaml_scalars.proofs.Utf8.{around_ascii, trimmed_for, trimmed_nonzero, quoted_read}

@@ -8,7 +8,7 @@ use Rattle.std.proofs.lemmas.List.{append-nil, length-append}
 use Rattle.std.proofs.lemmas.Str.{IsUtf8-append, IsUtf8-take, IsUtf8-drop, IsCharBoundary-before_ascii, IsCharBoundary-after_ascii}
 use Rattle.yaml_scalars.specs.Quoted.{Quoted, closed, unclosed, put, spoiled, in_single, escape, escaped, in_double, quoted}
 use Rattle.yaml_scalars.specs.Spaces.{without_last_spaces}
-use Rattle.refusals.proofs.Chosen.{some_is, none_some}
+use Rattle.lists.proofs.Chosen.{some_is, none_some}
 use Rattle.yaml_scalars.proofs.Escaped.{AreAscii, AreNonzero, escape_read, ascii_utf8}
 
 -- ---- an ASCII character parts a text

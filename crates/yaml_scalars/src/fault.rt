@@ -1,9 +1,9 @@
 //! Faults inside a line.
 ghost use Rattle.std.specs.Prelude.{◌≡◌};
-ghost use Rattle.refusals.specs.declared.refusal.Refusal.TheVariants.{At};
+ghost use Rattle.lists.specs.declared.refusal.Refusal.TheVariants.{At};
 
 use crate::kind::YamlKind;
-use refusals::Refusal;
+use lists::Refusal;
 
 /// A fault in a line. Its place is told by how many bytes of the line stand behind it, its own included.
 #[derive(Clone, Copy, Drop)]

@@ -1,13 +1,13 @@
 //! Quoted scalars.
 ghost use Rattle.std.specs.Prelude.{◌≡◌, ◌<◌, ◌≤◌, ◌∷◌, ◌++◌, suc, IfOk, OnOk, IfSome, false, length, drop, option_map};
-ghost use Rattle.refusals.specs.Results.{Gives};
+ghost use Rattle.lists.specs.Results.{Gives};
 ghost use Rattle.yaml_scalars.specs.Quoted.{in_single, in_double, quoted, told, taken_of};
 ghost use Rattle.yaml_scalars.specs.PieceViews.{bytes_of, with_part, is_line_end};
 
 use crate::escapes::{Piece, escape};
 use crate::fault::LineFault;
 use crate::kind::YamlKind;
-use refusals::Refusal;
+use lists::Refusal;
 use std::alloc::{AllocError, Global};
 
 /// What stands next in a quoted scalar.

@@ -1,9 +1,9 @@
 //! Scalars, without what they mean.
 ghost use Rattle.std.specs.Prelude.{◌≡◌, ◌<◌, ◌≤◌, ◌-◌, ◌∷◌, IfOk, IfSome, length, take, drop};
 ghost use Rattle.std.specs.Str.{IsUtf8};
-ghost use Rattle.refusals.specs.Results.{Gives};
+ghost use Rattle.lists.specs.Results.{Gives};
 ghost use Rattle.yaml_scalars.specs.Characters.{bad_at};
-ghost use Rattle.refusals.specs.declared.refusal.Refusal.TheVariants.{At};
+ghost use Rattle.lists.specs.declared.refusal.Refusal.TheVariants.{At};
 ghost use Rattle.yaml_scalars.specs.declared.kind.YamlKind.TheVariants as kinds;
 ghost use Rattle.yaml_scalars.specs.Scalars.{Scalar as ScalarOf, quoted_at, plain_at, scalar_at};
 
@@ -13,8 +13,7 @@ use crate::kind::YamlKind;
 use crate::plain::{begins_plain, plain_length, wrong_beginning};
 use crate::quoted::{quoted_content, quoted_length};
 use crate::spaces::without_last_spaces;
-use lists::Text;
-use refusals::Refusal;
+use lists::{Refusal, Text};
 use std::alloc::Global;
 
 /// A scalar.

@@ -4,10 +4,10 @@ use Rattle.std.proofs.lemmas.Bool.{eq-eqb}
 use Rattle.std.proofs.lemmas.List.{append-nil, take_all}
 use Rattle.yaml_scalars.specs.declared.kind.YamlKind.TheVariants as kinds
 use Rattle.yaml_scalars.specs.declared.fault.LineFault.{LineFault}
-use Rattle.refusals.specs.declared.refusal.Refusal.{Refusal}
-use Rattle.refusals.specs.declared.refusal.Refusal.TheVariants.{At, Memory}
-use Rattle.refusals.specs.Results.{◌>>=◌, Refuses, Gives}
-use Rattle.refusals.proofs.Steps.{bind_alike}
+use Rattle.lists.specs.declared.refusal.Refusal.{Refusal}
+use Rattle.lists.specs.declared.refusal.Refusal.TheVariants.{At, Memory}
+use Rattle.lists.specs.Results.{◌>>=◌, Refuses, Gives}
+use Rattle.lists.proofs.Steps.{bind_alike}
 use Rattle.yaml_scalars.specs.Results.{fault}
 use Rattle.yaml_scalars.specs.Spaces.{begins_with, after_gap}
 use Rattle.std.specs.Prelude.{Some, None}

@@ -8,8 +8,8 @@ use Rattle.yaml_scalars.specs.declared.fault.LineFault.{LineFault}
 use Rattle.yaml_values.specs.declared.mode.Mode.{Mode}
 use Rattle.yaml_values.specs.declared.mode.Mode.TheVariants as modes
 use Rattle.yaml_values.specs.Shape.{Shape, Content, node, null, boolean, integer, text, mapping, sequence, of_list, of_pairs, content_of, depth_of, depth_of_content, depth_of_items, depth_of_pairs}
-use Rattle.refusals.specs.Results.{◌>>=◌}
-use Rattle.refusals.proofs.Steps.{on_both, on_bind, on_any}
+use Rattle.lists.specs.Results.{◌>>=◌}
+use Rattle.lists.proofs.Steps.{on_both, on_bind, on_any}
 use Rattle.yaml_scalars.specs.Results.{fault, at_place}
 use Rattle.yaml_scalars.specs.Spaces.{is_one_of, begins_with, begins_with_one_of, after_gap}
 use Rattle.yaml_scalars.specs.Scalars.{Scalar, scalar_at}

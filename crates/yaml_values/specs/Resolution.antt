@@ -8,7 +8,7 @@ use Rattle.yaml_scalars.specs.declared.fault.LineFault.{LineFault}
 use Rattle.yaml_values.specs.declared.mode.Mode.{Mode}
 use Rattle.yaml_values.specs.declared.mode.Mode.TheVariants as modes
 use Rattle.yaml_values.specs.Shape.{Content, null, boolean, integer, text, binary}
-use Rattle.refusals.specs.Results.{◌>>=◌}
+use Rattle.lists.specs.Results.{◌>>=◌}
 use Rattle.yaml_scalars.specs.Results.{at_place}
 use Rattle.yaml_scalars.specs.Scalars.{Scalar, scalar_at}
 use Rattle.yaml_scalars.specs.Numbers.{is_in_range, is_word, integer_of, is_float}

@@ -1,7 +1,7 @@
 //! Flow values.
 ghost use Rattle.std.specs.Prelude.{◌≡◌, ◌<◌, ◌≤◌, ◌||◌, if◌then◌else◌, Some, None, false, IfOk, IfSome, length, drop, map, option_map};
 ghost use Rattle.std.specs.List.{list_any};
-ghost use Rattle.refusals.specs.Results.{Gives};
+ghost use Rattle.lists.specs.Results.{Gives};
 ghost use Rattle.yaml_values.specs.Shape.{Content};
 ghost use Rattle.yaml_scalars.specs.Spaces.{begins_with};
 ghost use Rattle.yaml_values.specs.Views.{content_of_value, shape_of, pair_of};
@@ -18,8 +18,7 @@ use crate::node_list::NodeList;
 use crate::node_pairs::NodePairs;
 use crate::resolution::scalar_value;
 use crate::tags::{Tag, tag_at};
-use lists::Text;
-use refusals::Refusal;
+use lists::{Refusal, Text};
 use std::alloc::Global;
 use yaml_scalars::plain::is_behind_key;
 use yaml_scalars::spaces::after_gap;

@@ -3,7 +3,7 @@ ghost use Rattle.std.specs.Prelude.{◌≡◌, ◌<◌, ◌≤◌, IfOk, IsTrue,
 ghost use Rattle.std.specs.Result.{result_map_both};
 ghost use Rattle.base64.specs.GeneralPurpose.{decode_of};
 ghost use Rattle.base64.specs.Engines.{standard};
-ghost use Rattle.refusals.specs.Results.{Gives};
+ghost use Rattle.lists.specs.Results.{Gives};
 ghost use Rattle.yaml_scalars.specs.Results.{at_place};
 ghost use Rattle.yaml_values.specs.Views.{content_of_value};
 ghost use Rattle.yaml_scalars.specs.Numbers.{is_word, integer_of};
@@ -15,8 +15,7 @@ use crate::mode::Mode;
 use crate::node::NodeValue;
 use base64::DecodeAllocError;
 use base64::engine::general_purpose::STANDARD;
-use lists::{Bytes, Text};
-use refusals::Refusal;
+use lists::{Bytes, Refusal, Text};
 use std::alloc::Global;
 use yaml_scalars::numbers::{integer, is_float};
 use yaml_scalars::scalars::{Scalar, scalar_at};

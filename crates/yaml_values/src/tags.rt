@@ -1,12 +1,11 @@
 //! Tags.
 ghost use Rattle.std.specs.Prelude.{◌≡◌, ◌≤◌, Ok, IfOk, List, ℕ, length, take, drop};
-ghost use Rattle.refusals.specs.Results.{Gives};
+ghost use Rattle.lists.specs.Results.{Gives};
 ghost use Rattle.yaml_scalars.specs.Scalars.{unless_bad};
 ghost use Rattle.yaml_values.specs.Tags.{Tag as TagOf, ends_name, name_length, is_name, is_binary, named, tag_with, tag_at};
 ghost use Rattle.yaml_values.specs.TagViews.{tag_view};
 
-use lists::Text;
-use refusals::Refusal;
+use lists::{Refusal, Text};
 use std::alloc::Global;
 use std::str;
 use yaml_scalars::characters::bad_at;

@@ -1,11 +1,11 @@
 -- What is read is spelled so, and what is spelled so is read.
 use Rattle.std.proofs.Common.{arith, sym, subst, ◌∙◌}
-use Rattle.refusals.specs.declared.refusal.Refusal.{Refusal}
-use Rattle.refusals.specs.Options.{Refuses}
+use Rattle.lists.specs.declared.refusal.Refusal.{Refusal}
+use Rattle.lists.specs.Options.{Refuses}
 use Rattle.argdata_codec.specs.declared.fault.Malformed.{Malformed}
 use Rattle.argdata_codec.specs.Reading.{value_at}
 use Rattle.argdata_codec.specs.Views.{shape_of}
-use Rattle.refusals.proofs.Chosen.{some_is, none_some}
+use Rattle.lists.proofs.Chosen.{some_is, none_some}
 use Rattle.argdata_codec.proofs.Sound.{value_sound}
 use Rattle.argdata_codec.proofs.Again.{value_again}
 use Rattle.argdata_codec.proofs.Longest.{from_each}

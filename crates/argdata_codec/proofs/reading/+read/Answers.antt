@@ -4,8 +4,8 @@ use Rattle.std.proofs.lemmas.Result.{err_from_is_err_and}
 use Rattle.argdata_codec.specs.Shape.{Shape}
 use Rattle.argdata_codec.specs.Views.{shape_of, pair_of}
 use Rattle.argdata_codec.specs.Reading.{value_at, items_of, pairs_of}
-use Rattle.refusals.proofs.OptionSteps.{refused}
-use Rattle.refusals.proofs.Steps.{map_push}
+use Rattle.lists.proofs.OptionSteps.{refused}
+use Rattle.lists.proofs.Steps.{map_push}
 use Rattle.argdata_codec.proofs.Loops.{with_front, items_go_on, items_fail, items_done, pairs_go_on, pairs_fail, pairs_fail_later, pairs_done, nonempty, empty}
 use Rattle.argdata_codec.proofs.reading.+read.Goals as goal
 

@@ -1,6 +1,6 @@
 use Rattle.std.proofs.Common.{ap, sym, ◌∙◌}
 use Rattle.std.specs.FinMap.{remove}
-use Rattle.number_map.specs.Maps.{remove-inserted}
+use Rattle.maps.specs.Maps.{remove-inserted}
 use Rattle.file_tree.specs.Kept.{Slots}
 use Rattle.file_tree.proofs.Behind.{at_err}
 use Rattle.file_tree.proofs.NewNames.{stays_there}

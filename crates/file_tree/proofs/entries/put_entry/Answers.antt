@@ -1,7 +1,7 @@
 use Rattle.std.proofs.Common.{ap, sym, ◌∙◌}
 use Rattle.std.proofs.lemmas.Result.{on_err_weaker}
 use Rattle.std.specs.FinMap.{insert}
-use Rattle.number_map.specs.Maps.{insert_self}
+use Rattle.maps.specs.Maps.{insert_self}
 use Rattle.file_tree.proofs.entries.put_entry.Goals as goal
 
 pub returns-clause-err : goal.returns-clause-err

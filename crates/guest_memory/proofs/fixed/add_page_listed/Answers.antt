@@ -1,6 +1,6 @@
 use Rattle.std.proofs.Common.{◌≡◌, [], ◌∷◌, ◌++◌, IsSome, None, refl, sym, ap, subst, ◌∙◌}
 use Rattle.std.specs.FinMap.{get}
-use Rattle.number_map.specs.Maps.{get-insert-same, get-insert-other}
+use Rattle.maps.specs.Maps.{get-insert-same, get-insert-other}
 use Rattle.guest_memory.specs.Page.{Pages}
 use Rattle.guest_memory.specs.Fixed.{without_each}
 use Rattle.guest_memory.proofs.PageRanges.{is_none}

@@ -1,6 +1,6 @@
 use Rattle.std.proofs.Common.{◌≡◌, is_some, ap, ◌∙◌, arith}
 use Rattle.std.specs.FinMap.{get, remove}
-use Rattle.number_map.specs.Maps.{number, get-insert-same, remove-inserted, total-insert_new}
+use Rattle.maps.specs.Maps.{number, get-insert-same, remove-inserted, total-insert_new}
 use Rattle.object_store.specs.Objects.{Held}
 use Rattle.kernel_model.specs.Release.{count_in, names_open}
 use Rattle.kernel_model.specs.State.{Table}

@@ -2,7 +2,7 @@ use Rattle.std.proofs.Common.{ap, subst, ◌∙◌}
 use Rattle.std.specs.Ordering.{nat_cmp}
 use Rattle.std.specs.FinMap.{FinMap, get, remove}
 use Rattle.abi_types.specs.declared.open_kind.OpenKind.{OpenKind}
-use Rattle.number_map.specs.Maps.{number, remove-inserted}
+use Rattle.maps.specs.Maps.{number, remove-inserted}
 use Rattle.object_store.specs.Objects.{Held}
 use Rattle.kernel_model.specs.State.{Table}
 use Rattle.kernel_parts.specs.Changes.{IsMoved}

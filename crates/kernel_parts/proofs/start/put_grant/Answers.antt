@@ -1,7 +1,7 @@
 use Rattle.std.proofs.Common.{◌≡◌, ◌+◌, ap, is_some, arith, ◌∙◌}
 use Rattle.kernel_model.specs.Start.{first_open}
 use Rattle.std.specs.FinMap.{insert}
-use Rattle.number_map.specs.Maps.{number}
+use Rattle.maps.specs.Maps.{number}
 use Rattle.kernel_parts.proofs.Grants.{new_count, held_once}
 use Rattle.kernel_parts.proofs.start.put_grant.Goals as goal
 

@@ -1,7 +1,7 @@
 use Rattle.std.proofs.Common.{sym, ap, ◌∙◌}
 use Rattle.std.specs.FinMap.{insert}
 use Rattle.abi_types.specs.declared.stream.Stream.{Stream}
-use Rattle.number_map.specs.Maps.{insert_self}
+use Rattle.maps.specs.Maps.{insert_self}
 use Rattle.kernel_model.proofs.Valids.{some_inserted}
 use Rattle.kernel_parts.proofs.stream_calls.read_term.Goals as goal
 

@@ -1,6 +1,6 @@
 use Rattle.std.proofs.Common.{◌≡◌, ℕ, ◌+◌, ◌<◌, ap, refl, ◌∙◌, arith}
 use Rattle.std.specs.FinMap.{get}
-use Rattle.number_map.specs.Maps.{number, total-empty}
+use Rattle.maps.specs.Maps.{number, total-empty}
 use Rattle.kernel_model.specs.Release.{names_open, count_in}
 use Rattle.object_store.specs.Objects.{Held}
 use Rattle.kernel_model.specs.State.{Table}

@@ -1,6 +1,6 @@
 use Rattle.std.proofs.Common.{◌≡◌, ℕ, ◌+◌, ◌≤◌}
 use Rattle.std.specs.FinMap as map
-use Rattle.number_map.specs.Maps.{number}
+use Rattle.maps.specs.Maps.{number}
 use Rattle.kernel_model.specs.Release.{count_in}
 use Rattle.kernel_parts.proofs.table.let_go_all.Given as goal
 

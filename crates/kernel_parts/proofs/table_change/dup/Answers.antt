@@ -1,7 +1,7 @@
 use Rattle.std.proofs.Common.{◌+◌, sym, ap, ◌∙◌}
 use Rattle.std.specs.FinMap.{get}
 use Rattle.abi_types.specs.declared.reply.Answer.TheVariants as answer
-use Rattle.number_map.specs.Maps.{number}
+use Rattle.maps.specs.Maps.{number}
 use Rattle.object_store.specs.Objects.{Held}
 use Rattle.kernel_model.specs.Outcome.{Outcome}
 use Rattle.kernel_model.specs.Reply.{success}

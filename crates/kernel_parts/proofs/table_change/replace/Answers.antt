@@ -1,6 +1,6 @@
 use Rattle.std.proofs.Common.{◌≡◌, ◌+◌, ◌<◌, Some, sym, ap, subst, ◌∙◌}
 use Rattle.std.specs.FinMap.{get}
-use Rattle.number_map.specs.Maps.{number}
+use Rattle.maps.specs.Maps.{number}
 use Rattle.object_store.specs.Objects.{Held}
 use Rattle.kernel_model.specs.Release.{count_in}
 use Rattle.kernel_model.specs.State.{Table}

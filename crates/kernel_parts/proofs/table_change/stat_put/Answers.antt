@@ -1,6 +1,6 @@
 use Rattle.std.proofs.Common.{◌≡◌, ℕ, ◌+◌, cond, Some, sym, ap, ◌∙◌}
 use Rattle.std.specs.FinMap.{get, insert}
-use Rattle.number_map.specs.Maps.{number}
+use Rattle.maps.specs.Maps.{number}
 use Rattle.object_store.specs.Objects.{Held}
 use Rattle.kernel_model.specs.DescriptorCalls.{lowered_to}
 use Rattle.kernel_model.specs.Release.{count_in}

@@ -12,7 +12,7 @@ use Rattle.launch_rows.specs.Views.{row, rows, AllWithin}
 use Rattle.launch_yaml.specs.Blocks.{item_of, items_of, pair_of, pairs_of, block_at}
 use Rattle.launch_rows.proofs.Ends.{dash_end}
 use Rattle.launch_yaml.proofs.Depths.{sequence_is, mapping_is}
-use Rattle.refusals.proofs.Steps.{refused, map_push}
+use Rattle.lists.proofs.Steps.{refused, map_push}
 use Rattle.launch_yaml.proofs.Loops.{behind_first, item_is, fewer_lines, OneMore, with_front, items_go_on, items_fail, items_done, pairs_go_on, pairs_fail, pairs_done, pair_goes_by_keys, pair_is, key_fails, value_fails}
 use Rattle.launch_yaml.proofs.blocks.+blocks.Goals as goal
 

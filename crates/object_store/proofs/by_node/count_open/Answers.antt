@@ -1,6 +1,6 @@
 use Rattle.std.proofs.Common.{◌+◌, sym, ap, ◌∙◌, arith}
 use Rattle.std.specs.FinMap.{get}
-use Rattle.number_map.specs.Maps.{number}
+use Rattle.maps.specs.Maps.{number}
 use Rattle.tree_model.specs.Tree.{one_for}
 use Rattle.object_store.proofs.Nodes.{one_more_at, no_zero_put}
 use Rattle.object_store.proofs.by_node.count_open.Goals as goal

@@ -1,6 +1,6 @@
 use Rattle.std.proofs.Common.{◌≡◌, ◌-◌, sym, ap, ◌∙◌, arith}
 use Rattle.std.specs.FinMap.{get}
-use Rattle.number_map.specs.Maps.{number}
+use Rattle.maps.specs.Maps.{number}
 use Rattle.tree_model.specs.Tree.{one_for}
 use Rattle.object_store.proofs.Nodes.{one_for_itself, one_less_at, none_left_at, no_zero_put, no_zero_gone}
 use Rattle.object_store.proofs.by_node.uncount_open.Goals as goal

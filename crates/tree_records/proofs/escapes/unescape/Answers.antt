@@ -1,6 +1,6 @@
 use Rattle.std.proofs.Common.{List, ℕ, ap, ◌∙◌}
 use Rattle.std.proofs.lemmas.Result.{err_from_is_err_and}
-use Rattle.refusals.proofs.OptionSteps.{refused}
+use Rattle.lists.proofs.OptionSteps.{refused}
 use Rattle.tree_records.specs.Reading.{unescaped}
 use Rattle.tree_records.proofs.Unescaping.{with_front, go_on, fail, done, nonempty, empty}
 use Rattle.tree_records.proofs.escapes.unescape.Goals as goal

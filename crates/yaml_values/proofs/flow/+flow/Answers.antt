@@ -4,7 +4,7 @@ use Rattle.std.proofs.lemmas.Result.{err_from_is_err_and}
 use Rattle.yaml_values.specs.Shape.{Shape, Content, content_of}
 use Rattle.yaml_values.specs.Views.{shape_of, pair_of}
 use Rattle.yaml_values.specs.Flow.{node_with, items_with, pair_with, pairs_with, collection_at}
-use Rattle.refusals.proofs.Steps.{map_push}
+use Rattle.lists.proofs.Steps.{map_push}
 use Rattle.yaml_values.proofs.FlowLoops.{loop_closed, loop_refused, loop_wrong, loop_last, loop_more, items_start, items_step, items_over, pairs_start, pairs_step, pairs_over, pairs_alike, with_front, too_deep, one_deeper, at_bracket, at_brace}
 use Rattle.yaml_values.proofs.flow.+flow.Goals as goal
 

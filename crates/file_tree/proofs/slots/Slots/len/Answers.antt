@@ -1,7 +1,7 @@
 use Rattle.std.proofs.Common.{ℕ, sym, ap, ◌∙◌}
 use Rattle.std.specs.FinMap as map
 use Rattle.slab.specs.Slab.{get}
-use Rattle.number_map.specs.Closure.{len-changed}
+use Rattle.maps.specs.Closure.{len-changed}
 use Rattle.file_tree.specs.Slots.{slot_or}
 use Rattle.file_tree.proofs.slots.Slots.len.Goals as goal
 

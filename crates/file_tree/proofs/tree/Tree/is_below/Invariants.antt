@@ -1,5 +1,5 @@
 use Rattle.std.proofs.Common.{◌≡◌, true}
-use Rattle.number_map.specs.Closure.{member}
+use Rattle.maps.specs.Closure.{member}
 use Rattle.tree_model.specs.Tree.{below, is_directory}
 use Rattle.tree_model.specs.Climbing.{depth}
 use Rattle.file_tree.proofs.tree.Tree.is_below.Given as goal

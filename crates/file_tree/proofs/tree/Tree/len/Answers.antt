@@ -1,6 +1,6 @@
 use Rattle.std.proofs.Common.{ℕ, sym, ap, ◌∙◌}
 use Rattle.std.specs.FinMap as map
-use Rattle.number_map.specs.Closure.{len-changed}
+use Rattle.maps.specs.Closure.{len-changed}
 use Rattle.tree_model.specs.Tree.{Tree}
 use Rattle.file_tree.specs.declared.slot.Slot.{Slot}
 use Rattle.file_tree.proofs.tree.Tree.len.Goals as goal

@@ -1,6 +1,6 @@
 use Rattle.std.proofs.Common.{ℕ, sym, ap, ◌∙◌}
 use Rattle.std.specs.FinMap.{len, len-empty}
-use Rattle.name_map.specs.Names.{name_cmp}
+use Rattle.maps.specs.Names.{name_cmp}
 use Rattle.tree_model.specs.Tree.{names_in}
 use Rattle.file_tree.proofs.tree.Tree.names_len.Goals as goal
 

@@ -1,4 +1,4 @@
-use Rattle.number_map.specs.Closure.{member}
+use Rattle.maps.specs.Closure.{member}
 use Rattle.tree_model.specs.Tree.{below}
 use Rattle.tree_model.specs.Below.{below_self}
 use Rattle.tree_model.specs.Finds.{finds_closed}

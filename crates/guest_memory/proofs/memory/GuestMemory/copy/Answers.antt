@@ -1,7 +1,7 @@
 use Rattle.std.proofs.Common.{◌≡◌, ◌+◌, Option, Some, None, IsSome, nat_le, Bor, refl, sym, ap, subst, ◌∙◌, arith}
 use Rattle.std.specs.Option.{option_copied}
 use Rattle.std.specs.FinMap.{get, insert}
-use Rattle.number_map.specs.Maps.{least_key}
+use Rattle.maps.specs.Maps.{least_key}
 use Rattle.guest_memory.specs.Page.{Pages}
 use Rattle.guest_memory.specs.Limits.{KeepsLimits}
 use Rattle.guest_memory.proofs.Copied.{AreCopied, not_copied, copied_none, copied_more, copied_all, least_entry, least_high}

@@ -1,5 +1,5 @@
 use Rattle.std.proofs.Common.{is_some, ap, sym, ◌∙◌, rules}
-use Rattle.number_map.specs.Maps.{least_key}
+use Rattle.maps.specs.Maps.{least_key}
 use Rattle.kernel_core.specs.Kernel.{is_live, any_live}
 use Rattle.kernel_core.proofs.Lives.{live_some, some_live}
 use Rattle.kernel_core.proofs.kernel.Kernel.any_live.Goals as goal

@@ -2,7 +2,7 @@ use Rattle.std.proofs.Common.{◌≡◌, ℕ, ◌^◌, ◌<◌, ◌==◌, not, L
 use Rattle.std.specs.Ordering.{nat_cmp}
 use Rattle.std.specs.FinMap.{FinMap, get, insert, retain_keys}
 use Rattle.abi_types.specs.declared.open_kind.OpenKind.{OpenKind}
-use Rattle.number_map.specs.Maps.{number, total, insert_self}
+use Rattle.maps.specs.Maps.{number, total, insert_self}
 use Rattle.fd_table.specs.Sizes.{below-insert_again}
 use Rattle.fd_table.specs.Table.{IsTable}
 use Rattle.object_store.specs.Objects.{Held, is_held}

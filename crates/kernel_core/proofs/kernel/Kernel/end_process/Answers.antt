@@ -2,7 +2,7 @@ use Rattle.std.proofs.Common.{◌≡◌, ℕ, ◌^◌, ◌==◌, not, Some, is_s
 use Rattle.std.specs.Ordering.{nat_cmp}
 use Rattle.std.specs.FinMap.{FinMap, get, insert, empty, retain_keys}
 use Rattle.abi_types.specs.declared.open_kind.OpenKind.{OpenKind}
-use Rattle.number_map.specs.Maps.{number, total}
+use Rattle.maps.specs.Maps.{number, total}
 use Rattle.object_store.specs.Objects.{Held, is_held}
 use Rattle.kernel_model.specs.ProcessCalls.{ended_own, end_updates}
 use Rattle.tree_model.specs.Opens.{is_used}

@@ -4,7 +4,7 @@ use Rattle.abi_base.specs.declared.limits.TheConstants.{MOST_DESCRIPTORS}
 use Rattle.abi_types.specs.declared.reply.Answer.TheVariants as answer
 use Rattle.fd_table.specs.Sizes.{KeysBelow, below-insert, below-insert_again}
 use Rattle.fd_table.specs.Table.{IsTable}
-use Rattle.number_map.specs.Maps.{insert_self}
+use Rattle.maps.specs.Maps.{insert_self}
 use Rattle.tree_model.specs.Opens.{is_used}
 use Rattle.tree_model.specs.Retained.{retained}
 use Rattle.tree_model.specs.Tree.{IsTree}

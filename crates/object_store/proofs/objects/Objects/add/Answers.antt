@@ -1,8 +1,8 @@
 use Rattle.std.proofs.Common.{◌≡◌, ℕ, None, ◌+◌, ◌≤◌, ◌++◌, ◌∷◌, [], vec_capacity, refl, sym, ap, ◌∙◌, arith}
 use Rattle.std.specs.Ordering.{nat_cmp}
 use Rattle.std.specs.FinMap.{FinMap, get, insert, remove, len}
-use Rattle.number_map.specs.Closure.{len-changed}
-use Rattle.number_map.specs.Maps.{remove-inserted}
+use Rattle.maps.specs.Closure.{len-changed}
+use Rattle.maps.specs.Maps.{remove-inserted}
 use Rattle.object_store.specs.Entries.{kinds_of, counts_of, held_of}
 use Rattle.object_store.specs.declared.entry.Entry.{Entry}
 use Rattle.object_store.proofs.Kept.{kept_as, kept_add, kept_room, unheld_few}

@@ -1,5 +1,5 @@
 use Rattle.std.proofs.Common.{◌≡◌, ◌+◌, length, refl, sym, ap, ◌∙◌, arith}
-use Rattle.number_map.specs.Maps.{remove_absent}
+use Rattle.maps.specs.Maps.{remove_absent}
 use Rattle.object_store.specs.Entries.{kinds_of, counts_of, held_of}
 use Rattle.object_store.proofs.Kept.{kept_as, kept_gone, kept_without}
 use Rattle.object_store.proofs.Nodes.{counted_as, counted_remove, counts_open}

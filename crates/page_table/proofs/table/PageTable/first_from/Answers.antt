@@ -1,5 +1,5 @@
 use Rattle.std.proofs.Common.{nat_le, ap, ◌∙◌}
-use Rattle.number_map.specs.Maps.{least_key}
+use Rattle.maps.specs.Maps.{least_key}
 use Rattle.page_table.specs.Page.{Pages}
 use Rattle.page_table.proofs.Tables.{first_content}
 use Rattle.page_table.proofs.table.PageTable.first_from.Goals as goal

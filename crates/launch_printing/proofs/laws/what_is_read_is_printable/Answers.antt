@@ -1,5 +1,0 @@
-use Rattle.launch_printing.proofs.ReadDocuments.{read_is_spellable, read_is_printable}
-use Rattle.launch_printing.proofs.laws.what_is_read_is_printable.Goals as goal
-
-pub returns : goal.returns
-returns c = record { spellable = read_is_spellable; printable = read_is_printable }

@@ -1,0 +1,3 @@
+pub mod NumberEntries
+pub mod Variants
+pub mod NameEntryLists

@@ -1,6 +1,0 @@
-use Rattle.std.specs.Map.Iter.{deref_pair}
-use Rattle.name_map.proofs.Entries.{first_left}
-use Rattle.name_map.proofs.name_map.NameMap.at.Goals as goal
-
-pub returns : goal.returns
-returns g c = first_left deref_pair c.next.result _ _ c.next.ensures.steps _ c.args.place c.from_place.ensures.rest

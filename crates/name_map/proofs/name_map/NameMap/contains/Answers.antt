@@ -1,6 +1,0 @@
-use Rattle.std.proofs.Common.{is_some, ap, ◌∙◌}
-use Rattle.name_map.proofs.Entries.{get_of}
-use Rattle.name_map.proofs.name_map.NameMap.contains.Goals as goal
-
-pub returns : goal.returns
-returns g c = c.contains_key.ensures ∙ ap is_some (get_of _ _ c.self.view_is c.args.name.now)

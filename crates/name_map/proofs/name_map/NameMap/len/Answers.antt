@@ -1,6 +1,0 @@
-use Rattle.std.proofs.Common.{◌∙◌}
-use Rattle.name_map.proofs.Entries.{len_of}
-use Rattle.name_map.proofs.name_map.NameMap.len.Goals as goal
-
-pub returns-clause-len : goal.returns-clause-len
-returns-clause-len g c = c.len.ensures.len ∙ len_of _ _ c.self.view_is c.len.ensures.ordered

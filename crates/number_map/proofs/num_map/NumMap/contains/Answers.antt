@@ -1,6 +1,0 @@
-use Rattle.std.proofs.Common.{is_some, ap, ◌∙◌}
-use Rattle.number_map.proofs.Entries.{get_of}
-use Rattle.number_map.proofs.num_map.NumMap.contains.Goals as goal
-
-pub returns : goal.returns
-returns g c = c.contains_key.ensures ∙ ap is_some (get_of _ _ c.self.view_is c.args.key)
