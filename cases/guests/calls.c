@@ -95,6 +95,15 @@ static void tell_bytes(const uint8_t *bytes, size_t length)
     tell(length > 80 ? "\".." : "\"");
 }
 
+/* What stands before it in the output may not end with a line feed. */
+static void begin_line(void)
+{
+    if (report.length == 0)
+        tell("\n");
+    tell_number(line);
+    tell(": ");
+}
+
 static void write_report(void)
 {
     size_t done = 0, count;
@@ -120,8 +129,8 @@ _Noreturn static void finish(uint32_t code)
 
 _Noreturn static void cannot_read(const char *why)
 {
-    tell_number(line);
-    tell(": cannot be read: ");
+    begin_line();
+    tell("cannot be read: ");
     tell(why);
     tell("\n");
     finish(2);
@@ -647,8 +656,8 @@ static void compare(const uint64_t *came)
         differs |= came[i] != wanted_registers[i];
     if (differs) {
         has_differed = true;
-        tell_number(line);
-        tell(": wanted ");
+        begin_line();
+        tell("wanted ");
         tell_answer(wanted_registers, came, wanted.start, wanted.length, place != SIZE_MAX);
         tell(" / came ");
         tell_answer(came, wanted_registers, (const uint8_t *)output, length > wanted.length ? length : wanted.length,
@@ -683,8 +692,8 @@ static void make_row(void)
     make_call(came);
     if (is_last || (may_end(registers[7]) && wanted_registers[0] == CLOUDABI_ESUCCESS)) {
         has_differed = true;
-        tell_number(line);
-        tell(": wanted no answer / came ");
+        begin_line();
+        tell("wanted no answer / came ");
         tell_error(came[0]);
         tell("\n");
     } else {
