@@ -1,6 +1,7 @@
 /*
- * Tells its argument data, byte by byte, to whoever reads the run's history. It may have no descriptor to write to, so it maps pages
- * at addresses that spell three bytes each, and then one that spells how many bytes there are. It exits with 1 where it may not.
+ * Tells its argument data, byte by byte, to whoever reads the run's history. It may have no descriptor to write to, so it maps
+ * pages at addresses that spell three bytes each, and then one that spells how many bytes there are. It exits with 1 where a
+ * page is refused.
  */
 #include "argdata.h"
 
