@@ -7,6 +7,9 @@
 #define AMO(op, number, given, left, got) \
     INSTRUCTIONS(1, 4, op a2, a1, (a0)); TWO_TO_ONE(10, 0x20108, 11, given, 12, got); NUMBER(0x20108, number, left)
 
+/* Of one register twice, or of x0: a register afterwards, and what is left. 0x20000 is in memory, and in a1 too. */
+#define ON(s, m, left, ...) INSTRUCTIONS(1, 4, __VA_ARGS__); TWO_TO_ONE(10, 0x20108, 11, 0x20000, s, m); NUMBER(0x20108, 0x20000, left)
+
 ROWS
 
 AMO(amoswap.w,  0x123456780000000,  0xffffffff00000001, 0x123456700000001,  0xffffffff80000000)
@@ -136,5 +139,12 @@ AMO(amomin.d,   0xfedcba987654f321, 0xf1e2d3c4b5a6978, 0xfedcba987654f321, 0xfed
 AMO(amomax.d,   0xfedcba987654f321, 0xf1e2d3c4b5a6978, 0xf1e2d3c4b5a6978,  0xfedcba987654f321)
 AMO(amominu.d,  0xfedcba987654f321, 0xf1e2d3c4b5a6978, 0xf1e2d3c4b5a6978,  0xfedcba987654f321)
 AMO(amomaxu.d,  0xfedcba987654f321, 0xf1e2d3c4b5a6978, 0xfedcba987654f321, 0xfedcba987654f321)
+
+ON(10, 0x20000, 0x40000, amoadd.d a0, a1, (a0))
+ON(11, 0x20000, 0x40000, amoadd.d a1, a1, (a0))
+ON(12, 0x20000, 0x40108, amoadd.d a2, a0, (a0))
+ON(10, 0x20000, 0x40108, amoadd.d a0, a0, (a0))
+ON(12, 0x20000, 0,       amoswap.d a2, zero, (a0))
+ON(0, 0,         0x40000, amoadd.w zero, a1, (a0))
 
 END

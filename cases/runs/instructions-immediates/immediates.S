@@ -98,6 +98,8 @@ UPPER(auipc, 0xfffff, CODE - 0x1000)
 /* Negative ones, and x0, which nothing changes. */
 RI(addi, 0, -1, 0xffffffffffffffff)
 QUIET(addi zero, a0, 1)
+QUIET(slli zero, a0, 1)
+QUIET(lui zero, 1)
 QUIET(fence)
 QUIET(fence.i)
 

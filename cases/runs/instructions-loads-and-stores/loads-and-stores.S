@@ -15,6 +15,12 @@
     INSTRUCTIONS(3, 12, store a1, 0(a0); load a2, 0(a0); ld a3, 0(a0)); \
     REGISTERS(10, at, 11, 0x8877665544332211, 0, 0, 0, 0, 0, 0, 12, want, 13, all); NUMBER(at, 0, all)
 
+/* The address is loaded into, or stored. */
+#define LOAD_OVER(op, at, want) INSTRUCTIONS(1, 4, op a0, 0(a0)); TWO_TO_ONE(10, at, 0, 0, 10, want); SOME_BYTES_AT(at)
+#define STORE_ITSELF(op, at, all) INSTRUCTIONS(1, 4, op a0, 0(a0)); TWO_TO_ONE(10, at, 0, 0, 0, 0); NUMBER(at, 0, all)
+#define STORE_ZERO(op, at, all) \
+    INSTRUCTIONS(1, 4, op zero, 0(a0)); TWO_TO_ONE(10, at, 0, 0, 0, 0); NUMBER(at, 0x8877665544332211, all)
+
 ROWS
 
 /* Loads from the same twelve bytes, which begin at the third address. */
@@ -62,5 +68,11 @@ STORE_AND_LOAD(sb, lbu, 0x20fff, 0x11,               0x11)
 STORE_AND_LOAD(sh, lhu, 0x20fff, 0x2211,             0x2211)
 STORE_AND_LOAD(sw, lwu, 0x20fff, 0x44332211,         0x44332211)
 STORE_AND_LOAD(sd, ld,  0x20fff, 0x8877665544332211, 0x8877665544332211)
+
+LOAD_OVER(ld, 0x20100, 0xf807f605f403f201)
+LOAD_OVER(lb, 0x20100, 1)
+STORE_ITSELF(sd, 0x20100, 0x20100)
+STORE_ITSELF(sh, 0x20100, 0x100)
+STORE_ZERO(sw, 0x20100, 0x8877665500000000)
 
 END

@@ -7,6 +7,9 @@
 #define RR(op, a, b, want) \
     INSTRUCTIONS(1, 4, op a2, a0, a1); TWO_TO_ONE(10, a, 11, b, 12, want); NO_MEMORY
 
+/* Of one register twice, or of x0: a0 and a1 before, and a register afterwards. */
+#define ON(a, b, s, m, ...) INSTRUCTIONS(1, 4, __VA_ARGS__); TWO_TO_ONE(10, a, 11, b, s, m); NO_MEMORY
+
 ROWS
 
 RR(mul,    7,                  3,                  0x15)
@@ -121,5 +124,15 @@ RR(divw,   0x80000000,         0xffffffff,         0xffffffff80000000)
 RR(remw,   0x80000000,         0xffffffff,         0)
 RR(divuw,  0x580000000,        0x700000001,        0xffffffff80000000)
 RR(remuw,  0x580000000,        0x700000001,        0)
+
+ON(7, 3, 10, 21,                 mul a0, a0, a1)
+ON(7, 3, 12, 49,                 mul a2, a0, a0)
+ON(7, 3, 10, 2,                  div a0, a0, a1)
+ON(7, 3, 11, 1,                  rem a1, a0, a1)
+ON(7, 3, 12, 0xffffffffffffffff, div a2, a0, zero)
+ON(7, 3, 12, 0,                  div a2, zero, a1)
+ON(7, 3, 0, 0,                   div zero, a0, a1)
+ON(7, 3, 11, 2,                  divuw a1, a0, a1)
+ON(7, 3, 10, 1,                  remuw a0, a0, a1)
 
 END

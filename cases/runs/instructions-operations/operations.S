@@ -7,6 +7,9 @@
 #define RR(op, a, b, want) \
     INSTRUCTIONS(1, 4, op a2, a0, a1); TWO_TO_ONE(10, a, 11, b, 12, want); NO_MEMORY
 
+/* Of one register twice, or of x0: a0 and a1 before, and a register afterwards. */
+#define ON(a, b, s, m, ...) INSTRUCTIONS(1, 4, __VA_ARGS__); TWO_TO_ONE(10, a, 11, b, s, m); NO_MEMORY
+
 ROWS
 
 RR(add,    7,                  3,                  0xa)
@@ -113,5 +116,16 @@ RR(sraw,   0x8000000000000000, 0xffffffffffffffff, 0)
 RR(sraw,   0xffffffffffffffff, 0,                  0xffffffffffffffff)
 RR(sraw,   0x80000000,         0xffffffff,         0xffffffffffffffff)
 RR(sraw,   0x123456789abcdef0, 0xfedcba9876543f21, 0xffffffffcd5e6f78)
+
+ON(7, 3, 10, 4,                  sub a0, a0, a1)
+ON(7, 3, 11, 4,                  sub a1, a0, a1)
+ON(7, 3, 12, 0,                  sub a2, a0, a0)
+ON(7, 3, 10, 0,                  sub a0, a0, a0)
+ON(7, 3, 12, 0xfffffffffffffffd, sub a2, zero, a1)
+ON(7, 3, 12, 7,                  sub a2, a0, zero)
+ON(7, 3, 0, 0,                   sub zero, a0, a1)
+ON(7, 3, 10, 4,                  subw a0, a0, a1)
+ON(7, 3, 11, 4,                  subw a1, a0, a1)
+ON(7, 3, 0, 0,                   subw zero, a0, a1)
 
 END

@@ -43,6 +43,9 @@ RESERVED(3, 0xfedcba9876543210, 12, 9,                  0, lr.d zero, (a0); sw z
 RESERVED(3, 0x0123456776543210, 12, 0xffffffff89abcdef, 0, lr.w zero, (a0); amoadd.w a2, zero, (a0); sc.w a3, a1, (a0))
 RESERVED(3, 0xfedcba9876543210, 12, 0x0123456789abcdef, 0, lr.d zero, (a0); ld a2, 0(a0); sc.d a3, a1, (a0))
 
+/* Of one register twice. */
+RESERVED(2, 0xfedcba9876543210, 11, 0, 0x0123456789abcdef, lr.d a3, (a0); sc.d a1, a1, (a0))
+
 /* In another turn: after a call, which answers NOSYS, and after 4096 instructions, but not after 2000. */
 RESERVED(3, 0x0123456789abcdef, 10, 52,                 1, lr.w zero, (a0); ecall; sc.w a3, a1, (a4))
 LATER(2048, 0x0123456789abcdef, 1)
