@@ -98,7 +98,11 @@ static void compare(const struct row *row, uint64_t wanted, uint64_t came, const
 
 static void compare_register(const struct row *row, uint64_t wanted, uint64_t came, size_t number)
 {
-    char name[] = {'x', (char)('0' + number / 10), (char)('0' + number % 10), '\0'};
+    char name[4] = "x";
+    size_t end = 1;
+    if (number >= 10)
+        name[end++] = (char)('0' + number / 10);
+    name[end] = (char)('0' + number % 10);
     compare(row, wanted, came, name);
 }
 
