@@ -4,8 +4,6 @@
 #[cfg(test)]
 mod assembler;
 #[cfg(test)]
-mod atomics;
-#[cfg(test)]
 mod elf_files;
 #[cfg(test)]
 mod guests;

@@ -212,68 +212,6 @@ fn first_other(memory: &mut GuestMemory, alloc: Global, acts: Acts) -> Option<us
     None
 }
 
-// What is read where 0x8877_6655_4433_2211 was stored before zeros.
-const STORED: [u8; 10] = [0x11, 0x22, 0x33, 0x44, 0x55, 0x66, 0x77, 0x88, 0, 0];
-
-// Numbers in a page, over two, and from a page's last byte on.
-const STORES_ARE_LOADED: Acts = &[
-    (Act::Map(0x10000, 2, READ_WRITE), DONE),
-    (Act::Map(0x12000, 1, READ), DONE),
-    (Act::Map(0x13000, 1, WRITE), DONE),
-    (Act::Map(0x14000, 1, EXEC), DONE),
-    (Act::Write(0x10100, &[0; 16]), DONE),
-    (Act::Store(0x10100, 1, 0x8877_6655_4433_2211), DONE),
-    (Act::Load(0x10100, 1), Ok(0x11)),
-    (Act::Load(0x10100, 8), Ok(0x11)),
-    (Act::Write(0x10100, &[0; 16]), DONE),
-    (Act::Store(0x10100, 2, 0x8877_6655_4433_2211), DONE),
-    (Act::Load(0x10100, 2), Ok(0x2211)),
-    (Act::Load(0x10100, 8), Ok(0x2211)),
-    (Act::Write(0x10100, &[0; 16]), DONE),
-    (Act::Store(0x10100, 4, 0x8877_6655_4433_2211), DONE),
-    (Act::Load(0x10100, 4), Ok(0x4433_2211)),
-    (Act::Load(0x10100, 8), Ok(0x4433_2211)),
-    (Act::Write(0x10100, &[0; 16]), DONE),
-    (Act::Store(0x10100, 8, 0x8877_6655_4433_2211), DONE),
-    (Act::Load(0x10100, 8), Ok(0x8877_6655_4433_2211)),
-    (Act::Load(0x10100, 8), Ok(0x8877_6655_4433_2211)),
-    (Act::Bytes(0x10100, &STORED), DONE),
-    (Act::Write(0x10ffc, &[0; 16]), DONE),
-    (Act::Store(0x10ffc, 1, 0x8877_6655_4433_2211), DONE),
-    (Act::Load(0x10ffc, 1), Ok(0x11)),
-    (Act::Load(0x10ffc, 8), Ok(0x11)),
-    (Act::Write(0x10ffc, &[0; 16]), DONE),
-    (Act::Store(0x10ffc, 2, 0x8877_6655_4433_2211), DONE),
-    (Act::Load(0x10ffc, 2), Ok(0x2211)),
-    (Act::Load(0x10ffc, 8), Ok(0x2211)),
-    (Act::Write(0x10ffc, &[0; 16]), DONE),
-    (Act::Store(0x10ffc, 4, 0x8877_6655_4433_2211), DONE),
-    (Act::Load(0x10ffc, 4), Ok(0x4433_2211)),
-    (Act::Load(0x10ffc, 8), Ok(0x4433_2211)),
-    (Act::Write(0x10ffc, &[0; 16]), DONE),
-    (Act::Store(0x10ffc, 8, 0x8877_6655_4433_2211), DONE),
-    (Act::Load(0x10ffc, 8), Ok(0x8877_6655_4433_2211)),
-    (Act::Load(0x10ffc, 8), Ok(0x8877_6655_4433_2211)),
-    (Act::Bytes(0x10ffc, &STORED), DONE),
-    (Act::Write(0x10fff, &[0; 16]), DONE),
-    (Act::Store(0x10fff, 1, 0x8877_6655_4433_2211), DONE),
-    (Act::Load(0x10fff, 1), Ok(0x11)),
-    (Act::Load(0x10fff, 8), Ok(0x11)),
-    (Act::Write(0x10fff, &[0; 16]), DONE),
-    (Act::Store(0x10fff, 2, 0x8877_6655_4433_2211), DONE),
-    (Act::Load(0x10fff, 2), Ok(0x2211)),
-    (Act::Load(0x10fff, 8), Ok(0x2211)),
-    (Act::Write(0x10fff, &[0; 16]), DONE),
-    (Act::Store(0x10fff, 4, 0x8877_6655_4433_2211), DONE),
-    (Act::Load(0x10fff, 4), Ok(0x4433_2211)),
-    (Act::Load(0x10fff, 8), Ok(0x4433_2211)),
-    (Act::Write(0x10fff, &[0; 16]), DONE),
-    (Act::Store(0x10fff, 8, 0x8877_6655_4433_2211), DONE),
-    (Act::Load(0x10fff, 8), Ok(0x8877_6655_4433_2211)),
-    (Act::Load(0x10fff, 8), Ok(0x8877_6655_4433_2211)),
-    (Act::Bytes(0x10fff, &STORED), DONE),
-];
-
 // The first byte that may not be accessed is named.
 const FIRST_FAULT_IS_NAMED: Acts = &[
     (Act::Map(0x10000, 2, READ_WRITE), DONE),
@@ -515,7 +453,6 @@ const FIXED_MAPPINGS_REPLACE_PAGES: Acts = &[
 
 // Each begins with a memory that has no page.
 const ALL: &[(&str, Acts)] = &[
-    ("stores are loaded", STORES_ARE_LOADED),
     ("first fault is named", FIRST_FAULT_IS_NAMED),
     ("refusals change nothing", REFUSALS_CHANGE_NOTHING),
     ("each right is its own", EACH_RIGHT_IS_ITS_OWN),
