@@ -22,15 +22,6 @@ pub fn program_with(alloc: Global, guest: &str, data: &[u8]) -> Result<Vec<u8>, 
     Ok(program)
 }
 
-/// The same program as a file of the type ET_DYN, which is placed above the addresses that it names.
-pub fn placed_program_of(alloc: Global, guest: &str) -> Result<Vec<u8>, AllocError> {
-    let mut program = program_of(alloc, guest)?;
-    if program.len() >= 18 {
-        program[16..18].copy_from_slice(&[3, 0]);
-    }
-    Ok(program)
-}
-
 /// The report of a program that wrote nothing and ended with this status.
 pub fn quiet_report(alloc: Global, status: &str) -> Result<String, AllocError> {
     format!(in alloc;
