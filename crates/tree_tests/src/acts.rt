@@ -5,7 +5,7 @@ ghost use Rattle.tree_model.specs.Tree.{links_of};
 
 use abi_types::{Bytes, Node, NodeKind, ObjId, Times};
 use file_tree::Tree;
-use path_lookup::{End, WalkFault, WalkMode, walk};
+use path_lookup::{End, WalkFault, WalkMode};
 use std::alloc::{AllocError, Global};
 use tree_model::{ROOT, TreeFault};
 
@@ -204,9 +204,8 @@ fn forget(tree: &mut Tree, node: u16) -> Answer {
     Answer::Done
 }
 
-/// Where a walk ends.
-pub fn walked(tree: &Tree, start: u16, path: &[u8], mode: WalkMode) -> Answer {
-    match walk(tree, id(start), path, mode) {
+fn walked(tree: &Tree, start: u16, path: &[u8], mode: WalkMode) -> Answer {
+    match tree.walk(id(start), path, mode) {
         Ok(end) => of_end(&end),
         Err(fault) => Answer::Lost(fault),
     }

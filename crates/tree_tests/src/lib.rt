@@ -6,6 +6,4 @@ mod acts;
 #[cfg(test)]
 mod documents;
 #[cfg(test)]
-mod limits;
-#[cfg(test)]
 mod rows;
