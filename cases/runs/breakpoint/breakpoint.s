@@ -1,0 +1,3 @@
+# A breakpoint: TRAP.
+
+        ebreak

@@ -1,0 +1,12 @@
+# Exits with the address of the program headers that the start block has, which is entry 7 of its vector. The first segment has
+# them but for their first byte, and the second has all of them: 0x20003.
+
+        .include "file.inc"
+        elf_header 2, 0x20074, 2
+        program_header 1, 5, 65, 0x10000, 112, 4096
+        program_header 1, 5, 61, 0x20000, 200, 4096
+        .byte   0
+        ld      a0, 120(a0)
+        li      a7, 39                  # proc_exit
+        ecall
+        .org    4096

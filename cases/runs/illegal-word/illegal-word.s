@@ -1,0 +1,3 @@
+# A word that is no instruction: ILL.
+
+        .word   0xffffffff

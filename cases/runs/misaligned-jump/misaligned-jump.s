@@ -1,0 +1,3 @@
+# A jump to the next half word: BUS.
+
+        j       . + 2

@@ -1,0 +1,3 @@
+# Jumps to itself until no turn is left: XCPU.
+
+        j       .
