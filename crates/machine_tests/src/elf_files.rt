@@ -1,6 +1,6 @@
-//! Files that are written, and what a reader says of them.
+//! Files that are written, and the image of one.
 use abi_base::Prot;
-use elf_image::{Elf, ElfFault, Segment, read_elf};
+use elf_image::{Elf, Segment, read_elf};
 use rv_asm::write_elf;
 use std::alloc::{AllocError, Global};
 use std::test::Fail;
@@ -22,30 +22,6 @@ const FILE: [u8; 132] = [
     0x0c, 0x00, 0x00, 0x00, 0x00, 0x00, 0x00, 0x00, 0x0c, 0x00, 0x00, 0x00, 0x00, 0x00, 0x00, 0x00,
     0x04, 0x00, 0x00, 0x00, 0x00, 0x00, 0x00, 0x00, 0x13, 0x05, 0x50, 0x00, 0x93, 0x08, 0x70, 0x02,
     0x73, 0x00, 0x00, 0x00,
-];
-
-// Code, its address and flags, and the fault of the file.
-const CASES: &[(&[u8], u64, u32, Option<ElfFault>)] = &[
-    (&CODE, 0x1_0000, 0, None),
-    (&CODE, 0x1_0004, 0, None),
-    (&[0x13], 0x1_0000, 0, None),
-    // no instruction stands there
-    (&CODE, 0x1_0002, 0, Some(ElfFault::Entry)),
-    (&CODE, 0x1_0001, 0, Some(ElfFault::Entry)),
-    // outside of the program's part of the address space
-    (&CODE, 0xfffc, 0, Some(ElfFault::Segment(0))),
-    (&CODE, 0x1f_ffff_fff4, 0, None),
-    (&CODE, 0x1f_ffff_fff8, 0, Some(ElfFault::Segment(0))),
-    (&CODE, 0x1ff_ffff_f000, 0, Some(ElfFault::Segment(0))),
-    (&CODE, u64::MAX, 0, Some(ElfFault::Segment(0))),
-    // flags
-    (&CODE, 0x1_0000, 1, Some(ElfFault::Compressed)),
-    (&CODE, 0x1_0000, 2, Some(ElfFault::FloatAbi)),
-    (&CODE, 0x1_0000, 4, Some(ElfFault::FloatAbi)),
-    (&CODE, 0x1_0000, 8, None),
-    (&CODE, 0x1_0000, 0xffff_fff8, None),
-    // no code
-    (&[], 0x1_0000, 0, Some(ElfFault::Entry)),
 ];
 
 // Whether a file of that code at 0x10000 is that one.
@@ -91,22 +67,5 @@ fn image(alloc: Global) -> Result<([u64; 4], bool), Fail> {
 #[test]
 fn makes_one_segment(rt: HostRuntime) -> Result<(), Fail> {
     assert_eq!(rt; image(rt.alloc())?, ([0, 0x1_0000, 0, 1], true));
-    Ok(())
-}
-
-// The fault of a file of this code, or nothing.
-fn fault(alloc: Global, code: &[u8], at: u64, flags: u32) -> Result<Option<ElfFault>, AllocError> {
-    let file = write_elf(alloc, code, at, flags)?;
-    Ok(match read_elf(alloc, file.as_slice()) {
-        Ok(_elf) => None,
-        Err(fault) => Some(fault),
-    })
-}
-
-#[test]
-fn files_are_taken_or_refused(rt: HostRuntime) -> Result<(), Fail> {
-    for &(code, at, flags, want) in CASES {
-        assert_eq!(rt; fault(rt.alloc(), code, at, flags)?, want, "{at} {flags}");
-    }
     Ok(())
 }

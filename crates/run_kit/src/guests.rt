@@ -5,28 +5,13 @@ use std::alloc::{AllocError, Global};
 
 /// A program with the first program's header, and this code behind it.
 pub fn program_of(alloc: Global, guest: &str) -> Result<Vec<u8>, AllocError> {
-    program_with(alloc, guest, &[])
-}
-
-/// The same with these bytes behind the code.
-pub fn program_with(alloc: Global, guest: &str, data: &[u8]) -> Result<Vec<u8>, AllocError> {
     let code = assemble(alloc, guest).map_err(|_| AllocError)?;
     let mut program = HELLO_FILE[..120].to_vec(alloc)?;
     program.extend_from_slice(code.as_slice())?;
-    program.extend_from_slice(data)?;
     let length = (program.len() as u64).to_le_bytes();
     if program.len() >= 120 {
         program[96..104].copy_from_slice(&length);
         program[104..112].copy_from_slice(&length);
-    }
-    Ok(program)
-}
-
-/// The same program as a file of the type ET_DYN, which is placed above the addresses that it names.
-pub fn placed_program_of(alloc: Global, guest: &str) -> Result<Vec<u8>, AllocError> {
-    let mut program = program_of(alloc, guest)?;
-    if program.len() >= 18 {
-        program[16..18].copy_from_slice(&[3, 0]);
     }
     Ok(program)
 }

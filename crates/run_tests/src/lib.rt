@@ -8,9 +8,7 @@ mod command_lines;
 #[cfg(test)]
 mod memory_calls;
 #[cfg(test)]
-mod programs;
-#[cfg(test)]
-mod refused_launches;
+mod outside_faults;
 #[cfg(test)]
 mod streams;
 #[cfg(test)]

@@ -31,106 +31,32 @@ pub(super) const LINKED: &[u8] = &[
     0x44, 0x01, 0x01, 0x00, 0x00, 0x00, 0x00, 0x00, 0x05, 0x00, 0x00, 0x00, 0x00, 0x00, 0x00, 0x00,
 ];
 
-/// A program header.
-#[derive(Drop)]
-pub(super) enum Header {
-    /// A segment that may be read and executed: its address, and which bytes of the file it has, by their place and
-    /// number. In memory it has one page.
-    Code(u64, u64, u64),
-    /// A segment that may be read and written, with no byte of the file: its address and its size in memory.
-    Data(u64, u64),
-    /// Any header: p_type, p_flags, p_offset, p_vaddr, p_filesz and p_memsz.
-    Fields(u64, u64, u64, u64, u64, u64),
-}
+// The file's header and its program header, as words of 64 bits: the type is ET_DYN, the entry 0x48, and the segment may be
+// read and executed.
+const SHARED: [u64; 15] = [
+    0x0001_0102_464c_457f,
+    0,
+    0x0001_00f3_0003,
+    0x48,
+    64,
+    0,
+    0x0038_0040_0000_0000,
+    1,
+    1 | 5 << 32,
+    0,
+    0,
+    0,
+    4096,
+    4096,
+    0,
+];
 
-/// A segment of one page with the whole file.
-pub(super) const CODE: Header = Header::Code(0x10000, 0, 4096);
-
-/// A segment of one page elsewhere.
-pub(super) const DATA: Header = Header::Data(0x20000, 4096);
-
-/// A header of another type.
-pub(super) const NOTE: Header = Header::Fields(4, 6, 0, 0x20000, 0, 4096);
-
-fn words(header: &Header) -> [u64; 7] {
-    match *header {
-        Header::Code(address, offset, size) => [1 | 5 << 32, offset, address, 0, size, 4096, 0],
-        Header::Data(address, size) => [1 | 6 << 32, 0, address, 0, 0, size, 0],
-        Header::Fields(kind, flags, offset, address, file_size, memory_size) => [
-            kind | flags << 32,
-            offset,
-            address,
-            0,
-            file_size,
-            memory_size,
-            0,
-        ],
-    }
-}
-
-fn push(file: &mut Vec<u8>, words: &[u64]) -> Result<(), AllocError> {
-    for word in words {
+/// A shared object of 4096 bytes with one segment, the whole file, at address 0.
+pub(super) fn shared_object(alloc: Global) -> Result<Vec<u8>, AllocError> {
+    let mut file = Vec::new(alloc);
+    for word in SHARED {
         file.extend_from_slice(&word.to_le_bytes())?;
     }
-    Ok(())
-}
-
-fn fill(file: &mut Vec<u8>, kind: u64, entry: u64, headers: &[Header]) -> Result<(), AllocError> {
-    let count = headers.len() as u64;
-    push(
-        file,
-        &[0x0001_0102_464c_457f, 0, 0x0001_00f3_0000 | kind, entry],
-    )?;
-    push(file, &[64, 0, 0x0038_0040_0000_0000, count])?;
-    for header in headers {
-        push(file, &words(header))?;
-    }
-    file.resize(4096, 0)
-}
-
-/// A file of this type, entry and these program headers, with zeros up to 4096 bytes.
-pub(super) fn file_of(
-    alloc: Global,
-    kind: u64,
-    entry: u64,
-    headers: &[Header],
-) -> Result<Vec<u8>, AllocError> {
-    let mut file = Vec::new(alloc);
-    fill(&mut file, kind, entry, headers)?;
+    file.resize(4096, 0)?;
     Ok(file)
-}
-
-/// A change of a file.
-#[derive(Drop)]
-pub(super) enum Change {
-    /// At this place stands this byte instead.
-    Put(usize, u8),
-    /// At this place these bits are turned.
-    Turn(usize, u8),
-}
-
-// What stands at a place after the changes, where this byte stood.
-fn byte_after(changes: &[Change], place: usize, byte: u8) -> u8 {
-    let mut after = byte;
-    for change in changes {
-        match *change {
-            Change::Put(at, put) if at == place => after = put,
-            Change::Turn(at, bits) if at == place => after ^= bits,
-            _ => {}
-        }
-    }
-    after
-}
-
-/// A file after changes.
-pub(super) fn changed(
-    alloc: Global,
-    bytes: &[u8],
-    changes: &[Change],
-) -> Result<Vec<u8>, AllocError> {
-    let mut made = Vec::new(alloc);
-    for (place, byte) in bytes.iter().enumerate() {
-        made.push(byte_after(changes, place, *byte))?;
-    }
-    Ok(made)
 }
