@@ -42,6 +42,7 @@ const LINES: &[(&str, u32)] = &[
     ("addiw a1, s7, -5", 0xffbb_859b),
     ("addi a4, s11, 39", 0x027d_8713),
     ("addi a1, a1, 0xa0", 0x0a05_8593),
+    ("addi sp, sp, -16", 0xff01_0113),
     ("slli s1, s4, 63", 0x03fa_1493),
     ("srli a0, s5, 32", 0x020a_d513),
     ("srai a1, s6, 33", 0x421b_5593),
@@ -53,16 +54,20 @@ const LINES: &[(&str, u32)] = &[
     ("lw gp, 0(t4)", 0x000e_a183),
     ("lw s4, 0x120(s3)", 0x1209_aa03),
     ("ld tp, -8(t3)", 0xff8e_3203),
+    ("ld s1, 24(a0)", 0x0185_3483),
     ("lbu t0, 255(s11)", 0x0ffd_c283),
     ("lhu t1, -1(s10)", 0xfffd_5303),
     ("lwu t2, 16(s9)", 0x010c_e383),
     ("jalr s0, -4(s8)", 0xffcc_0467),
+    ("jalr ra, 0(s2)", 0x0009_00e7),
     ("sb a1, -2048(s9)", 0x80bc_8023),
     ("sh a2, 2047(s8)", 0x7ecc_1fa3),
     ("sw a3, 31(s7)", 0x00db_afa3),
     ("sd a4, -33(s6)", 0xfceb_3fa3),
+    ("sd t0, 8(sp)", 0x0051_3423),
     ("lui a0, 0xfffff", 0xffff_f537),
     ("auipc t6, 0x12345", 0x1234_5f97),
+    ("auipc s0, 0", 0x0000_0417),
     ("lui x1, 0", 0x0000_00b7),
     ("beq t0, s4, -4096", 0x8142_8063),
     ("bne t1, s5, 4094", 0x7f53_1fe3),
@@ -126,6 +131,14 @@ const TEXTS: &[(&str, &[u8])] = &[
         &[
             0x63, 0x6, 0xb5, 0x0, 0x6f, 0xf0, 0xdf, 0xff, 0x63, 0x10, 0xb5, 0x0, 0x73, 0x0, 0x0,
             0x0,
+        ],
+    ),
+    // labels that a branch and a jump go to, and one of a number
+    (
+        "next: bgeu s0, s1, done\njal zero, next\ndone: .dword 6\n.word 0xffffffff",
+        &[
+            0x63, 0x74, 0x94, 0x0, 0x6f, 0xf0, 0xdf, 0xff, 0x6, 0x0, 0x0, 0x0, 0x0, 0x0, 0x0, 0x0,
+            0xff, 0xff, 0xff, 0xff,
         ],
     ),
     // a comment sign, a colon and spaces inside quotation marks

@@ -1,17 +1,12 @@
 //! Each guest's code, as GNU binutils for RISC-V (2.40) give it: `riscv64-linux-gnu-as -march=rv64ima`, with `.+N` where a
 //! guest's text has a distance `N`.
-use guest_kit::{CALL_LIST, COPY, COPY_BY_TWO, FILL_THE_TABLE, call_with, calls_over};
+use guest_kit::{COPY, COPY_BY_TWO, FILL_THE_TABLE, call_with, calls_over};
 use rv_asm::{AsmFault, assemble};
 use std::alloc::Global;
 use std::test::Fail;
 
 // A guest, and the hexadecimal digits of its code.
 const GUESTS: &[(&str, &str)] = &[
-    (
-        CALL_LIST,
-        "170a0000130a0a0403390a0083398a00833809000335890083350901033689018336090203378902\
-         833709037300000013098903e36e39fd9308700273000000",
-    ),
     (
         FILL_THE_TABLE,
         "93087000138905001305000073000000e30a05fe13196900330525019308700273000000",

@@ -5,15 +5,9 @@ use std::alloc::{AllocError, Global};
 
 /// A program with the first program's header, and this code behind it.
 pub fn program_of(alloc: Global, guest: &str) -> Result<Vec<u8>, AllocError> {
-    program_with(alloc, guest, &[])
-}
-
-/// The same with these bytes behind the code.
-pub fn program_with(alloc: Global, guest: &str, data: &[u8]) -> Result<Vec<u8>, AllocError> {
     let code = assemble(alloc, guest).map_err(|_| AllocError)?;
     let mut program = HELLO_FILE[..120].to_vec(alloc)?;
     program.extend_from_slice(code.as_slice())?;
-    program.extend_from_slice(data)?;
     let length = (program.len() as u64).to_le_bytes();
     if program.len() >= 120 {
         program[96..104].copy_from_slice(&length);

@@ -2,7 +2,7 @@
 #![tactic(auto)]
 
 pub use calls::{Given, REPORT, WORDS, answered};
-pub use guests::{loud_report, program_of, program_with, quiet_report};
+pub use guests::{loud_report, program_of, quiet_report};
 
 mod calls;
 mod guests;
