@@ -1,5 +1,6 @@
-# Calls the guest's run(), and stands at an ECALL with its result in a0.
+# Calls the guest's run(), and exits with the low 32 bits of its result.
     .globl _start
 _start:
     call run
+    li a7, 39 # proc_exit
     ecall

@@ -1,6 +1,6 @@
 /*
- * The tasks of tasks.lua as a guest of bench/machine, which answers no calls: the script stands in the guest, its memory is an array,
- * and what it prints is kept. The guest ends at an ECALL, with what POSIX's `cksum` gives for that in a0, or 0 where Lua failed.
+ * The tasks of tasks.lua as a guest of bench/machine, which makes no call but the one that ends it: the script stands in the guest, its
+ * memory is an array, and what it prints is kept. The guest exits with what POSIX's `cksum` gives for that, or 0 where Lua failed.
  * The interpreter is the library in Lua's sources, as they are.
  */
 #include "lauxlib.h"
@@ -20,6 +20,7 @@ __asm__(".section .text.start, \"ax\", @progbits\n"
         "_start:\n"
         "        la      tp, __tls_base\n"
         "        call    run_tasks\n"
+        "        li      a7, 39\n" /* proc_exit */
         "        ecall\n"
         ".section .rodata\n"
         ".balign 8\n"
