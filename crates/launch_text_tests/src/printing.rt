@@ -4,7 +4,7 @@ use std::alloc::{AllocError, Global};
 
 /// A node as a text: `~`, `true`, `7`, `'text'`, `<hexadecimal bytes>`, `{key: value}`, `[item]`, a tag before its value,
 /// and before both the number of the line, if asked for.
-pub(super) fn printed(alloc: Global, node: &Node, with_lines: bool) -> Result<String, AllocError> {
+pub(crate) fn printed(alloc: Global, node: &Node, with_lines: bool) -> Result<String, AllocError> {
     let mut printer = Printer {
         out: String::new(alloc),
         with_lines,

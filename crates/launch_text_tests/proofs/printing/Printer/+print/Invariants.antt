@@ -1,5 +1,5 @@
 use Rattle.std.proofs.Common.{◌+◌, ◌*◌}
-use Rattle.launch_text_tests.proofs.yaml.printing.Printer.+print.Given as goal
+use Rattle.launch_text_tests.proofs.printing.Printer.+print.Given as goal
 
 abbrev pub decreases-node : goal.decreases-node
 decreases-node l = 2 * l.depth + 1
