@@ -1,11 +1,12 @@
-//! Tests of launch files: what their texts mean, which faults they have, and what is planned of them.
+//! Tests of launch files that the command can't show: what stands behind tags that give nothing, the lines of nodes, and how many
+//! entries documents have that give too much argument data.
 #![tactic(auto)]
 
 #[cfg(test)]
+mod documents;
+#[cfg(test)]
 mod long_text;
 #[cfg(test)]
-mod plan_tree;
+mod printing;
 #[cfg(test)]
-mod plans;
-#[cfg(test)]
-mod yaml;
+mod sizes;

@@ -5,22 +5,12 @@ use std::alloc::{AllocError, Global};
 pub(crate) enum Part {
     /// A text, so many times.
     Times(&'static str, usize),
-    /// A text, so many times, each behind one space more than the last, and the first behind none.
-    Steps(&'static str, usize),
     /// The numbers below this one, each between two texts.
     Numbers(&'static str, usize, &'static str),
 }
 
 fn push_times(made: &mut String, text: &str, count: usize) -> Result<(), AllocError> {
     for _ in 0..count {
-        made.push_str(text)?;
-    }
-    Ok(())
-}
-
-fn push_steps(made: &mut String, text: &str, count: usize) -> Result<(), AllocError> {
-    for column in 0..count {
-        push_times(made, " ", column)?;
         made.push_str(text)?;
     }
     Ok(())
@@ -38,19 +28,14 @@ fn push_numbers(
     Ok(())
 }
 
-fn push(made: &mut String, part: &Part) -> Result<(), AllocError> {
-    match part {
-        Part::Times(text, count) => push_times(made, text, *count),
-        Part::Steps(text, count) => push_steps(made, text, *count),
-        Part::Numbers(before, count, after) => push_numbers(made, before, *count, after),
-    }
-}
-
 /// The text that these parts are.
 pub(crate) fn long_text(alloc: Global, parts: &[Part]) -> Result<String, AllocError> {
     let mut made = String::new(alloc);
     for part in parts {
-        push(&mut made, part)?;
+        match part {
+            Part::Times(text, count) => push_times(&mut made, text, *count)?,
+            Part::Numbers(before, count, after) => push_numbers(&mut made, before, *count, after)?,
+        }
     }
     Ok(made)
 }

@@ -1,4 +1,4 @@
-//! Words, with the settings that they spell.
+//! Words, with the settings that they spell, where no run shows these.
 use launch_words::{LaunchWords, WordsFault, read_words};
 use std::alloc::{AllocError, Global};
 
@@ -35,28 +35,6 @@ fn words_of(alloc: Global, texts: &[&str]) -> Result<Vec<String>, AllocError> {
 // Words, and what they spell.
 const TAKEN: &[(&[&str], LaunchWords<'static>)] = &[
     (&["p"], PLAIN),
-    (&["p", "--"], PLAIN),
-    (
-        &["--", "-x"],
-        LaunchWords {
-            program: "-x",
-            ..PLAIN
-        },
-    ),
-    (
-        &["--", "--"],
-        LaunchWords {
-            program: "--",
-            ..PLAIN
-        },
-    ),
-    (
-        &["--", "--tree"],
-        LaunchWords {
-            program: "--tree",
-            ..PLAIN
-        },
-    ),
     (
         &["--workers=2", "--", "p"],
         LaunchWords {
@@ -72,120 +50,19 @@ const TAKEN: &[(&[&str], LaunchWords<'static>)] = &[
         },
     ),
     (
-        &["--turns", "0000000000000000001", "p"],
-        LaunchWords { turns: 1, ..PLAIN },
-    ),
-    (
         &["--turns=1000000000", "p"],
         LaunchWords {
             turns: 1_000_000_000,
             ..PLAIN
         },
     ),
-    (
-        &["--epoch", "4611686018427387904", "p"],
-        LaunchWords {
-            epoch: 1 << 62,
-            ..PLAIN
-        },
-    ),
-    (&["p", "--epoch=0"], PLAIN),
     (&[DIGITS, "p"], LaunchWords { key: KEY, ..PLAIN }),
-    (
-        &["--tree=-x", "p"],
-        LaunchWords {
-            tree: Some("-x"),
-            ..PLAIN
-        },
-    ),
-    (
-        &["--tree=a=b", "p"],
-        LaunchWords {
-            tree: Some("a=b"),
-            ..PLAIN
-        },
-    ),
-    (
-        &["--stdin", "p", "p"],
-        LaunchWords {
-            stdin: Some("p"),
-            ..PLAIN
-        },
-    ),
-    (
-        &["p", "--tree", "t", "--history"],
-        LaunchWords {
-            tree: Some("t"),
-            history: true,
-            ..PLAIN
-        },
-    ),
-];
-
-// Words that are refused.
-const REFUSED: &[&[&str]] = &[
-    &[],
-    // the program
-    &[""],
-    &["-"],
-    &["--", "-"],
-    &["p", "q"],
-    &["p", "--", "q"],
-    &["--", "p", "--history"],
-    // what stands twice
-    &["--history", "--history", "p"],
-    &["--workers=2", "--workers=2", "p"],
-    &["--tree", "t", "p", "--tree=t"],
-    // values in the next word
-    &["--tree", "-x", "p"],
-    &["--tree", "-", "p"],
-    &["--tree", "--history", "p"],
-    &["--tree", "--", "p"],
-    &["p", "--tree"],
-    // no files
-    &["--tree=", "p"],
-    &["--tree", "", "p"],
-    &["--tree=-", "p"],
-    &["--stdin=-", "p"],
-    // no numbers in the range
-    &["--workers", "0", "p"],
-    &["--workers", "65", "p"],
-    &["--workers", "+2", "p"],
-    &["--workers=-1", "p"],
-    &["--workers=", "p"],
-    &["--turns", "0", "p"],
-    &["--turns=1000000001", "p"],
-    &["--turns", "00000000000000000001", "p"],
-    &["--epoch=4611686018427387905", "p"],
-    &["--epoch", "", "p"],
-    // no keys
-    &["--key", "00", "p"],
-    &["--key=", "p"],
-    &[
-        "--key=0011223344556677889900112233445566778899001122334455667788990011g",
-        "p",
-    ],
-    &[
-        "--key=001122334455667788990011223344556677889900112233445566778899001",
-        "p",
-    ],
-    // no options
-    &["--history=1", "p"],
-    &["--history=", "p"],
-    &["--his", "p"],
-    &["-h"],
-    &["--help"],
-    &["-V", "p"],
-    &["--version"],
-    &["-é", "p"],
-    &["--=x", "p"],
-    &["--program", "p"],
 ];
 
 // These words are read so.
-fn are_read(alloc: Global, texts: &[&str], want: Result<LaunchWords, WordsFault>) -> bool {
+fn are_read(alloc: Global, texts: &[&str], want: LaunchWords) -> bool {
     match words_of(alloc, texts) {
-        Ok(words) => read_words(alloc, &words) == want,
+        Ok(words) => read_words(alloc, &words) == Ok(want),
         Err(_) => false,
     }
 }
@@ -193,13 +70,7 @@ fn are_read(alloc: Global, texts: &[&str], want: Result<LaunchWords, WordsFault>
 #[test]
 fn words(rt: HostRuntime) {
     for &(texts, want) in TAKEN {
-        assert!(rt; are_read(rt.alloc(), texts, Ok(want)), "{texts:?}");
-    }
-    for &texts in REFUSED {
-        assert!(rt;
-            are_read(rt.alloc(), texts, Err(WordsFault::Refused)),
-            "{texts:?}"
-        );
+        assert!(rt; are_read(rt.alloc(), texts, want), "{texts:?}");
     }
 }
 

@@ -4,6 +4,4 @@
 #[cfg(test)]
 mod acts;
 #[cfg(test)]
-mod documents;
-#[cfg(test)]
 mod rows;
