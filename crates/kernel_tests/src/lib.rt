@@ -1,8 +1,8 @@
-//! Tests of number maps, of inputs and outputs in memory, of what calls need, of the kernel's calls and of reports, by what these crates offer.
+//! Tests of what the command doesn't show, by what these crates offer: number maps, inputs and outputs in memory, what calls need that aren't built, a kernel's state at its end, and reports of entries that no run has.
 #![tactic(auto)]
 
 #[cfg(test)]
-mod kernel_calls;
+mod kernel_ends;
 #[cfg(test)]
 mod needs;
 #[cfg(test)]

@@ -1,5 +1,5 @@
-//! Reports by example.
-use crate::stdout_kernel::{Deed, PID, TID, answer_to, call_of, expire, stdout_kernel};
+//! Reports of runs that the command doesn't come to: of entries that the kernel isn't asked for, and of runs that stop on the way.
+use crate::stdout_kernel::{PID, TID, answer_to, expire, stdout_kernel, write_of};
 use abi_types::{
     Answer, Bytes, Call, Denial, Errno, Payload, Pid, Reply, Rights, Signal, Tid, TidList, WakeIn,
     WordWrites,
@@ -28,8 +28,8 @@ enum Other {
 
 // A run, and the report that it comes to.
 struct Run {
-    may_write: bool,
-    deeds: &'static [Deed],
+    // What the first thread writes to stdout, if it makes a call.
+    written: Option<&'static str>,
     others: &'static [Other],
     // Whether the process is ended from outside.
     expires: bool,
@@ -38,18 +38,8 @@ struct Run {
     report: &'static str,
 }
 
-const HELLO: Run = Run {
-    may_write: true,
-    deeds: &[Deed::Write(0, "hello\n"), Deed::Exit(0)],
-    others: &[],
-    expires: false,
-    lines: false,
-    report: "== stdout 6\nhello\n== stderr 0\n== status exit 0\n== run ended\n== denials 0\n== tree 0\n",
-};
-
 const DENIED: Run = Run {
-    may_write: true,
-    deeds: &[Deed::Write(0, "hi")],
+    written: Some("hi"),
     others: &[
         Other::Denied(37, Rights(0x1000_0042), Rights::FD_TELL),
         Other::Denied(49, Rights::NONE, Rights::NONE),
@@ -60,18 +50,6 @@ const DENIED: Run = Run {
 };
 
 const RUNS: &[Run] = &[
-    HELLO,
-    Run {
-        lines: true,
-        report: "== stdout 6\nhello\n== stderr 0\n== status exit 0\n== run ended\n== denials 0\n== tree 0\n== history 2\n1000 00000000.1 0 call fd_write SUCCESS 6 0\n2000 00000000.1 0 call proc_exit SUCCESS 0 0\n",
-        ..HELLO
-    },
-    Run {
-        may_write: false,
-        deeds: &[Deed::Write(0, "hi"), Deed::Exit(76)],
-        report: "== stdout 0\n== stderr 0\n== status exit 76\n== run ended\n== denials 1\n00000000.1 fd_write fd 0 base FD_WRITE inheriting -\n== tree 0\n",
-        ..HELLO
-    },
     DENIED,
     Run {
         expires: true,
@@ -79,8 +57,7 @@ const RUNS: &[Run] = &[
         ..DENIED
     },
     Run {
-        may_write: true,
-        deeds: &[],
+        written: None,
         others: &[
             Other::Denied(50, Rights::FD_READ, Rights::NONE),
             Other::Trap(4000),
@@ -91,8 +68,7 @@ const RUNS: &[Run] = &[
         report: "== stdout 0\n== stderr 0\n== status live\n== run stalled\n== denials 1\n0abcdef0.12 50 fd 3 base FD_READ inheriting -\n== tree 0\n== history 3\n0 0abcdef0.12 0 call 50 NOTCAPABLE 0 0\n4000 01000002.7 3 trap - - 0 0\n18446744073709551615 01000002.7 3 expire - - 0 0\n",
     },
     Run {
-        may_write: true,
-        deeds: &[],
+        written: None,
         others: &[
             Other::Idle(5_000_000),
             Other::Wake {
@@ -108,14 +84,14 @@ const RUNS: &[Run] = &[
     },
 ];
 
-// Makes a call of the first thread, with its entry. Nothing where that thread can make no call.
-fn make_call(
+// Writes a text in the first thread, with its entry. Nothing where that thread can make no call.
+fn write(
     alloc: Global,
     kernel: &mut Kernel,
     history: &mut History,
-    deed: &Deed,
+    text: &str,
 ) -> Result<(), AllocError> {
-    let call = call_of(alloc, deed)?;
+    let call = write_of(alloc, text)?;
     match answer_to(kernel, &call) {
         None => Ok(()),
         Some(answer) => history.push(Entry {
@@ -244,8 +220,8 @@ fn entry_of(alloc: Global, other: &Other) -> Result<Entry, AllocError> {
 // The history of a run, as the kernel goes through it.
 fn history_of(alloc: Global, kernel: &mut Kernel, run: &Run) -> Result<History, AllocError> {
     let mut history = History::new(alloc);
-    for deed in run.deeds {
-        make_call(alloc, kernel, &mut history, deed)?;
+    if let Some(text) = run.written {
+        write(alloc, kernel, &mut history, text)?;
     }
     for other in run.others {
         history.push(entry_of(alloc, other)?)?;
@@ -257,7 +233,7 @@ fn history_of(alloc: Global, kernel: &mut Kernel, run: &Run) -> Result<History, 
 }
 
 fn report_of(alloc: Global, run: &Run) -> Result<Bytes, AllocError> {
-    let mut kernel = stdout_kernel(alloc, run.may_write)?;
+    let mut kernel = stdout_kernel(alloc)?;
     let history = history_of(alloc, &mut kernel, run)?;
     report(alloc, &kernel, history.as_slice(), run.lines)
 }

@@ -1,12 +1,11 @@
-//! A kernel whose process has one descriptor, of stdout, and calls of its first thread.
-ghost use Rattle.std.specs.Prelude.{◌≡◌, IfOk, IsTrue};
+//! A kernel whose process has one descriptor, of stdout, or none, and calls of its first thread.
+ghost use Rattle.std.specs.Prelude.{◌≡◌, IfOk};
 ghost use Rattle.tree_model.specs.Grants.{AreGrants, MayBegin};
 ghost use Rattle.tree_model.specs.Tree.{Tree};
-ghost use Rattle.abi_base.specs.Rights.{has_all};
 
 use abi_types::{
-    Answer, Bytes, Call, Constants, Errno, Grant, GrantList, GrantTarget, Pid, Rights, Signal,
-    Status, Thread, Tid, Times, Who,
+    Answer, Bytes, Call, Constants, Grant, GrantList, GrantTarget, Pid, Rights, Signal, Status,
+    Thread, Tid, Times, Who,
 };
 use elf_image::{Elf, SegmentList};
 use kernel_core::{Kernel, Launch};
@@ -30,36 +29,14 @@ const TIMES: Times = Times {
     ctim: 0,
 };
 
-/// A call of the first thread.
-pub enum Deed {
-    /// fd_write of a text to a descriptor.
-    Write(u32, &'static str),
-    /// proc_exit with this code.
-    Exit(u32),
-    /// A call of this number, which no call has.
-    Unknown(u64),
-}
-
-// The rights that a first program has on stdout, or those of them but the right to write.
-fn stdout_rights(may_write: bool) -> Rights
-    ensures { IsTrue (has_all 0x10080048 result.0) }
-{
-    if may_write {
-        Rights(0x1008_0048)
-    } else {
-        Rights(0x08)
-    }
-}
-
-// The grant of stdout with these rights.
-fn stdout_grants(alloc: Global, base: Rights) -> Result<GrantList, AllocError>
-    requires { IsTrue (has_all 0x10080048 base.0) }
+// The grant of stdout with all rights of its type.
+fn stdout_grants(alloc: Global) -> Result<GrantList, AllocError>
     ensures { IfOk result (λ grants. (t : Tree) → AreGrants t grants) }
 {
     let mut grants = GrantList::new(alloc);
     grants.push(Grant {
         target: GrantTarget::Terminal(1),
-        base,
+        base: Rights(0x1008_0048),
         inheriting: Rights::NONE,
     })?;
     Ok(grants)
@@ -90,9 +67,9 @@ fn launch_with(alloc: Global, grants: GrantList) -> Result<Launch, AllocError>
     })
 }
 
-/// A kernel whose process has a descriptor of stdout, and may write to it or not.
-pub fn stdout_kernel(alloc: Global, may_write: bool) -> Result<Kernel, AllocError> {
-    let grants = stdout_grants(alloc, stdout_rights(may_write))?;
+/// A kernel whose process has a descriptor of stdout, with all rights of its type.
+pub fn stdout_kernel(alloc: Global) -> Result<Kernel, AllocError> {
+    let grants = stdout_grants(alloc)?;
     Kernel::start(alloc, &launch_with(alloc, grants)?)
 }
 
@@ -101,19 +78,12 @@ pub fn bare_kernel(alloc: Global) -> Result<Kernel, AllocError> {
     Kernel::start(alloc, &launch_with(alloc, GrantList::new(alloc))?)
 }
 
-/// The call of a deed.
-pub fn call_of(alloc: Global, deed: &Deed) -> Result<Call, AllocError> {
-    match deed {
-        Deed::Write(fd, text) => Ok(Call::FdWrite {
-            fd: *fd,
-            bytes: Bytes::of(alloc, text.as_bytes())?,
-        }),
-        Deed::Exit(code) => Ok(Call::ProcExit { code: *code }),
-        Deed::Unknown(number) => Ok(Call::Refused {
-            number: *number,
-            errno: Errno::Nosys,
-        }),
-    }
+/// fd_write of a text to descriptor 0.
+pub fn write_of(alloc: Global, text: &str) -> Result<Call, AllocError> {
+    Ok(Call::FdWrite {
+        fd: 0,
+        bytes: Bytes::of(alloc, text.as_bytes())?,
+    })
 }
 
 // The first thread.

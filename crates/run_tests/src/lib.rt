@@ -6,10 +6,4 @@ mod checks;
 #[cfg(test)]
 mod command_lines;
 #[cfg(test)]
-mod memory_calls;
-#[cfg(test)]
 mod outside_faults;
-#[cfg(test)]
-mod streams;
-#[cfg(test)]
-mod trees;
