@@ -26,22 +26,12 @@ pub struct Given<'a> {
 impl<'a> Given<'a> {
     /// No read and no write fails, `input` has ten bytes, and `tree` has a file.
     pub fn new(words: &'a [&'a str], program: &'a [u8], text: &'a [u8]) -> Given<'a> {
-        Given::over(words, program, text, b"file 3 a\nabc\n")
-    }
-
-    /// The same with another tree document.
-    pub fn over(
-        words: &'a [&'a str],
-        program: &'a [u8],
-        text: &'a [u8],
-        tree: &'a [u8],
-    ) -> Given<'a> {
         Given {
             words,
             program,
             input: b"some input",
             text,
-            tree,
+            tree: b"file 3 a\nabc\n",
             failing_reads: &[],
             failing_writes: &[],
         }

@@ -1,5 +1,5 @@
-//! What a call of the top, or a guest, comes to.
-use run_kit::{Given, WORDS, answered, program_of};
+//! What a call of the top comes to.
+use run_kit::{Given, answered};
 use std::alloc::Global;
 use std::process::Abort;
 use std::test::Fail;
@@ -17,17 +17,4 @@ pub(crate) fn check(
     assert_eq!(rt; sink.bytes(), written, "of {:?}", given.words);
     assert_eq!(rt; finished.status, status, "of {:?}", given.words);
     Ok(finished.kept.map(|record| record.history.len()))
-}
-
-// Looks whether a guest that is given a descriptor ends with this exit status and report; how many entries its history has.
-pub(crate) fn check_guest(
-    rt: &impl Abort,
-    alloc: Global,
-    guest: &str,
-    status: u8,
-    report: &[u8],
-) -> Result<Option<usize>, Fail> {
-    let program = program_of(alloc, guest)?;
-    let given = Given::new(WORDS, &program, b"!fd stdout\n");
-    check(rt, alloc, &given, status, report)
 }
