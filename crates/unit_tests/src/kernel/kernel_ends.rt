@@ -1,0 +1,46 @@
+//! What a kernel says of its first process before and behind its end.
+use crate::kernel::stdout_kernel::{PID, TID, answer_to, expire, stdout_kernel};
+use abi_types::{Call, Signal, Status, Thread};
+use kernel_core::Kernel;
+use std::test::Fail;
+
+// The moment, the process's status, whether it is live, and its first thread.
+type Stand = (u64, Option<Status>, bool, Option<Thread>);
+
+const BEFORE: Stand = (0, Some(Status::Live), true, Some(Thread::Runnable));
+
+// The end at the first call's moment, with this status.
+const fn behind(status: Status) -> Stand {
+    (1000, Some(status), false, None)
+}
+
+fn stand(kernel: &Kernel) -> Stand {
+    (
+        kernel.moment(),
+        kernel.status(PID),
+        kernel.live(PID),
+        kernel.thread(PID, TID),
+    )
+}
+
+#[test]
+fn ends_by_its_exit(rt: HostRuntime) -> Result<(), Fail> {
+    let mut kernel = stdout_kernel(rt.alloc())?;
+    let before = stand(&kernel);
+    let answer = answer_to(&mut kernel, &Call::ProcExit { code: 7 });
+    assert_eq!(rt; answer.is_some(), true);
+    assert_eq!(rt; [before, stand(&kernel)], [BEFORE, behind(Status::Exit(7))]);
+    Ok(())
+}
+
+#[test]
+fn ends_from_outside(rt: HostRuntime) -> Result<(), Fail> {
+    let mut kernel = stdout_kernel(rt.alloc())?;
+    let before = stand(&kernel);
+    expire(&mut kernel);
+    assert_eq!(rt;
+        [before, stand(&kernel)],
+        [BEFORE, behind(Status::Killed(Signal::Xcpu))]
+    );
+    Ok(())
+}

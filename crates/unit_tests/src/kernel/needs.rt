@@ -1,0 +1,453 @@
+//! What those calls name and need that the command answers by NOSYS before the kernel sees them, and their refusals for want of
+//! that: with no descriptor at all, with just what they need, and with each needed right taken away in turn. The same of the
+//! other calls is shown by scripts of calls (docs/GATE.md).
+use crate::kernel::stdout_kernel::{answer_to, bare_kernel};
+use abi_types::{
+    Answer, Bytes, Call, Denial, Descriptor, Errno, FdList, ObjId, OpenType, Reply, Rights,
+    Subscription, SubscriptionList, ThreadAttr, What,
+};
+use fd_table::FdTable;
+use right_rules::{fits, refusal};
+use std::alloc::{AllocError, Global};
+use std::test::Fail;
+
+// A row of needs: a descriptor, and its base rights.
+type Row = (u32, &'static [Rights]);
+
+// A call by its place in `call_at`, the descriptors that must be there, and the rights that it needs of them.
+struct Case {
+    name: &'static str,
+    number: u64,
+    named: &'static [u32],
+    rows: &'static [Row],
+}
+
+const THREAD: ThreadAttr = ThreadAttr {
+    entry: 0x10000,
+    stack: 0,
+    stacklen: 0,
+    argument: 0,
+};
+
+// How many descriptors the tests' tables have.
+const COUNT: u32 = 3;
+
+const CASES: &[Case] = &[
+    Case {
+        name: "clock_res_get",
+        number: 0,
+        named: &[],
+        rows: &[],
+    },
+    Case {
+        name: "clock_time_get",
+        number: 1,
+        named: &[],
+        rows: &[],
+    },
+    Case {
+        name: "condvar_signal",
+        number: 2,
+        named: &[],
+        rows: &[],
+    },
+    // its arguments are always refused before the kernel sees it
+    Case {
+        name: "fd_create1",
+        number: 4,
+        named: &[],
+        rows: &[],
+    },
+    Case {
+        name: "fd_create2",
+        number: 5,
+        named: &[],
+        rows: &[],
+    },
+    Case {
+        name: "lock_unlock",
+        number: 31,
+        named: &[],
+        rows: &[],
+    },
+    Case {
+        name: "poll",
+        number: 37,
+        named: &[0, 1, 2],
+        rows: &[
+            (0, &[Rights::POLL_FD_READWRITE]),
+            (1, &[Rights::POLL_FD_READWRITE]),
+            (2, &[Rights::POLL_PROC_TERMINATE]),
+        ],
+    },
+    Case {
+        name: "proc_exec",
+        number: 38,
+        named: &[0, 1, 2],
+        rows: &[(0, &[Rights::PROC_EXEC])],
+    },
+    Case {
+        name: "proc_fork",
+        number: 40,
+        named: &[],
+        rows: &[],
+    },
+    Case {
+        name: "proc_raise",
+        number: 41,
+        named: &[],
+        rows: &[],
+    },
+    Case {
+        name: "random_get",
+        number: 42,
+        named: &[],
+        rows: &[],
+    },
+    Case {
+        name: "sock_recv",
+        number: 43,
+        named: &[0],
+        rows: &[(0, &[Rights::FD_READ])],
+    },
+    Case {
+        name: "sock_send",
+        number: 44,
+        named: &[0, 1, 2],
+        rows: &[(0, &[Rights::FD_WRITE])],
+    },
+    Case {
+        name: "sock_shutdown",
+        number: 45,
+        named: &[0],
+        rows: &[(0, &[Rights::SOCK_SHUTDOWN])],
+    },
+    Case {
+        name: "thread_create",
+        number: 46,
+        named: &[],
+        rows: &[],
+    },
+    Case {
+        name: "thread_exit",
+        number: 47,
+        named: &[],
+        rows: &[],
+    },
+    Case {
+        name: "thread_yield",
+        number: 48,
+        named: &[],
+        rows: &[],
+    },
+];
+
+// Things to wait for: bytes from 0, a time, room at 1, the end of 2, and a lock.
+fn waits(alloc: Global) -> Result<SubscriptionList, AllocError> {
+    let mut list = SubscriptionList::new(alloc);
+    for what in [
+        What::FdRead { fd: 0 },
+        What::Clock {
+            clock: 1,
+            timeout: 0,
+            precision: 0,
+            flags: 0,
+        },
+        What::FdWrite { fd: 1 },
+        What::ProcTerminate { fd: 2 },
+        What::LockRdlock {
+            lock: 0,
+            word: 0,
+            scope: 4,
+        },
+    ] {
+        list.push(Subscription { userdata: 0, what })?;
+    }
+    Ok(list)
+}
+
+// The descriptors 1 and 2.
+fn listed(alloc: Global) -> Result<FdList, AllocError> {
+    let mut list = FdList::new(alloc);
+    list.push(1)?;
+    list.push(2)?;
+    Ok(list)
+}
+
+// A text that stands for bytes.
+fn text(alloc: Global) -> Result<Bytes, AllocError> {
+    Bytes::of(alloc, b"a")
+}
+
+// The calls of the cases from 0 on.
+fn calls_from_0(place: usize) -> Option<Call> {
+    Some(match place {
+        0 => Call::ClockResGet { clock: 1 },
+        1 => Call::ClockTimeGet {
+            clock: 1,
+            precision: 0,
+        },
+        2 => Call::CondvarSignal {
+            condvar: 0,
+            word: 0,
+            scope: 4,
+            n: 1,
+        },
+        3 => Call::FdCreate1 { kind: 48 },
+        4 => Call::FdCreate2 { kind: 48 },
+        5 => Call::LockUnlock {
+            lock: 0,
+            word: 0,
+            scope: 4,
+        },
+        _ => return None,
+    })
+}
+
+// The calls of the cases from 6 on.
+fn calls_from_6(alloc: Global, place: usize) -> Result<Option<Call>, AllocError> {
+    Ok(Some(match place {
+        6 => Call::Poll {
+            subscriptions: waits(alloc)?,
+        },
+        7 => Call::ProcExec {
+            fd: 0,
+            bytes: text(alloc)?,
+            fds: listed(alloc)?,
+        },
+        8 => Call::ProcFork { left: 100 },
+        9 => Call::ProcRaise { signal: 4 },
+        10 => Call::RandomGet { length: 1 },
+        11 => Call::SockRecv {
+            fd: 0,
+            length: 1,
+            fds: 0,
+            flags: 0,
+        },
+        _ => return Ok(None),
+    }))
+}
+
+// The calls of the cases from 12 on.
+fn calls_from_12(alloc: Global, place: usize) -> Result<Option<Call>, AllocError> {
+    Ok(Some(match place {
+        12 => Call::SockSend {
+            fd: 0,
+            bytes: text(alloc)?,
+            fds: listed(alloc)?,
+            flags: 0,
+        },
+        13 => Call::SockShutdown { fd: 0, how: 1 },
+        14 => Call::ThreadCreate { attributes: THREAD },
+        15 => Call::ThreadExit {
+            lock: 0,
+            word: 0,
+            scope: 4,
+        },
+        16 => Call::ThreadYield,
+        _ => return Ok(None),
+    }))
+}
+
+// The call of a case.
+fn call_at(alloc: Global, place: usize) -> Result<Option<Call>, AllocError> {
+    match place / 6 {
+        0 => Ok(calls_from_0(place)),
+        1 => calls_from_6(alloc, place),
+        _ => calls_from_12(alloc, place),
+    }
+}
+
+// The error and the denial of a refusal, if there is one.
+type Told = Option<(Errno, Option<Denial>)>;
+
+const ABSENT: Told = Some((Errno::Badf, None));
+
+// A right that is taken away from a descriptor.
+#[derive(Clone, Copy)]
+enum Taken {
+    Nothing,
+    Right(u32, Rights),
+}
+
+impl Taken {
+    // The rights, without the one taken from them.
+    fn rest(self, fd: u32, held: Rights) -> Rights {
+        match self {
+            Taken::Right(from, right) if from == fd => held.minus(right),
+            _ => held,
+        }
+    }
+
+    // The refusal that must come of it.
+    fn refusal(self) -> Told {
+        match self {
+            Taken::Nothing => None,
+            Taken::Right(fd, base) => {
+                let denial = Denial::Missing {
+                    fd,
+                    base,
+                    inheriting: Rights::NONE,
+                };
+                Some((Errno::Notcapable, Some(denial)))
+            }
+        }
+    }
+}
+
+// All of these rights.
+fn joined(rights: &[Rights]) -> Rights {
+    let mut all = Rights::NONE;
+    for right in rights {
+        all = Rights(all.0 | right.0);
+    }
+    all
+}
+
+// What the rows need of this descriptor.
+fn needed_of(rows: &[Row], fd: u32) -> Rights {
+    let mut needed = Rights::NONE;
+    for (of, base) in rows {
+        if *of == fd {
+            needed = joined(base);
+        }
+    }
+    needed
+}
+
+// A table with the descriptors 0 to 2, each with just what the rows need of it, less what is taken.
+fn table_of(alloc: Global, rows: &[Row], taken: Taken) -> Result<FdTable, AllocError> {
+    let mut table = FdTable::new(alloc);
+    for fd in 0..COUNT {
+        let descriptor = Descriptor {
+            id: ObjId(u64::from(fd)),
+            base: taken.rest(fd, needed_of(rows, fd)),
+            inheriting: Rights::NONE,
+        };
+        table.insert_at(fd, descriptor)?;
+    }
+    Ok(table)
+}
+
+// The refusal's error and denial, if there is one.
+fn told(reply: Option<Reply>) -> Told {
+    reply.map(|reply| (reply.errno, reply.denial))
+}
+
+// The answer of a kernel whose process has no descriptor.
+fn bare_answer(alloc: Global, call: &Call) -> Result<Option<Errno>, AllocError> {
+    let mut kernel = bare_kernel(alloc)?;
+    Ok(answer_to(&mut kernel, call).map(|Answer::Reply(reply)| reply.errno))
+}
+
+// Nothing, and each right that the rows need, as it is taken away.
+fn takings(alloc: Global, rows: &[Row]) -> Result<Vec<Taken>, AllocError> {
+    let mut list = vec![in alloc; Taken::Nothing]?;
+    for (fd, base) in rows {
+        append(&mut list, *fd, base)?;
+    }
+    Ok(list)
+}
+
+fn append(list: &mut Vec<Taken>, fd: u32, rights: &[Rights]) -> Result<(), AllocError> {
+    for right in rights {
+        list.push(Taken::Right(fd, *right))?;
+    }
+    Ok(())
+}
+
+// What is told with all that is needed, and without each right of it in turn.
+fn told_of_rights(alloc: Global, rows: &[Row], call: &Call) -> Result<Vec<Told>, AllocError> {
+    let mut list = Vec::new(alloc);
+    for taken in takings(alloc, rows)? {
+        let table = table_of(alloc, rows, taken)?;
+        list.push(told(refusal(&table, call)))?;
+    }
+    Ok(list)
+}
+
+// What must be told then.
+fn wanted_of_rights(alloc: Global, rows: &[Row]) -> Result<Vec<Told>, AllocError> {
+    let mut list = Vec::new(alloc);
+    for taken in takings(alloc, rows)? {
+        list.push(taken.refusal())?;
+    }
+    Ok(list)
+}
+
+// What is told without each of the descriptors that the call names in turn.
+fn told_of_descriptors(alloc: Global, case: &Case, call: &Call) -> Result<Vec<Told>, AllocError> {
+    let mut list = Vec::new(alloc);
+    for fd in case.named {
+        let mut table = table_of(alloc, case.rows, Taken::Nothing)?;
+        table.remove(*fd);
+        list.push(told(refusal(&table, call)))?;
+    }
+    Ok(list)
+}
+
+// What a process without descriptors is answered.
+fn bare_wanted(case: &Case) -> Errno {
+    if case.named.is_empty() {
+        Errno::Nosys
+    } else {
+        Errno::Badf
+    }
+}
+
+// Whether a case's call has its number, and is refused by its rights as it must be.
+fn needs_its_rights(alloc: Global, case: &Case, call: &Call) -> Result<bool, AllocError> {
+    let got = told_of_rights(alloc, case.rows, call)?;
+    let right = wanted_of_rights(alloc, case.rows)?;
+    Ok(call.number() == case.number && got.as_slice() == right.as_slice())
+}
+
+// Whether it is BADF without one of the descriptors that the call names.
+fn needs_its_descriptors(alloc: Global, case: &Case, call: &Call) -> Result<bool, AllocError> {
+    let got = told_of_descriptors(alloc, case, call)?;
+    Ok(got.len() == case.named.len() && got.iter().all(|told| *told == ABSENT))
+}
+
+// Whether the case's call is refused as it must be.
+fn is_refused_as_wanted(alloc: Global, place: usize, case: &Case) -> Result<bool, AllocError> {
+    let Some(call) = call_at(alloc, place)? else {
+        return Ok(false);
+    };
+    Ok(
+        needs_its_rights(alloc, case, &call)?
+            && needs_its_descriptors(alloc, case, &call)?
+            && bare_answer(alloc, &call)? == Some(bare_wanted(case)),
+    )
+}
+
+#[test]
+fn needs(rt: HostRuntime) -> Result<(), Fail> {
+    for (place, case) in CASES.iter().enumerate() {
+        let holds = is_refused_as_wanted(rt.alloc(), place, case)?;
+        assert_eq!(rt; holds, true, "{}", case.name);
+    }
+    Ok(())
+}
+
+// The rights of the types of which no program has a descriptor yet, by their bits.
+const TYPES: &[(OpenType, &[u32])] = &[
+    (OpenType::Stream, &[1, 6, 3, 19, 28, 39]),
+    (OpenType::Process, &[19, 30]),
+];
+
+// The set of the rights with these bits.
+fn bits(places: &[u32]) -> Rights {
+    let mut all = Rights::NONE;
+    for place in places {
+        all = Rights(all.0 | 1u64.wrapping_shl(*place));
+    }
+    all
+}
+
+#[test]
+fn types_have_their_rights(rt: HostRuntime) -> Result<(), Fail> {
+    for (kind, places) in TYPES {
+        assert_eq!(rt; fits(*kind), bits(places));
+    }
+    Ok(())
+}

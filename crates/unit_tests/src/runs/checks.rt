@@ -1,0 +1,20 @@
+//! What a call of the top comes to.
+use crate::runs::calls::{Given, answered};
+use std::alloc::Global;
+use std::process::Abort;
+use std::test::Fail;
+
+// Looks whether the call answers this status and writes this; how many entries the history has of the record that it
+// keeps, if it keeps one.
+pub(crate) fn check(
+    rt: &impl Abort,
+    alloc: Global,
+    given: &Given<'_>,
+    status: u8,
+    written: &[u8],
+) -> Result<Option<usize>, Fail> {
+    let (finished, sink) = answered(alloc, given)?;
+    assert_eq!(rt; sink.bytes(), written, "of {:?}", given.words);
+    assert_eq!(rt; finished.status, status, "of {:?}", given.words);
+    Ok(finished.kept.map(|record| record.history.len()))
+}

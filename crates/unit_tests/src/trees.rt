@@ -1,0 +1,4 @@
+//! File trees and walks over them.
+
+mod acts;
+mod rows;
