@@ -35,6 +35,10 @@ static bool has_differed;
 static uint64_t line;
 static const char *at, *end;
 
+/* The widths of the fields of the structure that the output must be, if it is one; a negative one is that of bytes between fields. */
+static const int8_t *wanted_fields;
+static const int8_t filestat_fields[] = {-8, 8, 1, -3, 4, 8, 8, 8, 8, 0}, fdstat_fields[] = {1, -1, 2, -4, 8, 8, 0};
+
 /* Its registers: a0 to a7, how many of them arguments filled, and what they must be behind the call. */
 static uint64_t registers[8], wanted_registers[8];
 static size_t filled;
@@ -95,6 +99,29 @@ static void tell_bytes(const uint8_t *bytes, size_t length)
     tell(length > 80 ? "\".." : "\"");
 }
 
+/* The numbers of a structure's fields. */
+static void tell_fields(const uint8_t *bytes, const int8_t *widths)
+{
+    tell(widths == filestat_fields ? "stat" : "fdstat");
+    for (; *widths != 0; bytes += *widths < 0 ? -*widths : *widths, ++widths) {
+        uint64_t number = 0;
+        for (int i = *widths; i-- > 0;)
+            number = number << 8 | bytes[i];
+        if (*widths > 0) {
+            tell(" ");
+            tell_number(number);
+        }
+    }
+}
+
+static void tell_output(const uint8_t *bytes, size_t length)
+{
+    if (wanted_fields != NULL && length == wanted.length)
+        tell_fields(bytes, wanted_fields);
+    else
+        tell_bytes(bytes, length);
+}
+
 /* What stands before it in the output may not end with a line feed. */
 static void begin_line(void)
 {
@@ -132,7 +159,10 @@ _Noreturn static void cannot_read(const char *why)
     begin_line();
     tell("cannot be read: ");
     tell(why);
-    tell("\n");
+    tell(", before `");
+    for (const char *rest = at; rest < end && rest < at + 40; ++rest)
+        tell_byte((uint8_t)*rest);
+    tell("`\n");
     finish(2);
 }
 
@@ -235,6 +265,7 @@ static uint64_t read_name(void)
         if (is(word, errors[i].name))
             return errors[i].value;
     }
+    at = word.start;
     cannot_read(word.length == 0 ? "a number is missing" : "a number has an unknown name");
 }
 
@@ -473,7 +504,7 @@ static void read_argument(char kind)
         return;
     if (at == end || stands(" = "))
         cannot_read("an argument is missing");
-    want(" ", "an argument has more behind it");
+    want(" ", "an argument, a space or ` = ` is missing");
     switch (kind) {
     case 't': read_text_argument(); break;
     case 'r': read_ranges(read_room); break;
@@ -502,8 +533,10 @@ static const struct call *read_call(void)
         if (is_number ? calls[i].number == number : is(word, calls[i].name))
             call = &calls[i];
     }
-    if (!is_number && call == &unknown)
+    if (!is_number && call == &unknown) {
+        at = word.start;
         cannot_read("a call has an unknown name");
+    }
     bool is_raw = skip("!");
     if (is_number && !is_raw)
         cannot_read("a number of a call has no !");
@@ -540,7 +573,7 @@ static void read_entry(void)
 /* Reads bytes that the call must write, if such stand here. */
 static bool read_output(void)
 {
-    static const int8_t filestat[] = {-8, 8, 1, -3, 4, 8, 8, 8, 8, 0}, fdstat[] = {1, -1, 2, -4, 8, 8, 0};
+    wanted_fields = NULL;
     if (stands("\"")) {
         read_text(&wanted);
     } else if (stands("<")) {
@@ -550,9 +583,11 @@ static bool read_output(void)
             read_entry();
         } while (stands("{"));
     } else if (skip("stat ")) {
-        read_fields(&wanted, filestat, 0);
+        wanted_fields = wanted.length == 0 ? filestat_fields : NULL;
+        read_fields(&wanted, filestat_fields, 0);
     } else if (skip("fdstat ")) {
-        read_fields(&wanted, fdstat, 0);
+        wanted_fields = wanted.length == 0 ? fdstat_fields : NULL;
+        read_fields(&wanted, fdstat_fields, 0);
     } else {
         return false;
     }
@@ -566,13 +601,14 @@ static uint64_t read_error(void)
         if (is(word, errors[i].name + 1))
             return errors[i].value;
     }
+    at = word.start;
     cannot_read("an error has an unknown name");
 }
 
 static void read_answer(const struct call *call)
 {
     uint64_t count = 0, parts = 0;
-    want(" = ", "an argument has more behind it");
+    want(" = ", "` = ` is missing");
     wanted_registers[0] = read_error();
     uint64_t results = wanted_registers[0] == CLOUDABI_ESUCCESS ? call->results : 0;
     while (skip(" ")) {
@@ -583,7 +619,7 @@ static void read_answer(const struct call *call)
         else if (parts == 0 && count < results)
             wanted_registers[++count] = read_number();
         else
-            cannot_read("there are too many results");
+            cannot_read("no further result may stand here");
     }
     if (count == 0 && results == 1 && parts > 0)
         wanted_registers[1] = wanted.length;
@@ -639,12 +675,15 @@ static void tell_answer(const uint64_t *own, const uint64_t *other, const uint8_
             tell(", a");
             tell_number(i);
             tell(" ");
-            tell_number(own[i]);
+            if (own[0] != CLOUDABI_ESUCCESS && own[i] == registers[i])
+                tell("as it was");
+            else
+                tell_number(own[i]);
         }
     }
     if (differs) {
         tell(", output ");
-        tell_bytes(bytes, length);
+        tell_output(bytes, length);
     }
 }
 
@@ -681,6 +720,7 @@ static void make_row(void)
 {
     uint64_t came[8];
     arena.length = wanted.length = ranges_end = filled = 0;
+    wanted_fields = NULL;
     const struct call *call = read_call();
     bool is_last = at == end && may_end(registers[7]);
     for (size_t i = 0; i < 8; ++i)
