@@ -20,11 +20,11 @@ use Rattle.kernel_model.specs.ClockCalls.{real_time}
 use Rattle.kernel_model.specs.DescriptorCalls.{lowest_free}
 use Rattle.kernel_model.specs.FileMeaning.{open_of}
 use Rattle.kernel_model.specs.FilePaths.{walked}
-use Rattle.kernel_model.specs.Numbers.{can_number, next_object, own_updates}
+use Rattle.kernel_model.specs.Numbers.{can_number, next_object, process_updates}
 use Rattle.kernel_model.specs.Opening.{Opened, NotOpened, OpenedOutside, Opens, open_at, open_mode, open_walked, opened_descriptor, opened_outcome}
 use Rattle.kernel_model.specs.Outcome.{Outcome, OnReply, replies}
 use Rattle.kernel_model.specs.Reply.{refused, success}
-use Rattle.kernel_model.specs.State.{State, Own, Table, put_all, set_open, set_table}
+use Rattle.kernel_model.specs.State.{State, ProcessState, Table, put_all, set_open, set_table}
 use Rattle.kernel_model.specs.Step.{tick, outcome, step_answer, unreleased, IsStep}
 use Rattle.kernel_model.specs.TreeUpdates.{change_updates}
 use Rattle.kernel_model.specs.Valid.{fits, fits_inheriting}
@@ -61,7 +61,7 @@ notcapable_is_error : Notcapable ≢ Success
 notcapable_is_error e = cc
 
 module _ (S : State) (p : ℕ) (table : Table) (lookup : Lookup) (path : List ℕ) (oflags : ℕ) (stat : FdStat) (there : get S.tables p ≡ Some table) where
-  number_opens : (own : Option Own) (fd : ℕ) (o : Opened) → RefusesByError o → lowest_free table ≡ Some fd
+  number_opens : (own : Option ProcessState) (fd : ℕ) (o : Opened) → RefusesByError o → lowest_free table ≡ Some fd
       → GivesOpen S p (opened_outcome p own table stat fd o)
   number_opens own fd (NotOpened errno) other free = λ success. absurd (other success)
   number_opens own fd (OpenedOutside component) other free = λ success. absurd (notcapable_is_error success)
@@ -72,7 +72,7 @@ module _ (S : State) (p : ℕ) (table : Table) (lookup : Lookup) (path : List �
         updates =
             set_open (next_object p own (makes + 1)) kind
             ∷ set_table p (insert table fd (opened_descriptor (next_object p own (makes + 1)) kind stat))
-            ∷ (own_updates p (makes + 1) own ++ change_updates change);
+            ∷ (process_updates p (makes + 1) own ++ change_updates change);
       }) (replies (refused Again)))) [
         | true ↦ λ can success. (
           ap (λ t. row_in t fd) there ∙ free_is_absent table _ 0 fd free,
@@ -81,20 +81,20 @@ module _ (S : State) (p : ℕ) (table : Table) (lookup : Lookup) (path : List �
         | false ↦ λ _ success. absurd (again_is_error success)
       ] refl
 
-  free_opens : (own : Option Own) (o : Opened) (number : Option ℕ) → RefusesByError o → lowest_free table ≡ number
+  free_opens : (own : Option ProcessState) (o : Opened) (number : Option ℕ) → RefusesByError o → lowest_free table ≡ number
       → GivesOpen S p (open_at p own table stat o number)
   free_opens own o None other free = λ success. absurd (mfile_is_error success)
   free_opens own o (Some fd) other free = number_opens own fd o other free
 
   call_opens : (constants : Constants) (v : View) → GivesOpen S p
-      (open_at p (v.own p) table stat
-      (open_walked oflags stat.flags path (real_time constants v.clock) (next_object p (v.own p) 1) v.branch
+      (open_at p (v.process p) table stat
+      (open_walked oflags stat.flags path (real_time constants v.clock) (next_object p (v.process p) 1) v.branch
       (walked v.branch (open_mode oflags lookup.flags) path (open_of v (get table lookup.fd))))
       (lowest_free table))
   call_opens constants v =
       let w = walked v.branch (open_mode oflags lookup.flags) path (open_of v (get table lookup.fd)) in
-      free_opens (v.own p) (open_walked oflags stat.flags path (real_time constants v.clock) (next_object p (v.own p) 1) v.branch w) (lowest_free table)
-      (walk_by_error oflags stat.flags path (real_time constants v.clock) (next_object p (v.own p) 1) v.branch w
+      free_opens (v.process p) (open_walked oflags stat.flags path (real_time constants v.clock) (next_object p (v.process p) 1) v.branch w) (lowest_free table)
+      (walk_by_error oflags stat.flags path (real_time constants v.clock) (next_object p (v.process p) 1) v.branch w
       (walked_plainly v.branch (open_mode oflags lookup.flags) path (open_of v (get table lookup.fd)))) refl
 
 outcome_opens : (constants : Constants) (S : State) (who : Who) (lookup : Lookup) (path : List ℕ) (oflags : ℕ) (stat : FdStat)

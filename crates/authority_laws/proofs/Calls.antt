@@ -23,17 +23,17 @@ use Rattle.maps.specs.Maps.{get-insert-same}
 use Rattle.kernel_model.specs.Calls.{meaning_of, refusal_of}
 use Rattle.kernel_model.specs.DescriptorCalls.{with_table, lowest_free, dup_at, dup_of, replaced_by, stat_open, stat_get, with_flags, lowered_to, stat_set, stat_put}
 use Rattle.kernel_model.specs.ClockCalls.{real_time}
-use Rattle.kernel_model.specs.FileCalls.{file_meaning, opened_fd}
+use Rattle.kernel_model.specs.FileCalls.{file_meaning, file_fd}
 use Rattle.kernel_model.specs.FileMeaning.{on_open, open_of}
 use Rattle.kernel_model.specs.FilePaths.{walked}
 use Rattle.kernel_model.specs.Meaning.{Meaning}
 use Rattle.kernel_model.specs.NameMaking.{making, making_unless, text_error}
-use Rattle.kernel_model.specs.NameMeaning.{Comes, outcome_of}
+use Rattle.kernel_model.specs.NameMeaning.{NameOutcome, outcome_of}
 use Rattle.kernel_model.specs.Numbers.{next_object}
 use Rattle.kernel_model.specs.Opening.{open_mode, open_walked}
 use Rattle.kernel_model.specs.Outcome.{Outcome, replies}
 use Rattle.kernel_model.specs.Reply.{refused, success}
-use Rattle.kernel_model.specs.State.{State, Own, Table, put_all, put_one, set_open, set_table}
+use Rattle.kernel_model.specs.State.{State, ProcessState, Table, put_all, put_one, set_open, set_table}
 use Rattle.kernel_model.specs.StreamCalls.{reading, seeking, writing}
 use Rattle.kernel_model.specs.MemoryCalls.{is_anonymous, map_row, map_zeros, mapping}
 use Rattle.kernel_model.specs.OpenMeaning.{OpenMeaning, by_open}
@@ -53,7 +53,7 @@ use Rattle.authority_laws.proofs.Rows.{LeavesRow, row_in, row_of, row_emptied, r
 abbrev IsTold : Call → Type 0
 IsTold call =
     (constants : Constants) (S : State) (v : View) (who : Who) (table : Table) → get S.tables who.pid ≡ Some table
-    → LeavesRow S who.pid call ((meaning_of call).does constants v who table)
+    → LeavesRow S who.pid call ((meaning_of call).effect constants v who table)
 
 -- ---- calls that change no table, and that have no line of their own
 
@@ -74,8 +74,8 @@ kept S p call o nothing same =
 -- a call that may make another open of that of a descriptor
 moved_told : (called : Call) (m : OpenMeaning) (row : Needed) → OpensWell m → GrantsNothing called → meaning_of called ≡ by_open row m → IsTold called
 moved_told called m row well nothing means constants S v who table there =
-    let o : Outcome = (by_open row m).does constants v who table in
-    subst (λ (x : Meaning). LeavesRow S who.pid called (x.does constants v who table)) (sym means)
+    let o : Outcome = (by_open row m).effect constants v who table in
+    subst (λ (x : Meaning). LeavesRow S who.pid called (x.effect constants v who table)) (sym means)
     (kept S who.pid called o nothing
     (apart_tables o.updates S (apart_descriptor m well (real_time constants v.clock) v (get table row.fd))))
 
@@ -93,31 +93,31 @@ fd_stat_get_told fd constants S v who table there =
 
 -- a call that succeeds, and does no more
 nothing_told : (call : Call) → GrantsNothing call
-    → ((constants : Constants) (v : View) (who : Who) (table : Table) → (meaning_of call).does constants v who table ≡ replies (success 0 0)) → IsTold call
+    → ((constants : Constants) (v : View) (who : Who) (table : Table) → (meaning_of call).effect constants v who table ≡ replies (success 0 0)) → IsTold call
 nothing_told call nothing is constants S v who table there =
     subst (LeavesRow S who.pid call) (sym (is constants v who table)) (kept S who.pid call (replies (success 0 0)) nothing refl)
 
 -- a call that works on the open of a descriptor: it changes the file tree alone
-file_told : (called : Call) (fd : ℕ) → GrantsNothing called → opened_fd called ≡ Some fd → IsTold called
+file_told : (called : Call) (fd : ℕ) → GrantsNothing called → file_fd called ≡ Some fd → IsTold called
 file_told called fd nothing is constants S v who table there =
     let on = on_open_of called fd is in
-    let o : Outcome = (on_open on.row (file_meaning called)).does constants v who table in
-    subst (λ (m : Meaning). LeavesRow S who.pid called (m.does constants v who table)) (sym on.means)
+    let o : Outcome = (on_open on.row (file_meaning called)).effect constants v who table in
+    subst (λ (m : Meaning). LeavesRow S who.pid called (m.effect constants v who table)) (sym on.means)
     (kept S who.pid called o nothing
     (tree_tables o.updates S (on.well.tree (real_time constants v.clock) v.branch (open_of v (get table on.row.fd)))))
 
 -- mem_map: with zeros it changes nothing, and else it works on an open
 zeros_kept : (S : State) (constants : Constants) (v : View) (who : Who) (table : Table) (place : Place)
-    → KeepsTables S ((map_zeros place).does constants v who table)
+    → KeepsTables S ((map_zeros place).effect constants v who table)
 zeros_kept S constants v who table place = refl
 
 mem_map_told : (place : Place) (length prot flags fd offset : ℕ) → IsTold (MemMap place length prot flags fd offset)
 mem_map_told place length prot flags fd offset =
     elim (is_anonymous flags) as (λ b. is_anonymous flags ≡ b → IsTold (MemMap place length prot flags fd offset)) [
       | true ↦ λ is constants S v who table there.
-          subst (λ (m : Meaning). LeavesRow S who.pid (MemMap place length prot flags fd offset) (m.does constants v who table))
+          subst (λ (m : Meaning). LeavesRow S who.pid (MemMap place length prot flags fd offset) (m.effect constants v who table))
           (sym (ap (λ b. cond b (map_zeros place) (on_open (map_row fd prot) (mapping place length offset))) is))
-          (kept S who.pid (MemMap place length prot flags fd offset) ((map_zeros place).does constants v who table) (λ made row reply. refl)
+          (kept S who.pid (MemMap place length prot flags fd offset) ((map_zeros place).effect constants v who table) (λ made row reply. refl)
           (zeros_kept S constants v who table place))
       | false ↦ λ is.
           file_told (MemMap place length prot flags fd offset) fd (λ made row reply. refl) (ap (λ b. cond b None (Some fd)) is)
@@ -125,8 +125,8 @@ mem_map_told place length prot flags fd offset =
 
 -- a call that makes, moves or takes away names: it changes the tree and what its process has made alone
 named_told : (call : Call) → GrantsNothing call
-    → ((constants : Constants) (v : View) (who : Who) (table : Table) → (makes : ℕ) × (own : Option Own) × (comes : Comes)
-    × ((meaning_of call).does constants v who table ≡ outcome_of who.pid own makes comes)) → IsTold call
+    → ((constants : Constants) (v : View) (who : Who) (table : Table) → (makes : ℕ) × (own : Option ProcessState) × (comes : NameOutcome)
+    × ((meaning_of call).effect constants v who table ≡ outcome_of who.pid own makes comes)) → IsTold call
 named_told call nothing is constants S v who table there =
     let comes = is constants v who table in
     subst (LeavesRow S who.pid call) (sym comes.3)
@@ -135,10 +135,10 @@ named_told call nothing is constants S v who table there =
 -- file_open
 file_open_told : (lookup : Lookup) (path : List ℕ) (oflags : ℕ) (stat : FdStat) → IsTold (FileOpen lookup path oflags stat)
 file_open_told lookup path oflags stat constants S v who table there =
-    open_told S who.pid table lookup path oflags stat there (v.own who.pid) (lowest_free table)
-    (open_walked oflags stat.flags path (real_time constants v.clock) (next_object who.pid (v.own who.pid) 1) v.branch
+    open_told S who.pid table lookup path oflags stat there (v.process who.pid) (lowest_free table)
+    (open_walked oflags stat.flags path (real_time constants v.clock) (next_object who.pid (v.process who.pid) 1) v.branch
     (walked v.branch (open_mode oflags lookup.flags) path (open_of v (get table lookup.fd))))
-    (walk_by_error oflags stat.flags path (real_time constants v.clock) (next_object who.pid (v.own who.pid) 1) v.branch
+    (walk_by_error oflags stat.flags path (real_time constants v.clock) (next_object who.pid (v.process who.pid) 1) v.branch
     (walked v.branch (open_mode oflags lookup.flags) path (open_of v (get table lookup.fd)))
     (walked_plainly v.branch (open_mode oflags lookup.flags) path (open_of v (get table lookup.fd))))
 
@@ -148,7 +148,7 @@ decided_told call errno S p nothing = kept S p call (replies (refused errno)) no
 
 -- a call that isn't built yet
 unbuilt_told : (call : Call) → GrantsNothing call
-    → ((constants : Constants) (v : View) (who : Who) (table : Table) → (meaning_of call).does constants v who table ≡ replies (refused Nosys)) → IsTold call
+    → ((constants : Constants) (v : View) (who : Who) (table : Table) → (meaning_of call).effect constants v who table ≡ replies (refused Nosys)) → IsTold call
 unbuilt_told call nothing is constants S v who table there =
     subst (LeavesRow S who.pid call) (sym (is constants v who table)) (decided_told call Nosys S who.pid nothing)
 
@@ -248,23 +248,23 @@ told (call.FdWrite fd bytes) = moved_told (call.FdWrite fd bytes) (writing bytes
 told (call.FileAdvise fd offset length advice) = nothing_told (call.FileAdvise fd offset length advice) (λ made row reply. refl) (λ constants v who table. refl)
 told (call.FileAllocate fd offset length) = file_told (call.FileAllocate fd offset length) fd (λ made row reply. refl) refl
 told (call.FileCreate fd path kind) =
-    named_told (call.FileCreate fd path kind) (λ made row reply. refl) (λ constants v who table. (1, v.own who.pid, _, refl))
+    named_told (call.FileCreate fd path kind) (λ made row reply. refl) (λ constants v who table. (1, v.process who.pid, _, refl))
 told (call.FileLink lookup path new_fd new_path) =
-    named_told (call.FileLink lookup path new_fd new_path) (λ made row reply. refl) (λ constants v who table. (0, v.own who.pid, _, refl))
+    named_told (call.FileLink lookup path new_fd new_path) (λ made row reply. refl) (λ constants v who table. (0, v.process who.pid, _, refl))
 told (call.FileOpen lookup path oflags stat) = file_open_told lookup path oflags stat
 told (call.FileReaddir fd length cookie) = file_told (call.FileReaddir fd length cookie) fd (λ made row reply. refl) refl
 told (call.FileReadlink fd path length) = file_told (call.FileReadlink fd path length) fd (λ made row reply. refl) refl
 told (call.FileRename fd path new_fd new_path) =
-    named_told (call.FileRename fd path new_fd new_path) (λ made row reply. refl) (λ constants v who table. (0, v.own who.pid, _, refl))
+    named_told (call.FileRename fd path new_fd new_path) (λ made row reply. refl) (λ constants v who table. (0, v.process who.pid, _, refl))
 told (call.FileStatFget fd) = file_told (call.FileStatFget fd) fd (λ made row reply. refl) refl
 told (call.FileStatFput fd stat flags) = file_told (call.FileStatFput fd stat flags) fd (λ made row reply. refl) refl
 told (call.FileStatGet lookup path) = file_told (call.FileStatGet lookup path) lookup.fd (λ made row reply. refl) refl
 told (call.FileStatPut lookup path stat flags) = file_told (call.FileStatPut lookup path stat flags) lookup.fd (λ made row reply. refl) refl
 told (call.FileSymlink text fd path) =
     named_told (call.FileSymlink text fd path) (λ made row reply. refl)
-    (λ constants v who table. ((making_unless (text_error text) (making (Link text) path)).makes, v.own who.pid, _, refl))
+    (λ constants v who table. ((making_unless (text_error text) (making (Link text) path)).makes, v.process who.pid, _, refl))
 told (call.FileUnlink fd path flags) =
-    named_told (call.FileUnlink fd path flags) (λ made row reply. refl) (λ constants v who table. (0, v.own who.pid, _, refl))
+    named_told (call.FileUnlink fd path flags) (λ made row reply. refl) (λ constants v who table. (0, v.process who.pid, _, refl))
 told (call.LockUnlock lock word scope) = unbuilt_told (call.LockUnlock lock word scope) (λ made row reply. refl) (λ constants v who table. refl)
 told (call.MemMap place length prot flags fd offset) = mem_map_told place length prot flags fd offset
 told (call.Memory number errno) = λ constants S v who table there. decided_told (call.Memory number errno) errno S who.pid (λ made row reply. refl)

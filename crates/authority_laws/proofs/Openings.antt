@@ -14,12 +14,12 @@ use Rattle.abi_types.specs.declared.open_kind.OpenKind.{OpenKind}
 use Rattle.abi_types.specs.declared.reply.Answer.TheVariants as answer
 use Rattle.maps.specs.Maps.{get-insert-same}
 use Rattle.kernel_model.specs.FilePaths.{Walked, Ends, Fails, LeadsOutside}
-use Rattle.kernel_model.specs.Numbers.{can_number, made_more, next_object, object_of, own_updates}
+use Rattle.kernel_model.specs.Numbers.{can_number, made_more, next_object, object_of, process_updates}
 use Rattle.kernel_model.specs.Opening.{Opened, NotOpened, OpenedOutside, Opens, open_at, open_end, open_walked, opened_descriptor, opened_outcome}
 use Rattle.kernel_model.specs.Outcome.{replies}
 use Rattle.kernel_model.specs.Proper.{IsIn}
 use Rattle.kernel_model.specs.Reply.{refused, success}
-use Rattle.kernel_model.specs.State.{State, Own, Table, Tree, tree_of, counts_in, put_all, put_one, set_open, set_table}
+use Rattle.kernel_model.specs.State.{State, ProcessState, Table, Tree, tree_of, counts_in, put_all, put_one, set_open, set_table}
 use Rattle.kernel_model.specs.TreeUpdates.{Change, change_updates}
 use Rattle.kernel_model.proofs.FilePaths.{FailsPlainly}
 use Rattle.kernel_model.proofs.Lists.{in_all}
@@ -57,28 +57,28 @@ walk_by_error oflags flags path now new t (LeadsOutside component) plain = tt
 
 -- ---- the state after an open was made
 
-own_tables : (T : State) (p count : ℕ) (own : Option Own) → (put_all (own_updates p count own) T).tables ≡ T.tables
-own_tables T p zero own = refl
-own_tables T p (suc count) None = refl
-own_tables T p (suc count) (Some own) = refl
+process_tables : (T : State) (p count : ℕ) (own : Option ProcessState) → (put_all (process_updates p count own) T).tables ≡ T.tables
+process_tables T p zero own = refl
+process_tables T p (suc count) None = refl
+process_tables T p (suc count) (Some own) = refl
 
-own_opens : (T : State) (p count : ℕ) (own : Option Own) → (put_all (own_updates p count own) T).opens ≡ T.opens
-own_opens T p zero own = refl
-own_opens T p (suc count) None = refl
-own_opens T p (suc count) (Some own) = refl
+process_opens : (T : State) (p count : ℕ) (own : Option ProcessState) → (put_all (process_updates p count own) T).opens ≡ T.opens
+process_opens T p zero own = refl
+process_opens T p (suc count) None = refl
+process_opens T p (suc count) (Some own) = refl
 
-own_count : (T : State) (p count : ℕ) (own : Option Own) → 1 ≤ count → can_number p count own ≡ true
-    → (counts_in (get (put_all (own_updates p count own) T).own p)).objects ≡ (counts_in own).objects + count
-own_count T p zero own some can = absurd (omega (arith, some))
-own_count T p (suc count) None some can = absurd (not_true can)
-own_count T p (suc count) (Some own) some can = ap (λ o. (counts_in o).objects) (get-insert-same T.own p (made_more (suc count) own))
+process_count : (T : State) (p count : ℕ) (own : Option ProcessState) → 1 ≤ count → can_number p count own ≡ true
+    → (counts_in (get (put_all (process_updates p count own) T).processes p)).objects ≡ (counts_in own).objects + count
+process_count T p zero own some can = absurd (omega (arith, some))
+process_count T p (suc count) None some can = absurd (not_true can)
+process_count T p (suc count) (Some own) some can = ap (λ o. (counts_in o).objects) (get-insert-same T.processes p (made_more (suc count) own))
 
 module _ (S : State) (p : ℕ) (table : Table) (lookup : Lookup) (path : List ℕ) (oflags : ℕ) (stat : FdStat) (there : get S.tables p ≡ Some table) where
   -- the call whose outcome is looked at
   abbrev opening : Call
   opening = FileOpen lookup path oflags stat
 
-  module _ (own : Option Own) (fd : ℕ) (kind : OpenKind) (change : Change) (count : ℕ) (some : 1 ≤ count) (can : can_number p count own ≡ true) where
+  module _ (own : Option ProcessState) (fd : ℕ) (kind : OpenKind) (change : Change) (count : ℕ) (some : 1 ≤ count) (can : can_number p count own ≡ true) where
     -- the open that is made, and its descriptor
     abbrev made : ℕ
     made = next_object p own count
@@ -91,21 +91,21 @@ module _ (S : State) (p : ℕ) (table : Table) (lookup : Lookup) (path : List �
     opened = put_one (set_table p (insert table fd given)) (put_one (set_open made kind) S)
 
     abbrev counted : State
-    counted = put_all (own_updates p count own) opened
+    counted = put_all (process_updates p count own) opened
 
     abbrev after : State
-    after = put_all (own_updates p count own ++ change_updates change) opened
+    after = put_all (process_updates p count own ++ change_updates change) opened
 
     after_is : after ≡ with_tree (tree_of (put_all (change_updates change) counted)) counted
-    after_is = put_both (own_updates p count own) (change_updates change) opened ∙ tree_same (change_updates change) counted (change_of_tree change)
+    after_is = put_both (process_updates p count own) (change_updates change) opened ∙ tree_same (change_updates change) counted (change_of_tree change)
 
     number_is : (last_made after p).number ≡ made
     number_is =
-        ap (λ (T : State). object_of p (counts_in (get T.own p)).objects) after_is ∙ ap (object_of p) (own_count opened p count own some can)
+        ap (λ (T : State). object_of p (counts_in (get T.processes p)).objects) after_is ∙ ap (object_of p) (process_count opened p count own some can)
 
     kind_is : (last_made after p).kind ≡ Some kind
     kind_is =
-        ap (get after.opens) number_is ∙ ap (λ (T : State). get T.opens made) after_is ∙ ap (λ opens. get opens made) (own_opens opened p count own)
+        ap (get after.opens) number_is ∙ ap (λ (T : State). get T.opens made) after_is ∙ ap (λ opens. get opens made) (process_opens opened p count own)
         ∙ get-insert-same S.opens made kind
 
     held_is : opened_held (last_made after p) stat ≡ Some given
@@ -113,7 +113,7 @@ module _ (S : State) (p : ℕ) (table : Table) (lookup : Lookup) (path : List �
 
     row_is : row_of after p ≡ with_held (row_of S p) fd (opened_held (last_made after p) stat)
     row_is =
-        ap (λ (T : State). row_of T p) after_is ∙ ap (λ tables. row_in (get tables p)) (own_tables opened p count own)
+        ap (λ (T : State). row_of T p) after_is ∙ ap (λ tables. row_in (get tables p)) (process_tables opened p count own)
         ∙ ap row_in (get-insert-same S.tables p (insert table fd given)) ∙ row_inserted table fd given
         ∙ (λ i. with_held (sym (ap row_in there) i) fd (sym held_is i))
 
@@ -121,7 +121,7 @@ module _ (S : State) (p : ℕ) (table : Table) (lookup : Lookup) (path : List �
     pub row_has : IsSome (row_of after p fd)
     row_has = ap is_some ((λ i. row_is i fd) ∙ held_here (row_of S p) fd (opened_held (last_made after p) stat) ∙ held_is)
 
-  opened_told : (own : Option Own) (fd : ℕ) (o : Opened) → RefusesByError o → LeavesRow S p opening (opened_outcome p own table stat fd o)
+  opened_told : (own : Option ProcessState) (fd : ℕ) (o : Opened) → RefusesByError o → LeavesRow S p opening (opened_outcome p own table stat fd o)
   opened_told own fd (NotOpened errno) other = refused_told S p opening errno other
   opened_told own fd (OpenedOutside component) other = refl
   opened_told own fd (Opens kind change makes) other =
@@ -131,12 +131,12 @@ module _ (S : State) (p : ℕ) (table : Table) (lookup : Lookup) (path : List �
         updates =
             set_open (next_object p own (makes + 1)) kind
             ∷ set_table p (insert table fd (opened_descriptor (next_object p own (makes + 1)) kind stat))
-            ∷ (own_updates p (makes + 1) own ++ change_updates change);
+            ∷ (process_updates p (makes + 1) own ++ change_updates change);
       }) (replies (refused Again)))) [
         | true ↦ λ can. row_is own fd kind change (makes + 1) (omega arith) can
         | false ↦ λ _. refl
       ] refl
 
-  pub open_told : (own : Option Own) (free : Option ℕ) (o : Opened) → RefusesByError o → LeavesRow S p opening (open_at p own table stat o free)
+  pub open_told : (own : Option ProcessState) (free : Option ℕ) (o : Opened) → RefusesByError o → LeavesRow S p opening (open_at p own table stat o free)
   open_told own None o other = refused_told S p opening Mfile mfile_is_error
   open_told own (Some fd) o other = opened_told own fd o other

@@ -20,7 +20,7 @@ use Rattle.run_types.specs.declared.launch.Launch.{Launch}
 use Rattle.kernel_model.specs.Calls.{named, need}
 use Rattle.kernel_model.specs.Need.{has_needed}
 use Rattle.kernel_model.specs.Proper.{IsIn}
-use Rattle.kernel_model.specs.Sight.{own_parts, behind}
+use Rattle.kernel_model.specs.Sight.{process_parts, behind}
 use Rattle.kernel_model.specs.State.{State, Table, Tree, Part, at_open, has_part}
 use Rattle.kernel_model.specs.Step.{sight}
 use Rattle.run_model.specs.Legal.{Legal}
@@ -157,7 +157,7 @@ pub record IsReachedByNamed (S : State) (l : Ledger) (tree : Tree) (grants : Lis
 abbrev pub SeesByHeld : State → Ledger → Tree → List Grant → Type 0
 SeesByHeld S l tree grants =
     (who : Who) (call : Call) (part : Part) → has_part (sight S who call) part ≡ true
-    → (has_part (own_parts who.pid) part ≡ true) ⊎ (IsReachedByHeld S l tree grants who.pid (need call) part ⊎ IsReachedByNamed S l tree grants who.pid call part)
+    → (has_part (process_parts who.pid) part ≡ true) ⊎ (IsReachedByHeld S l tree grants who.pid (need call) part ⊎ IsReachedByNamed S l tree grants who.pid call part)
 
 -- So it is in the world of a legal history.
 abbrev pub SightIsRecorded : Type 0

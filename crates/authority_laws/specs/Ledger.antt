@@ -57,8 +57,8 @@ pub record Made : Type 0 where
 -- It has the number of its process's count. So an entry after which a state is says which open the entry made.
 abbrev pub last_made : State → ℕ → Made
 last_made S p = record {
-  number = object_of p (counts_in (get S.own p)).objects;
-  kind = get S.opens (object_of p (counts_in (get S.own p)).objects);
+  number = object_of p (counts_in (get S.processes p)).objects;
+  kind = get S.opens (object_of p (counts_in (get S.processes p)).objects);
 }
 
 -- the descriptor of that open, with the rights that are asked, as far as its type has them

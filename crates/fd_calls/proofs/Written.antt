@@ -8,14 +8,14 @@ use Rattle.tree_model.specs.Changes.{is_file}
 use Rattle.tree_model.specs.Tree.{Tree}
 use Rattle.tree_model.specs.declared.limits.TheConstants.{MOST_FILE_BYTES}
 use Rattle.kernel_model.specs.FileBytes.{overwritten, overwrites, written_count}
-use Rattle.kernel_model.specs.FileOffsets.{Moves, stays, write_from, write_on, write_place}
+use Rattle.kernel_model.specs.FileOffsets.{OffsetOutcome, stays, write_from, write_on, write_place}
 use Rattle.kernel_model.specs.Reply.{refused, success}
 use Rattle.kernel_model.proofs.Tests.{not_true}
 use Rattle.file_calls.proofs.Reworked.{below_limit, overwrites_is}
-use Rattle.fd_calls.specs.Moved.{IsMoved}
+use Rattle.fd_calls.specs.AtOffset.{IsAtOffset}
 
 -- the bytes are written there, and the offset is behind them
-abbrev behind : Tree → ℕ → ℕ → ℕ → ℕ → List ℕ → Moves
+abbrev behind : Tree → ℕ → ℕ → ℕ → ℕ → List ℕ → OffsetOutcome
 behind t node flags now at bytes =
     record { outcome = overwrites t node now at bytes; moved = Some (File node (at + written_count at bytes) flags) }
 
@@ -28,9 +28,9 @@ has_written t node flags now at (b ∷ bytes) some below =
 pub written_moves : (t u : Tree) (node offset flags now at : ℕ) (bytes : List ℕ) (count : ℕ) (reply : Reply)
     → at ≡ write_place t node offset flags → (length bytes == 0) ≡ false → at < MOST_FILE_BYTES → is_file t node ≡ true
     → u ≡ overwritten t node now at bytes → count ≡ written_count at bytes → reply ≡ success count 0
-    → IsMoved (write_on t node offset flags now bytes) t u (File node offset flags) (File node (at + count) flags) reply
+    → IsAtOffset (write_on t node offset flags now bytes) t u (File node offset flags) (File node (at + count) flags) reply
 written_moves t u node offset flags now at bytes count reply place some below file is counted answered =
-    subst (λ k. IsMoved (write_from t node flags now k bytes) t u (File node offset flags) (File node (at + count) flags) reply) place
-    (subst (λ (m : Moves). IsMoved m t u (File node offset flags) (File node (at + count) flags) reply)
+    subst (λ k. IsAtOffset (write_from t node flags now k bytes) t u (File node offset flags) (File node (at + count) flags) reply) place
+    (subst (λ (m : OffsetOutcome). IsAtOffset m t u (File node offset flags) (File node (at + count) flags) reply)
     (sym (has_written t node flags now at bytes some below))
     (overwrites_is t u node now at bytes count reply file is counted answered, ap (λ k. File node (at + k) flags) counted))

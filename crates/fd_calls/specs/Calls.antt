@@ -4,7 +4,7 @@ use Rattle.abi_base.specs.declared.errno.Errno.TheVariants.{Nosys}
 use Rattle.abi_types.specs.declared.call.Call.{Call}
 use Rattle.abi_types.specs.declared.call.Call.TheVariants as call
 use Rattle.abi_types.specs.declared.open_kind.OpenKind.{OpenKind}
-use Rattle.kernel_model.specs.FileOffsets.{Moves, read_open_file, seek_open_file, stays, write_open_file}
+use Rattle.kernel_model.specs.FileOffsets.{OffsetOutcome, read_open_file, seek_open_file, stays, write_open_file}
 use Rattle.kernel_model.specs.OpenMeaning.{OpenMeaning}
 use Rattle.kernel_model.specs.Outcome.{replies}
 use Rattle.kernel_model.specs.Reply.{refused}
@@ -12,31 +12,31 @@ use Rattle.kernel_model.specs.State.{Tree}
 use Rattle.kernel_model.specs.StreamCalls.{reading, seeking, writing}
 
 -- the number of the descriptor of that open, where the call is such a one
-abbrev pub moved_fd : Call → Option ℕ
-moved_fd (call.FdRead fd length) = Some fd
-moved_fd (call.FdSeek fd offset whence) = Some fd
-moved_fd (call.FdWrite fd bytes) = Some fd
-moved_fd _ = None
+abbrev pub offset_fd : Call → Option ℕ
+offset_fd (call.FdRead fd length) = Some fd
+offset_fd (call.FdSeek fd offset whence) = Some fd
+offset_fd (call.FdWrite fd bytes) = Some fd
+offset_fd _ = None
 
 -- a call that moves no open
-abbrev pub moves_none : OpenMeaning
-moves_none = record {
-  does = λ now v o kind. replies (refused Nosys);
-  changes = λ kind. [];
+abbrev pub no_offset_call : OpenMeaning
+no_offset_call = record {
+  effect = λ now v o kind. replies (refused Nosys);
+  touched = λ kind. [];
   errors = Nosys ∷ [];
   takes_memory = false;
 }
 
 -- what the call means by the open
-abbrev pub moving_meaning : Call → OpenMeaning
-moving_meaning (call.FdRead fd length) = reading length
-moving_meaning (call.FdSeek fd offset whence) = seeking offset whence
-moving_meaning (call.FdWrite fd bytes) = writing bytes
-moving_meaning _ = moves_none
+abbrev pub offset_meaning : Call → OpenMeaning
+offset_meaning (call.FdRead fd length) = reading length
+offset_meaning (call.FdSeek fd offset whence) = seeking offset whence
+offset_meaning (call.FdWrite fd bytes) = writing bytes
+offset_meaning _ = no_offset_call
 
 -- what it makes of the open of a file, at this time
-abbrev pub moves_of : ℕ → Tree → Call → OpenKind → Moves
-moves_of now t (call.FdRead fd length) kind = read_open_file t length kind
-moves_of now t (call.FdSeek fd offset whence) kind = seek_open_file t offset whence kind
-moves_of now t (call.FdWrite fd bytes) kind = write_open_file now t bytes kind
-moves_of now t _ kind = stays (refused Nosys)
+abbrev pub offset_outcome_of : ℕ → Tree → Call → OpenKind → OffsetOutcome
+offset_outcome_of now t (call.FdRead fd length) kind = read_open_file t length kind
+offset_outcome_of now t (call.FdSeek fd offset whence) kind = seek_open_file t offset whence kind
+offset_outcome_of now t (call.FdWrite fd bytes) kind = write_open_file now t bytes kind
+offset_outcome_of now t _ kind = stays (refused Nosys)

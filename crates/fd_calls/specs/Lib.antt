@@ -1,2 +1,2 @@
-pub mod Moved
+pub mod AtOffset
 pub mod Calls

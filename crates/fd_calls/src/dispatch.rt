@@ -1,7 +1,7 @@
 //! Which calls move an open, and how.
 ghost use Rattle.std.specs.Prelude.{◌≡◌, true, IfOk, OnErr};
 ghost use Rattle.fd_calls.specs.Calls as model;
-ghost use Rattle.fd_calls.specs.Moved.{IsMoved};
+ghost use Rattle.fd_calls.specs.AtOffset.{IsAtOffset};
 ghost use Rattle.file_calls.specs.Done.{HasSameNodes};
 ghost use Rattle.file_calls.specs.Opens.{IsThere};
 
@@ -13,8 +13,8 @@ use right_rules::refused;
 use std::alloc::{AllocError, Global};
 
 /// The descriptor whose open the call moves, where it is a call that does.
-pub fn moved_fd(call: &Call) -> Option<u32>
-    ensures { result ≡ model.moved_fd call.now }
+pub fn offset_fd(call: &Call) -> Option<u32>
+    ensures { result ≡ model.offset_fd call.now }
 {
     match call {
         Call::FdRead { fd, .. } | Call::FdSeek { fd, .. } | Call::FdWrite { fd, .. } => Some(*fd),
@@ -24,7 +24,7 @@ pub fn moved_fd(call: &Call) -> Option<u32>
 
 /// Reads, writes or seeks by an open, at this time in nanoseconds since 1970: the reply, and the tree and the open after it.
 /// `Err` comes only of a call that takes memory, and changes nothing. A call that moves no open answers `Errno::Nosys`.
-pub fn move_open(
+pub fn at_offset(
     alloc: Global,
     tree: &mut Tree,
     kind: &mut OpenKind,
@@ -32,8 +32,8 @@ pub fn move_open(
     call: &Call,
 ) -> Result<Reply, AllocError>
     requires { IsThere tree.old kind.old }
-    ensures ok { IfOk result (λ reply. IsMoved (model.moves_of now tree.old call.now kind.old) tree.old tree.new kind.old kind.new reply) }
-    ensures only { OnErr result ((model.moving_meaning call.now).takes_memory ≡ true) }
+    ensures ok { IfOk result (λ reply. IsAtOffset (model.offset_outcome_of now tree.old call.now kind.old) tree.old tree.new kind.old kind.new reply) }
+    ensures only { OnErr result ((model.offset_meaning call.now).takes_memory ≡ true) }
     ensures same_tree { OnErr result (tree.new ≡ tree.old) }
     ensures same_open { OnErr result (kind.new ≡ kind.old) }
     ensures nodes { HasSameNodes tree.old tree.new }

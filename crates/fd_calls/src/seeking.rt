@@ -1,7 +1,7 @@
 //! Setting an open's offset.
 ghost use Rattle.std.specs.Prelude.{◌≡◌, true};
 ghost use Rattle.kernel_model.specs.FileOffsets as model;
-ghost use Rattle.fd_calls.specs.Moved.{IsMoved};
+ghost use Rattle.fd_calls.specs.AtOffset.{IsAtOffset};
 
 use abi_types::{Errno, ObjId, OpenKind, Reply};
 use file_tree::Tree;
@@ -60,7 +60,7 @@ fn sought(tree: &Tree, node: ObjId, offset: u64, bits: u64, whence: u32) -> Opti
 /// Sets the open's offset: from where it is (`whence` 1) or from the file's end (2), so far away as the signed number with
 /// these bits says, or to the place that they are (3).
 pub(crate) fn fd_seek(tree: &Tree, kind: &mut OpenKind, bits: u64, whence: u32) -> Reply
-    ensures { IsMoved (model.seek_open_file tree.now bits whence kind.old) tree.now tree.now kind.old kind.new result }
+    ensures { IsAtOffset (model.seek_open_file tree.now bits whence kind.old) tree.now tree.now kind.old kind.new result }
 {
     match kind {
         OpenKind::File { node, offset, .. } => match sought(tree, *node, *offset, bits, whence) {

@@ -1,7 +1,7 @@
 //! Reading and writing at an open's offset.
 ghost use Rattle.std.specs.Prelude.{◌≡◌, true, IfOk, OnErr};
 ghost use Rattle.kernel_model.specs.FileOffsets as model;
-ghost use Rattle.fd_calls.specs.Moved.{IsMoved};
+ghost use Rattle.fd_calls.specs.AtOffset.{IsAtOffset};
 ghost use Rattle.file_calls.specs.Done.{HasSameNodes};
 ghost use Rattle.file_calls.specs.Opens.{IsThere};
 
@@ -22,7 +22,7 @@ pub(crate) fn fd_read(
     kind: &mut OpenKind,
     most: u64,
 ) -> Result<Reply, AllocError>
-    ensures ok { IfOk result (λ reply. IsMoved (model.read_open_file tree.now most kind.old) tree.now tree.now kind.old kind.new reply) }
+    ensures ok { IfOk result (λ reply. IsAtOffset (model.read_open_file tree.now most kind.old) tree.now tree.now kind.old kind.new reply) }
     ensures err { OnErr result (kind.new ≡ kind.old) }
 {
     match kind {
@@ -59,7 +59,7 @@ pub(crate) fn fd_write(
     bytes: &[u8],
 ) -> Result<Reply, AllocError>
     requires { IsThere tree.old kind.old }
-    ensures ok { IfOk result (λ reply. IsMoved (model.write_open_file now tree.old bytes.now kind.old) tree.old tree.new kind.old kind.new reply) }
+    ensures ok { IfOk result (λ reply. IsAtOffset (model.write_open_file now tree.old bytes.now kind.old) tree.old tree.new kind.old kind.new reply) }
     ensures err { OnErr result ((tree.new ≡ tree.old) × (kind.new ≡ kind.old)) }
     ensures nodes { HasSameNodes tree.old tree.new }
 {

@@ -97,7 +97,7 @@ module _ (flags : ℕ) (stat : FileStat) (now : ℕ) where
 -- a state with this tree
 abbrev bare : Tree → State
 bare t =
-    record { clock = 0; tables = empty; own = empty; statuses = empty; opens = empty; nodes = t.nodes; names = t.names; terms = empty }
+    record { clock = 0; tables = empty; processes = empty; statuses = empty; opens = empty; nodes = t.nodes; names = t.names; terms = empty }
 
 counts_none : (o : Option Node) → count o ≡ None → o ≡ None
 counts_none None is = refl

@@ -10,7 +10,7 @@ use Rattle.path_lookup.specs.declared.ends.WalkFault.TheVariants as fault
 use Rattle.kernel_model.specs.FilePaths.{Walked, Ends, Fails, LeadsOutside, at_end, at_walked, longest_path, path_error}
 use Rattle.kernel_model.specs.Outcome.{Outcome, replies}
 use Rattle.file_calls.specs.Walks.{going_on, node_at, node_or_refusal, reply_of}
-use Rattle.file_calls.specs.declared.refusal.Refusal.{Refusal}
+use Rattle.file_calls.specs.declared.path_fault.PathFault.{PathFault}
 
 end_goes_on : (goes : ℕ → Outcome) (end : End) → at_end goes end ≡ going_on goes (node_at end)
 end_goes_on goes (end.Found n) = refl
@@ -26,7 +26,7 @@ walk_goes_on goes (LeadsOutside component) = refl
 pub found_goes_on : (goes : ℕ → Outcome) (walked : Walked) (n : ℕ) → Ok n ≡ node_or_refusal walked → goes n ≡ at_walked goes walked
 found_goes_on goes walked n is = ap (going_on goes) is ∙ sym (walk_goes_on goes walked)
 
-pub lost_replies : (goes : ℕ → Outcome) (walked : Walked) (refusal : Refusal) → Err refusal ≡ node_or_refusal walked
+pub lost_replies : (goes : ℕ → Outcome) (walked : Walked) (refusal : PathFault) → Err refusal ≡ node_or_refusal walked
     → replies (reply_of refusal) ≡ at_walked goes walked
 lost_replies goes walked refusal is = ap (going_on goes) is ∙ sym (walk_goes_on goes walked)
 

@@ -9,8 +9,8 @@ ghost use Rattle.kernel_model.specs.FilePaths as paths;
 ghost use Rattle.file_calls.specs.Done.{HasSameNodes, IsDone};
 ghost use Rattle.file_calls.specs.Opens.{IsThere};
 
+use crate::path_fault::reply_of;
 use crate::paths::{found, lookup_mode};
-use crate::refusal::reply_of;
 use abi_structures::FileStat;
 use abi_types::{Errno, ObjId, OpenKind, Reply, Times};
 use file_tree::Tree;

@@ -19,8 +19,8 @@ use std::alloc::{AllocError, Global};
 const ANONYMOUS: u32 = 1;
 
 /// The descriptor on whose open the call works, where it is a call that does.
-pub fn opened_fd(call: &Call) -> Option<u32>
-    ensures { result ≡ model.opened_fd call.now }
+pub fn file_fd(call: &Call) -> Option<u32>
+    ensures { result ≡ model.file_fd call.now }
 {
     match call {
         Call::FdPread { fd, .. }
@@ -46,7 +46,7 @@ pub fn on_open(
     call: &Call,
 ) -> Result<Reply, AllocError>
     requires { IsThere tree.old kind.now }
-    ensures ok { IfOk result (λ reply. IsDone ((model.file_meaning call.now).does now tree.old (Some kind.now)) tree.old tree.new reply) }
+    ensures ok { IfOk result (λ reply. IsDone ((model.file_meaning call.now).effect now tree.old (Some kind.now)) tree.old tree.new reply) }
     ensures only { OnErr result ((model.file_meaning call.now).takes_memory ≡ true) }
     ensures err { OnErr result (tree.new ≡ tree.old) }
     ensures nodes { HasSameNodes tree.old tree.new }

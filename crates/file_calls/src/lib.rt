@@ -2,26 +2,26 @@
 //! change bytes, a size or times. They make no name and take none away, and leave the open as it is.
 //!
 //! [`on_open`] does such a call on the open and the tree that it is passed. Which calls these are, and of which descriptor's
-//! open, [`opened_fd`] tells. [`read_file`] and [`overwrite`] are of use to calls that move the open too.
+//! open, [`file_fd`] tells. [`read_file`] and [`overwrite`] are of use to calls that move the open too.
 //!
-//! What other calls share with them is here too: where a path leads, why it leads nowhere ([`Refusal`]), and changes of one
+//! What other calls share with them is here too: where a path leads, why it leads nowhere ([`PathFault`]), and changes of one
 //! node.
 #![tactic(auto)]
 
 pub use changes::{set_modified, set_size};
-pub use dispatch::{on_open, opened_fd};
+pub use dispatch::{file_fd, on_open};
+pub use path_fault::{PathFault, reply_of};
 pub use paths::{found, lookup_mode, path_error, walked};
 pub use reading::read_file;
-pub use refusal::{Refusal, reply_of};
 pub use stats::type_number;
 pub use writing::overwrite;
 
 mod changes;
 mod dispatch;
 mod listings;
+mod path_fault;
 mod paths;
 mod reading;
-mod refusal;
 mod stats;
 mod symlinks;
 mod writing;

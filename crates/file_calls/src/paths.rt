@@ -5,7 +5,7 @@ ghost use Rattle.path_lookup.proofs.Outside.{LeavesBy};
 ghost use Rattle.kernel_model.specs.FilePaths as paths;
 ghost use Rattle.file_calls.specs.Walks.{end_or_refusal, node_at, node_or_refusal};
 
-use crate::refusal::Refusal;
+use crate::path_fault::PathFault;
 use abi_types::{Errno, ObjId, OpenKind};
 use file_tree::Tree;
 use path_lookup::{End, WalkFault, WalkMode};
@@ -50,25 +50,25 @@ pub fn path_error(path: &[u8]) -> Option<Errno>
 }
 
 // What a walk comes to that has no end.
-fn walk_failed(fault: WalkFault) -> Refusal
+fn walk_failed(fault: WalkFault) -> PathFault
     requires { LeavesBy 1024 (Err fault) }
     ensures { Err result ≡ end_or_refusal (paths.walk_failed fault) }
 {
     match fault {
-        WalkFault::NotDir => Refusal::Errno(Errno::Notdir),
-        WalkFault::NoEntry => Refusal::Errno(Errno::Noent),
-        WalkFault::Loop => Refusal::Errno(Errno::Loop),
-        WalkFault::TooLong => Refusal::Errno(Errno::NameTooLong),
-        WalkFault::Outside(component) => Refusal::Outside(component as u32),
+        WalkFault::NotDir => PathFault::Errno(Errno::Notdir),
+        WalkFault::NoEntry => PathFault::Errno(Errno::Noent),
+        WalkFault::Loop => PathFault::Errno(Errno::Loop),
+        WalkFault::TooLong => PathFault::Errno(Errno::NameTooLong),
+        WalkFault::Outside(component) => PathFault::Outside(component as u32),
     }
 }
 
 // The walk of a path from a directory.
-fn walked_in(tree: &Tree, mode: WalkMode, path: &[u8], start: ObjId) -> Result<End, Refusal>
+fn walked_in(tree: &Tree, mode: WalkMode, path: &[u8], start: ObjId) -> Result<End, PathFault>
     ensures { result ≡ end_or_refusal (paths.walked_in tree.now mode path.now start) }
 {
     if let Some(errno) = path_error(path) {
-        return Err(Refusal::Errno(errno));
+        return Err(PathFault::Errno(errno));
     }
     match tree.walk(start, path, mode) {
         Ok(end) => Ok(end),
@@ -78,7 +78,7 @@ fn walked_in(tree: &Tree, mode: WalkMode, path: &[u8], start: ObjId) -> Result<E
 
 /// Where the path leads from the open, or why it leads nowhere. What is no directory is a bad
 /// descriptor.
-pub fn walked(tree: &Tree, mode: WalkMode, path: &[u8], kind: &OpenKind) -> Result<End, Refusal>
+pub fn walked(tree: &Tree, mode: WalkMode, path: &[u8], kind: &OpenKind) -> Result<End, PathFault>
     ensures { result ≡ end_or_refusal (paths.walked tree.now mode path.now (Some kind.now)) }
 {
     match kind {
@@ -86,22 +86,22 @@ pub fn walked(tree: &Tree, mode: WalkMode, path: &[u8], kind: &OpenKind) -> Resu
         OpenKind::File { .. }
         | OpenKind::End { .. }
         | OpenKind::Terminal { .. }
-        | OpenKind::Process(_) => Err(Refusal::Errno(Errno::Badf)),
+        | OpenKind::Process(_) => Err(PathFault::Errno(Errno::Badf)),
     }
 }
 
 // The node at which a walk ends.
-fn node_at(end: End) -> Result<ObjId, Refusal>
+fn node_at(end: End) -> Result<ObjId, PathFault>
     ensures { result ≡ node_at end }
 {
     match end {
         End::Found(node) => Ok(node),
-        End::Absent { .. } | End::Last { .. } => Err(Refusal::Errno(Errno::Noent)),
+        End::Absent { .. } | End::Last { .. } => Err(PathFault::Errno(Errno::Noent)),
     }
 }
 
 /// The node to which the path leads from the open. A name that isn't there is no entry.
-pub fn found(tree: &Tree, mode: WalkMode, path: &[u8], kind: &OpenKind) -> Result<ObjId, Refusal>
+pub fn found(tree: &Tree, mode: WalkMode, path: &[u8], kind: &OpenKind) -> Result<ObjId, PathFault>
     ensures { result ≡ node_or_refusal (paths.walked tree.now mode path.now (Some kind.now)) }
 {
     match walked(tree, mode, path, kind) {

@@ -7,8 +7,8 @@ ghost use Rattle.kernel_model.specs.Outcome.{replies};
 ghost use Rattle.kernel_model.specs.Start.{launch_object};
 ghost use Rattle.file_calls.specs.Opens.{IsThere};
 
+use crate::path_fault::reply_of;
 use crate::paths::{found, lookup_mode};
-use crate::refusal::reply_of;
 use abi_structures::FileStat;
 use abi_types::{Errno, Node, NodeKind, ObjId, OpenKind, Payload, Reply};
 use file_tree::Tree;

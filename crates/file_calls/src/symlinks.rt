@@ -6,8 +6,8 @@ ghost use Rattle.kernel_model.specs.FilePaths as model;
 ghost use Rattle.kernel_model.specs.Outcome.{replies};
 
 use crate::listings::{content, room_of};
+use crate::path_fault::reply_of;
 use crate::paths::found;
-use crate::refusal::reply_of;
 use abi_types::{Bytes, Errno, NodeKind, ObjId, OpenKind, Reply};
 use file_tree::Tree;
 use path_lookup::WalkMode;

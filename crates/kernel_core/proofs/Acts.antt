@@ -21,13 +21,13 @@ use Rattle.kernel_model.proofs.Outcomes.{outcome_reads}
 pub act_refused : (constants : Constants) (S : State) (who : Who) (call : Call) (table : Table) (reply : Reply) → get S.tables who.pid ≡ Some table
     → refusal table call ≡ Some reply → act constants (whole S) who call ≡ replies reply
 act_refused constants S who call table reply there is =
-    ap (act_on constants (whole S) who call) there ∙ ap (λ r. unless r ((meaning_of call).does constants (whole S) who table)) is
+    ap (act_on constants (whole S) who call) there ∙ ap (λ r. unless r ((meaning_of call).effect constants (whole S) who table)) is
 
 -- a call that isn't refused does what it does
 pub act_allowed : (constants : Constants) (S : State) (who : Who) (call : Call) (table : Table) → get S.tables who.pid ≡ Some table
-    → refusal table call ≡ None → act constants (whole S) who call ≡ (meaning_of call).does constants (whole S) who table
+    → refusal table call ≡ None → act constants (whole S) who call ≡ (meaning_of call).effect constants (whole S) who table
 act_allowed constants S who call table there is =
-    ap (act_on constants (whole S) who call) there ∙ ap (λ r. unless r ((meaning_of call).does constants (whole S) who table)) is
+    ap (act_on constants (whole S) who call) there ∙ ap (λ r. unless r ((meaning_of call).effect constants (whole S) who table)) is
 
 -- fd_stat_get sets nothing
 stat_sets_nothing : (d : Descriptor) (o : Option OpenKind) → (stat_open d o).updates ≡ []

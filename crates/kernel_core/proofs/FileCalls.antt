@@ -27,7 +27,7 @@ use Rattle.tree_model.specs.Tree.{links_in, links_of}
 use Rattle.tree_model.specs.declared.limits.TheConstants.{ROOT}
 use Rattle.kernel_model.specs.Calls.{meaning_of}
 use Rattle.kernel_model.specs.ClockCalls.{real_time}
-use Rattle.kernel_model.specs.FileCalls.{file_meaning, opened_fd}
+use Rattle.kernel_model.specs.FileCalls.{file_meaning, file_fd}
 use Rattle.kernel_model.specs.FileMeaning.{open_of}
 use Rattle.kernel_model.specs.Meaning.{Meaning}
 use Rattle.kernel_model.specs.Outcome.{Outcome, replies}
@@ -56,11 +56,11 @@ put_all_tree (u ∷ us) S h = absurd h.0
 
 -- ---- what the calls mean
 
-pub file_does : (constants : Constants) (S : State) (who : Who) (table : Table) (called : Call) (fd : ℕ) → opened_fd called ≡ Some fd
-    → (meaning_of called).does constants (whole S) who table ≡ file_outcome constants S table fd called
+pub file_does : (constants : Constants) (S : State) (who : Who) (table : Table) (called : Call) (fd : ℕ) → file_fd called ≡ Some fd
+    → (meaning_of called).effect constants (whole S) who table ≡ file_outcome constants S table fd called
 file_does constants S who table called fd is =
     let on = on_open_of called fd is in
-    ap (λ (m : Meaning). m.does constants (whole S) who table) on.means ∙ ap (λ n. file_outcome constants S table n called) on.of
+    ap (λ (m : Meaning). m.effect constants (whole S) who table) on.means ∙ ap (λ n. file_outcome constants S table n called) on.of
 
 -- ---- validity
 
@@ -100,7 +100,7 @@ there_behind S (Process p) h = absurd h
 
 -- ---- a descriptor or an open that isn't there
 
-absent_is_badf : (called : Call) (fd now : ℕ) (t : Tree) → opened_fd called ≡ Some fd → (file_meaning called).does now t None ≡ replies (refused Badf)
+absent_is_badf : (called : Call) (fd now : ℕ) (t : Tree) → file_fd called ≡ Some fd → (file_meaning called).effect now t None ≡ replies (refused Badf)
 absent_is_badf (call.FileAllocate n offset length) fd now t is = refl
 absent_is_badf (call.FileReaddir n length cookie) fd now t is = refl
 absent_is_badf (call.FileReadlink n path length) fd now t is = refl
@@ -123,20 +123,20 @@ file_step_of : (constants : Constants) (S T : State) (table : Table) (fd : ℕ) 
 file_step_of constants S T table fd called given o is answered left =
     (answered ∙ sym (ap (λ (x : Outcome). x.answer) is), left ∙ sym (ap (λ (x : Outcome). release (put_all x.updates S)) is))
 
-pub absent_answers : (constants : Constants) (S : State) (table : Table) (fd : ℕ) (called : Call) (reply : Reply) → opened_fd called ≡ Some fd → IsValid S
+pub absent_answers : (constants : Constants) (S : State) (table : Table) (fd : ℕ) (called : Call) (reply : Reply) → file_fd called ≡ Some fd → IsValid S
     → open_of (whole S) (get table fd) ≡ None → reply ≡ refused Badf → IsFileStep constants S table fd called (answer.Reply reply) S
 absent_answers constants S table fd called reply is valid none badf =
     file_step_of constants S S table fd called (answer.Reply reply) (replies (refused Badf))
-    (ap ((file_meaning called).does (real_time constants S.clock) (tree_of S)) none ∙ absent_is_badf called fd (real_time constants S.clock) (tree_of S) is)
+    (ap ((file_meaning called).effect (real_time constants S.clock) (tree_of S)) none ∙ absent_is_badf called fd (real_time constants S.clock) (tree_of S) is)
     (ap answer.Reply badf) (sym (release_valid S valid))
 
 -- ---- a call that is done
 
-module _ (called : Call) (fd now : ℕ) (is : opened_fd called ≡ Some fd) (S : State) (o : ℕ) (kind : OpenKind) (there : get S.opens o ≡ Some kind) (valid : IsValid S)
-    (t : Tree) (done : t ≡ tree_after ((file_meaning called).does now (tree_of S) (Some kind)).updates (tree_of S)) (same : HasSameNodes (tree_of S) t) where
-  made : put_all ((file_meaning called).does now (tree_of S) (Some kind)).updates S ≡ with_tree S t
+module _ (called : Call) (fd now : ℕ) (is : file_fd called ≡ Some fd) (S : State) (o : ℕ) (kind : OpenKind) (there : get S.opens o ≡ Some kind) (valid : IsValid S)
+    (t : Tree) (done : t ≡ tree_after ((file_meaning called).effect now (tree_of S) (Some kind)).updates (tree_of S)) (same : HasSameNodes (tree_of S) t) where
+  made : put_all ((file_meaning called).effect now (tree_of S) (Some kind)).updates S ≡ with_tree S t
   made =
-      put_all_tree ((file_meaning called).does now (tree_of S) (Some kind)).updates S ((on_open_of called fd is).well.tree now (tree_of S) (Some kind))
+      put_all_tree ((file_meaning called).effect now (tree_of S) (Some kind)).updates S ((on_open_of called fd is).well.tree now (tree_of S) (Some kind))
       ∙ ap (with_tree S) (sym done)
 
   -- it leaves a valid state
@@ -148,14 +148,14 @@ module _ (called : Call) (fd now : ℕ) (is : opened_fd called ≡ Some fd) (S :
       valid
 
   -- and nothing is released after it
-  done_released : with_tree S t ≡ release (put_all ((file_meaning called).does now (tree_of S) (Some kind)).updates S)
+  done_released : with_tree S t ≡ release (put_all ((file_meaning called).effect now (tree_of S) (Some kind)).updates S)
   done_released = sym (release_valid (with_tree S t) done_valid) ∙ ap release (sym made)
 
   pub done_answers : (constants : Constants) (table : Table) (reply : Reply) → now ≡ real_time constants S.clock
-      → open_of (whole S) (get table fd) ≡ Some kind → answer.Reply reply ≡ ((file_meaning called).does now (tree_of S) (Some kind)).answer
+      → open_of (whole S) (get table fd) ≡ Some kind → answer.Reply reply ≡ ((file_meaning called).effect now (tree_of S) (Some kind)).answer
       → IsFileStep constants S table fd called (answer.Reply reply) (with_tree S t)
   done_answers constants table reply time opened answered =
-      file_step_of constants S (with_tree S t) table fd called (answer.Reply reply) ((file_meaning called).does now (tree_of S) (Some kind))
-      (ap ((file_meaning called).does (real_time constants S.clock) (tree_of S)) opened
-      ∙ ap (λ moment. (file_meaning called).does moment (tree_of S) (Some kind)) (sym time))
+      file_step_of constants S (with_tree S t) table fd called (answer.Reply reply) ((file_meaning called).effect now (tree_of S) (Some kind))
+      (ap ((file_meaning called).effect (real_time constants S.clock) (tree_of S)) opened
+      ∙ ap (λ moment. (file_meaning called).effect moment (tree_of S) (Some kind)) (sym time))
       answered done_released

@@ -12,72 +12,72 @@ use Rattle.abi_types.specs.declared.reply.Answer.TheVariants as answer
 use Rattle.maps.specs.Maps.{insert_self, total_none, weight}
 use Rattle.tree_model.specs.Opens.{is_used}
 use Rattle.tree_model.specs.Retained.{retained}
-use Rattle.kernel_model.specs.NameMeaning.{Comes, Refuses, LeadsOut, Changes, outcome_of}
-use Rattle.kernel_model.specs.Numbers.{can_number, made_more, next_object, own_updates}
+use Rattle.kernel_model.specs.NameMeaning.{NameOutcome, Refuses, LeadsOut, Changes, outcome_of}
+use Rattle.kernel_model.specs.Numbers.{can_number, made_more, next_object, process_updates}
 use Rattle.kernel_model.specs.Outcome.{replies}
 use Rattle.kernel_model.specs.Reply.{refused, success}
 use Rattle.kernel_model.specs.Release.{count_in, holders, names_open, release, without_nodes}
-use Rattle.kernel_model.specs.State.{State, Own, Table, Tree, tree_of, put_all}
+use Rattle.kernel_model.specs.State.{State, ProcessState, Table, Tree, tree_of, put_all}
 use Rattle.kernel_model.specs.TreeUpdates.{Change, change_updates}
 use Rattle.kernel_model.specs.Valid.{IsNamed, IsNearlyValid}
 use Rattle.kernel_model.proofs.NameMeanings.{IsChangeOf, IsGood}
 use Rattle.kernel_model.proofs.TreeUpdates.{counted, put_counted, with_tree}
 use Rattle.kernel_model.proofs.Valids.{ended_held}
-use Rattle.kernel_parts.specs.Names.{own_left, tree_left}
+use Rattle.kernel_parts.specs.Entries.{process_left, tree_left}
 
 -- ---- what a process has made
 
-no_more : (own : Own) → made_more 0 own ≡ own
+no_more : (own : ProcessState) → made_more 0 own ≡ own
 no_more own =
     let same : own.counts.objects + 0 ≡ own.counts.objects = omega arith in
     λ i. record own { counts = record own.counts { objects = same i } }
 
-abbrev pub with_own : State → ℕ → Own → State
-with_own S p own = record S { own = insert S.own p own }
+abbrev pub with_process : State → ℕ → ProcessState → State
+with_process S p own = record S { processes = insert S.processes p own }
 
 -- a process that has what it had
-pub own_again : (S : State) (p : ℕ) (own : Own) → get S.own p ≡ Some own → with_own S p own ≡ S
-own_again S p own there = (let same = insert_self S.own p own there in λ i. record S { own = same i })
+pub process_again : (S : State) (p : ℕ) (own : ProcessState) → get S.processes p ≡ Some own → with_process S p own ≡ S
+process_again S p own there = (let same = insert_self S.processes p own there in λ i. record S { processes = same i })
 
-counted_some : (S : State) (p count : ℕ) (own : Own) → get S.own p ≡ Some own → put_all (own_updates p count (Some own)) S ≡ with_own S p (made_more count own)
-counted_some S p zero own there = sym (ap (with_own S p) (no_more own) ∙ own_again S p own there)
+counted_some : (S : State) (p count : ℕ) (own : ProcessState) → get S.processes p ≡ Some own → put_all (process_updates p count (Some own)) S ≡ with_process S p (made_more count own)
+counted_some S p zero own there = sym (ap (with_process S p) (no_more own) ∙ process_again S p own there)
 counted_some S p (suc count) own there = refl
 
-pub counted_is : (S : State) (p count : ℕ) (own : Own) → get S.own p ≡ Some own → counted p count S ≡ with_own S p (made_more count own)
-counted_is S p count own there = ap (λ o. put_all (own_updates p count o) S) there ∙ counted_some S p count own there
+pub counted_is : (S : State) (p count : ℕ) (own : ProcessState) → get S.processes p ≡ Some own → counted p count S ≡ with_process S p (made_more count own)
+counted_is S p count own there = ap (λ o. put_all (process_updates p count o) S) there ∙ counted_some S p count own there
 
 -- ---- what a call on names leaves
 
-module _ (S : State) (p : ℕ) (own : Own) (there : get S.own p ≡ Some own) (makes : ℕ) where
-  abbrev pub left : Comes → State
+module _ (S : State) (p : ℕ) (own : ProcessState) (there : get S.processes p ≡ Some own) (makes : ℕ) where
+  abbrev pub left : NameOutcome → State
   left comes =
       let u : Tree = tree_left p makes own (tree_of S) comes in
-      record S { own = insert S.own p (own_left p makes own comes); nodes = u.nodes; names = u.names }
+      record S { processes = insert S.processes p (process_left p makes own comes); nodes = u.nodes; names = u.names }
 
   -- what a change leaves, by whether the process can make so many
   abbrev change_left : Change → Bool → Type 0
   change_left c b =
       let u : Tree = cond b c.tree (tree_of S) in
-      put_all (cond b (record { answer = answer.Reply (success 0 0); updates = own_updates p makes (Some own) ++ change_updates c }) (replies (refused Again))).updates S
-      ≡ record S { own = insert S.own p (cond b (made_more makes own) own); nodes = u.nodes; names = u.names }
+      put_all (cond b (record { answer = answer.Reply (success 0 0); updates = process_updates p makes (Some own) ++ change_updates c }) (replies (refused Again))).updates S
+      ≡ record S { processes = insert S.processes p (cond b (made_more makes own) own); nodes = u.nodes; names = u.names }
 
   change_left_is : (c : Change) (b : Bool) → can_number p makes (Some own) ≡ b
-      → (can_number p makes (get S.own p) ≡ true → IsChangeOf (tree_of S) (next_object p (get S.own p) 1) makes c) → IsNearlyValid S → change_left c b
+      → (can_number p makes (get S.processes p) ≡ true → IsChangeOf (tree_of S) (next_object p (get S.processes p) 1) makes c) → IsNearlyValid S → change_left c b
   change_left_is c true can good v =
-      let here : can_number p makes (get S.own p) ≡ true = ap (can_number p makes) there ∙ can in
-      ap (λ o. put_all (own_updates p makes o ++ change_updates c) S) (sym there)
-      ∙ put_counted S p makes (next_object p (get S.own p) 1) makes c here (good here) (λ _. refl) (omega arith) v
+      let here : can_number p makes (get S.processes p) ≡ true = ap (can_number p makes) there ∙ can in
+      ap (λ o. put_all (process_updates p makes o ++ change_updates c) S) (sym there)
+      ∙ put_counted S p makes (next_object p (get S.processes p) 1) makes c here (good here) (λ _. refl) (omega arith) v
       ∙ ap (with_tree c.tree) (counted_is S p makes own there)
-  change_left_is c false can good v = sym (own_again S p own there)
+  change_left_is c false can good v = sym (process_again S p own there)
 
-  left_by : (comes : Comes) → (can_number p makes (get S.own p) ≡ true → IsGood (tree_of S) (next_object p (get S.own p) 1) makes comes) → IsNearlyValid S
+  left_by : (comes : NameOutcome) → (can_number p makes (get S.processes p) ≡ true → IsGood (tree_of S) (next_object p (get S.processes p) 1) makes comes) → IsNearlyValid S
       → put_all (outcome_of p (Some own) makes comes).updates S ≡ left comes
-  left_by (Refuses errno) good v = sym (own_again S p own there)
-  left_by (LeadsOut component) good v = sym (own_again S p own there)
+  left_by (Refuses errno) good v = sym (process_again S p own there)
+  left_by (LeadsOut component) good v = sym (process_again S p own there)
   left_by (Changes c) good v = change_left_is c (can_number p makes (Some own)) refl good v
 
-  pub left_of : (comes : Comes) → (can_number p makes (get S.own p) ≡ true → IsGood (tree_of S) (next_object p (get S.own p) 1) makes comes) → IsNearlyValid S
-      → put_all (outcome_of p (get S.own p) makes comes).updates S ≡ left comes
+  pub left_of : (comes : NameOutcome) → (can_number p makes (get S.processes p) ≡ true → IsGood (tree_of S) (next_object p (get S.processes p) 1) makes comes) → IsNearlyValid S
+      → put_all (outcome_of p (get S.processes p) makes comes).updates S ≡ left comes
   left_of comes good v = ap (λ o. put_all (outcome_of p o makes comes).updates S) there ∙ left_by comes good v
 
 -- ---- holders

@@ -3,12 +3,12 @@ pub mod Changes
 pub mod Ends
 pub mod Lives
 pub mod Streams
-pub mod MovingCalls
+pub mod OffsetCalls
 pub mod Acts
 pub mod Starts
 pub mod Steps
 pub mod Uses
 pub mod FileCalls
 pub mod Leaving
-pub mod NameCalls
+pub mod EntryCalls
 pub mod OpenCalls

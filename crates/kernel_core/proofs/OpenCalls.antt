@@ -21,20 +21,20 @@ use Rattle.abi_types.specs.declared.reply.Reply.{Reply}
 use Rattle.abi_types.specs.declared.who.Who.{Who}
 use Rattle.fd_table.specs.Table.{IsLowestFree}
 use Rattle.file_calls.specs.Walks.{reply_of}
-use Rattle.file_calls.specs.declared.refusal.Refusal.{Refusal}
-use Rattle.file_calls.specs.declared.refusal.Refusal.TheVariants as refusal
+use Rattle.file_calls.specs.declared.path_fault.PathFault.{PathFault}
+use Rattle.file_calls.specs.declared.path_fault.PathFault.TheVariants as path_fault
 use Rattle.maps.specs.Maps.{get-insert-other, total, total-insert, total-insert_new, weight}
 use Rattle.tree_model.specs.Opens.{is_used}
 use Rattle.tree_model.specs.Retained.{retained}
 use Rattle.kernel_model.specs.ClockCalls.{real_time}
 use Rattle.kernel_model.specs.DescriptorCalls.{lowest_free}
 use Rattle.kernel_model.specs.FilePaths.{walked}
-use Rattle.kernel_model.specs.Numbers.{can_number, made_more, next_object, own_updates}
+use Rattle.kernel_model.specs.Numbers.{can_number, made_more, next_object, process_updates}
 use Rattle.kernel_model.specs.Opening.{Opened, file_open, open_at, open_mode, open_walked, opened_descriptor, opened_outcome}
 use Rattle.kernel_model.specs.Outcome.{Outcome, replies}
 use Rattle.kernel_model.specs.Release.{count_in, holders, names_open, release}
 use Rattle.kernel_model.specs.Reply.{refused, success}
-use Rattle.kernel_model.specs.State.{State, Own, Table, Tree, Update, counts_in, put_all, put_one, set_open, set_table, tree_of}
+use Rattle.kernel_model.specs.State.{State, ProcessState, Table, Tree, Update, counts_in, put_all, put_one, set_open, set_table, tree_of}
 use Rattle.kernel_model.specs.TreeUpdates.{Change, change_updates}
 use Rattle.kernel_model.specs.Valid.{IsNearlyValid, IsValid}
 use Rattle.kernel_model.specs.View.{whole}
@@ -44,37 +44,37 @@ use Rattle.kernel_model.proofs.ObjectNumbers.{fewer_fit, next_is_absent}
 use Rattle.kernel_model.proofs.Opened.{OpensWell}
 use Rattle.kernel_model.proofs.Opening.{file_open_is_proper, rest_beside, walk_well}
 use Rattle.kernel_model.proofs.TreeUpdates.{put_counted, with_tree}
-use Rattle.name_calls.specs.Done.{IsNew}
-use Rattle.name_calls.specs.Plans.{change_of, kind_of, makes_of, opened_by, opened_of}
-use Rattle.name_calls.specs.declared.plans.OpenPlan.{OpenPlan}
-use Rattle.kernel_parts.specs.Names.{open_in}
+use Rattle.entry_calls.specs.Done.{IsNew}
+use Rattle.entry_calls.specs.Plans.{change_of, kind_of, makes_of, opened_by, opened_of}
+use Rattle.entry_calls.specs.declared.plans.OpenPlan.{OpenPlan}
+use Rattle.kernel_parts.specs.Entries.{open_in}
 use Rattle.kernel_core.specs.Opening.{IsOpening, open_outcome, opened_at}
-use Rattle.kernel_parts.specs.declared.opening.Opening.{Opening}
+use Rattle.kernel_parts.specs.declared.installing.Opening.{Opening}
 use Rattle.kernel_core.proofs.Leaving.{counted_is, none_holds, released_is}
 use Rattle.kernel_parts.proofs.Lowest.{lowest_is}
-use Rattle.kernel_core.proofs.NameCalls.{opened_is}
+use Rattle.kernel_core.proofs.EntryCalls.{opened_is}
 
 -- ---- nothing is opened
 
 module _ (now : ℕ) (S : State) (p : ℕ) (table : Table) (lookup : Lookup) (path : List ℕ) (oflags : ℕ) (stat : FdStat) (reply : Reply) where
   abbrev first_new : ℕ
-  first_new = next_object p (get S.own p) 1
+  first_new = next_object p (get S.processes p) 1
 
   pub full_opens_none : lowest_free table ≡ None → reply ≡ refused Mfile → open_outcome now S p table lookup path oflags stat ≡ replies reply
   full_opens_none none is =
-      ap (open_at p (get S.own p) table stat (opened_at now first_new S table lookup path oflags stat)) none ∙ ap replies (sym is)
+      ap (open_at p (get S.processes p) table stat (opened_at now first_new S table lookup path oflags stat)) none ∙ ap replies (sym is)
 
   at_number : (fd : ℕ) (o : Opened) → IsLowestFree table fd → opened_at now first_new S table lookup path oflags stat ≡ o
-      → open_outcome now S p table lookup path oflags stat ≡ opened_outcome p (get S.own p) table stat fd o
+      → open_outcome now S p table lookup path oflags stat ≡ opened_outcome p (get S.processes p) table stat fd o
   at_number fd o free is =
-      ap (open_at p (get S.own p) table stat (opened_at now first_new S table lookup path oflags stat)) (lowest_is table fd free)
-      ∙ ap (opened_outcome p (get S.own p) table stat fd) is
+      ap (open_at p (get S.processes p) table stat (opened_at now first_new S table lookup path oflags stat)) (lowest_is table fd free)
+      ∙ ap (opened_outcome p (get S.processes p) table stat fd) is
 
-  refused_so : (fd : ℕ) (why : Refusal) → opened_outcome p (get S.own p) table stat fd (opened_of (Err why) path (tree_of S) stat.flags now first_new) ≡ replies (reply_of why)
-  refused_so fd (refusal.Errno errno) = refl
-  refused_so fd (refusal.Outside component) = refl
+  refused_so : (fd : ℕ) (why : PathFault) → opened_outcome p (get S.processes p) table stat fd (opened_of (Err why) path (tree_of S) stat.flags now first_new) ≡ replies (reply_of why)
+  refused_so fd (path_fault.Errno errno) = refl
+  refused_so fd (path_fault.Outside component) = refl
 
-  pub refused_opens_none : (fd : ℕ) (why : Refusal) → IsLowestFree table fd
+  pub refused_opens_none : (fd : ℕ) (why : PathFault) → IsLowestFree table fd
       → opened_at now first_new S table lookup path oflags stat ≡ opened_of (Err why) path (tree_of S) stat.flags now first_new → reply ≡ reply_of why
       → open_outcome now S p table lookup path oflags stat ≡ replies reply
   refused_opens_none fd why free opened is =
@@ -83,17 +83,17 @@ module _ (now : ℕ) (S : State) (p : ℕ) (table : Table) (lookup : Lookup) (pa
   -- what is set where it can number the open and the node
   abbrev sets : ℕ → OpenPlan → Outcome
   sets fd plan =
-      let o : ℕ = next_object p (get S.own p) (makes_of plan + 1) in
+      let o : ℕ = next_object p (get S.processes p) (makes_of plan + 1) in
       let kind : OpenKind = kind_of plan stat.flags first_new in
       record {
         answer = answer.Reply (success fd 0);
         updates = set_open o kind ∷ set_table p (insert table fd (opened_descriptor o kind stat))
-            ∷ (own_updates p (makes_of plan + 1) (get S.own p) ++ change_updates (change_of plan path now first_new (tree_of S)));
+            ∷ (process_updates p (makes_of plan + 1) (get S.processes p) ++ change_updates (change_of plan path now first_new (tree_of S)));
       }
 
   pub uncounted_opens_none : (fd : ℕ) (plan : OpenPlan) → IsLowestFree table fd
       → opened_at now first_new S table lookup path oflags stat ≡ opened_by plan path (tree_of S) stat.flags now first_new
-      → can_number p (makes_of plan + 1) (get S.own p) ≡ false → reply ≡ refused Again → open_outcome now S p table lookup path oflags stat ≡ replies reply
+      → can_number p (makes_of plan + 1) (get S.processes p) ≡ false → reply ≡ refused Again → open_outcome now S p table lookup path oflags stat ≡ replies reply
   uncounted_opens_none fd plan free opened cannot is =
       at_number fd (opened_by plan path (tree_of S) stat.flags now first_new) free opened
       ∙ ap (λ b. cond b (sets fd plan) (replies (refused Again))) cannot ∙ ap replies (sym is)
@@ -107,7 +107,7 @@ opens_from now new S table lookup path oflags stat here is =
     ap (λ k. open_walked oflags stat.flags path now new (tree_of S) (walked (tree_of S) (open_mode oflags lookup.flags) path k)) (sym is)
 
 -- the number of the first object, by that of the last
-pub first_number : (p makes id taken : ℕ) (own : Option Own) → id ≡ next_object p own (makes + 1) → taken ≡ makes → id - taken ≡ next_object p own 1
+pub first_number : (p makes id taken : ℕ) (own : Option ProcessState) → id ≡ next_object p own (makes + 1) → taken ≡ makes → id - taken ≡ next_object p own 1
 first_number p makes id taken own is same = omega (arith, is, same)
 
 -- ---- a plan for the state as it is kept
@@ -125,16 +125,16 @@ module _ (S : State) (p : ℕ) (table : Table) (lookup : Lookup) (path : List �
   makes = makes_of o.plan
 
   abbrev first : ℕ
-  first = next_object p (get S.own p) 1
+  first = next_object p (get S.processes p) 1
 
   abbrev last : ℕ
-  last = next_object p (get S.own p) (makes_of o.plan + 1)
+  last = next_object p (get S.processes p) (makes_of o.plan + 1)
 
   id_is : o.descriptor.id ≡ last
   id_is = ap (λ (d : Descriptor). d.id) planned.descriptor
 
-  pub open_fits : (p < 0xffffffff) × ((counts_in (get S.own p)).objects + (makes_of o.plan + 1) < 2 ^ 32)
-  open_fits = fewer_fit p (makes + 1) (makes + 1) (get S.own p) (omega arith) (omega arith) planned.can
+  pub open_fits : (p < 0xffffffff) × ((counts_in (get S.processes p)).objects + (makes_of o.plan + 1) < 2 ^ 32)
+  open_fits = fewer_fit p (makes + 1) (makes + 1) (get S.processes p) (omega arith) (omega arith) planned.can
 
   pub open_is_new : get S.opens o.descriptor.id ≡ None
   open_is_new = ap (get S.opens) id_is ∙ (next_is_absent S p (makes + 1) v.nearly open_fits.0 (omega arith) open_fits.1).0
@@ -144,7 +144,7 @@ module _ (S : State) (p : ℕ) (table : Table) (lookup : Lookup) (path : List �
 
   first_absent : get S.nodes first ≡ None
   first_absent =
-      let fits = fewer_fit p 1 (makes + 1) (get S.own p) (omega arith) (omega arith) planned.can in
+      let fits = fewer_fit p 1 (makes + 1) (get S.processes p) (omega arith) (omega arith) planned.can in
       (next_is_absent S p 1 v.nearly fits.0 (omega arith) fits.1).1
 
   new_first : (count : ℕ) → IsNew count (tree_of S) first
@@ -165,7 +165,7 @@ module _ (S : State) (p : ℕ) (table : Table) (lookup : Lookup) (path : List �
         (walk_well oflags stat.flags path now first (tree_of S) (walked (tree_of S) (open_mode oflags lookup.flags) path (open_in S.opens (get table lookup.fd)))
         v.nearly.tree first_absent)
 
-    pub open_changes : IsChangeOf (tree_of S) (next_object p (get S.own p) 1) (makes_of o.plan) (change_of o.plan path now (next_object p (get S.own p) 1) (tree_of S))
+    pub open_changes : IsChangeOf (tree_of S) (next_object p (get S.processes p) 1) (makes_of o.plan) (change_of o.plan path now (next_object p (get S.processes p) 1) (tree_of S))
     open_changes = well.1
 
     -- the kind of the open
@@ -179,7 +179,7 @@ module _ (S : State) (p : ℕ) (table : Table) (lookup : Lookup) (path : List �
     descriptor_is = ap (λ k. opened_descriptor last k stat) kind_is ∙ sym planned.descriptor
 
     abbrev rest : List Update
-    rest = own_updates p (makes_of o.plan + 1) (get S.own p) ++ change_updates change
+    rest = process_updates p (makes_of o.plan + 1) (get S.processes p) ++ change_updates change
 
     abbrev opens : Outcome
     opens = record {
@@ -189,33 +189,33 @@ module _ (S : State) (p : ℕ) (table : Table) (lookup : Lookup) (path : List �
 
     outcome_is : open_outcome now S p table lookup path oflags stat ≡ opens
     outcome_is =
-        ap (open_at p (get S.own p) table stat (opened_at now first S table lookup path oflags stat)) (lowest_is table o.fd planned.free)
-        ∙ ap (opened_outcome p (get S.own p) table stat o.fd) (planned.opened now first)
+        ap (open_at p (get S.processes p) table stat (opened_at now first S table lookup path oflags stat)) (lowest_is table o.fd planned.free)
+        ∙ ap (opened_outcome p (get S.processes p) table stat o.fd) (planned.opened now first)
         ∙ ap (λ b. cond b opens (replies (refused Again))) planned.can
 
     pub open_answer : (open_outcome now S p table lookup path oflags stat).answer ≡ answer.Reply (success o.fd 0)
     open_answer = ap (λ (x : Outcome). x.answer) outcome_is
 
     -- the state before anything is released
-    abbrev pub opened_state : Own → State
+    abbrev pub opened_state : ProcessState → State
     opened_state own =
-        let u : Tree = (change_of o.plan path now (next_object p (get S.own p) 1) (tree_of S)).tree in
+        let u : Tree = (change_of o.plan path now (next_object p (get S.processes p) 1) (tree_of S)).tree in
         record S {
           tables = insert S.tables p (insert table o.fd o.descriptor);
-          own = insert S.own p (made_more (makes_of o.plan + 1) own);
+          processes = insert S.processes p (made_more (makes_of o.plan + 1) own);
           opens = insert S.opens o.descriptor.id o.kind;
           nodes = u.nodes;
           names = u.names;
         }
 
-    pub open_left : (own : Own) → get S.own p ≡ Some own → put_all (open_outcome now S p table lookup path oflags stat).updates S ≡ opened_state own
+    pub open_left : (own : ProcessState) → get S.processes p ≡ Some own → put_all (open_outcome now S p table lookup path oflags stat).updates S ≡ opened_state own
     open_left own there =
         let new_table : Table = insert table o.fd (opened_descriptor last kind stat) in
-        let counted_tree : put_all rest S ≡ with_tree change.tree (record S { own = insert S.own p (made_more (makes_of o.plan + 1) own) }) =
+        let counted_tree : put_all rest S ≡ with_tree change.tree (record S { processes = insert S.processes p (made_more (makes_of o.plan + 1) own) }) =
         put_counted S p (makes_of o.plan + 1) first (makes_of o.plan) change planned.can open_changes (λ _. refl) (omega arith) v.nearly
         ∙ ap (with_tree change.tree) (counted_is S p (makes_of o.plan + 1) own there) in
         ap (λ (x : Outcome). put_all x.updates S) outcome_is
-        ∙ put_last last kind p new_table rest S (rest_beside p (makes_of o.plan + 1) (get S.own p) change)
+        ∙ put_last last kind p new_table rest S (rest_beside p (makes_of o.plan + 1) (get S.processes p) change)
         ∙ ap (λ (T : State). put_one (set_table p new_table) (put_one (set_open last kind) T)) counted_tree
         ∙ (λ i. record (opened_state own) {
           tables = insert S.tables p (insert table o.fd (descriptor_is i));
@@ -245,7 +245,7 @@ module _ (S : State) (p : ℕ) (table : Table) (lookup : Lookup) (path : List �
         ]
 
     -- the state after it
-    pub open_released : (now : ℕ) (own : Own) → get S.own p ≡ Some own
+    pub open_released : (now : ℕ) (own : ProcessState) → get S.processes p ≡ Some own
         → (let u : Tree = retained (change now).tree (is_used (insert S.opens o.descriptor.id o.kind) (change now).tree) in
         record (opened_state now own) { nodes = u.nodes; names = u.names })
         ≡ release (put_all (open_outcome now S p table lookup path oflags stat).updates S)
@@ -254,10 +254,10 @@ module _ (S : State) (p : ℕ) (table : Table) (lookup : Lookup) (path : List �
 -- ---- what it leaves is nearly valid
 
 pub open_does : (constants : Constants) (S : State) (who : Who) (table : Table) (lookup : Lookup) (path : List ℕ) (oflags : ℕ) (stat : FdStat)
-    → (file_open lookup path oflags stat).does constants (whole S) who table ≡ open_outcome (real_time constants S.clock) S who.pid table lookup path oflags stat
+    → (file_open lookup path oflags stat).effect constants (whole S) who table ≡ open_outcome (real_time constants S.clock) S who.pid table lookup path oflags stat
 open_does constants S who table lookup path oflags stat =
-    ap (λ k. open_at who.pid (get S.own who.pid) table stat
-    (open_walked oflags stat.flags path (real_time constants S.clock) (next_object who.pid (get S.own who.pid) 1) (tree_of S)
+    ap (λ k. open_at who.pid (get S.processes who.pid) table stat
+    (open_walked oflags stat.flags path (real_time constants S.clock) (next_object who.pid (get S.processes who.pid) 1) (tree_of S)
     (walked (tree_of S) (open_mode oflags lookup.flags) path k)) (lowest_free table)) (opened_is S (get table lookup.fd))
 
 pub open_valid : (constants : Constants) (S : State) (p : ℕ) (table : Table) (lookup : Lookup) (path : List ℕ) (oflags : ℕ) (stat : FdStat)

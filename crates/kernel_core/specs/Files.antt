@@ -13,4 +13,4 @@ use Rattle.kernel_model.specs.View.{whole}
 -- what the call comes to that works on the open of this descriptor of a table
 abbrev pub file_outcome : Constants → State → Table → ℕ → Call → Outcome
 file_outcome constants S table fd call =
-    (file_meaning call).does (real_time constants S.clock) (tree_of S) (open_of (whole S) (get table fd))
+    (file_meaning call).effect (real_time constants S.clock) (tree_of S) (open_of (whole S) (get table fd))

@@ -1,5 +1,5 @@
 pub mod Kernel
 pub mod Files
-pub mod Moving
-pub mod Names
+pub mod OffsetCalls
+pub mod Entries
 pub mod Opening

@@ -10,9 +10,9 @@ use Rattle.kernel_model.specs.Numbers.{can_number, next_object}
 use Rattle.kernel_model.specs.Opening.{Opened, open_at, open_mode, open_walked, opened_descriptor}
 use Rattle.kernel_model.specs.Outcome.{Outcome}
 use Rattle.kernel_model.specs.State.{State, Table, tree_of}
-use Rattle.name_calls.specs.Plans.{kind_of, makes_of, opened_by}
-use Rattle.kernel_parts.specs.Names.{open_in}
-use Rattle.kernel_parts.specs.declared.opening.Opening.{Opening}
+use Rattle.entry_calls.specs.Plans.{kind_of, makes_of, opened_by}
+use Rattle.kernel_parts.specs.Entries.{open_in}
+use Rattle.kernel_parts.specs.declared.installing.Opening.{Opening}
 
 -- what is opened at this time, by the open of a descriptor of the table, where a node that is made has the number new
 abbrev pub opened_at : ℕ → ℕ → State → Table → Lookup → List ℕ → ℕ → FdStat → Opened
@@ -23,13 +23,13 @@ opened_at now new S table lookup path oflags stat =
 -- what the call of process p comes to, whose table is this
 abbrev pub open_outcome : ℕ → State → ℕ → Table → Lookup → List ℕ → ℕ → FdStat → Outcome
 open_outcome now S p table lookup path oflags stat =
-    open_at p (get S.own p) table stat (opened_at now (next_object p (get S.own p) 1) S table lookup path oflags stat) (lowest_free table)
+    open_at p (get S.processes p) table stat (opened_at now (next_object p (get S.processes p) 1) S table lookup path oflags stat) (lowest_free table)
 
 -- that is opened: under the lowest free number, by a plan for the path, with the numbers that the process makes next
 pub record IsOpening (S : State) (p : ℕ) (table : Table) (lookup : Lookup) (path : List ℕ) (oflags : ℕ) (stat : FdStat) (o : Opening) : Type 0 where
   pub free : IsLowestFree table o.fd
-  pub can : can_number p (makes_of o.plan + 1) (get S.own p) ≡ true
-  pub new : o.new ≡ next_object p (get S.own p) 1
+  pub can : can_number p (makes_of o.plan + 1) (get S.processes p) ≡ true
+  pub new : o.new ≡ next_object p (get S.processes p) 1
   pub kind : o.kind ≡ kind_of o.plan stat.flags o.new
-  pub descriptor : o.descriptor ≡ opened_descriptor (next_object p (get S.own p) (makes_of o.plan + 1)) o.kind stat
+  pub descriptor : o.descriptor ≡ opened_descriptor (next_object p (get S.processes p) (makes_of o.plan + 1)) o.kind stat
   pub opened : (now new : ℕ) → opened_at now new S table lookup path oflags stat ≡ opened_by o.plan path (tree_of S) stat.flags now new

@@ -15,7 +15,7 @@ ghost use Rattle.kernel_model.specs.Release.{release, is_released};
 ghost use Rattle.kernel_model.specs.Reply as lacks;
 ghost use Rattle.kernel_model.specs.Reply.{denied};
 ghost use Rattle.tree_model.specs.Grants.{MayBegin};
-ghost use Rattle.kernel_model.specs.Sight.{own_parts};
+ghost use Rattle.kernel_model.specs.Sight.{process_parts};
 ghost use Rattle.kernel_model.specs.Start.{start_state};
 ghost use Rattle.kernel_model.specs.State.{put_all, Table, Part, has_part, Agree, thread_of, tree_of, written_to};
 ghost use Rattle.kernel_model.specs.Step.{act, failed, outside, MayLackMemory, IsStep, IsUntouched, end_unreleased, end_state};
@@ -27,15 +27,15 @@ use abi_types::{
     Answer, Call, Constants, Denial, Descriptor, Errno, FdStat, Needed, OpenKind, Payload, Pid,
     Reply, Status, Thread, Tid, TryClone, Who,
 };
-use fd_calls::moved_fd;
+use entry_calls::entry_fds;
+use fd_calls::offset_fd;
 use fd_table::FdTable;
-use file_calls::{on_open, opened_fd, type_number};
+use file_calls::{file_fd, on_open, type_number};
 use file_tree::Tree;
 use kernel_parts::{
-    Own, TableChange, Terminal, answer_of, granted, let_go_all, release, single, streams,
+    ProcessState, TableChange, Terminal, answer_of, granted, let_go_all, release, single, streams,
 };
 use maps::NumMap;
-use name_calls::named_fds;
 use object_store::Objects;
 use right_rules::{refusal, refused, success, success_with};
 use run_types::Launch;
@@ -50,7 +50,7 @@ const STEP_TIME: u64 = 1000;
 pub struct Kernel {
     pub(crate) clock: u64,
     pub(crate) tables: NumMap<FdTable>,
-    pub(crate) own: NumMap<Own>,
+    pub(crate) processes: NumMap<ProcessState>,
     pub(crate) statuses: NumMap<Status>,
     pub(crate) objects: Objects,
     pub(crate) tree: Tree,
@@ -67,9 +67,9 @@ impl Model for Kernel {
 
     ghost coded = { state_code };
 
-    ghost view = { λ k. record { clock = k.clock; tables = k.tables; own = k.own; statuses = k.statuses; opens = k.objects.kinds; nodes = k.tree.nodes; names = k.tree.names; terms = k.terms } };
+    ghost view = { λ k. record { clock = k.clock; tables = k.tables; processes = k.processes; statuses = k.statuses; opens = k.objects.kinds; nodes = k.tree.nodes; names = k.tree.names; terms = k.terms } };
 
-    ghost invariant = { λ k. IsKept (record { clock = k.clock; tables = k.tables; own = k.own; statuses = k.statuses; opens = k.objects.kinds; nodes = k.tree.nodes; names = k.tree.names; terms = k.terms }) k.objects.counts };
+    ghost invariant = { λ k. IsKept (record { clock = k.clock; tables = k.tables; processes = k.processes; statuses = k.statuses; opens = k.objects.kinds; nodes = k.tree.nodes; names = k.tree.names; terms = k.terms }) k.objects.counts };
 }
 
 // An open's flags. A process has none.
@@ -116,7 +116,7 @@ impl Kernel {
         Ok(Kernel {
             clock: 0,
             tables: single(alloc, 0, table)?,
-            own: single(alloc, 0, Own::first(alloc)?)?,
+            processes: single(alloc, 0, ProcessState::first(alloc)?)?,
             statuses: single(alloc, 0, Status::Live)?,
             objects,
             tree: launch.tree.copy()?,
@@ -128,11 +128,11 @@ impl Kernel {
     // Ends a process: it has this status, no descriptor and no thread, and what nothing holds any more ends.
     fn end_process(&mut self, pid: Pid, status: Status)
         requires { IsSome (map.get self.old.statuses pid) }
-        ensures { self.new ≡ release (put_all (end_updates pid (map.get self.old.own pid) status) self.old) }
+        ensures { self.new ≡ release (put_all (end_updates pid (map.get self.old.processes pid) status) self.old) }
     {
         let p = u64::from(pid.0);
         self.statuses.replace(p, status);
-        self.own.get_mut(p).end();
+        self.processes.get_mut(p).end();
         let_go_all(self.tables.get_mut(p), &mut self.objects);
         release(&mut self.objects, &mut self.tree);
     }
@@ -177,7 +177,7 @@ impl Kernel {
         fd: u32,
         call: &Call,
     ) -> Result<Answer, AllocError>
-        requires on { files.opened_fd call.now ≡ Some fd }
+        requires on { files.file_fd call.now ≡ Some fd }
         requires early { self.old.clock + constants.now.epoch < 2 ^ 64 }
         ensures ok { IfOk result (λ given. (table : Table) → map.get self.old.tables pid ≡ Some table →
             (given ≡ (file_outcome constants.now self.old table fd call.now).answer)
@@ -213,14 +213,14 @@ impl Kernel {
         if let Some(reply) = refusal(table, call) {
             return Ok(Answer::Reply(reply));
         }
-        if let Some(fd) = opened_fd(call) {
+        if let Some(fd) = file_fd(call) {
             return self.file_call(constants, who.pid, fd, call);
         }
-        if let Some(fd) = moved_fd(call) {
-            return self.moving_call(constants, who.pid, fd, call);
+        if let Some(fd) = offset_fd(call) {
+            return self.offset_call(constants, who.pid, fd, call);
         }
-        if let Some((fd, other)) = named_fds(call) {
-            return self.name_call(constants, who.pid, fd, other, call);
+        if let Some((fd, other)) = entry_fds(call) {
+            return self.entry_call(constants, who.pid, fd, other, call);
         }
         match call {
             Call::FdClose { fd } => self.change_descriptors(who.pid, &TableChange::Close(*fd)),
@@ -300,7 +300,7 @@ impl Kernel {
         requires early { self.old.clock < 2 ^ 63 }
         ensures end { self.new ≡ end_state self.old pid status }
         ensures valid { IsValid self.new }
-        ensures others { (q : Part) → has_part (own_parts pid) q ≡ false
+        ensures others { (q : Part) → has_part (process_parts pid) q ≡ false
             → is_released (end_unreleased self.old pid status) q ≡ false → Agree self.new self.old q }
     {
         self.clock += STEP_TIME;
@@ -342,7 +342,7 @@ impl Kernel {
     pub fn thread(&self, pid: Pid, tid: Tid) -> Option<Thread>
         ensures { result ≡ thread_of self.now pid tid }
     {
-        self.own.get(u64::from(pid.0))?.thread(tid)
+        self.processes.get(u64::from(pid.0))?.thread(tid)
     }
 
     /// The file tree.

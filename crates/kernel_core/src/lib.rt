@@ -4,7 +4,7 @@
 pub use kernel::Kernel;
 pub use run_types::{Act, Entry, History, Launch, Record};
 
+mod entries;
 mod kernel;
-mod moving;
-mod names;
+mod offset_calls;
 mod opening;

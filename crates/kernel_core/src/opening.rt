@@ -9,9 +9,9 @@ ghost use Rattle.kernel_model.specs.State.{put_all, Table};
 
 use crate::kernel::Kernel;
 use abi_types::{Answer, Constants, Errno, FdStat, Lookup, ObjId, Pid, Reply};
+use entry_calls::plan_open;
 use file_calls::reply_of;
-use kernel_parts::{Opening, forget_nameless, opened, put_opening};
-use name_calls::plan_open;
+use kernel_parts::{Opening, forget_nameless, open_of, put_opening};
 use right_rules::{refused, success};
 use std::alloc::AllocError;
 
@@ -31,13 +31,13 @@ impl Kernel {
             → (now : ℕ) → open_outcome now self.now pid table lookup.now path.now oflags stat.now ≡ replies reply) }
     {
         let p = u64::from(pid.0);
-        let (Some(table), Some(own)) = (self.tables.get(p), self.own.get(p)) else {
+        let (Some(table), Some(own)) = (self.tables.get(p), self.processes.get(p)) else {
             return Err(refused(Errno::Badf));
         };
         let Some(fd) = table.lowest() else {
             return Err(refused(Errno::Mfile));
         };
-        let Some(here) = opened(&self.objects, table, Some(lookup.fd)) else {
+        let Some(here) = open_of(&self.objects, table, Some(lookup.fd)) else {
             return Err(refused(Errno::Badf));
         };
         let plan = match plan_open(&self.tree, here, oflags, lookup.flags, path) {
@@ -90,7 +90,7 @@ impl Kernel {
             path,
             now,
         )?;
-        self.own.get_mut(p).make(opening.plan.makes() + 1);
+        self.processes.get_mut(p).make(opening.plan.makes() + 1);
         forget_nameless(&mut self.tree, &self.objects);
         Ok(Answer::Reply(success(u64::from(opening.fd), 0)))
     }

@@ -14,7 +14,7 @@ use Rattle.abi_types.specs.declared.open_kind.OpenKind.{OpenKind}
 use Rattle.abi_types.specs.declared.open_kind.OpenKind.TheVariants.{File, Directory, End, Terminal, Process}
 use Rattle.tree_model.specs.Finds.{HasSameBelow}
 use Rattle.tree_model.specs.Tree.{below}
-use Rattle.kernel_model.specs.Sight.{own_parts, behind, node_parts}
+use Rattle.kernel_model.specs.Sight.{process_parts, behind, node_parts}
 use Rattle.kernel_model.specs.State.{State, Tree, tree_of, Part, at_open, at_node, at_names, has_part}
 use Rattle.kernel_model.specs.View.{restrict}
 use Rattle.kernel_model.proofs.Parts.{has_left, has_right}
@@ -93,10 +93,10 @@ all_behind_is_seen S parts (Some (Process q)) all = tt
 
 -- the parts that a call sees of a process with number p, by an open with number o
 abbrev pub seen_parts : State → ℕ → ℕ → Option OpenKind → List Part
-seen_parts S p o kind = own_parts p ++ at_open o ∷ (behind S kind ++ [])
+seen_parts S p o kind = process_parts p ++ at_open o ∷ (behind S kind ++ [])
 
 pub behind_is_seen : (S : State) (p o : ℕ) (kind : Option OpenKind) → IsSeen (tree_of S) (restrict S (seen_parts S p o kind)).branch kind
 behind_is_seen S p o kind =
     all_behind_is_seen S (seen_parts S p o kind) kind
-    (λ q h. has_right (own_parts p) (at_open o ∷ (behind S kind ++ [])) q
+    (λ q h. has_right (process_parts p) (at_open o ∷ (behind S kind ++ [])) q
     (has_right (at_open o ∷ []) (behind S kind ++ []) q (has_left (behind S kind) [] q h)))

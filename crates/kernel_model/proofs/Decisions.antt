@@ -33,7 +33,7 @@ restrict_alike S T parts now all =
     λ i. record {
       clock = now i + 1000;
       table = λ p. only_alike (has_part parts (at_proc p)) (get S.tables p) (get T.tables p) (λ h. (agree_at S T parts (at_proc p) all h).0) i;
-      own = λ p. only_alike (has_part parts (at_proc p)) (get S.own p) (get T.own p) (λ h. (agree_at S T parts (at_proc p) all h).1) i;
+      process = λ p. only_alike (has_part parts (at_proc p)) (get S.processes p) (get T.processes p) (λ h. (agree_at S T parts (at_proc p) all h).1) i;
       status = λ p. only_alike (has_part parts (at_status p)) (get S.statuses p) (get T.statuses p) (λ h. agree_at S T parts (at_status p) all h) i;
       opened = λ o. only_alike (has_part parts (at_open o)) (get S.opens o) (get T.opens o) (λ h. agree_at S T parts (at_open o) all h) i;
       branch = record {

@@ -19,12 +19,12 @@ use Rattle.kernel_model.specs.DescriptorCalls.{with_table, fd_close, lowest_free
 use Rattle.kernel_model.specs.Outcome.{Outcome, replies}
 use Rattle.kernel_model.specs.Proper.{IsIn, IsUnset, IsPlain, IsProper}
 use Rattle.kernel_model.specs.Reply.{refused}
-use Rattle.kernel_model.specs.Sight.{own_parts, behind, reached_by}
+use Rattle.kernel_model.specs.Sight.{process_parts, behind, reached_by}
 use Rattle.kernel_model.specs.State.{State, Table, Part, Update, at_clock, at_proc, at_status, at_open, same_part, has_part, part_of, put_all, set_open, set_table}
 use Rattle.kernel_model.specs.Step.{tick}
 use Rattle.kernel_model.specs.Valid.{IsNearlyValid}
 use Rattle.kernel_model.specs.View.{View, restrict, whole}
-use Rattle.kernel_model.proofs.Parts.{KeepsThreads, outside_cons, has_of_both, beyond_own, number_apart}
+use Rattle.kernel_model.proofs.Parts.{KeepsThreads, outside_cons, has_of_both, beyond_process, number_apart}
 use Rattle.kernel_model.proofs.Sights.{open_seen}
 use Rattle.kernel_model.proofs.Tests.{not_true, none_is_no, or_false, same_some}
 use Rattle.kernel_model.proofs.Valids.{IsWithin, ComesFromTable, IsSameBehind, set_open_nearly_valid, set_table_nearly_valid}
@@ -83,8 +83,8 @@ setting_valid errors S p table o is there nearly =
     (λ result new from. set_table_nearly_valid S p table new there from nearly)
 
 -- the table is the process's own
-pub own_table : (p : ℕ) (q : Part) → has_part (own_parts p) q ≡ false → has_part (at_proc p ∷ []) q ≡ false
-own_table p q h =
+pub process_table : (p : ℕ) (q : Part) → has_part (process_parts p) q ≡ false → has_part (at_proc p ∷ []) q ≡ false
+process_table p q h =
     let rest = outside_cons at_clock (at_proc p ∷ at_status p ∷ []) q h in
     let proc = outside_cons (at_proc p) (at_status p ∷ []) q rest.1 in
     ap (λ b. b || false) proc.0
@@ -98,9 +98,9 @@ setting_is_proper : (named : List ℕ) (errors : List Errno) (takes : Bool) (f :
       named = named;
       need = [];
       seen = [];
-      does = λ constants v who table. f who.pid table;
+      effect = λ constants v who table. f who.pid table;
       outside = λ v table. None;
-      changes = λ S table. [];
+      touched = λ S table. [];
       numbers = 0;
       errors = errors;
       takes_memory = takes;
@@ -112,8 +112,8 @@ setting_is_proper named errors takes f is lacks = record {
   walks = λ S who table. refl;
   sets = λ constants S who table part h.
       of_table (λ o. IsUnset o part) errors who.pid table (f who.pid table) (is who.pid table) (λ errno _. refl)
-      (λ result new _. own_table who.pid part (beyond_own who.pid [] part h).0);
-  changes = λ S table part h. absurd (not_true h);
+      (λ result new _. process_table who.pid part (beyond_process who.pid [] part h).0);
+  touched = λ S table part h. absurd (not_true h);
   plain = λ constants v who table.
       of_table (IsPlain errors) errors who.pid table (f who.pid table) (is who.pid table) (λ errno here. (refl, inr (refl, here))) (λ result new _. (refl, inl refl));
   lacks = lacks;
@@ -175,7 +175,7 @@ stat_holds : (P : Outcome → Type 0) (v : View) (o : Option Descriptor) → P (
 stat_holds P v None absent done = absent
 stat_holds P v (Some d) absent done = open_stat P d (v.opened d.id) absent (done d)
 
-stat_reads : (S : State) (p : ℕ) (o : Option Descriptor) → stat_get (restrict S (own_parts p ++ (reached_by S o ++ []))) o ≡ stat_get (whole S) o
+stat_reads : (S : State) (p : ℕ) (o : Option Descriptor) → stat_get (restrict S (process_parts p ++ (reached_by S o ++ []))) o ≡ stat_get (whole S) o
 stat_reads S p None = refl
 stat_reads S p (Some d) = ap (stat_open d) (open_seen S p d)
 
@@ -186,7 +186,7 @@ fd_stat_get_is_proper fd = record {
   reads = λ constants S who table. stat_reads S who.pid (get table fd);
   walks = λ S who table. refl;
   sets = λ constants S who table part h. stat_holds (λ o. IsUnset o part) (whole (tick S)) (get table fd) refl (λ d kind. refl);
-  changes = λ S table part h. absurd (not_true h);
+  touched = λ S table part h. absurd (not_true h);
   plain = λ constants v who table. stat_holds (IsPlain (Badf ∷ [])) v (get table fd) (refl, inr (refl, ([], [], refl))) (λ d kind. (refl, inl refl));
   lacks = λ h. absurd (not_true h);
   others = λ constants v who table q apart. (
@@ -228,17 +228,17 @@ put_holds P v p table fd stat flags None absent done = absent
 put_holds P v p table fd stat flags (Some d) absent done = set_open_holds P p table fd stat flags d (v.opened d.id) absent (λ kind. done d kind refl)
 
 put_reads : (S : State) (p : ℕ) (table : Table) (fd : ℕ) (stat : FdStat) (flags : ℕ) (o : Option Descriptor)
-    → stat_put (restrict S (own_parts p ++ (reached_by S o ++ []))) p table fd stat flags o ≡ stat_put (whole S) p table fd stat flags o
+    → stat_put (restrict S (process_parts p ++ (reached_by S o ++ []))) p table fd stat flags o ≡ stat_put (whole S) p table fd stat flags o
 put_reads S p table fd stat flags None = refl
 put_reads S p table fd stat flags (Some d) = ap (stat_set p table fd stat flags d) (open_seen S p d)
 
 -- it sets its process's own and the open
-put_unset : (S : State) (p : ℕ) (table : Table) (fd : ℕ) (stat : FdStat) (flags : ℕ) (o : Option Descriptor) (q : Part) → has_part (own_parts p ++ open_part o) q ≡ false
+put_unset : (S : State) (p : ℕ) (table : Table) (fd : ℕ) (stat : FdStat) (flags : ℕ) (o : Option Descriptor) (q : Part) → has_part (process_parts p ++ open_part o) q ≡ false
     → IsUnset (stat_put (whole (tick S)) p table fd stat flags o) q
 put_unset S p table fd stat flags None q h = refl
 put_unset S p table fd stat flags (Some d) q h =
-    let apart = beyond_own p (at_open d.id ∷ []) q h in
-    let proc = own_table p q apart.0 in
+    let apart = beyond_process p (at_open d.id ∷ []) q h in
+    let proc = process_table p q apart.0 in
     set_open_holds (λ o. IsUnset o q) p table fd stat flags d (get S.opens d.id) refl
     (λ kind _. either_set (λ us. has_part (map part_of us) q ≡ false) (bit_and flags 1 == 0) (bit_and flags 2 == 0) (set_open d.id (with_flags kind stat.flags))
     (set_table p (insert table fd (lowered_to d stat))) refl apart.1 proc
@@ -284,7 +284,7 @@ fd_stat_put_is_proper fd stat flags = record {
   reads = λ constants S who table. put_reads S who.pid table fd stat flags (get table fd);
   walks = λ S who table. refl;
   sets = λ constants S who table part h. put_unset S who.pid table fd stat flags (get table fd) part h;
-  changes = λ S table part h. open_reached S (get table fd) part h;
+  touched = λ S table part h. open_reached S (get table fd) part h;
   plain = λ constants v who table.
       put_holds (IsPlain (Badf ∷ [])) v who.pid table fd stat flags (get table fd) (refl, inr (refl, ([], [], refl))) (λ d kind _ _. (refl, inl refl));
   lacks = λ h. absurd (not_true h);

@@ -6,7 +6,7 @@ use Rattle.abi_types.specs.declared.call.Call.{Call}
 use Rattle.abi_types.specs.declared.call.Call.TheVariants as call
 use Rattle.abi_types.specs.declared.needed.Needed.{Needed}
 use Rattle.kernel_model.specs.Calls.{meaning_of}
-use Rattle.kernel_model.specs.FileCalls.{file_meaning, opened_fd}
+use Rattle.kernel_model.specs.FileCalls.{file_meaning, file_fd}
 use Rattle.kernel_model.specs.FileMeaning.{on_open}
 use Rattle.kernel_model.specs.FilePaths.{lookup_mode}
 use Rattle.kernel_model.specs.MemoryCalls.{is_anonymous, map_row, map_zeros, mapping}
@@ -29,7 +29,7 @@ not_anonymous : (anonymous : Bool) (n fd : ℕ) → cond anonymous None (Some n)
 not_anonymous true n fd is = absurd (none_is_no fd is)
 not_anonymous false n fd is = (refl, same_some n fd is)
 
-pub on_open_of : (called : Call) (fd : ℕ) → opened_fd called ≡ Some fd → IsOnOpen called fd
+pub on_open_of : (called : Call) (fd : ℕ) → file_fd called ≡ Some fd → IsOnOpen called fd
 on_open_of (call.FileAllocate n offset length) fd is =
     record { row = _; of = same_some n fd is; means = refl; well = allocate_keeps_well (offset + length) }
 on_open_of (call.FileReaddir n length cookie) fd is = record { row = _; of = same_some n fd is; means = refl; well = list_keeps_well length cookie }

@@ -191,23 +191,23 @@ node_is_seen S (Some (End reads writes flags)) q h = absurd (not_true h)
 node_is_seen S (Some (Terminal which flags)) q h = absurd (not_true h)
 node_is_seen S (Some (Process p)) q h = absurd (not_true h)
 
-pub changing_keeps_well : (does : ℕ → Tree → Option OpenKind → Outcome)
-    → ((now : ℕ) (t u : Tree) (kind : Option OpenKind) → IsSeen t u kind → does now u kind ≡ does now t kind)
-    → ((now : ℕ) (t : Tree) (kind : Option OpenKind) → IsChange t kind (does now t kind)) → KeepsWell (changing does)
-changing_keeps_well does alike is = record {
+pub changing_keeps_well : (effect : ℕ → Tree → Option OpenKind → Outcome)
+    → ((now : ℕ) (t u : Tree) (kind : Option OpenKind) → IsSeen t u kind → effect now u kind ≡ effect now t kind)
+    → ((now : ℕ) (t : Tree) (kind : Option OpenKind) → IsChange t kind (effect now t kind)) → KeepsWell (changing effect)
+changing_keeps_well effect alike is = record {
   reads = alike;
   walks = λ t u kind seen. refl;
   tree = λ now t kind.
-      change_holds (AllByRecursion IsOfTree) t kind (does now t kind) (is now t kind) tt (λ node w part works. node_tree node (get w.nodes node));
+      change_holds (AllByRecursion IsOfTree) t kind (effect now t kind) (is now t kind) tt (λ node w part works. node_tree node (get w.nodes node));
   sets = λ now t kind q h.
-      change_holds (λ us. has_part (map part_of us) q ≡ false) t kind (does now t kind) (is now t kind) refl
+      change_holds (λ us. has_part (map part_of us) q ≡ false) t kind (effect now t kind) (is now t kind) refl
       (λ node w part works.
       node_unset node (get w.nodes node) q (outside_cons (at_node node) [] q (sym (ap (λ parts. has_part parts q) part) ∙ h)).0);
   seen = node_is_seen;
   plain = λ now t kind. (is now t kind).0;
   lacks = λ _. ((λ e. cc), ((λ e. cc), tt));
   valid = λ now S kind behind nearly.
-      change_holds (λ us. IsNearlyValid (put_all us S)) (tree_of S) kind (does now (tree_of S) kind) (is now (tree_of S) kind) nearly
+      change_holds (λ us. IsNearlyValid (put_all us S)) (tree_of S) kind (effect now (tree_of S) kind) (is now (tree_of S) kind) nearly
       (λ node w part works. node_valid S node w (get w.nodes node) (works (file_there S kind behind)) refl nearly);
 }
 

@@ -15,13 +15,13 @@ use Rattle.kernel_model.specs.ClockCalls.{real_time}
 use Rattle.kernel_model.specs.FileMeaning.{FileMeaning, open_of, on_open}
 use Rattle.kernel_model.specs.Outcome.{Outcome}
 use Rattle.kernel_model.specs.Proper.{IsDeniedOutside, IsProper, IsUnset}
-use Rattle.kernel_model.specs.Sight.{own_parts, behind, reached_by}
+use Rattle.kernel_model.specs.Sight.{process_parts, behind, reached_by}
 use Rattle.kernel_model.specs.State.{State, Tree, tree_of, Part, Update, at_proc, at_status, at_open, same_part, has_part, part_of, put_all, put_one, set_node, set_names, threads_of}
 use Rattle.kernel_model.specs.Step.{tick}
 use Rattle.kernel_model.specs.Valid.{HasBehind, IsNearlyValid}
 use Rattle.kernel_model.specs.View.{restrict, whole}
 use Rattle.kernel_model.proofs.Branches.{IsSeen, behind_is_seen}
-use Rattle.kernel_model.proofs.Parts.{beyond_own, has_of_both}
+use Rattle.kernel_model.proofs.Parts.{beyond_process, has_of_both}
 use Rattle.kernel_model.proofs.Sights.{open_seen}
 use Rattle.kernel_model.proofs.Tests.{none_is_no, or_false, or_true}
 
@@ -80,39 +80,39 @@ open_has_behind S (Some d) nearly k is = nearly.behind d.id k is
 
 pub record KeepsWell (m : FileMeaning) : Type 0 where
   -- by what it sees of the tree it does what it does by the whole, and its path leads where it does
-  pub reads : (now : ℕ) (t u : Tree) (kind : Option OpenKind) → IsSeen t u kind → m.does now u kind ≡ m.does now t kind
+  pub reads : (now : ℕ) (t u : Tree) (kind : Option OpenKind) → IsSeen t u kind → m.effect now u kind ≡ m.effect now t kind
   pub walks : (t u : Tree) (kind : Option OpenKind) → IsSeen t u kind → m.outside u kind ≡ m.outside t kind
   -- it sets parts of the tree, and none that it doesn't say; and it sees these
-  pub tree : (now : ℕ) (t : Tree) (kind : Option OpenKind) → SetsTree (m.does now t kind)
-  pub sets : (now : ℕ) (t : Tree) (kind : Option OpenKind) (q : Part) → has_part (m.changes t kind) q ≡ false → IsUnset (m.does now t kind) q
-  pub seen : (S : State) (kind : Option OpenKind) (q : Part) → has_part (m.changes (tree_of S) kind) q ≡ true → has_part (behind S kind) q ≡ true
+  pub tree : (now : ℕ) (t : Tree) (kind : Option OpenKind) → SetsTree (m.effect now t kind)
+  pub sets : (now : ℕ) (t : Tree) (kind : Option OpenKind) (q : Part) → has_part (m.touched t kind) q ≡ false → IsUnset (m.effect now t kind) q
+  pub seen : (S : State) (kind : Option OpenKind) (q : Part) → has_part (m.touched (tree_of S) kind) q ≡ true → has_part (behind S kind) q ≡ true
   -- its reply
-  pub plain : (now : ℕ) (t : Tree) (kind : Option OpenKind) → IsDeniedOutside m.errors (m.outside t kind) (m.does now t kind)
+  pub plain : (now : ℕ) (t : Tree) (kind : Option OpenKind) → IsDeniedOutside m.errors (m.outside t kind) (m.effect now t kind)
   pub lacks : m.takes_memory ≡ true → AllByRecursion (λ errno. errno ≢ Nomem) m.errors
   -- where what stands behind the open is there, it leaves a nearly valid state so
   pub valid : (now : ℕ) (S : State) (kind : Option OpenKind) → ((k : OpenKind) → kind ≡ Some k → HasBehind S k) → IsNearlyValid S
-      → IsNearlyValid (put_all (m.does now (tree_of S) kind).updates S)
+      → IsNearlyValid (put_all (m.effect now (tree_of S) kind).updates S)
 
 module _ (m : FileMeaning) (well : KeepsWell m) where
   file_reads : (now : ℕ) (S : State) (p : ℕ) (o : Option Descriptor)
-      → m.does now (restrict S (own_parts p ++ (reached_by S o ++ []))).branch (open_of (restrict S (own_parts p ++ (reached_by S o ++ []))) o)
-      ≡ m.does now (tree_of S) (open_of (whole S) o)
-  file_reads now S p None = well.reads now (tree_of S) (restrict S (own_parts p ++ [])).branch None tt
+      → m.effect now (restrict S (process_parts p ++ (reached_by S o ++ []))).branch (open_of (restrict S (process_parts p ++ (reached_by S o ++ []))) o)
+      ≡ m.effect now (tree_of S) (open_of (whole S) o)
+  file_reads now S p None = well.reads now (tree_of S) (restrict S (process_parts p ++ [])).branch None tt
   file_reads now S p (Some d) =
-      ap (m.does now (restrict S (own_parts p ++ (reached_by S (Some d) ++ []))).branch) (open_seen S p d)
-      ∙ well.reads now (tree_of S) (restrict S (own_parts p ++ (reached_by S (Some d) ++ []))).branch (get S.opens d.id)
+      ap (m.effect now (restrict S (process_parts p ++ (reached_by S (Some d) ++ []))).branch) (open_seen S p d)
+      ∙ well.reads now (tree_of S) (restrict S (process_parts p ++ (reached_by S (Some d) ++ []))).branch (get S.opens d.id)
       (behind_is_seen S p d.id (get S.opens d.id))
 
   file_walks : (S : State) (p : ℕ) (o : Option Descriptor)
-      → m.outside (restrict S (own_parts p ++ (reached_by S o ++ []))).branch (open_of (restrict S (own_parts p ++ (reached_by S o ++ []))) o)
+      → m.outside (restrict S (process_parts p ++ (reached_by S o ++ []))).branch (open_of (restrict S (process_parts p ++ (reached_by S o ++ []))) o)
       ≡ m.outside (tree_of S) (open_of (whole S) o)
-  file_walks S p None = well.walks (tree_of S) (restrict S (own_parts p ++ [])).branch None tt
+  file_walks S p None = well.walks (tree_of S) (restrict S (process_parts p ++ [])).branch None tt
   file_walks S p (Some d) =
-      ap (m.outside (restrict S (own_parts p ++ (reached_by S (Some d) ++ []))).branch) (open_seen S p d)
-      ∙ well.walks (tree_of S) (restrict S (own_parts p ++ (reached_by S (Some d) ++ []))).branch (get S.opens d.id)
+      ap (m.outside (restrict S (process_parts p ++ (reached_by S (Some d) ++ []))).branch) (open_seen S p d)
+      ∙ well.walks (tree_of S) (restrict S (process_parts p ++ (reached_by S (Some d) ++ []))).branch (get S.opens d.id)
       (behind_is_seen S p d.id (get S.opens d.id))
 
-  file_seen : (S : State) (o : Option Descriptor) (q : Part) → has_part (m.changes (tree_of S) (open_of (whole S) o)) q ≡ true
+  file_seen : (S : State) (o : Option Descriptor) (q : Part) → has_part (m.touched (tree_of S) (open_of (whole S) o)) q ≡ true
       → has_part (reached_by S o ++ []) q ≡ true
   file_seen S None q h = well.seen S None q h
   file_seen S (Some d) q h =
@@ -127,15 +127,15 @@ module _ (m : FileMeaning) (well : KeepsWell m) where
     walks = λ S who table. file_walks S who.pid (get table row.fd);
     sets = λ constants S who table part h.
         well.sets (real_time constants (tick S).clock) (tree_of S) (open_of (whole S) (get table row.fd)) part
-        (beyond_own who.pid (m.changes (tree_of S) (open_of (whole S) (get table row.fd))) part h).1;
-    changes = λ S table part h. file_seen S (get table row.fd) part h;
+        (beyond_process who.pid (m.touched (tree_of S) (open_of (whole S) (get table row.fd))) part h).1;
+    touched = λ S table part h. file_seen S (get table row.fd) part h;
     plain = λ constants v who table. well.plain (real_time constants v.clock) v.branch (open_of v (get table row.fd));
     lacks = well.lacks;
     others = λ constants v who table q apart.
-        tree_unset (m.does (real_time constants v.clock) v.branch (open_of v (get table row.fd))).updates q
+        tree_unset (m.effect (real_time constants v.clock) v.branch (open_of v (get table row.fd))).updates q
         (well.tree (real_time constants v.clock) v.branch (open_of v (get table row.fd)));
     threads = λ constants S who table live.
-        tree_threads (m.does (real_time constants S.clock) (tree_of S) (open_of (whole S) (get table row.fd))).updates S who.pid
+        tree_threads (m.effect (real_time constants S.clock) (tree_of S) (open_of (whole S) (get table row.fd))).updates S who.pid
         (well.tree (real_time constants S.clock) (tree_of S) (open_of (whole S) (get table row.fd)));
     valid = λ constants S who table there nearly.
         well.valid (real_time constants S.clock) S (open_of (whole S) (get table row.fd)) (open_has_behind S (get table row.fd) nearly) nearly;

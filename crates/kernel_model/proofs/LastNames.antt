@@ -26,7 +26,7 @@ use Rattle.tree_model.specs.Finds.{named_alike}
 use Rattle.tree_model.specs.Tree.{HasName, below}
 use Rattle.kernel_model.specs.FilePaths.{Walked, Ends, Fails, LeadsOutside, path_errors, walked}
 use Rattle.kernel_model.specs.LastNames.{LastName, StandsIn, IsNone, IsOutside, directory_parts, is_dots, last_name, last_of, last_outside, name_at}
-use Rattle.kernel_model.specs.NameMeaning.{Comes, Refuses, LeadsOut, at_name}
+use Rattle.kernel_model.specs.NameMeaning.{NameOutcome, Refuses, LeadsOut, at_name}
 use Rattle.kernel_model.specs.Proper.{IsIn}
 use Rattle.kernel_model.specs.Sight.{behind}
 use Rattle.kernel_model.specs.State.{State, Tree, tree_of, Part, at_node, at_names, same_part, has_part}
@@ -189,34 +189,34 @@ last_plainly t path kind = last_is_plain path (walked t Parent path kind) (walke
 
 -- ---- what a call comes to at the last name
 
-module _ (P : Comes → Type 0) (goes : ℕ → List ℕ → Comes)
+module _ (P : NameOutcome → Type 0) (goes : ℕ → List ℕ → NameOutcome)
     (refuses : (errno : Errno) → P (Refuses errno)) (leads : (component : ℕ) → P (LeadsOut component)) where
   pub at_name_holds : (last : LastName) → ((d : ℕ) (name : List ℕ) → last ≡ StandsIn d name → P (goes d name)) → P (at_name goes last)
   at_name_holds (StandsIn d name) at = at d name refl
   at_name_holds (IsNone errno) at = refuses errno
   at_name_holds (IsOutside component) at = leads component
 
-pub at_name_alike : (goes other : ℕ → List ℕ → Comes) (last : LastName)
+pub at_name_alike : (goes other : ℕ → List ℕ → NameOutcome) (last : LastName)
     → ((d : ℕ) (name : List ℕ) → last ≡ StandsIn d name → SetsAlike (goes d name) (other d name)) → SetsAlike (at_name goes last) (at_name other last)
 at_name_alike goes other (StandsIn d name) at = at d name refl
 at_name_alike goes other (IsNone errno) at = refl
 at_name_alike goes other (IsOutside component) at = refl
 
 -- it comes to the same by what is seen of the tree, where it does so in each directory below the open's
-pub at_name_reads : (goes : Tree → ℕ → List ℕ → Comes) (t u : Tree) (path : List ℕ) (kind : Option OpenKind)
+pub at_name_reads : (goes : Tree → ℕ → List ℕ → NameOutcome) (t u : Tree) (path : List ℕ) (kind : Option OpenKind)
     → ((d : ℕ) (name : List ℕ) → HasBelow t kind d → SetsAlike (goes u d name) (goes t d name)) → IsSeen t u kind
     → SetsAlike (at_name (goes u) (last_name u path kind)) (at_name (goes t) (last_name t path kind))
 at_name_reads goes t u path kind alike seen =
     subst (λ last. SetsAlike (at_name (goes u) last) (at_name (goes t) (last_name t path kind))) (sym (last_name_reads t u path kind seen))
     (at_name_alike (goes u) (goes t) (last_name t path kind) (λ d name is. alike d name (stands_below t path kind d name is)))
 
-plain_at_last : (more : List Errno) (goes : ℕ → List ℕ → Comes) (last : LastName) → LastPlainly last
+plain_at_last : (more : List Errno) (goes : ℕ → List ℕ → NameOutcome) (last : LastName) → LastPlainly last
     → ((d : ℕ) (name : List ℕ) → IsPlainly (path_errors ++ more) None (goes d name)) → IsPlainly (path_errors ++ more) (last_outside last) (at_name goes last)
 plain_at_last more goes (StandsIn d name) h at = at d name
 plain_at_last more goes (IsNone errno) h at = in_front errno path_errors more h
 plain_at_last more goes (IsOutside component) h at = refl
 
-pub at_name_plain : (more : List Errno) (goes : ℕ → List ℕ → Comes) (t : Tree) (path : List ℕ) (kind : Option OpenKind)
+pub at_name_plain : (more : List Errno) (goes : ℕ → List ℕ → NameOutcome) (t : Tree) (path : List ℕ) (kind : Option OpenKind)
     → ((d : ℕ) (name : List ℕ) → IsPlainly (path_errors ++ more) None (goes d name))
     → IsPlainly (path_errors ++ more) (last_outside (last_name t path kind)) (at_name goes (last_name t path kind))
 at_name_plain more goes t path kind at = plain_at_last more goes (last_name t path kind) (last_plainly t path kind) at

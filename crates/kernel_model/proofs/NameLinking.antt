@@ -22,7 +22,7 @@ use Rattle.kernel_model.specs.FileChanges.{modified}
 use Rattle.kernel_model.specs.FilePaths.{Walked, Ends, Fails, LeadsOutside, found_part, lookup_mode, path_errors, walked}
 use Rattle.kernel_model.specs.LastNames.{directory_parts, last_name, last_outside}
 use Rattle.kernel_model.specs.NameMaking.{with_new_names}
-use Rattle.kernel_model.specs.NameMeaning.{Comes, Refuses, LeadsOut, Changes, at_name}
+use Rattle.kernel_model.specs.NameMeaning.{NameOutcome, Refuses, LeadsOut, Changes, at_name}
 use Rattle.kernel_model.specs.NameMoving.{at_found, at_found_end, found_outside, found_outside_end, file_link, link_errno, link_in, linking, with_link}
 use Rattle.kernel_model.specs.NameRemoving.{recounted}
 use Rattle.kernel_model.specs.Proper.{IsIn, IsProper}
@@ -42,7 +42,7 @@ use Rattle.kernel_model.proofs.TreesAlike.{NamesAlike, NodeAlike, changed_names_
 
 -- ---- at the node that a path leads to
 
-module _ (P : Comes → Type 0) (goes : ℕ → Comes) (refuses : (errno : Errno) → P (Refuses errno)) (leads : (component : ℕ) → P (LeadsOut component)) where
+module _ (P : NameOutcome → Type 0) (goes : ℕ → NameOutcome) (refuses : (errno : Errno) → P (Refuses errno)) (leads : (component : ℕ) → P (LeadsOut component)) where
   at_found_end_holds : (e : PathEnd) → ((n : ℕ) → e ≡ end.Found n → P (goes n)) → P (at_found_end goes e)
   at_found_end_holds (end.Found n) at = at n refl
   at_found_end_holds (end.Absent dir from len) at = refuses Noent
@@ -53,7 +53,7 @@ module _ (P : Comes → Type 0) (goes : ℕ → Comes) (refuses : (errno : Errno
   at_found_holds (Fails errno) at = refuses errno
   at_found_holds (LeadsOutside component) at = leads component
 
-module _ (t : Tree) (kind : Option OpenKind) (goes other : ℕ → Comes) (alike : (n : ℕ) → HasBelow t kind n → SetsAlike (goes n) (other n)) where
+module _ (t : Tree) (kind : Option OpenKind) (goes other : ℕ → NameOutcome) (alike : (n : ℕ) → HasBelow t kind n → SetsAlike (goes n) (other n)) where
   at_found_end_alike : (end : PathEnd) → EndsBelow t kind end → SetsAlike (at_found_end goes end) (at_found_end other end)
   at_found_end_alike (end.Found n) under = alike n under
   at_found_end_alike (end.Absent dir from len) under = refl
@@ -65,14 +65,14 @@ module _ (t : Tree) (kind : Option OpenKind) (goes other : ℕ → Comes) (alike
   at_found_alike (LeadsOutside component) under = refl
 
 -- it comes to the same by what is seen of the tree, where it does so at each node below the open's directory
-pub at_found_reads : (goes : Tree → ℕ → Comes) (t u : Tree) (mode : WalkMode) (path : List ℕ) (kind : Option OpenKind)
+pub at_found_reads : (goes : Tree → ℕ → NameOutcome) (t u : Tree) (mode : WalkMode) (path : List ℕ) (kind : Option OpenKind)
     → ((n : ℕ) → HasBelow t kind n → SetsAlike (goes u n) (goes t n)) → IsSeen t u kind
     → SetsAlike (at_found (goes u) (walked u mode path kind)) (at_found (goes t) (walked t mode path kind))
 at_found_reads goes t u mode path kind alike seen =
     subst (λ w. SetsAlike (at_found (goes u) w) (at_found (goes t) (walked t mode path kind))) (sym (walked_reads t u mode path kind seen))
     (at_found_alike t kind (goes u) (goes t) alike (walked t mode path kind) (walks_below t mode path kind))
 
-module _ (more : List Errno) (goes : ℕ → Comes) (second : Option ℕ) (at : (n : ℕ) → IsPlainly (path_errors ++ more) second (goes n)) where
+module _ (more : List Errno) (goes : ℕ → NameOutcome) (second : Option ℕ) (at : (n : ℕ) → IsPlainly (path_errors ++ more) second (goes n)) where
   end_plain : (end : PathEnd) → IsPlainly (path_errors ++ more) (found_outside_end second end) (at_found_end goes end)
   end_plain (end.Found n) = at n
   end_plain (end.Absent dir from len) = in_front Noent path_errors more noent_among
@@ -173,7 +173,7 @@ seen_behind S here there q first second one other h =
 
 module _ (mode : WalkMode) (path new_path : List ℕ) where
   linking_reads : (now new : ℕ) (t u : Tree) (here there : Option OpenKind) → IsSeen t u here → IsSeen t u there
-      → SetsAlike ((linking mode path new_path).does now new u here there) ((linking mode path new_path).does now new t here there)
+      → SetsAlike ((linking mode path new_path).effect now new u here there) ((linking mode path new_path).effect now new t here there)
   linking_reads now new t u here there seen other =
       at_found_reads (λ w n. at_name (link_in now w n) (last_name w new_path there)) t u mode path here
       (λ n under.
@@ -189,7 +189,7 @@ module _ (mode : WalkMode) (path new_path : List ℕ) where
       ∙ ap (found_outside (last_outside (last_name t new_path there))) (walked_reads t u mode path here seen)
 
   linking_sets : (now new : ℕ) (t : Tree) (here there : Option OpenKind) (q : Part)
-      → has_part ((linking mode path new_path).changes t here there) q ≡ false → IsUnsetBy ((linking mode path new_path).does now new t here there) q
+      → has_part ((linking mode path new_path).touched t here there) q ≡ false → IsUnsetBy ((linking mode path new_path).effect now new t here there) q
   linking_sets now new t here there q h =
       let apart = outside_both (found_part (walked t mode path here)) (directory_parts (last_name t new_path there)) q h in
       at_found_holds (λ c. IsUnsetBy c q) (λ n. at_name (link_in now t n) (last_name t new_path there)) (λ _. tt) (λ _. tt) (walked t mode path here)
@@ -199,7 +199,7 @@ module _ (mode : WalkMode) (path new_path : List ℕ) where
       let dir = directory_unset (last_name t new_path there) q d name apart.1 is in
       link_unset now t n d name q (found_unset (walked t mode path here) q n apart.0 found) dir.0 dir.1))
 
-  linking_good : (now new : ℕ) (t : Tree) (here there : Option OpenKind) → IsTree t → IsGood t new 0 ((linking mode path new_path).does now new t here there)
+  linking_good : (now new : ℕ) (t : Tree) (here there : Option OpenKind) → IsTree t → IsGood t new 0 ((linking mode path new_path).effect now new t here there)
   linking_good now new t here there tree =
       at_found_holds (IsGood t new 0) (λ n. at_name (link_in now t n) (last_name t new_path there)) (λ _. tt) (λ _. tt) (walked t mode path here)
       (λ n found.

@@ -27,7 +27,7 @@ use Rattle.kernel_model.specs.FileChanges.{modified}
 use Rattle.kernel_model.specs.FilePaths.{longest_path, path_error, path_errors}
 use Rattle.kernel_model.specs.LastNames.{directory_parts, last_name, last_outside}
 use Rattle.kernel_model.specs.NameMaking.{empty_error, errno_of, file_create, file_symlink, make_in, making, making_unless, new_directories, node_of, or_else, text_error, with_node}
-use Rattle.kernel_model.specs.NameMeaning.{Comes, Refuses, Changes, NameMeaning, unless_fault}
+use Rattle.kernel_model.specs.NameMeaning.{NameOutcome, Refuses, Changes, NameMeaning, unless_fault}
 use Rattle.kernel_model.specs.Proper.{IsIn, IsProper}
 use Rattle.kernel_model.specs.State.{Part, Tree, at_names, at_node, at_open, has_part, part_of, same_part, tree_of}
 use Rattle.kernel_model.specs.TreeUpdates.{change_updates}
@@ -54,13 +54,13 @@ pub first_holds : (Q : Option TreeFault → Type 0) (faults : Faults) → Q None
 first_holds Q [] none all = none
 first_holds Q (f ∷ faults) none all = first_or Q f.0 f.1 (first_fault faults) all.0 (first_holds Q faults none all.1)
 
-pub unless_holds : (P : Comes → Type 0) (error : TreeFault → Errno) (o : Option TreeFault) (c : Comes) → ((errno : Errno) → P (Refuses errno))
+pub unless_holds : (P : NameOutcome → Type 0) (error : TreeFault → Errno) (o : Option TreeFault) (c : NameOutcome) → ((errno : Errno) → P (Refuses errno))
     → (o ≡ None → P c) → P (unless_fault error o c)
 unless_holds P error None c refuses free = free refl
 unless_holds P error (Some fault) c refuses free = refuses (error fault)
 
 -- the same with each fault of a table, and where it has none
-pub table_holds : (P : Comes → Type 0) (error : TreeFault → Errno) (faults : Faults) (c : Comes)
+pub table_holds : (P : NameOutcome → Type 0) (error : TreeFault → Errno) (faults : Faults) (c : NameOutcome)
     → AllByRecursion (λ (f : Bool × TreeFault). P (Refuses (error f.1))) faults → (first_fault faults ≡ None → P c)
     → P (unless_fault error (first_fault faults) c)
 table_holds P error faults c refuses free =
@@ -69,12 +69,12 @@ table_holds P error faults c refuses free =
     (λ f. first_fault faults ≡ Some f.1 → P (Refuses (error f.1))) (λ f one _. one) faults refuses)
     refl
 
-same_unless : (error : TreeFault → Errno) (o : Option TreeFault) (c other : Comes) → SetsAlike c other
+same_unless : (error : TreeFault → Errno) (o : Option TreeFault) (c other : NameOutcome) → SetsAlike c other
     → SetsAlike (unless_fault error o c) (unless_fault error o other)
 same_unless error None c other same = same
 same_unless error (Some fault) c other same = refl
 
-pub unless_alike : (error : TreeFault → Errno) (first second : Option TreeFault) (c other : Comes) → first ≡ second → SetsAlike c other
+pub unless_alike : (error : TreeFault → Errno) (first second : Option TreeFault) (c other : NameOutcome) → first ≡ second → SetsAlike c other
     → SetsAlike (unless_fault error first c) (unless_fault error second other)
 unless_alike error first second c other e same =
     subst (λ o. SetsAlike (unless_fault error first c) (unless_fault error o other)) e (same_unless error first c other same)

@@ -13,7 +13,7 @@ use Rattle.abi_types.specs.declared.open_kind.OpenKind.{OpenKind}
 use Rattle.maps.specs.Closure.{member}
 use Rattle.tree_model.specs.Changes.{is_file}
 use Rattle.tree_model.specs.Tree.{IsTree, is_directory}
-use Rattle.kernel_model.specs.NameMeaning.{Comes, Refuses, LeadsOut, Changes, NameMeaning}
+use Rattle.kernel_model.specs.NameMeaning.{NameOutcome, Refuses, LeadsOut, Changes, NameMeaning}
 use Rattle.kernel_model.specs.Numbers.{object_parts}
 use Rattle.kernel_model.specs.Proper.{IsIn}
 use Rattle.kernel_model.specs.Sight.{behind}
@@ -36,13 +36,13 @@ pub record IsChangeOf (t : Tree) (new makes : ℕ) (c : Change) : Type 0 where
   pub fresh : (q : ℕ) (node : Node) → get t.nodes q ≡ None → get c.tree.nodes q ≡ Some node → (q ≡ new) × (makes ≢ 0)
 
 -- both are refused alike, or set the same
-abbrev pub SetsAlike : Comes → Comes → Type 0
+abbrev pub SetsAlike : NameOutcome → NameOutcome → Type 0
 SetsAlike (Refuses errno) comes = comes ≡ Refuses errno
 SetsAlike (LeadsOut component) comes = comes ≡ LeadsOut component
 SetsAlike (Changes c) comes = (d : Change) × (comes ≡ Changes d) × (change_updates c ≡ change_updates d)
 
 -- the part is none that it sets
-abbrev pub IsUnsetBy : Comes → Part → Type 0
+abbrev pub IsUnsetBy : NameOutcome → Part → Type 0
 IsUnsetBy (Refuses errno) q = ⊤
 IsUnsetBy (LeadsOut component) q = ⊤
 IsUnsetBy (Changes c) q = has_part (map part_of (change_updates c)) q ≡ false
@@ -53,13 +53,13 @@ new_node_parts zero new = []
 new_node_parts (suc makes) new = object_parts new
 
 -- where a path leads outside it says so, and else it is refused by one of these errors, or changes the tree
-abbrev pub IsPlainly : List Errno → Option ℕ → Comes → Type 0
+abbrev pub IsPlainly : List Errno → Option ℕ → NameOutcome → Type 0
 IsPlainly errors (Some component) comes = comes ≡ LeadsOut component
 IsPlainly errors None (Refuses errno) = IsIn errno errors
 IsPlainly errors None (LeadsOut component) = ⊥
 IsPlainly errors None (Changes c) = ⊤
 
-abbrev pub IsGood : Tree → ℕ → ℕ → Comes → Type 0
+abbrev pub IsGood : Tree → ℕ → ℕ → NameOutcome → Type 0
 IsGood t new makes (Refuses errno) = ⊤
 IsGood t new makes (LeadsOut component) = ⊤
 IsGood t new makes (Changes c) = IsChangeOf t new makes c
@@ -73,18 +73,18 @@ IsBehind S kind = (k : OpenKind) → kind ≡ Some k → HasBehind S k
 pub record NamesWell (m : NameMeaning) : Type 0 where
   -- by what it sees of the tree u it sets what it sets by the whole tree t, and its paths lead where they do
   pub reads : (now new : ℕ) (t u : Tree) (here there : Option OpenKind) → IsSeen t u here → IsSeen t u there
-      → SetsAlike (m.does now new u here there) (m.does now new t here there)
+      → SetsAlike (m.effect now new u here there) (m.effect now new t here there)
   pub walks : (t u : Tree) (here there : Option OpenKind) → IsSeen t u here → IsSeen t u there → m.outside u here there ≡ m.outside t here there
   -- it sets nothing but the node that it makes and what it says that it changes; and it sees that
   pub sets : (now new : ℕ) (t : Tree) (here there : Option OpenKind) (q : Part)
-      → has_part (new_node_parts m.makes new ++ m.changes t here there) q ≡ false → IsUnsetBy (m.does now new t here there) q
-  pub seen : (S : State) (here there : Option OpenKind) (q : Part) → has_part (m.changes (tree_of S) here there) q ≡ true
+      → has_part (new_node_parts m.makes new ++ m.touched t here there) q ≡ false → IsUnsetBy (m.effect now new t here there) q
+  pub seen : (S : State) (here there : Option OpenKind) (q : Part) → has_part (m.touched (tree_of S) here there) q ≡ true
       → has_part (behind S here ++ behind S there) q ≡ true
   -- its errors
   pub plain : (now new : ℕ) (t : Tree) (here there : Option OpenKind)
-      → IsPlainly m.errors (m.outside t here there) (m.does now new t here there)
+      → IsPlainly m.errors (m.outside t here there) (m.effect now new t here there)
   pub again : (m.makes ≡ 0) ⊎ IsIn Again m.errors
   pub lacks : AllByRecursion (λ errno. errno ≢ Nomem) m.errors
   -- what it changes is a change of the tree
   pub good : (now new : ℕ) (S : State) (here there : Option OpenKind) → IsBehind S here → IsBehind S there → IsTree (tree_of S)
-      → (m.makes ≢ 0 → get S.nodes new ≡ None) → IsGood (tree_of S) new m.makes (m.does now new (tree_of S) here there)
+      → (m.makes ≢ 0 → get S.nodes new ≡ None) → IsGood (tree_of S) new m.makes (m.effect now new (tree_of S) here there)

@@ -24,7 +24,7 @@ use Rattle.kernel_model.specs.FileChanges.{modified}
 use Rattle.kernel_model.specs.FilePaths.{path_errors}
 use Rattle.kernel_model.specs.LastNames.{LastName, StandsIn, IsNone, IsOutside, directory_parts, last_name, last_outside}
 use Rattle.kernel_model.specs.NameMaking.{errno_of, with_new_names}
-use Rattle.kernel_model.specs.NameMeaning.{Comes, Refuses, Changes, at_name, unless_fault}
+use Rattle.kernel_model.specs.NameMeaning.{NameOutcome, Refuses, Changes, at_name, unless_fault}
 use Rattle.kernel_model.specs.NameMoving.{file_rename, move_or_stay, node_of_name, rename_in, renaming, second_outside, with_move, with_new_count_of}
 use Rattle.kernel_model.specs.NameRemoving.{named_parts, node_parts_of, recounted, unless_lost}
 use Rattle.kernel_model.specs.Proper.{IsIn, IsProper}
@@ -57,7 +57,7 @@ none_led t n is = absurd (none_is_no n is)
 some_led : (t : Tree) (n : ℕ) → IsSome (get t.nodes n) → IsLed t (Some n)
 some_led t n there m is = subst (λ k. IsSome (get t.nodes k)) (same_some n m is) there
 
-pub unless_lost_holds : (P : Comes → Type 0) (t : Tree) (o : Option ℕ) (a : Comes) → P (Refuses Noent) → (IsLed t o → P a) → P (unless_lost t o a)
+pub unless_lost_holds : (P : NameOutcome → Type 0) (t : Tree) (o : Option ℕ) (a : NameOutcome) → P (Refuses Noent) → (IsLed t o → P a) → P (unless_lost t o a)
 unless_lost_holds P t None a refused led = led (none_led t)
 unless_lost_holds P t (Some n) a refused led =
     elim (get t.nodes n) as (λ o. get t.nodes n ≡ o → P (cond (is_none o) (Refuses Noent) a)) [
@@ -65,12 +65,12 @@ unless_lost_holds P t (Some n) a refused led =
       | Some node ↦ λ there. led (some_led t n (ap is_some there))
     ] refl
 
-lost_alike : (first second : Option Node) (a b : Comes) → first ≡ second → (IsSome second → SetsAlike a b)
+lost_alike : (first second : Option Node) (a b : NameOutcome) → first ≡ second → (IsSome second → SetsAlike a b)
     → SetsAlike (cond (is_none first) (Refuses Noent) a) (cond (is_none second) (Refuses Noent) b)
 lost_alike first None a b same alike = subst (λ o. SetsAlike (cond (is_none o) (Refuses Noent) a) (Refuses Noent)) (sym same) refl
 lost_alike first (Some node) a b same alike = subst (λ o. SetsAlike (cond (is_none o) (Refuses Noent) a) b) (sym same) (alike refl)
 
-pub unless_lost_alike : (t u : Tree) (o : Option ℕ) (a b : Comes) → ((n : ℕ) → o ≡ Some n → NodeAlike t u n) → (IsLed t o → SetsAlike a b)
+pub unless_lost_alike : (t u : Tree) (o : Option ℕ) (a b : NameOutcome) → ((n : ℕ) → o ≡ Some n → NodeAlike t u n) → (IsLed t o → SetsAlike a b)
     → SetsAlike (unless_lost u o a) (unless_lost t o b)
 unless_lost_alike t u None a b nodes alike = alike (none_led t)
 unless_lost_alike t u (Some n) a b nodes alike =
@@ -136,7 +136,7 @@ module _ (from : ℕ) (name : List ℕ) (to : ℕ) (new : List ℕ) where
       directories = from ∷ to ∷ [];
     }
 
-    abbrev rename_by : Tree → Option ℕ → Option ℕ → Comes
+    abbrev rename_by : Tree → Option ℕ → Option ℕ → NameOutcome
     rename_by t moved old =
         unless_lost t moved
         (unless_lost t old
@@ -279,7 +279,7 @@ led_unset t m q =
 
 module _ (now : ℕ) (t : Tree) (from : ℕ) (name : List ℕ) (to : ℕ) (new : List ℕ) where
   -- what holds of each refusal and of the change holds of what a move comes to
-  rename_holds : (P : Comes → Type 0) → ((errno : Errno) → P (Refuses errno))
+  rename_holds : (P : NameOutcome → Type 0) → ((errno : Errno) → P (Refuses errno))
       → (IsLed t (entry_of t to new) → first_fault (rename_faults t from name to new) ≡ None → P (Changes (move_or_stay now t from name to new)))
       → P (rename_in now t from name to new)
   rename_holds P refused changed =
@@ -326,7 +326,7 @@ module _ (now : ℕ) (t : Tree) (from : ℕ) (name : List ℕ) (to : ℕ) (new :
 
   rename_plain : IsPlainly (path_errors ++ rename_errors) None (rename_in now t from name to new)
   rename_plain =
-      let plainly : Comes → Type 0 = IsPlainly (path_errors ++ rename_errors) None in
+      let plainly : NameOutcome → Type 0 = IsPlainly (path_errors ++ rename_errors) None in
       let absent : IsIn Noent (path_errors ++ rename_errors) = in_front Noent path_errors rename_errors noent_among in
       let notdir = in_front _ path_errors rename_errors notdir_among in
       let differ = replace_errors (is_same (entry_of t from name) (entry_of t to new)) in
@@ -337,7 +337,7 @@ module _ (now : ℕ) (t : Tree) (from : ℕ) (name : List ℕ) (to : ℕ) (new :
 
 -- ---- the meaning
 
-second_plain : (more : List Errno) (goes : ℕ → List ℕ → Comes) (second : Option ℕ) (last : LastName) → LastPlainly last
+second_plain : (more : List Errno) (goes : ℕ → List ℕ → NameOutcome) (second : Option ℕ) (last : LastName) → LastPlainly last
     → ((d : ℕ) (name : List ℕ) → IsPlainly (path_errors ++ more) second (goes d name))
     → IsPlainly (path_errors ++ more) (second_outside second last) (at_name goes last)
 second_plain more goes second (StandsIn d name) h at = at d name
@@ -350,7 +350,7 @@ module _ (path new_path : List ℕ) where
   second_parts t there = directory_parts (last_name t new_path there) ++ named_parts t (last_name t new_path there)
 
   renaming_reads : (now number : ℕ) (t u : Tree) (here there : Option OpenKind) → IsSeen t u here → IsSeen t u there
-      → SetsAlike ((renaming path new_path).does now number u here there) ((renaming path new_path).does now number t here there)
+      → SetsAlike ((renaming path new_path).effect now number u here there) ((renaming path new_path).effect now number t here there)
   renaming_reads now number t u here there seen other =
       at_name_reads (λ w from name. at_name (rename_in now w from name) (last_name w new_path there)) t u path here
       (λ from name under.
@@ -364,7 +364,7 @@ module _ (path new_path : List ℕ) where
       ∙ ap (second_outside (last_outside (last_name t new_path there))) (last_name_reads t u path here seen)
 
   renaming_sets : (now number : ℕ) (t : Tree) (here there : Option OpenKind) (q : Part)
-      → has_part ((renaming path new_path).changes t here there) q ≡ false → IsUnsetBy ((renaming path new_path).does now number t here there) q
+      → has_part ((renaming path new_path).touched t here there) q ≡ false → IsUnsetBy ((renaming path new_path).effect now number t here there) q
   renaming_sets now number t here there q h =
       let first = outside_both (directory_parts (last_name t path here)) (second_parts t there) q h in
       let second = outside_both (directory_parts (last_name t new_path there)) (named_parts t (last_name t new_path there)) q first.1 in
@@ -387,14 +387,14 @@ module _ (path new_path : List ℕ) where
       ]
 
   renaming_plain : (now number : ℕ) (t : Tree) (here there : Option OpenKind)
-      → IsPlainly (path_errors ++ rename_errors) ((renaming path new_path).outside t here there) ((renaming path new_path).does now number t here there)
+      → IsPlainly (path_errors ++ rename_errors) ((renaming path new_path).outside t here there) ((renaming path new_path).effect now number t here there)
   renaming_plain now number t here there =
       second_plain rename_errors (λ from name. at_name (rename_in now t from name) (last_name t new_path there)) (last_outside (last_name t new_path there))
       (last_name t path here) (last_plainly t path here)
       (λ from name. at_name_plain rename_errors (rename_in now t from name) t new_path there (λ to new. rename_plain now t from name to new))
 
   renaming_good : (now number : ℕ) (t : Tree) (here there : Option OpenKind) → IsTree t
-      → IsGood t number 0 ((renaming path new_path).does now number t here there)
+      → IsGood t number 0 ((renaming path new_path).effect now number t here there)
   renaming_good now number t here there tree =
       at_name_holds (IsGood t number 0) (λ from name. at_name (rename_in now t from name) (last_name t new_path there)) (λ _. tt) (λ _. tt)
       (last_name t path here)

@@ -9,23 +9,23 @@ use Rattle.abi_types.specs.declared.needed.Needed.{Needed}
 use Rattle.abi_types.specs.declared.reply.Answer.TheVariants as answer
 use Rattle.kernel_model.specs.ClockCalls.{real_time}
 use Rattle.kernel_model.specs.FileMeaning.{open_of}
-use Rattle.kernel_model.specs.NameMeaning.{Comes, Refuses, LeadsOut, Changes, NameMeaning, by_name, by_names, outcome_of}
-use Rattle.kernel_model.specs.Numbers.{can_number, new_parts, next_object, object_parts, own_updates}
+use Rattle.kernel_model.specs.NameMeaning.{NameOutcome, Refuses, LeadsOut, Changes, NameMeaning, by_name, by_names, outcome_of}
+use Rattle.kernel_model.specs.Numbers.{can_number, new_parts, next_object, object_parts, process_updates}
 use Rattle.kernel_model.specs.Outcome.{Outcome, replies}
 use Rattle.kernel_model.specs.Proper.{IsDeniedOutside, IsIn, IsProper, IsUnset}
 use Rattle.kernel_model.specs.Reply.{refused, success}
-use Rattle.kernel_model.specs.Sight.{own_parts, behind, reached_by}
-use Rattle.kernel_model.specs.State.{State, Own, Part, tree_of, at_open, at_proc, at_status, has_part, part_of, put_all, threads_of}
+use Rattle.kernel_model.specs.Sight.{process_parts, behind, reached_by}
+use Rattle.kernel_model.specs.State.{State, ProcessState, Part, tree_of, at_open, at_proc, at_status, has_part, part_of, put_all, threads_of}
 use Rattle.kernel_model.specs.Step.{tick}
 use Rattle.kernel_model.specs.TreeUpdates.{Change, change_updates}
 use Rattle.kernel_model.specs.Valid.{IsNearlyValid}
 use Rattle.kernel_model.specs.View.{only, restrict, whole}
 use Rattle.kernel_model.proofs.Branches.{IsSeen, all_behind_is_seen}
-use Rattle.kernel_model.proofs.DescriptorCalls.{other_table, own_table}
+use Rattle.kernel_model.proofs.DescriptorCalls.{other_table, process_table}
 use Rattle.kernel_model.proofs.FileMeanings.{open_has_behind, tree_tables, tree_threads, tree_unset}
 use Rattle.kernel_model.proofs.NameMeanings.{IsGood, IsPlainly, IsUnsetBy, NamesWell, SetsAlike, new_node_parts}
 use Rattle.kernel_model.proofs.ObjectNumbers.{fewer_fit, next_is_absent}
-use Rattle.kernel_model.proofs.Parts.{beyond_own, has_left, has_of_both, has_right}
+use Rattle.kernel_model.proofs.Parts.{beyond_process, has_left, has_of_both, has_right}
 use Rattle.kernel_model.proofs.Sights.{first_seen}
 use Rattle.kernel_model.proofs.Tests.{either_false, either_true, not_true}
 use Rattle.kernel_model.proofs.TreeUpdates.{both_unset, change_nearly_valid, change_of_tree, counted, counted_threads, put_both, put_counted}
@@ -53,19 +53,19 @@ behind_is_reached S (Some d) q h = has_right (at_open d.id ∷ []) (behind S (ge
 
 -- ---- what a process sets of its own
 
-own_unset : (p count : ℕ) (own : Option Own) (q : Part) → has_part (own_parts p) q ≡ false → has_part (map part_of (own_updates p count own)) q ≡ false
-own_unset p zero own q h = refl
-own_unset p (suc count) None q h = refl
-own_unset p (suc count) (Some own) q h = own_table p q h
+process_unset : (p count : ℕ) (own : Option ProcessState) (q : Part) → has_part (process_parts p) q ≡ false → has_part (map part_of (process_updates p count own)) q ≡ false
+process_unset p zero own q h = refl
+process_unset p (suc count) None q h = refl
+process_unset p (suc count) (Some own) q h = process_table p q h
 
-own_others : (p count : ℕ) (own : Option Own) (q : ℕ) → q ≢ p
-    → (has_part (map part_of (own_updates p count own)) (at_proc q) ≡ false) × (has_part (map part_of (own_updates p count own)) (at_status q) ≡ false)
-own_others p zero own q apart = (refl, refl)
-own_others p (suc count) None q apart = (refl, refl)
-own_others p (suc count) (Some own) q apart = (other_table p q apart, refl)
+process_others : (p count : ℕ) (own : Option ProcessState) (q : ℕ) → q ≢ p
+    → (has_part (map part_of (process_updates p count own)) (at_proc q) ≡ false) × (has_part (map part_of (process_updates p count own)) (at_status q) ≡ false)
+process_others p zero own q apart = (refl, refl)
+process_others p (suc count) None q apart = (refl, refl)
+process_others p (suc count) (Some own) q apart = (other_table p q apart, refl)
 
 -- the first of the objects that it makes is one of them
-first_is_new : (p count : ℕ) (own : Option Own) (q : Part) → has_part (new_parts p (suc count) own) q ≡ false
+first_is_new : (p count : ℕ) (own : Option ProcessState) (q : Part) → has_part (new_parts p (suc count) own) q ≡ false
     → has_part (object_parts (next_object p own 1)) q ≡ false
 first_is_new p zero own q h = (either_false _ _ (sym (has_of_both (object_parts (next_object p own 1)) [] q) ∙ h)).0
 first_is_new p (suc count) own q h =
@@ -73,80 +73,80 @@ first_is_new p (suc count) own q h =
     let rest = new_parts p (suc count) own in
     first_is_new p count own q (either_false (has_part first q) (has_part rest q) (sym (has_of_both first rest q) ∙ h)).1
 
-new_node_unset : (p count : ℕ) (own : Option Own) (q : Part) → has_part (new_parts p count own) q ≡ false
+new_node_unset : (p count : ℕ) (own : Option ProcessState) (q : Part) → has_part (new_parts p count own) q ≡ false
     → has_part (new_node_parts count (next_object p own 1)) q ≡ false
 new_node_unset p zero own q h = refl
 new_node_unset p (suc count) own q h = first_is_new p count own q h
 
 -- ---- outcomes, by what such a call comes to
 
-alike_outcome : (p makes : ℕ) (own : Option Own) (a b : Comes) → SetsAlike a b → outcome_of p own makes a ≡ outcome_of p own makes b
+alike_outcome : (p makes : ℕ) (own : Option ProcessState) (a b : NameOutcome) → SetsAlike a b → outcome_of p own makes a ≡ outcome_of p own makes b
 alike_outcome p makes own (Refuses errno) b h = ap (outcome_of p own makes) (sym h)
 alike_outcome p makes own (LeadsOut component) b h = ap (outcome_of p own makes) (sym h)
 alike_outcome p makes own (Changes c) b h =
-    (λ i. cond (can_number p makes own) (record { answer = answer.Reply (success 0 0); updates = own_updates p makes own ++ h.2 i }) (replies (refused Again)))
+    (λ i. cond (can_number p makes own) (record { answer = answer.Reply (success 0 0); updates = process_updates p makes own ++ h.2 i }) (replies (refused Again)))
     ∙ ap (outcome_of p own makes) (sym h.1)
 
 -- what holds of a refusal, and of what a change sets where the process can make so many, holds of what such a change comes to
-change_holds : (P : Outcome → Type 0) (p makes : ℕ) (own : Option Own) (c : Change)
+change_holds : (P : Outcome → Type 0) (p makes : ℕ) (own : Option ProcessState) (c : Change)
     → (can_number p makes own ≡ false → P (replies (refused Again)))
-    → (can_number p makes own ≡ true → P (record { answer = answer.Reply (success 0 0); updates = own_updates p makes own ++ change_updates c }))
+    → (can_number p makes own ≡ true → P (record { answer = answer.Reply (success 0 0); updates = process_updates p makes own ++ change_updates c }))
     → P (outcome_of p own makes (Changes c))
 change_holds P p makes own c refuses sets =
     elim (can_number p makes own) as (λ b. can_number p makes own ≡ b
-    → P (cond b (record { answer = answer.Reply (success 0 0); updates = own_updates p makes own ++ change_updates c }) (replies (refused Again)))) [
+    → P (cond b (record { answer = answer.Reply (success 0 0); updates = process_updates p makes own ++ change_updates c }) (replies (refused Again)))) [
       | true ↦ sets
       | false ↦ refuses
     ] refl
 
-outcome_unset : (p makes : ℕ) (own : Option Own) (comes : Comes) (q : Part) → has_part (own_parts p) q ≡ false → IsUnsetBy comes q
+outcome_unset : (p makes : ℕ) (own : Option ProcessState) (comes : NameOutcome) (q : Part) → has_part (process_parts p) q ≡ false → IsUnsetBy comes q
     → IsUnset (outcome_of p own makes comes) q
 outcome_unset p makes own (Refuses errno) q h unset = refl
 outcome_unset p makes own (LeadsOut component) q h unset = refl
 outcome_unset p makes own (Changes c) q h unset =
     change_holds (λ o. IsUnset o q) p makes own c (λ _. refl)
-    (λ _. both_unset (own_updates p makes own) (change_updates c) q (own_unset p makes own q h) unset)
+    (λ _. both_unset (process_updates p makes own) (change_updates c) q (process_unset p makes own q h) unset)
 
-outcome_others : (p makes : ℕ) (own : Option Own) (comes : Comes) (q : ℕ) → q ≢ p
+outcome_others : (p makes : ℕ) (own : Option ProcessState) (comes : NameOutcome) (q : ℕ) → q ≢ p
     → IsUnset (outcome_of p own makes comes) (at_proc q) × IsUnset (outcome_of p own makes comes) (at_status q)
 outcome_others p makes own (Refuses errno) q apart = (refl, refl)
 outcome_others p makes own (LeadsOut component) q apart = (refl, refl)
 outcome_others p makes own (Changes c) q apart =
-    let mine = own_others p makes own q apart in
+    let mine = process_others p makes own q apart in
     let tree = tree_unset (change_updates c) q (change_of_tree c) in
     change_holds (λ o. IsUnset o (at_proc q) × IsUnset o (at_status q)) p makes own c (λ _. (refl, refl))
     (λ _. (
-      both_unset (own_updates p makes own) (change_updates c) (at_proc q) mine.0 tree.0,
-      both_unset (own_updates p makes own) (change_updates c) (at_status q) mine.1 tree.1,
+      both_unset (process_updates p makes own) (change_updates c) (at_proc q) mine.0 tree.0,
+      both_unset (process_updates p makes own) (change_updates c) (at_status q) mine.1 tree.1,
     ))
 
-outcome_threads : (S : State) (p makes : ℕ) (comes : Comes) → threads_of (put_all (outcome_of p (get S.own p) makes comes).updates S) p ≡ threads_of S p
+outcome_threads : (S : State) (p makes : ℕ) (comes : NameOutcome) → threads_of (put_all (outcome_of p (get S.processes p) makes comes).updates S) p ≡ threads_of S p
 outcome_threads S p makes (Refuses errno) = refl
 outcome_threads S p makes (LeadsOut component) = refl
 outcome_threads S p makes (Changes c) =
-    change_holds (λ (o : Outcome). threads_of (put_all o.updates S) p ≡ threads_of S p) p makes (get S.own p) c (λ _. refl)
-    (λ _. ap (λ (T : State). threads_of T p) (put_both (own_updates p makes (get S.own p)) (change_updates c) S)
+    change_holds (λ (o : Outcome). threads_of (put_all o.updates S) p ≡ threads_of S p) p makes (get S.processes p) c (λ _. refl)
+    (λ _. ap (λ (T : State). threads_of T p) (put_both (process_updates p makes (get S.processes p)) (change_updates c) S)
     ∙ tree_threads (change_updates c) (counted p makes S) p (change_of_tree c) ∙ counted_threads S p makes p)
 
-own_tables : (S : State) (p count : ℕ) (own : Option Own) → (put_all (own_updates p count own) S).tables ≡ S.tables
-own_tables S p zero own = refl
-own_tables S p (suc count) None = refl
-own_tables S p (suc count) (Some own) = refl
+process_tables : (S : State) (p count : ℕ) (own : Option ProcessState) → (put_all (process_updates p count own) S).tables ≡ S.tables
+process_tables S p zero own = refl
+process_tables S p (suc count) None = refl
+process_tables S p (suc count) (Some own) = refl
 
-pub outcome_tables : (S : State) (p makes : ℕ) (own : Option Own) (comes : Comes) → (put_all (outcome_of p own makes comes).updates S).tables ≡ S.tables
+pub outcome_tables : (S : State) (p makes : ℕ) (own : Option ProcessState) (comes : NameOutcome) → (put_all (outcome_of p own makes comes).updates S).tables ≡ S.tables
 outcome_tables S p makes own (Refuses errno) = refl
 outcome_tables S p makes own (LeadsOut component) = refl
 outcome_tables S p makes own (Changes c) =
     change_holds (λ (o : Outcome). (put_all o.updates S).tables ≡ S.tables) p makes own c (λ _. refl)
-    (λ _. ap (λ (T : State). T.tables) (put_both (own_updates p makes own) (change_updates c) S)
-    ∙ tree_tables (change_updates c) (put_all (own_updates p makes own) S) (change_of_tree c) ∙ own_tables S p makes own)
+    (λ _. ap (λ (T : State). T.tables) (put_both (process_updates p makes own) (change_updates c) S)
+    ∙ tree_tables (change_updates c) (put_all (process_updates p makes own) S) (change_of_tree c) ∙ process_tables S p makes own)
 
 -- where it can make no more it makes something
-makes_some : (P : Type 0) (p makes : ℕ) (own : Option Own) → can_number p makes own ≡ false → (makes ≡ 0) ⊎ P → P
+makes_some : (P : Type 0) (p makes : ℕ) (own : Option ProcessState) → can_number p makes own ≡ false → (makes ≡ 0) ⊎ P → P
 makes_some P p makes own none (inl is) = absurd (not_true (sym none ∙ ap (λ n. can_number p n own) is))
 makes_some P p makes own none (inr some) = some
 
-outcome_plain : (errors : List Errno) (p makes : ℕ) (own : Option Own) (outside : Option ℕ) (comes : Comes) → (makes ≡ 0) ⊎ IsIn Again errors
+outcome_plain : (errors : List Errno) (p makes : ℕ) (own : Option ProcessState) (outside : Option ℕ) (comes : NameOutcome) → (makes ≡ 0) ⊎ IsIn Again errors
     → IsPlainly errors outside comes → IsDeniedOutside errors outside (outcome_of p own makes comes)
 outcome_plain errors p makes own (Some component) comes again h = ap (outcome_of p own makes) h
 outcome_plain errors p makes own None (Refuses errno) again h = (refl, inr (refl, h))
@@ -155,38 +155,38 @@ outcome_plain errors p makes own None (Changes c) again h =
     change_holds (IsDeniedOutside errors None) p makes own c
     (λ none. (refl, inr (refl, makes_some (IsIn Again errors) p makes own none again))) (λ _. (refl, inl refl))
 
-outcome_valid : (S : State) (p makes : ℕ) (comes : Comes) → IsNearlyValid S
-    → (can_number p makes (get S.own p) ≡ true → IsGood (tree_of S) (next_object p (get S.own p) 1) makes comes)
-    → IsNearlyValid (put_all (outcome_of p (get S.own p) makes comes).updates S)
+outcome_valid : (S : State) (p makes : ℕ) (comes : NameOutcome) → IsNearlyValid S
+    → (can_number p makes (get S.processes p) ≡ true → IsGood (tree_of S) (next_object p (get S.processes p) 1) makes comes)
+    → IsNearlyValid (put_all (outcome_of p (get S.processes p) makes comes).updates S)
 outcome_valid S p makes (Refuses errno) v good = v
 outcome_valid S p makes (LeadsOut component) v good = v
 outcome_valid S p makes (Changes c) v good =
-    change_holds (λ (o : Outcome). IsNearlyValid (put_all o.updates S)) p makes (get S.own p) c (λ _. v) (λ can.
-    subst IsNearlyValid (sym (put_counted S p makes (next_object p (get S.own p) 1) makes c can (good can) (λ _. refl) (omega arith) v))
-    (change_nearly_valid S p makes (next_object p (get S.own p) 1) makes c can (good can) (λ _. refl) (omega arith) v))
+    change_holds (λ (o : Outcome). IsNearlyValid (put_all o.updates S)) p makes (get S.processes p) c (λ _. v) (λ can.
+    subst IsNearlyValid (sym (put_counted S p makes (next_object p (get S.processes p) 1) makes c can (good can) (λ _. refl) (omega arith) v))
+    (change_nearly_valid S p makes (next_object p (get S.processes p) 1) makes c can (good can) (λ _. refl) (omega arith) v))
 
 -- ---- by the opens of two descriptors, of which one may be none
 
 module _ (m : NameMeaning) (well : NamesWell m) where
   -- what it comes to in a state, by two descriptors
-  abbrev comes_to : ℕ → State → ℕ → Option Descriptor → Option Descriptor → Comes
-  comes_to now S p a b = m.does now (next_object p (get S.own p) 1) (tree_of S) (open_of (whole S) a) (open_of (whole S) b)
+  abbrev comes_to : ℕ → State → ℕ → Option Descriptor → Option Descriptor → NameOutcome
+  comes_to now S p a b = m.effect now (next_object p (get S.processes p) 1) (tree_of S) (open_of (whole S) a) (open_of (whole S) b)
 
   both_read : (now : ℕ) (S : State) (p : ℕ) (rest : List Part) (a b : Option Descriptor)
-      → HasReached S (own_parts p ++ rest) a → HasReached S (own_parts p ++ rest) b
-      → outcome_of p ((restrict S (own_parts p ++ rest)).own p) m.makes
-      (m.does now (next_object p ((restrict S (own_parts p ++ rest)).own p) 1) (restrict S (own_parts p ++ rest)).branch
-      (open_of (restrict S (own_parts p ++ rest)) a) (open_of (restrict S (own_parts p ++ rest)) b))
-      ≡ outcome_of p (get S.own p) m.makes (comes_to now S p a b)
+      → HasReached S (process_parts p ++ rest) a → HasReached S (process_parts p ++ rest) b
+      → outcome_of p ((restrict S (process_parts p ++ rest)).process p) m.makes
+      (m.effect now (next_object p ((restrict S (process_parts p ++ rest)).process p) 1) (restrict S (process_parts p ++ rest)).branch
+      (open_of (restrict S (process_parts p ++ rest)) a) (open_of (restrict S (process_parts p ++ rest)) b))
+      ≡ outcome_of p (get S.processes p) m.makes (comes_to now S p a b)
   both_read now S p rest a b here there =
-      let parts : List Part = own_parts p ++ rest in
-      let own : (restrict S parts).own p ≡ get S.own p = first_seen p (has_part rest (at_proc p)) (get S.own p) in
+      let parts : List Part = process_parts p ++ rest in
+      let own : (restrict S parts).process p ≡ get S.processes p = first_seen p (has_part rest (at_proc p)) (get S.processes p) in
       let first = sees_open S parts a here in
       let second = sees_open S parts b there in
-      (λ i. outcome_of p (own i) m.makes (m.does now (next_object p (own i) 1) (restrict S parts).branch (first i) (second i)))
-      ∙ alike_outcome p m.makes (get S.own p)
-      (m.does now (next_object p (get S.own p) 1) (restrict S parts).branch (open_of (whole S) a) (open_of (whole S) b)) (comes_to now S p a b)
-      (well.reads now (next_object p (get S.own p) 1) (tree_of S) (restrict S parts).branch (open_of (whole S) a) (open_of (whole S) b)
+      (λ i. outcome_of p (own i) m.makes (m.effect now (next_object p (own i) 1) (restrict S parts).branch (first i) (second i)))
+      ∙ alike_outcome p m.makes (get S.processes p)
+      (m.effect now (next_object p (get S.processes p) 1) (restrict S parts).branch (open_of (whole S) a) (open_of (whole S) b)) (comes_to now S p a b)
+      (well.reads now (next_object p (get S.processes p) 1) (tree_of S) (restrict S parts).branch (open_of (whole S) a) (open_of (whole S) b)
       (sees_behind S parts a here) (sees_behind S parts b there))
 
   both_walk : (S : State) (parts : List Part) (a b : Option Descriptor) → HasReached S parts a → HasReached S parts b
@@ -199,20 +199,20 @@ module _ (m : NameMeaning) (well : NamesWell m) where
       ∙ well.walks (tree_of S) (restrict S parts).branch (open_of (whole S) a) (open_of (whole S) b) (sees_behind S parts a here) (sees_behind S parts b there)
 
   both_unset_by : (now : ℕ) (S : State) (p : ℕ) (a b : Option Descriptor) (q : Part)
-      → has_part (own_parts p ++ (new_parts p m.makes (get S.own p) ++ m.changes (tree_of S) (open_of (whole S) a) (open_of (whole S) b))) q ≡ false
-      → IsUnset (outcome_of p (get S.own p) m.makes (comes_to now S p a b)) q
+      → has_part (process_parts p ++ (new_parts p m.makes (get S.processes p) ++ m.touched (tree_of S) (open_of (whole S) a) (open_of (whole S) b))) q ≡ false
+      → IsUnset (outcome_of p (get S.processes p) m.makes (comes_to now S p a b)) q
   both_unset_by now S p a b q h =
-      let made : List Part = new_parts p m.makes (get S.own p) in
-      let changed : List Part = m.changes (tree_of S) (open_of (whole S) a) (open_of (whole S) b) in
-      let node : List Part = new_node_parts m.makes (next_object p (get S.own p) 1) in
-      let apart = beyond_own p (made ++ changed) q h in
+      let made : List Part = new_parts p m.makes (get S.processes p) in
+      let changed : List Part = m.touched (tree_of S) (open_of (whole S) a) (open_of (whole S) b) in
+      let node : List Part = new_node_parts m.makes (next_object p (get S.processes p) 1) in
+      let apart = beyond_process p (made ++ changed) q h in
       let each = either_false (has_part made q) (has_part changed q) (sym (has_of_both made changed q) ∙ apart.1) in
-      outcome_unset p m.makes (get S.own p) (comes_to now S p a b) q apart.0
-      (well.sets now (next_object p (get S.own p) 1) (tree_of S) (open_of (whole S) a) (open_of (whole S) b) q
-      (has_of_both node changed q ∙ ap (λ c. c || has_part changed q) (new_node_unset p m.makes (get S.own p) q each.0) ∙ each.1))
+      outcome_unset p m.makes (get S.processes p) (comes_to now S p a b) q apart.0
+      (well.sets now (next_object p (get S.processes p) 1) (tree_of S) (open_of (whole S) a) (open_of (whole S) b) q
+      (has_of_both node changed q ∙ ap (λ c. c || has_part changed q) (new_node_unset p m.makes (get S.processes p) q each.0) ∙ each.1))
 
   -- what it changes is reached by one of both
-  both_reach : (S : State) (a b : Option Descriptor) (q : Part) → has_part (m.changes (tree_of S) (open_of (whole S) a) (open_of (whole S) b)) q ≡ true
+  both_reach : (S : State) (a b : Option Descriptor) (q : Part) → has_part (m.touched (tree_of S) (open_of (whole S) a) (open_of (whole S) b)) q ≡ true
       → (has_part (reached_by S a) q ≡ true) ⊎ (has_part (reached_by S b) q ≡ true)
   both_reach S a b q h =
       let first = behind S (open_of (whole S) a) in
@@ -224,12 +224,12 @@ module _ (m : NameMeaning) (well : NamesWell m) where
       ]
 
   both_valid : (now : ℕ) (S : State) (p : ℕ) (a b : Option Descriptor) → IsNearlyValid S
-      → IsNearlyValid (put_all (outcome_of p (get S.own p) m.makes (comes_to now S p a b)).updates S)
+      → IsNearlyValid (put_all (outcome_of p (get S.processes p) m.makes (comes_to now S p a b)).updates S)
   both_valid now S p a b v =
       outcome_valid S p m.makes (comes_to now S p a b) v (λ can.
-      well.good now (next_object p (get S.own p) 1) S (open_of (whole S) a) (open_of (whole S) b)
+      well.good now (next_object p (get S.processes p) 1) S (open_of (whole S) a) (open_of (whole S) b)
       (λ k is. open_has_behind S a v k is) (λ k is. open_has_behind S b v k is) v.tree (λ some.
-      let fits = fewer_fit p 1 m.makes (get S.own p) (omega arith) (omega (arith, some)) can in
+      let fits = fewer_fit p 1 m.makes (get S.processes p) (omega arith) (omega (arith, some)) can in
       (next_is_absent S p 1 v fits.0 (omega arith) fits.1).1))
 
   -- ---- both kinds of calls
@@ -241,37 +241,37 @@ module _ (m : NameMeaning) (well : NamesWell m) where
     reads = λ constants S who table.
         let o = get table row.fd in
         both_read (real_time constants S.clock) S who.pid (reached_by S o ++ []) o None
-        (λ q h. has_right (own_parts who.pid) (reached_by S o ++ []) q (has_left (reached_by S o) [] q h)) (λ q h. absurd (not_true h));
+        (λ q h. has_right (process_parts who.pid) (reached_by S o ++ []) q (has_left (reached_by S o) [] q h)) (λ q h. absurd (not_true h));
     walks = λ S who table.
         let o = get table row.fd in
-        both_walk S (own_parts who.pid ++ (reached_by S o ++ [])) o None
-        (λ q h. has_right (own_parts who.pid) (reached_by S o ++ []) q (has_left (reached_by S o) [] q h)) (λ q h. absurd (not_true h));
+        both_walk S (process_parts who.pid ++ (reached_by S o ++ [])) o None
+        (λ q h. has_right (process_parts who.pid) (reached_by S o ++ []) q (has_left (reached_by S o) [] q h)) (λ q h. absurd (not_true h));
     sets = λ constants S who table part h. both_unset_by (real_time constants (tick S).clock) S who.pid (get table row.fd) None part h;
-    changes = λ S table part h.
+    touched = λ S table part h.
         elim (both_reach S (get table row.fd) None part h) [
           | inl here ↦ has_left (reached_by S (get table row.fd)) [] part here
           | inr none ↦ absurd (not_true none)
         ];
     plain = λ constants v who table.
         let here = open_of v (get table row.fd) in
-        let new : ℕ = next_object who.pid (v.own who.pid) 1 in
-        outcome_plain m.errors who.pid m.makes (v.own who.pid) (m.outside v.branch here None)
-        (m.does (real_time constants v.clock) new v.branch here None) well.again
+        let new : ℕ = next_object who.pid (v.process who.pid) 1 in
+        outcome_plain m.errors who.pid m.makes (v.process who.pid) (m.outside v.branch here None)
+        (m.effect (real_time constants v.clock) new v.branch here None) well.again
         (well.plain (real_time constants v.clock) new v.branch here None);
     lacks = λ _. well.lacks;
-    others = λ constants v who table q apart. outcome_others who.pid m.makes (v.own who.pid) _ q apart;
+    others = λ constants v who table q apart. outcome_others who.pid m.makes (v.process who.pid) _ q apart;
     threads = λ constants S who table live. outcome_threads S who.pid m.makes (comes_to (real_time constants S.clock) S who.pid (get table row.fd) None);
     valid = λ constants S who table there nearly. both_valid (real_time constants S.clock) S who.pid (get table row.fd) None nearly;
   }
 
   -- the parts that are seen by two descriptors have what each reaches
-  first_reached : (S : State) (p : ℕ) (a b : Option Descriptor) → HasReached S (own_parts p ++ (reached_by S a ++ (reached_by S b ++ []))) a
+  first_reached : (S : State) (p : ℕ) (a b : Option Descriptor) → HasReached S (process_parts p ++ (reached_by S a ++ (reached_by S b ++ []))) a
   first_reached S p a b q h =
-      has_right (own_parts p) (reached_by S a ++ (reached_by S b ++ [])) q (has_left (reached_by S a) (reached_by S b ++ []) q h)
+      has_right (process_parts p) (reached_by S a ++ (reached_by S b ++ [])) q (has_left (reached_by S a) (reached_by S b ++ []) q h)
 
-  second_reached : (S : State) (p : ℕ) (a b : Option Descriptor) → HasReached S (own_parts p ++ (reached_by S a ++ (reached_by S b ++ []))) b
+  second_reached : (S : State) (p : ℕ) (a b : Option Descriptor) → HasReached S (process_parts p ++ (reached_by S a ++ (reached_by S b ++ []))) b
   second_reached S p a b q h =
-      has_right (own_parts p) (reached_by S a ++ (reached_by S b ++ [])) q
+      has_right (process_parts p) (reached_by S a ++ (reached_by S b ++ [])) q
       (has_right (reached_by S a) (reached_by S b ++ []) q (has_left (reached_by S b) [] q h))
 
   pub by_names_is_proper : (first second : Needed) → IsProper (by_names first second m)
@@ -286,10 +286,10 @@ module _ (m : NameMeaning) (well : NamesWell m) where
     walks = λ S who table.
         let a = get table first.fd in
         let b = get table second.fd in
-        both_walk S (own_parts who.pid ++ (reached_by S a ++ (reached_by S b ++ []))) a b (first_reached S who.pid a b) (second_reached S who.pid a b);
+        both_walk S (process_parts who.pid ++ (reached_by S a ++ (reached_by S b ++ []))) a b (first_reached S who.pid a b) (second_reached S who.pid a b);
     sets = λ constants S who table part h.
         both_unset_by (real_time constants (tick S).clock) S who.pid (get table first.fd) (get table second.fd) part h;
-    changes = λ S table part h.
+    touched = λ S table part h.
         let a = get table first.fd in
         let b = get table second.fd in
         elim (both_reach S a b part h) [
@@ -299,12 +299,12 @@ module _ (m : NameMeaning) (well : NamesWell m) where
     plain = λ constants v who table.
         let here = open_of v (get table first.fd) in
         let there = open_of v (get table second.fd) in
-        let new : ℕ = next_object who.pid (v.own who.pid) 1 in
-        outcome_plain m.errors who.pid m.makes (v.own who.pid) (m.outside v.branch here there)
-        (m.does (real_time constants v.clock) new v.branch here there) well.again
+        let new : ℕ = next_object who.pid (v.process who.pid) 1 in
+        outcome_plain m.errors who.pid m.makes (v.process who.pid) (m.outside v.branch here there)
+        (m.effect (real_time constants v.clock) new v.branch here there) well.again
         (well.plain (real_time constants v.clock) new v.branch here there);
     lacks = λ _. well.lacks;
-    others = λ constants v who table q apart. outcome_others who.pid m.makes (v.own who.pid) _ q apart;
+    others = λ constants v who table q apart. outcome_others who.pid m.makes (v.process who.pid) _ q apart;
     threads = λ constants S who table live.
         outcome_threads S who.pid m.makes (comes_to (real_time constants S.clock) S who.pid (get table first.fd) (get table second.fd));
     valid = λ constants S who table there nearly.

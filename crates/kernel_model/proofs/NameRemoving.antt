@@ -21,7 +21,7 @@ use Rattle.kernel_model.specs.FileChanges.{modified}
 use Rattle.kernel_model.specs.FilePaths.{path_errors}
 use Rattle.kernel_model.specs.LastNames.{LastName, StandsIn, IsNone, IsOutside, directory_parts, last_name, last_outside}
 use Rattle.kernel_model.specs.NameMaking.{with_new_names}
-use Rattle.kernel_model.specs.NameMeaning.{Comes, Refuses, Changes, unless_fault}
+use Rattle.kernel_model.specs.NameMeaning.{NameOutcome, Refuses, Changes, unless_fault}
 use Rattle.kernel_model.specs.NameRemoving.{file_unlink, named_parts, node_parts_of, recounted, removes_directory, unless_lost, unlink_errno, unlink_in, unlink_node, unlinking, without_name}
 use Rattle.kernel_model.specs.Proper.{IsIn, IsProper}
 use Rattle.kernel_model.specs.Sight.{behind}
@@ -60,25 +60,25 @@ notdir_of = in_front _ path_errors more_errors notdir_among
 abbrev faults_by : Tree → ℕ → Option ℕ → Faults
 faults_by t d o = (is_absent t d, Absent) ∷ (not (is_directory t d), NotDirectory) ∷ (is_none o, Absent) ∷ (is_full t o, NotEmpty) ∷ []
 
-abbrev unlink_free : ℕ → ℕ → Tree → ℕ → List ℕ → Option ℕ → Comes
+abbrev unlink_free : ℕ → ℕ → Tree → ℕ → List ℕ → Option ℕ → NameOutcome
 unlink_free flags now t d name o = unless_fault (unlink_errno flags) (first_fault (faults_by t d o)) (unlink_node flags now t d name o)
 
-abbrev unlink_by : ℕ → ℕ → Tree → ℕ → List ℕ → Option ℕ → Comes
+abbrev unlink_by : ℕ → ℕ → Tree → ℕ → List ℕ → Option ℕ → NameOutcome
 unlink_by flags now t d name o = unless_lost t o (unlink_free flags now t d name o)
 
-module _ (P : Comes → Type 0) (flags now : ℕ) (t : Tree) (d : ℕ) (name : List ℕ)
+module _ (P : NameOutcome → Type 0) (flags now : ℕ) (t : Tree) (d : ℕ) (name : List ℕ)
     (refuses : (errno : Errno) → IsIn errno (path_errors ++ more_errors) → P (Refuses errno)) where
   full_refused : (b : Bool) → P (Refuses (cond b Notempty Perm))
   full_refused true = refuses Notempty notempty_among
   full_refused false = refuses Perm perm_among
 
-  node_holds : (c : Comes) (directory removes : Bool) → P c → P (cond directory (cond removes c (Refuses Perm)) (cond removes (Refuses Notdir) c))
+  node_holds : (c : NameOutcome) (directory removes : Bool) → P c → P (cond directory (cond removes c (Refuses Perm)) (cond removes (Refuses Notdir) c))
   node_holds c true true h = h
   node_holds c true false h = refuses Perm perm_among
   node_holds c false true h = refuses Notdir notdir_of
   node_holds c false false h = h
 
-  lost_holds : (c : Comes) (b : Bool) → (b ≡ false → P c) → P (cond b (Refuses Noent) c)
+  lost_holds : (c : NameOutcome) (b : Bool) → (b ≡ false → P c) → P (cond b (Refuses Noent) c)
   lost_holds c true h = refuses Noent noent_of
   lost_holds c false h = h refl
 
@@ -168,11 +168,11 @@ module _ (flags now : ℕ) (t u : Tree) (kind : Option OpenKind) (d : ℕ) (name
   same_entry : entry_of u d name ≡ entry_of t d name
   same_entry = ap (λ o. get (names_in o) name) (sym same_names)
 
-  lost_alike : (b : Bool) (c other : Comes) → (b ≡ false → SetsAlike c other) → SetsAlike (cond b (Refuses Noent) c) (cond b (Refuses Noent) other)
+  lost_alike : (b : Bool) (c other : NameOutcome) → (b ≡ false → SetsAlike c other) → SetsAlike (cond b (Refuses Noent) c) (cond b (Refuses Noent) other)
   lost_alike true c other same = refl
   lost_alike false c other same = same refl
 
-  pick_alike : (directory removes : Bool) (c other : Comes) → SetsAlike c other
+  pick_alike : (directory removes : Bool) (c other : NameOutcome) → SetsAlike c other
       → SetsAlike (cond directory (cond removes c (Refuses Perm)) (cond removes (Refuses Notdir) c))
       (cond directory (cond removes other (Refuses Perm)) (cond removes (Refuses Notdir) other))
   pick_alike true true c other same = same
@@ -183,8 +183,8 @@ module _ (flags now : ℕ) (t u : Tree) (kind : Option OpenKind) (d : ℕ) (name
   node_alike : (n : ℕ) → HasName t d name n → get t.nodes n ≡ get u.nodes n
       → SetsAlike (unlink_node flags now u d name (Some n)) (unlink_node flags now t d name (Some n))
   node_alike n named node =
-      let was : Comes = Changes (without_name now t d name n) in
-      let is : Comes = Changes (without_name now u d name n) in
+      let was : NameOutcome = Changes (without_name now t d name n) in
+      let is : NameOutcome = Changes (without_name now u d name n) in
       subst (λ b. SetsAlike (cond b (cond (removes_directory flags) is (Refuses Perm)) (cond (removes_directory flags) (Refuses Notdir) is))
       (unlink_node flags now t d name (Some n))) (ap is_directory_node node)
       (pick_alike (is_directory t n) (removes_directory flags) is was

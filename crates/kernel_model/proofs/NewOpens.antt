@@ -13,7 +13,7 @@ use Rattle.abi_types.specs.declared.status.Status.{Status}
 use Rattle.abi_types.specs.declared.status.Status.TheVariants.{Live}
 use Rattle.maps.specs.Maps.{get-insert-same, get-insert-other}
 use Rattle.kernel_model.specs.Numbers.{object_of}
-use Rattle.kernel_model.specs.State.{State, Table, Update, counts_in, put_all, put_one, set_names, set_node, set_open, set_own, set_table}
+use Rattle.kernel_model.specs.State.{State, Table, Update, counts_in, put_all, put_one, set_names, set_node, set_open, set_process, set_table}
 use Rattle.kernel_model.specs.Valid.{HasBehind, IsNamed, IsNearlyValid}
 use Rattle.kernel_model.proofs.Tests.{none_is_no}
 use Rattle.kernel_model.proofs.Valids.{behind_same, same_value, some_again}
@@ -22,7 +22,7 @@ use Rattle.kernel_model.proofs.Valids.{behind_same, same_value, some_again}
 
 -- the update is of the tree, or of what a process has of its own beside its descriptors
 abbrev pub IsBeside : Update → Type 0
-IsBeside (set_own p own) = ⊤
+IsBeside (set_process p own) = ⊤
 IsBeside (set_node n node) = ⊤
 IsBeside (set_names d names) = ⊤
 IsBeside _ = ⊥
@@ -30,7 +30,7 @@ IsBeside _ = ⊥
 module _ (o : ℕ) (kind : OpenKind) (p : ℕ) (table : Table) where
   one_last : (u : Update) (S : State) → IsBeside u
       → put_one u (put_one (set_table p table) (put_one (set_open o kind) S)) ≡ put_one (set_table p table) (put_one (set_open o kind) (put_one u S))
-  one_last (set_own q own) S h = refl
+  one_last (set_process q own) S h = refl
   one_last (set_node n node) S h = refl
   one_last (set_names d names) S h = refl
   one_last u S h = absurd h
@@ -63,7 +63,7 @@ module _ (S : State) (o : ℕ) (kind : OpenKind) (none : get S.opens o ≡ None)
       ]
 
   pub new_open_nearly_valid : HasBehind S kind
-      → ((p k : ℕ) → p < 0xffffffff → (counts_in (get S.own p)).objects < k → k < 2 ^ 32 → object_of p k ≢ o)
+      → ((p k : ℕ) → p < 0xffffffff → (counts_in (get S.processes p)).objects < k → k < 2 ^ 32 → object_of p k ≢ o)
       → IsNearlyValid (put_one (set_open o kind) S)
   new_open_nearly_valid there apart = record {
     named = λ q n table d at here. still_named d (v.named q n table d at here);

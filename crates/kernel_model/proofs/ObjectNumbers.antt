@@ -10,7 +10,7 @@ use Rattle.std.specs.FinMap.{get}
 use Rattle.tree_model.specs.Tree.{is_directory_node}
 use Rattle.kernel_model.specs.Laws.{IsNotThere}
 use Rattle.kernel_model.specs.Numbers.{can_number, next_object, new_parts, object_parts}
-use Rattle.kernel_model.specs.State.{State, Own, Part, at_open, at_node, at_names, same_part, counts_in, has_part}
+use Rattle.kernel_model.specs.State.{State, ProcessState, Part, at_open, at_node, at_names, same_part, counts_in, has_part}
 use Rattle.kernel_model.specs.Valid.{IsNearlyValid}
 use Rattle.kernel_model.proofs.Parts.{has_of_both, same_part_is}
 use Rattle.kernel_model.proofs.Tests.{not_true, either_true}
@@ -21,7 +21,7 @@ both_hold false b h = absurd (not_true h)
 
 -- ---- numbers that fit
 
-pub numbers_fit : (p count : ℕ) (own : Option Own) → can_number p (suc count) own ≡ true
+pub numbers_fit : (p count : ℕ) (own : Option ProcessState) → can_number p (suc count) own ≡ true
     → (p < 0xffffffff) × ((counts_in own).objects + suc count < 2 ^ 32)
 numbers_fit p count None h = absurd (not_true h)
 numbers_fit p count (Some own) h =
@@ -29,7 +29,7 @@ numbers_fit p count (Some own) h =
     (ltb-true p 0xffffffff both.0, ltb-true (own.counts.objects + suc count) (2 ^ 32) both.1)
 
 -- where so many can be made, fewer can be
-pub fewer_fit : (p few more : ℕ) (own : Option Own) → 1 ≤ few → few ≤ more → can_number p more own ≡ true
+pub fewer_fit : (p few more : ℕ) (own : Option ProcessState) → 1 ≤ few → few ≤ more → can_number p more own ≡ true
     → (p < 0xffffffff) × ((counts_in own).objects + few < 2 ^ 32)
 fewer_fit p few zero own some within h = absurd (omega (arith, some, within))
 fewer_fit p few (suc more) own some within h =
@@ -39,10 +39,10 @@ fewer_fit p few (suc more) own some within h =
 -- ---- the parts of what is made
 
 -- a part of one of the objects that are made next
-abbrev pub IsNewPart : ℕ → ℕ → Option Own → Part → Type 0
+abbrev pub IsNewPart : ℕ → ℕ → Option ProcessState → Part → Type 0
 IsNewPart p count own q = (k : ℕ) × (1 ≤ k) × (k ≤ count) × (has_part (object_parts (next_object p own k)) q ≡ true)
 
-pub new_part_is : (p count : ℕ) (own : Option Own) (q : Part) → has_part (new_parts p count own) q ≡ true → IsNewPart p count own q
+pub new_part_is : (p count : ℕ) (own : Option ProcessState) (q : Part) → has_part (new_parts p count own) q ≡ true → IsNewPart p count own q
 new_part_is p zero own q h = absurd (not_true h)
 new_part_is p (suc count) own q h =
     let first = object_parts (next_object p own (suc count)) in
@@ -53,10 +53,10 @@ new_part_is p (suc count) own q h =
 
 -- ---- what isn't there
 
-pub next_is_absent : (S : State) (p k : ℕ) → IsNearlyValid S → p < 0xffffffff → 1 ≤ k → (counts_in (get S.own p)).objects + k < 2 ^ 32
-    → (get S.opens (next_object p (get S.own p) k) ≡ None) × (get S.nodes (next_object p (get S.own p) k) ≡ None)
+pub next_is_absent : (S : State) (p k : ℕ) → IsNearlyValid S → p < 0xffffffff → 1 ≤ k → (counts_in (get S.processes p)).objects + k < 2 ^ 32
+    → (get S.opens (next_object p (get S.processes p) k) ≡ None) × (get S.nodes (next_object p (get S.processes p) k) ≡ None)
 next_is_absent S p k v small some fits =
-    let made : ℕ = (counts_in (get S.own p)).objects in
+    let made : ℕ = (counts_in (get S.processes p)).objects in
     let beyond : made < made + k = omega (arith, some) in
     (v.made p (made + k) small beyond fits, v.made_nodes p (made + k) small beyond fits)
 
@@ -83,10 +83,10 @@ none_of_new S o q no_open no_node no_names h =
       ]
     ]
 
-pub parts_are_absent : (S : State) (p count : ℕ) (q : Part) → IsNearlyValid S → can_number p count (get S.own p) ≡ true
-    → has_part (new_parts p count (get S.own p)) q ≡ true → IsNotThere S q
+pub parts_are_absent : (S : State) (p count : ℕ) (q : Part) → IsNearlyValid S → can_number p count (get S.processes p) ≡ true
+    → has_part (new_parts p count (get S.processes p)) q ≡ true → IsNotThere S q
 parts_are_absent S p count q v can h =
-    let new = new_part_is p count (get S.own p) q h in
-    let fits = fewer_fit p new.0 count (get S.own p) new.1 new.2 can in
+    let new = new_part_is p count (get S.processes p) q h in
+    let fits = fewer_fit p new.0 count (get S.processes p) new.1 new.2 can in
     let none = next_is_absent S p new.0 v fits.0 new.1 fits.1 in
-    none_of_new S (next_object p (get S.own p) new.0) q none.0 none.1 (no_names S (next_object p (get S.own p) new.0) v none.1) new.3
+    none_of_new S (next_object p (get S.processes p) new.0) q none.0 none.1 (no_names S (next_object p (get S.processes p) new.0) v none.1) new.3

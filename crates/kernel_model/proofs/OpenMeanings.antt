@@ -16,13 +16,13 @@ use Rattle.kernel_model.specs.DescriptorCalls.{open_part}
 use Rattle.kernel_model.specs.FileMeaning.{open_of}
 use Rattle.kernel_model.specs.OpenMeaning.{OpenMeaning, at_descriptor, by_open}
 use Rattle.kernel_model.specs.Proper.{IsIn, IsPlain, IsProper, IsUnset}
-use Rattle.kernel_model.specs.Sight.{own_parts, behind, reached_by}
+use Rattle.kernel_model.specs.Sight.{process_parts, behind, reached_by}
 use Rattle.kernel_model.specs.State.{State, Part, Update, at_proc, at_status, at_open, same_part, has_part, part_of, put_all, put_one, set_node, set_names, set_open, set_term, threads_of}
 use Rattle.kernel_model.specs.Step.{tick}
 use Rattle.kernel_model.specs.Valid.{IsNearlyValid}
 use Rattle.kernel_model.specs.View.{View, restrict, whole}
 use Rattle.kernel_model.proofs.Branches.{seen_parts}
-use Rattle.kernel_model.proofs.Parts.{beyond_own, has_left}
+use Rattle.kernel_model.proofs.Parts.{beyond_process, has_left}
 use Rattle.kernel_model.proofs.Sights.{open_seen}
 use Rattle.kernel_model.proofs.Tests.{either_true, or_true}
 
@@ -83,54 +83,54 @@ apart_tables (u ∷ us) S h = apart_tables us (put_one u S) h.1 ∙ one_tables u
 pub record OpensWell (m : OpenMeaning) : Type 0 where
   -- by what it sees it does what it does by the whole state
   pub reads : (now : ℕ) (S : State) (p o : ℕ) (kind : Option OpenKind)
-      → m.does now (restrict S (seen_parts S p o kind)) o kind ≡ m.does now (whole S) o kind
+      → m.effect now (restrict S (seen_parts S p o kind)) o kind ≡ m.effect now (whole S) o kind
   -- it sets nothing of a process, and nothing beside the open that it doesn't say; and it sees that
-  pub apart : (now : ℕ) (v : View) (o : ℕ) (kind : Option OpenKind) → AreOfNoProcess (m.does now v o kind).updates
-  pub sets : (now : ℕ) (v : View) (o : ℕ) (kind : Option OpenKind) (q : Part) → has_part (at_open o ∷ m.changes kind) q ≡ false
-      → IsUnset (m.does now v o kind) q
-  pub seen : (S : State) (kind : Option OpenKind) (q : Part) → has_part (m.changes kind) q ≡ true → has_part (behind S kind) q ≡ true
+  pub apart : (now : ℕ) (v : View) (o : ℕ) (kind : Option OpenKind) → AreOfNoProcess (m.effect now v o kind).updates
+  pub sets : (now : ℕ) (v : View) (o : ℕ) (kind : Option OpenKind) (q : Part) → has_part (at_open o ∷ m.touched kind) q ≡ false
+      → IsUnset (m.effect now v o kind) q
+  pub seen : (S : State) (kind : Option OpenKind) (q : Part) → has_part (m.touched kind) q ≡ true → has_part (behind S kind) q ≡ true
   -- its reply
-  pub plain : (now : ℕ) (v : View) (o : ℕ) (kind : Option OpenKind) → IsPlain m.errors (m.does now v o kind)
+  pub plain : (now : ℕ) (v : View) (o : ℕ) (kind : Option OpenKind) → IsPlain m.errors (m.effect now v o kind)
   pub badf : IsIn Badf m.errors
   pub lacks : m.takes_memory ≡ true → AllByRecursion (λ errno. errno ≢ Nomem) m.errors
   -- it leaves a nearly valid state so
   pub valid : (now : ℕ) (S : State) (o : ℕ) (kind : Option OpenKind) → get S.opens o ≡ kind → IsNearlyValid S
-      → IsNearlyValid (put_all (m.does now (whole S) o kind).updates S)
+      → IsNearlyValid (put_all (m.effect now (whole S) o kind).updates S)
 
 module _ (m : OpenMeaning) (well : OpensWell m) where
   reads_descriptor : (now : ℕ) (S : State) (p : ℕ) (d : Option Descriptor)
-      → at_descriptor (m.does now (restrict S (own_parts p ++ (reached_by S d ++ [])))) (restrict S (own_parts p ++ (reached_by S d ++ []))) d
-      ≡ at_descriptor (m.does now (whole S)) (whole S) d
+      → at_descriptor (m.effect now (restrict S (process_parts p ++ (reached_by S d ++ [])))) (restrict S (process_parts p ++ (reached_by S d ++ []))) d
+      ≡ at_descriptor (m.effect now (whole S)) (whole S) d
   reads_descriptor now S p None = refl
   reads_descriptor now S p (Some d) =
-      ap (m.does now (restrict S (own_parts p ++ (reached_by S (Some d) ++ []))) d.id) (open_seen S p d)
+      ap (m.effect now (restrict S (process_parts p ++ (reached_by S (Some d) ++ []))) d.id) (open_seen S p d)
       ∙ well.reads now S p d.id (get S.opens d.id)
 
   sets_descriptor : (now : ℕ) (S : State) (d : Option Descriptor) (q : Part)
-      → has_part (open_part d ++ m.changes (open_of (whole S) d)) q ≡ false
-      → IsUnset (at_descriptor (m.does now (whole (tick S))) (whole (tick S)) d) q
+      → has_part (open_part d ++ m.touched (open_of (whole S) d)) q ≡ false
+      → IsUnset (at_descriptor (m.effect now (whole (tick S))) (whole (tick S)) d) q
   sets_descriptor now S None q h = refl
   sets_descriptor now S (Some d) q h = well.sets now (whole (tick S)) d.id (get S.opens d.id) q h
 
-  seen_descriptor : (S : State) (d : Option Descriptor) (q : Part) → has_part (open_part d ++ m.changes (open_of (whole S) d)) q ≡ true
+  seen_descriptor : (S : State) (d : Option Descriptor) (q : Part) → has_part (open_part d ++ m.touched (open_of (whole S) d)) q ≡ true
       → has_part (reached_by S d ++ []) q ≡ true
   seen_descriptor S None q h = well.seen S None q h
   seen_descriptor S (Some d) q h =
-      has_left (reached_by S (Some d)) [] q (elim (either_true (same_part (at_open d.id) q) (has_part (m.changes (get S.opens d.id)) q) h) [
+      has_left (reached_by S (Some d)) [] q (elim (either_true (same_part (at_open d.id) q) (has_part (m.touched (get S.opens d.id)) q) h) [
         | inl is ↦ ap (λ b. b || has_part (behind S (get S.opens d.id)) q) is
         | inr there ↦ ap (λ b. same_part (at_open d.id) q || b) (well.seen S (get S.opens d.id) q there) ∙ or_true (same_part (at_open d.id) q)
       ])
 
-  plain_descriptor : (now : ℕ) (v : View) (d : Option Descriptor) → IsPlain m.errors (at_descriptor (m.does now v) v d)
+  plain_descriptor : (now : ℕ) (v : View) (d : Option Descriptor) → IsPlain m.errors (at_descriptor (m.effect now v) v d)
   plain_descriptor now v None = (refl, inr (refl, well.badf))
   plain_descriptor now v (Some d) = well.plain now v d.id (v.opened d.id)
 
-  pub apart_descriptor : (now : ℕ) (v : View) (d : Option Descriptor) → AreOfNoProcess (at_descriptor (m.does now v) v d).updates
+  pub apart_descriptor : (now : ℕ) (v : View) (d : Option Descriptor) → AreOfNoProcess (at_descriptor (m.effect now v) v d).updates
   apart_descriptor now v None = tt
   apart_descriptor now v (Some d) = well.apart now v d.id (v.opened d.id)
 
   valid_descriptor : (now : ℕ) (S : State) (d : Option Descriptor) → IsNearlyValid S
-      → IsNearlyValid (put_all (at_descriptor (m.does now (whole S)) (whole S) d).updates S)
+      → IsNearlyValid (put_all (at_descriptor (m.effect now (whole S)) (whole S) d).updates S)
   valid_descriptor now S None nearly = nearly
   valid_descriptor now S (Some d) nearly = well.valid now S d.id (get S.opens d.id) refl nearly
 
@@ -142,15 +142,15 @@ module _ (m : OpenMeaning) (well : OpensWell m) where
     walks = λ S who table. refl;
     sets = λ constants S who table part h.
         sets_descriptor (real_time constants (tick S).clock) S (get table row.fd) part
-        (beyond_own who.pid (open_part (get table row.fd) ++ m.changes (open_of (whole S) (get table row.fd))) part h).1;
-    changes = λ S table part h. seen_descriptor S (get table row.fd) part h;
+        (beyond_process who.pid (open_part (get table row.fd) ++ m.touched (open_of (whole S) (get table row.fd))) part h).1;
+    touched = λ S table part h. seen_descriptor S (get table row.fd) part h;
     plain = λ constants v who table. plain_descriptor (real_time constants v.clock) v (get table row.fd);
     lacks = well.lacks;
     others = λ constants v who table q other.
-        apart_unset (at_descriptor (m.does (real_time constants v.clock) v) v (get table row.fd)).updates q
+        apart_unset (at_descriptor (m.effect (real_time constants v.clock) v) v (get table row.fd)).updates q
         (apart_descriptor (real_time constants v.clock) v (get table row.fd));
     threads = λ constants S who table live.
-        apart_threads (at_descriptor (m.does (real_time constants S.clock) (whole S)) (whole S) (get table row.fd)).updates S who.pid
+        apart_threads (at_descriptor (m.effect (real_time constants S.clock) (whole S)) (whole S) (get table row.fd)).updates S who.pid
         (apart_descriptor (real_time constants S.clock) (whole S) (get table row.fd));
     valid = λ constants S who table there nearly. valid_descriptor (real_time constants S.clock) S (get table row.fd) nearly;
   }

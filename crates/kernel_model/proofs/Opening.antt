@@ -26,13 +26,13 @@ use Rattle.kernel_model.specs.DescriptorCalls.{lowest_free}
 use Rattle.kernel_model.specs.FileMeaning.{open_of}
 use Rattle.kernel_model.specs.FilePaths.{Walked, Ends, Fails, LeadsOutside, found_part, outside_of, path_errors, walked}
 use Rattle.kernel_model.specs.LastNames.{StandsIn}
-use Rattle.kernel_model.specs.Numbers.{can_number, next_object, new_parts, object_of, object_parts, own_updates}
+use Rattle.kernel_model.specs.Numbers.{can_number, next_object, new_parts, object_of, object_parts, process_updates}
 use Rattle.kernel_model.specs.Opening.{Opened, NotOpened, OpenedOutside, Opens, absent_end_parts, absent_parts, creates, file_open, open_at, open_mode, open_row, open_walked, opened_descriptor, opened_outcome, parts_where, truncates, where_free}
 use Rattle.kernel_model.specs.Outcome.{Outcome, replies}
 use Rattle.kernel_model.specs.Proper.{IsDeniedOutside, IsPlain, IsProper, IsUnset}
 use Rattle.kernel_model.specs.Reply.{refused, success}
-use Rattle.kernel_model.specs.Sight.{own_parts, behind, reached_by}
-use Rattle.kernel_model.specs.State.{State, Own, Part, Table, Tree, Update, at_clock, at_node, at_names, at_open, at_proc, at_status, counts_in, has_part, part_of, put_all, put_one, same_part, set_names, set_node, set_open, set_table, threads_of, tree_of}
+use Rattle.kernel_model.specs.Sight.{process_parts, behind, reached_by}
+use Rattle.kernel_model.specs.State.{State, ProcessState, Part, Table, Tree, Update, at_clock, at_node, at_names, at_open, at_proc, at_status, counts_in, has_part, part_of, put_all, put_one, same_part, set_names, set_node, set_open, set_table, threads_of, tree_of}
 use Rattle.kernel_model.specs.Step.{tick}
 use Rattle.kernel_model.specs.TreeUpdates.{Change, change_updates}
 use Rattle.kernel_model.specs.Valid.{HasBehind, IsNamed, IsNearlyValid, fits, fits_inheriting}
@@ -48,7 +48,7 @@ use Rattle.kernel_model.proofs.NameProper.{HasReached, behind_is_reached, sees_b
 use Rattle.kernel_model.proofs.NewOpens.{IsBeside, new_descriptor_nearly_valid, new_open_nearly_valid, put_last}
 use Rattle.kernel_model.proofs.ObjectNumbers.{fewer_fit, next_is_absent}
 use Rattle.kernel_model.proofs.Opened.{IsFew, IsThere, OpensAlike, OpensBeside, OpensPlainly, OpensWell, Unset, again_among, mfile_among, open_errors, opens_alike, opens_beside, opens_plainly, opens_well, path_among}
-use Rattle.kernel_model.proofs.Parts.{KeepsThreads, beyond_own, has_left, has_of_both, has_right, number_apart, of_first, of_second, outside_cons}
+use Rattle.kernel_model.proofs.Parts.{KeepsThreads, beyond_process, has_left, has_of_both, has_right, number_apart, of_first, of_second, outside_cons}
 use Rattle.kernel_model.proofs.Sights.{first_seen}
 use Rattle.kernel_model.proofs.Tests.{either_true, not_true}
 use Rattle.kernel_model.proofs.TreeUpdates.{both_unset, change_nearly_valid, change_of_tree, counted, counted_holds, counted_more, counted_threads, one_object, put_both, put_counted, with_tree}
@@ -56,13 +56,13 @@ use Rattle.kernel_model.proofs.TreeUpdates.{both_unset, change_nearly_valid, cha
 -- ---- the outcome where something is opened
 
 -- the updates, before those of the tree
-abbrev open_updates : ℕ → Option Own → Table → FdStat → ℕ → OpenKind → ℕ → List Update → List Update
+abbrev open_updates : ℕ → Option ProcessState → Table → FdStat → ℕ → OpenKind → ℕ → List Update → List Update
 open_updates p own table stat fd kind makes us =
     set_open (next_object p own (makes + 1)) kind
     ∷ set_table p (insert table fd (opened_descriptor (next_object p own (makes + 1)) kind stat))
-    ∷ (own_updates p (makes + 1) own ++ us)
+    ∷ (process_updates p (makes + 1) own ++ us)
 
-abbrev opening : ℕ → Option Own → Table → FdStat → ℕ → OpenKind → ℕ → List Update → Outcome
+abbrev opening : ℕ → Option ProcessState → Table → FdStat → ℕ → OpenKind → ℕ → List Update → Outcome
 opening p own table stat fd kind makes us = record { answer = answer.Reply (success fd 0); updates = open_updates p own table stat fd kind makes us }
 
 -- what holds of a refusal, and of the outcome where the test is true
@@ -70,7 +70,7 @@ either_outcome : (Q : Outcome → Type 0) (b : Bool) (x y : Outcome) → (b ≡ 
 either_outcome Q true x y first second = first refl
 either_outcome Q false x y first second = second
 
-module _ (p : ℕ) (own : Option Own) (table : Table) (stat : FdStat) where
+module _ (p : ℕ) (own : Option ProcessState) (table : Table) (stat : FdStat) where
   -- what holds of each reply with nothing set, and of what is set where something is opened, holds of the outcome
   module _ (Q : Outcome → Type 0) (answers : (reply : Reply) → Q (replies reply)) where
     opened_by : (fd : ℕ) (o : Opened)
@@ -125,24 +125,24 @@ module _ (p : ℕ) (own : Option Own) (table : Table) (stat : FdStat) where
 
 -- ---- what it sets
 
-own_unset : (p count : ℕ) (own : Option Own) (q : Part) → same_part (at_proc p) q ≡ false → Unset (own_updates p count own) q
-own_unset p zero own q apart = refl
-own_unset p (suc count) None q apart = refl
-own_unset p (suc count) (Some own) q apart = ap (λ b. b || false) apart
+process_unset : (p count : ℕ) (own : Option ProcessState) (q : Part) → same_part (at_proc p) q ≡ false → Unset (process_updates p count own) q
+process_unset p zero own q apart = refl
+process_unset p (suc count) None q apart = refl
+process_unset p (suc count) (Some own) q apart = ap (λ b. b || false) apart
 
-opening_unset : (p : ℕ) (own : Option Own) (table : Table) (stat : FdStat) (fd : ℕ) (kind : OpenKind) (makes : ℕ) (us : List Update) (q : Part)
+opening_unset : (p : ℕ) (own : Option ProcessState) (table : Table) (stat : FdStat) (fd : ℕ) (kind : OpenKind) (makes : ℕ) (us : List Update) (q : Part)
     → same_part (at_open (next_object p own (makes + 1))) q ≡ false → same_part (at_proc p) q ≡ false → Unset us q
     → IsUnset (opening p own table stat fd kind makes us) q
 opening_unset p own table stat fd kind makes us q apart proc change =
-    let rest : List Update = own_updates p (makes + 1) own ++ us in
+    let rest : List Update = process_updates p (makes + 1) own ++ us in
     ap (λ b. b || (same_part (at_proc p) q || has_part (map part_of rest) q)) apart ∙ ap (λ b. b || has_part (map part_of rest) q) proc
-    ∙ both_unset (own_updates p (makes + 1) own) us q (own_unset p (makes + 1) own q proc) change
+    ∙ both_unset (process_updates p (makes + 1) own) us q (process_unset p (makes + 1) own q proc) change
 
 open_apart : (o : ℕ) (q : Part) → has_part (object_parts o) q ≡ false → same_part (at_open o) q ≡ false
 open_apart o q h = (outside_cons (at_open o) (at_node o ∷ at_names o ∷ []) q h).0
 
 -- a part apart from those of two new objects
-apart_from_new : (p : ℕ) (own : Option Own) (q : Part) → has_part (new_parts p 2 own) q ≡ false
+apart_from_new : (p : ℕ) (own : Option ProcessState) (q : Part) → has_part (new_parts p 2 own) q ≡ false
     → (has_part (object_parts (next_object p own 1)) q ≡ false) × (has_part (object_parts (next_object p own 2)) q ≡ false)
 apart_from_new p own q h =
     let second : List Part = object_parts (next_object p own 2) in
@@ -150,7 +150,7 @@ apart_from_new p own q h =
     (of_first first [] q (of_second second (first ++ []) q h), of_first second (first ++ []) q h)
 
 -- so it is none of the open's that comes behind at most one node
-few_apart : (p : ℕ) (own : Option Own) (q : Part) (makes : ℕ) → IsFew makes → has_part (object_parts (next_object p own 1)) q ≡ false
+few_apart : (p : ℕ) (own : Option ProcessState) (q : Part) (makes : ℕ) → IsFew makes → has_part (object_parts (next_object p own 1)) q ≡ false
     → has_part (object_parts (next_object p own 2)) q ≡ false → has_part (object_parts (next_object p own (makes + 1))) q ≡ false
 few_apart p own q makes (inl is) first second = subst (λ m. has_part (object_parts (next_object p own (m + 1))) q ≡ false) (sym is) first
 few_apart p own q makes (inr is) first second = subst (λ m. has_part (object_parts (next_object p own (m + 1))) q ≡ false) (sym is) second
@@ -165,12 +165,12 @@ walk_beside oflags flags path now new t q apart (Ends end) h = opens_beside ofla
 walk_beside oflags flags path now new t q apart (Fails errno) h = tt
 walk_beside oflags flags path now new t q apart (LeadsOutside component) h = tt
 
-open_unset : (p : ℕ) (own : Option Own) (table : Table) (stat : FdStat) (free : Option ℕ) (oflags : ℕ) (path : List ℕ) (now : ℕ) (t : Tree)
+open_unset : (p : ℕ) (own : Option ProcessState) (table : Table) (stat : FdStat) (free : Option ℕ) (oflags : ℕ) (path : List ℕ) (now : ℕ) (t : Tree)
     (w : Walked) (q : Part)
-    → has_part (own_parts p ++ (new_parts p 2 own ++ open_changes oflags w)) q ≡ false
+    → has_part (process_parts p ++ (new_parts p 2 own ++ open_changes oflags w)) q ≡ false
     → IsUnset (open_at p own table stat (open_walked oflags stat.flags path now (next_object p own 1) t w) free) q
 open_unset p own table stat free oflags path now t w q h =
-    let both = beyond_own p (new_parts p 2 own ++ open_changes oflags w) q h in
+    let both = beyond_process p (new_parts p 2 own ++ open_changes oflags w) q h in
     let proc = outside_cons (at_proc p) (at_status p ∷ []) q (outside_cons at_clock (at_proc p ∷ at_status p ∷ []) q both.0).1 in
     let rest = both.1 in
     let apart = apart_from_new p own q (of_first (new_parts p 2 own) (open_changes oflags w) q rest) in
@@ -182,7 +182,7 @@ open_unset p own table stat free oflags path now t w q h =
     (open_apart (next_object p own (makes + 1)) q (few_apart p own q makes sets.0 apart.0 apart.1)) proc.0 sets.1))
 
 -- nothing that another process has
-open_others : (p : ℕ) (own : Option Own) (table : Table) (stat : FdStat) (free : Option ℕ) (o : Opened) (q : ℕ) → q ≢ p
+open_others : (p : ℕ) (own : Option ProcessState) (table : Table) (stat : FdStat) (free : Option ℕ) (o : Opened) (q : ℕ) → q ≢ p
     → IsUnset (open_at p own table stat o free) (at_proc q) × IsUnset (open_at p own table stat o free) (at_status q)
 open_others p own table stat free o q apart =
     open_by p own table stat (λ o. IsUnset o (at_proc q) × IsUnset o (at_status q)) (λ reply. (refl, refl)) free o
@@ -231,20 +231,20 @@ changes_reached S oflags mode path o q h =
 
 -- what is seen of a state by a descriptor
 abbrev sight_by : State → ℕ → Option Descriptor → View
-sight_by S p o = restrict S (own_parts p ++ (reached_by S o ++ []))
+sight_by S p o = restrict S (process_parts p ++ (reached_by S o ++ []))
 
 module _ (S : State) (p : ℕ) where
-  own_seen : (o : Option Descriptor) → (sight_by S p o).own p ≡ get S.own p
-  own_seen o = first_seen p (has_part (at_status p ∷ (reached_by S o ++ [])) (at_proc p)) (get S.own p)
+  process_seen : (o : Option Descriptor) → (sight_by S p o).process p ≡ get S.processes p
+  process_seen o = first_seen p (has_part (at_status p ∷ (reached_by S o ++ [])) (at_proc p)) (get S.processes p)
 
-  all_seen : (o : Option Descriptor) → HasReached S (own_parts p ++ (reached_by S o ++ [])) o
-  all_seen o q h = has_right (own_parts p) (reached_by S o ++ []) q (has_left (reached_by S o) [] q h)
+  all_seen : (o : Option Descriptor) → HasReached S (process_parts p ++ (reached_by S o ++ [])) o
+  all_seen o q h = has_right (process_parts p) (reached_by S o ++ []) q (has_left (reached_by S o) [] q h)
 
   opening_seen : (o : Option Descriptor) → open_of (sight_by S p o) o ≡ open_of (whole S) o
-  opening_seen o = sees_open S (own_parts p ++ (reached_by S o ++ [])) o (all_seen o)
+  opening_seen o = sees_open S (process_parts p ++ (reached_by S o ++ [])) o (all_seen o)
 
   branch_seen : (o : Option Descriptor) → IsSeen (tree_of S) (sight_by S p o).branch (open_of (whole S) o)
-  branch_seen o = sees_behind S (own_parts p ++ (reached_by S o ++ [])) o (all_seen o)
+  branch_seen o = sees_behind S (process_parts p ++ (reached_by S o ++ [])) o (all_seen o)
 
   walk_seen : (mode : WalkMode) (path : List ℕ) (o : Option Descriptor)
       → walked (sight_by S p o).branch mode path (open_of (sight_by S p o) o) ≡ walked (tree_of S) mode path (open_of (whole S) o)
@@ -253,22 +253,22 @@ module _ (S : State) (p : ℕ) where
       ∙ walked_reads (tree_of S) (sight_by S p o).branch mode path (open_of (whole S) o) (branch_seen o)
 
 -- what it opens, and what it does, by what its process has of its own, the tree and the open
-abbrev opened_from : ℕ → FdStat → ℕ → WalkMode → List ℕ → ℕ → Option Own → Tree → Option OpenKind → Opened
+abbrev opened_from : ℕ → FdStat → ℕ → WalkMode → List ℕ → ℕ → Option ProcessState → Tree → Option OpenKind → Opened
 opened_from p stat oflags mode path now own t kind =
     open_walked oflags stat.flags path now (next_object p own 1) t (walked t mode path kind)
 
-abbrev opens_by : ℕ → Table → FdStat → ℕ → WalkMode → List ℕ → ℕ → Option ℕ → Option Own → Tree → Option OpenKind → Outcome
+abbrev opens_by : ℕ → Table → FdStat → ℕ → WalkMode → List ℕ → ℕ → Option ℕ → Option ProcessState → Tree → Option OpenKind → Outcome
 opens_by p table stat oflags mode path now free own t kind =
     open_at p own table stat (opened_from p stat oflags mode path now own t kind) free
 
 open_reads : (S : State) (p : ℕ) (table : Table) (stat : FdStat) (oflags : ℕ) (mode : WalkMode) (path : List ℕ) (now : ℕ) (free : Option ℕ)
     (o : Option Descriptor)
-    → opens_by p table stat oflags mode path now free ((sight_by S p o).own p) (sight_by S p o).branch (open_of (sight_by S p o) o)
-    ≡ opens_by p table stat oflags mode path now free (get S.own p) (tree_of S) (open_of (whole S) o)
+    → opens_by p table stat oflags mode path now free ((sight_by S p o).process p) (sight_by S p o).branch (open_of (sight_by S p o) o)
+    ≡ opens_by p table stat oflags mode path now free (get S.processes p) (tree_of S) (open_of (whole S) o)
 open_reads S p table stat oflags mode path now free o =
-    let own : Option Own = get S.own p in
+    let own : Option ProcessState = get S.processes p in
     let kind : Option OpenKind = open_of (whole S) o in
-    ap (λ x. opens_by p table stat oflags mode path now free x (sight_by S p o).branch (open_of (sight_by S p o) o)) (own_seen S p o)
+    ap (λ x. opens_by p table stat oflags mode path now free x (sight_by S p o).branch (open_of (sight_by S p o) o)) (process_seen S p o)
     ∙ ap (opens_by p table stat oflags mode path now free own (sight_by S p o).branch) (opening_seen S p o)
     ∙ at_alike p own table stat free (opened_from p stat oflags mode path now own (sight_by S p o).branch kind)
     (opened_from p stat oflags mode path now own (tree_of S) kind)
@@ -277,29 +277,29 @@ open_reads S p table stat oflags mode path now free o =
 -- ---- the state after it
 
 -- updates of what the process has of its own, and of the tree, are beside the open and the table
-own_beside : (p count : ℕ) (own : Option Own) → AllByRecursion IsBeside (own_updates p count own)
-own_beside p zero own = tt
-own_beside p (suc count) None = tt
-own_beside p (suc count) (Some own) = (tt, tt)
+process_beside : (p count : ℕ) (own : Option ProcessState) → AllByRecursion IsBeside (process_updates p count own)
+process_beside p zero own = tt
+process_beside p (suc count) None = tt
+process_beside p (suc count) (Some own) = (tt, tt)
 
 tree_beside : (u : Update) → IsOfTree u → IsBeside u
 tree_beside (set_node n node) h = tt
 tree_beside (set_names d names) h = tt
 tree_beside u h = absurd h
 
-pub rest_beside : (p count : ℕ) (own : Option Own) (c : Change) → AllByRecursion IsBeside (own_updates p count own ++ change_updates c)
+pub rest_beside : (p count : ℕ) (own : Option ProcessState) (c : Change) → AllByRecursion IsBeside (process_updates p count own ++ change_updates c)
 rest_beside p count own c =
-    all_both IsBeside (own_updates p count own) (change_updates c) (own_beside p count own)
+    all_both IsBeside (process_updates p count own) (change_updates c) (process_beside p count own)
     (all_weaker IsOfTree IsBeside tree_beside (change_updates c) (change_of_tree c))
 
 open_threads : (S : State) (p : ℕ) (table : Table) (stat : FdStat) (free : Option ℕ) (o : Opened)
-    → KeepsThreads S p (open_at p (get S.own p) table stat o free)
+    → KeepsThreads S p (open_at p (get S.processes p) table stat o free)
 open_threads S p table stat free o =
-    open_by p (get S.own p) table stat (KeepsThreads S p) (λ reply _. refl) free o
+    open_by p (get S.processes p) table stat (KeepsThreads S p) (λ reply _. refl) free o
     (λ fd kind c makes is can _. (
-    let us : List Update = own_updates p (makes + 1) (get S.own p) ++ change_updates c in
-    ap (λ (T : State). threads_of T p) (put_last (next_object p (get S.own p) (makes + 1)) kind p _ us S (rest_beside p (makes + 1) (get S.own p) c))
-    ∙ ap (λ (T : State). threads_of T p) (put_both (own_updates p (makes + 1) (get S.own p)) (change_updates c) S)
+    let us : List Update = process_updates p (makes + 1) (get S.processes p) ++ change_updates c in
+    ap (λ (T : State). threads_of T p) (put_last (next_object p (get S.processes p) (makes + 1)) kind p _ us S (rest_beside p (makes + 1) (get S.processes p) c))
+    ∙ ap (λ (T : State). threads_of T p) (put_both (process_updates p (makes + 1) (get S.processes p)) (change_updates c) S)
     ∙ tree_threads (change_updates c) (counted p (makes + 1) S) p (change_of_tree c) ∙ counted_threads S p (makes + 1) p))
 
 there_behind : (S : State) (u : Tree) (kind : OpenKind) → IsThere u kind → HasBehind (with_tree u S) kind
@@ -311,17 +311,17 @@ there_behind S u (Process q) h = absurd h
 
 -- a process has opened this, and changed the tree for it
 module _ (S : State) (p : ℕ) (table : Table) (has_table : get S.tables p ≡ Some table) (v : IsNearlyValid S) (kind : OpenKind) (c : Change) (makes : ℕ)
-    (can : can_number p (makes + 1) (get S.own p) ≡ true) (change : IsChangeOf (tree_of S) (next_object p (get S.own p) 1) makes c)
+    (can : can_number p (makes + 1) (get S.processes p) ≡ true) (change : IsChangeOf (tree_of S) (next_object p (get S.processes p) 1) makes c)
     (there : IsThere c.tree kind) where
   -- the state before the open is there
   abbrev changed : State
   changed = with_tree c.tree (counted p (makes + 1) S)
 
   abbrev new_open : ℕ
-  new_open = next_object p (get S.own p) (makes + 1)
+  new_open = next_object p (get S.processes p) (makes + 1)
 
   changed_valid : IsNearlyValid changed
-  changed_valid = change_nearly_valid S p (makes + 1) (next_object p (get S.own p) 1) makes c can change (λ _. refl) (omega arith) v
+  changed_valid = change_nearly_valid S p (makes + 1) (next_object p (get S.processes p) 1) makes c can change (λ _. refl) (omega arith) v
 
   counted_opens : (counted p (makes + 1) S).opens ≡ S.opens
   counted_opens = counted_holds (λ (T : State). T.opens ≡ S.opens) S p (makes + 1) refl (λ own _. refl)
@@ -329,20 +329,20 @@ module _ (S : State) (p : ℕ) (table : Table) (has_table : get S.tables p ≡ S
   counted_tables : (counted p (makes + 1) S).tables ≡ S.tables
   counted_tables = counted_holds (λ (T : State). T.tables ≡ S.tables) S p (makes + 1) refl (λ own _. refl)
 
-  fit : (p < 0xffffffff) × ((counts_in (get S.own p)).objects + (makes + 1) < 2 ^ 32)
-  fit = fewer_fit p (makes + 1) (makes + 1) (get S.own p) (omega arith) (omega arith) can
+  fit : (p < 0xffffffff) × ((counts_in (get S.processes p)).objects + (makes + 1) < 2 ^ 32)
+  fit = fewer_fit p (makes + 1) (makes + 1) (get S.processes p) (omega arith) (omega arith) can
 
   new_open_absent : get changed.opens new_open ≡ None
   new_open_absent = ap (λ m. get m new_open) counted_opens ∙ (next_is_absent S p (makes + 1) v fit.0 (omega arith) fit.1).0
 
   -- its number is none that a process has yet to make
-  new_open_apart : (q k : ℕ) → q < 0xffffffff → (counts_in (get changed.own q)).objects < k → k < 2 ^ 32 → object_of q k ≢ new_open
+  new_open_apart : (q k : ℕ) → q < 0xffffffff → (counts_in (get changed.processes q)).objects < k → k < 2 ^ 32 → object_of q k ≢ new_open
   new_open_apart q k small beyond fits is =
-      let made : ℕ = (counts_in (get S.own p)).objects in
+      let made : ℕ = (counts_in (get S.processes p)).objects in
       let at = one_object p q (made + (makes + 1)) k is fits fit.1 in
       let number : k ≡ made + (makes + 1) = at.1 in
-      let total : (counts_in (get changed.own p)).objects ≡ made + (makes + 1) = counted_more S p (makes + 1) can in
-      let past : (counts_in (get changed.own p)).objects < k = subst (λ r. (counts_in (get changed.own r)).objects < k) at.0 beyond in
+      let total : (counts_in (get changed.processes p)).objects ≡ made + (makes + 1) = counted_more S p (makes + 1) can in
+      let past : (counts_in (get changed.processes p)).objects < k = subst (λ r. (counts_in (get changed.processes r)).objects < k) at.0 beyond in
       absurd (omega (arith, number, total, past))
 
   opened_valid : IsNearlyValid (put_one (set_open new_open kind) changed)
@@ -355,13 +355,13 @@ module _ (S : State) (p : ℕ) (table : Table) (has_table : get S.tables p ≡ S
       (met_within (fits kind) stat.base.0, met_within (fits_inheriting kind) stat.inheriting.0)
 
   opening_valid : (stat : FdStat) (fd n : ℕ) (d : Descriptor) → get table n ≡ Some d
-      → IsNearlyValid (put_all (opening p (get S.own p) table stat fd kind makes (change_updates c)).updates S)
+      → IsNearlyValid (put_all (opening p (get S.processes p) table stat fd kind makes (change_updates c)).updates S)
   opening_valid stat fd n d here =
       let new_table : Table = insert table fd (opened_descriptor new_open kind stat) in
-      let us : List Update = own_updates p (makes + 1) (get S.own p) ++ change_updates c in
-      let state : put_all us S ≡ changed = put_counted S p (makes + 1) (next_object p (get S.own p) 1) makes c can change (λ _. refl) (omega arith) v in
+      let us : List Update = process_updates p (makes + 1) (get S.processes p) ++ change_updates c in
+      let state : put_all us S ≡ changed = put_counted S p (makes + 1) (next_object p (get S.processes p) 1) makes c can change (λ _. refl) (omega arith) v in
       subst IsNearlyValid
-      (sym (put_last new_open kind p new_table us S (rest_beside p (makes + 1) (get S.own p) c)
+      (sym (put_last new_open kind p new_table us S (rest_beside p (makes + 1) (get S.processes p) c)
       ∙ ap (λ (T : State). put_one (set_table p new_table) (put_one (set_open new_open kind) T)) state))
       (new_descriptor_nearly_valid (put_one (set_open new_open kind) changed) p table (ap (λ m. get m p) counted_tables ∙ has_table) opened_valid fd
       (opened_descriptor new_open kind stat) (new_descriptor_named stat) n d here)
@@ -374,20 +374,20 @@ walk_well oflags flags path now new t (LeadsOutside component) tree none = tt
 
 open_valid : (S : State) (p : ℕ) (table : Table) (stat : FdStat) (oflags : ℕ) (mode : WalkMode) (path : List ℕ) (now : ℕ) (free : Option ℕ) (fd : ℕ)
     (o : Option Descriptor) → get S.tables p ≡ Some table → get table fd ≡ o → IsNearlyValid S
-    → IsNearlyValid (put_all (opens_by p table stat oflags mode path now free (get S.own p) (tree_of S) (open_of (whole S) o)).updates S)
+    → IsNearlyValid (put_all (opens_by p table stat oflags mode path now free (get S.processes p) (tree_of S) (open_of (whole S) o)).updates S)
 open_valid S p table stat oflags mode path now free fd None there here v =
-    open_by p (get S.own p) table stat (λ (x : Outcome). IsNearlyValid (put_all x.updates S)) (λ reply. v) free
-    (opened_from p stat oflags mode path now (get S.own p) (tree_of S) None)
+    open_by p (get S.processes p) table stat (λ (x : Outcome). IsNearlyValid (put_all x.updates S)) (λ reply. v) free
+    (opened_from p stat oflags mode path now (get S.processes p) (tree_of S) None)
     (λ number kind c makes is can. absurd (not_opened kind c makes is)) where
       not_opened : (kind : OpenKind) (c : Change) (makes : ℕ) → NotOpened Badf ≢ Opens kind c makes
       not_opened kind c makes e = cc
 open_valid S p table stat oflags mode path now free fd (Some d) there here v =
-    let new : ℕ = next_object p (get S.own p) 1 in
+    let new : ℕ = next_object p (get S.processes p) 1 in
     let w : Walked = walked (tree_of S) mode path (get S.opens d.id) in
-    open_by p (get S.own p) table stat (λ (x : Outcome). IsNearlyValid (put_all x.updates S)) (λ reply. v) free
-    (opened_from p stat oflags mode path now (get S.own p) (tree_of S) (get S.opens d.id))
+    open_by p (get S.processes p) table stat (λ (x : Outcome). IsNearlyValid (put_all x.updates S)) (λ reply. v) free
+    (opened_from p stat oflags mode path now (get S.processes p) (tree_of S) (get S.opens d.id))
     (λ number kind c makes is can. (
-    let fit = fewer_fit p 1 (makes + 1) (get S.own p) (omega arith) (omega arith) can in
+    let fit = fewer_fit p 1 (makes + 1) (get S.processes p) (omega arith) (omega arith) can in
     let none = (next_is_absent S p 1 v fit.0 (omega arith) fit.1).1 in
     let well : OpensWell (tree_of S) new (Opens kind c makes) =
     subst (OpensWell (tree_of S) new) is (walk_well oflags stat.flags path now new (tree_of S) w v.tree none) in
@@ -408,22 +408,22 @@ file_open_is_proper lookup path oflags stat = record {
   walks = λ S who table.
       ap (λ w. where_free (lowest_free table) (outside_of w)) (walk_seen S who.pid (open_mode oflags lookup.flags) path (get table lookup.fd));
   sets = λ constants S who table part h.
-      open_unset who.pid (get S.own who.pid) table stat (lowest_free table) oflags path (real_time constants (tick S).clock) (tree_of S)
+      open_unset who.pid (get S.processes who.pid) table stat (lowest_free table) oflags path (real_time constants (tick S).clock) (tree_of S)
       (walked (tree_of S) (open_mode oflags lookup.flags) path (open_of (whole S) (get table lookup.fd))) part h;
-  changes = λ S table part h. changes_reached S oflags (open_mode oflags lookup.flags) path (get table lookup.fd) part h;
+  touched = λ S table part h. changes_reached S oflags (open_mode oflags lookup.flags) path (get table lookup.fd) part h;
   plain = λ constants v who table.
-      at_plain who.pid (v.own who.pid) table stat oflags stat.flags path (real_time constants v.clock) (next_object who.pid (v.own who.pid) 1) v.branch
+      at_plain who.pid (v.process who.pid) table stat oflags stat.flags path (real_time constants v.clock) (next_object who.pid (v.process who.pid) 1) v.branch
       (lowest_free table) (walked v.branch (open_mode oflags lookup.flags) path (open_of v (get table lookup.fd)))
       (walked_plainly v.branch (open_mode oflags lookup.flags) path (open_of v (get table lookup.fd)));
   lacks = λ _. open_errors_lack;
   others = λ constants v who table q apart.
-      open_others who.pid (v.own who.pid) table stat (lowest_free table)
-      (opened_from who.pid stat oflags (open_mode oflags lookup.flags) path (real_time constants v.clock) (v.own who.pid) v.branch
+      open_others who.pid (v.process who.pid) table stat (lowest_free table)
+      (opened_from who.pid stat oflags (open_mode oflags lookup.flags) path (real_time constants v.clock) (v.process who.pid) v.branch
       (open_of v (get table lookup.fd)))
       q apart;
   threads = λ constants S who table.
       open_threads S who.pid table stat (lowest_free table)
-      (opened_from who.pid stat oflags (open_mode oflags lookup.flags) path (real_time constants S.clock) (get S.own who.pid) (tree_of S)
+      (opened_from who.pid stat oflags (open_mode oflags lookup.flags) path (real_time constants S.clock) (get S.processes who.pid) (tree_of S)
       (open_of (whole S) (get table lookup.fd)));
   valid = λ constants S who table there nearly.
       open_valid S who.pid table stat oflags (open_mode oflags lookup.flags) path (real_time constants S.clock) (lowest_free table) lookup.fd

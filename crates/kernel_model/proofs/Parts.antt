@@ -6,8 +6,8 @@ use Rattle.std.specs.FinMap.{FinMap, get, insert}
 use Rattle.maps.specs.Maps.{get-insert-same, get-insert-other}
 use Rattle.abi_types.specs.declared.status.Status.TheVariants.{Live}
 use Rattle.kernel_model.specs.Outcome.{Outcome}
-use Rattle.kernel_model.specs.Sight.{own_parts}
-use Rattle.kernel_model.specs.State.{State, Part, at_clock, at_proc, at_status, at_open, at_node, at_names, at_term, same_part, has_part, Agree, AgreeOn, Update, set_table, set_own, set_status, set_open, set_node, set_names, set_term, part_of, put_one, put_all, threads_of}
+use Rattle.kernel_model.specs.Sight.{process_parts}
+use Rattle.kernel_model.specs.State.{State, Part, at_clock, at_proc, at_status, at_open, at_node, at_names, at_term, same_part, has_part, Agree, AgreeOn, Update, set_table, set_process, set_status, set_open, set_node, set_names, set_term, part_of, put_one, put_all, threads_of}
 use Rattle.kernel_model.proofs.Tests.{not_true, either_false, either_true, or_true}
 
 -- ---- lists of parts
@@ -43,8 +43,8 @@ pub outside_both : (xs ys : List Part) (q : Part) → has_part (xs ++ ys) q ≡ 
 outside_both xs ys q h = either_false (has_part xs q) (has_part ys q) (sym (has_of_both xs ys q) ∙ h)
 
 -- a part that is neither the process's own nor among these
-pub beyond_own : (p : ℕ) (parts : List Part) (q : Part) → has_part (own_parts p ++ parts) q ≡ false → (has_part (own_parts p) q ≡ false) × (has_part parts q ≡ false)
-beyond_own p parts q h = outside_both (own_parts p) parts q h
+pub beyond_process : (p : ℕ) (parts : List Part) (q : Part) → has_part (process_parts p ++ parts) q ≡ false → (has_part (process_parts p) q ≡ false) × (has_part parts q ≡ false)
+beyond_process p parts q h = outside_both (process_parts p) parts q h
 
 -- ---- the same values
 
@@ -99,7 +99,7 @@ agree_at S T (part ∷ parts) q all h =
 
 pub put_one_keeps : (u : Update) (S : State) (q : Part) → same_part (part_of u) q ≡ false → Agree (put_one u S) S q
 put_one_keeps (set_table p t) S (at_proc q) h = (get-insert-other S.tables p t q (other_number p q h), refl)
-put_one_keeps (set_own p own) S (at_proc q) h = (refl, get-insert-other S.own p own q (other_number p q h))
+put_one_keeps (set_process p own) S (at_proc q) h = (refl, get-insert-other S.processes p own q (other_number p q h))
 put_one_keeps (set_status p s) S (at_status q) h = get-insert-other S.statuses p s q (other_number p q h)
 put_one_keeps (set_open o kind) S (at_open r) h = get-insert-other S.opens o kind r (other_number o r h)
 put_one_keeps (set_node n node) S (at_node m) h = get-insert-other S.nodes n node m (other_number n m h)
@@ -123,7 +123,7 @@ insert_alike m n k x q e =
 
 pub put_one_same : (u : Update) (S T : State) (q : Part) → Agree S T q → Agree (put_one u S) (put_one u T) q
 put_one_same (set_table p t) S T (at_proc q) h = (insert_alike S.tables T.tables p t q h.0, h.1)
-put_one_same (set_own p own) S T (at_proc q) h = (h.0, insert_alike S.own T.own p own q h.1)
+put_one_same (set_process p own) S T (at_proc q) h = (h.0, insert_alike S.processes T.processes p own q h.1)
 put_one_same (set_status p s) S T (at_status q) h = insert_alike S.statuses T.statuses p s q h
 put_one_same (set_open o kind) S T (at_open r) h = insert_alike S.opens T.opens o kind r h
 put_one_same (set_node n node) S T (at_node m) h = insert_alike S.nodes T.nodes n node m h

@@ -6,15 +6,15 @@ use Rattle.abi_types.specs.declared.status.Status.TheVariants.{Live, Exit}
 use Rattle.maps.specs.Maps.{get-insert-same}
 use Rattle.kernel_model.specs.ProcessCalls.{end_updates, exit_of, proc_exit}
 use Rattle.kernel_model.specs.Proper.{IsProper}
-use Rattle.kernel_model.specs.Sight.{own_parts}
-use Rattle.kernel_model.specs.State.{Own, Part, at_clock, at_proc, at_status, same_part, has_part, part_of}
-use Rattle.kernel_model.proofs.Parts.{outside_cons, beyond_own, number_apart}
+use Rattle.kernel_model.specs.Sight.{process_parts}
+use Rattle.kernel_model.specs.State.{ProcessState, Part, at_clock, at_proc, at_status, same_part, has_part, part_of}
+use Rattle.kernel_model.proofs.Parts.{outside_cons, beyond_process, number_apart}
 use Rattle.kernel_model.proofs.Sights.{first_seen}
 use Rattle.kernel_model.proofs.Tests.{not_true}
 use Rattle.kernel_model.proofs.Valids.{end_nearly_valid}
 
 -- the end of a process sets only what is its own
-pub end_unset : (p : ℕ) (own : Option Own) (status : Status) (q : Part) → has_part (own_parts p) q ≡ false
+pub end_unset : (p : ℕ) (own : Option ProcessState) (status : Status) (q : Part) → has_part (process_parts p) q ≡ false
     → has_part (map part_of (end_updates p own status)) q ≡ false
 end_unset p own status q h =
     let rest = outside_cons at_clock (at_proc p ∷ at_status p ∷ []) q h in
@@ -24,13 +24,13 @@ end_unset p own status q h =
     ∙ ap (λ b. b || (b || false)) proc.0
 
 -- nothing of it is another process's
-other_proc : (p q : ℕ) → q ≢ p → has_part (own_parts p) (at_proc q) ≡ false
+other_proc : (p q : ℕ) → q ≢ p → has_part (process_parts p) (at_proc q) ≡ false
 other_proc p q apart = ap (λ b. b || false) (number_apart p q apart)
 
-other_status : (p q : ℕ) → q ≢ p → has_part (own_parts p) (at_status q) ≡ false
+other_status : (p q : ℕ) → q ≢ p → has_part (process_parts p) (at_status q) ≡ false
 other_status p q apart = ap (λ b. b || false) (number_apart p q apart)
 
-pub end_others : (p : ℕ) (own : Option Own) (status : Status) (q : ℕ) → q ≢ p
+pub end_others : (p : ℕ) (own : Option ProcessState) (status : Status) (q : ℕ) → q ≢ p
     → (has_part (map part_of (end_updates p own status)) (at_proc q) ≡ false) × (has_part (map part_of (end_updates p own status)) (at_status q) ≡ false)
 end_others p own status q apart =
     (end_unset p own status (at_proc q) (other_proc p q apart), end_unset p own status (at_status q) (other_status p q apart))
@@ -42,13 +42,13 @@ pub proc_exit_is_proper : (code : ℕ) → IsProper (proc_exit code)
 proc_exit_is_proper code = record {
   names = tt;
   sees = tt;
-  reads = λ constants S who table. ap (λ own. exit_of who.pid own code) (first_seen who.pid (has_part (at_status who.pid ∷ []) (at_proc who.pid)) (get S.own who.pid));
+  reads = λ constants S who table. ap (λ own. exit_of who.pid own code) (first_seen who.pid (has_part (at_status who.pid ∷ []) (at_proc who.pid)) (get S.processes who.pid));
   walks = λ S who table. refl;
-  sets = λ constants S who table part h. end_unset who.pid (get S.own who.pid) (Exit code) part (beyond_own who.pid [] part h).0;
-  changes = λ S table part h. absurd (not_true h);
+  sets = λ constants S who table part h. end_unset who.pid (get S.processes who.pid) (Exit code) part (beyond_process who.pid [] part h).0;
+  touched = λ S table part h. absurd (not_true h);
   plain = λ constants v who table. (refl, inl refl);
   lacks = λ h. absurd (not_true h);
-  others = λ constants v who table q apart. end_others who.pid (v.own who.pid) (Exit code) q apart;
+  others = λ constants v who table q apart. end_others who.pid (v.process who.pid) (Exit code) q apart;
   threads = λ constants S who table live. absurd (exit_is_not_live code (sym (get-insert-same S.statuses who.pid (Exit code)) ∙ live));
   valid = λ constants S who table there nearly. end_nearly_valid S who.pid (Exit code) nearly;
 }

@@ -16,7 +16,7 @@ use Rattle.kernel_model.specs.Need.{has_needed, missing, some_absent, lack_at, e
 use Rattle.kernel_model.specs.Numbers.{can_number, new_parts}
 use Rattle.kernel_model.specs.Proper.{IsIn, MaySee, NeedsOf}
 use Rattle.kernel_model.specs.Reply.{refused, denied}
-use Rattle.kernel_model.specs.Sight.{own_parts, reached_by, reached}
+use Rattle.kernel_model.specs.Sight.{process_parts, reached_by, reached}
 use Rattle.kernel_model.specs.State.{State, Table, Part, has_part}
 use Rattle.kernel_model.specs.Step.{unless_refused, reach, sight, changed, made_by, made_on, touch}
 use Rattle.kernel_model.specs.Valid.{IsNearlyValid, IsValid}
@@ -109,11 +109,11 @@ reach_is S who call (Some table) q there h =
     (table, there, met, reached_is S table call (seen call) q met (proper call).sees both.1)
 
 pub sight_is_reached : (S : State) (who : Who) (call : Call) (q : Part) → has_part (sight S who call) q ≡ true
-    → (has_part (own_parts who.pid) q ≡ true) ⊎ IsReachedBy S who call q
+    → (has_part (process_parts who.pid) q ≡ true) ⊎ IsReachedBy S who call q
 unfolding sight
 sight_is_reached S who call q h =
     let rest = reach S call (get S.tables who.pid) in
-    elim (either_true (has_part (own_parts who.pid) q) (has_part rest q) (sym (has_of_both (own_parts who.pid) rest q) ∙ h)) [
+    elim (either_true (has_part (process_parts who.pid) q) (has_part rest q) (sym (has_of_both (process_parts who.pid) rest q) ∙ h)) [
       | inl own ↦ inl own
       | inr beyond ↦ inr (reach_is S who call (get S.tables who.pid) q refl beyond)
     ]
@@ -133,7 +133,7 @@ either_of false b c more h = more h
 changed_is_reached : (S : State) (call : Call) (t : Option Table) (q : Part) → has_part (changed S call t) q ≡ true → has_part (reach S call t) q ≡ true
 changed_is_reached S call None q h = h
 changed_is_reached S call (Some table) q h =
-    unless_more (refusal table call) ((meaning_of call).changes S table) (reached S table (seen call)) q ((proper call).changes S table q) h
+    unless_more (refusal table call) ((meaning_of call).touched S table) (reached S table (seen call)) q ((proper call).touched S table q) h
 
 -- what is among three lists is among the second, or among the first and the third
 around : (xs ys zs : List Part) (q : Part) → has_part (xs ++ (ys ++ zs)) q ≡ true → ((has_part xs q || has_part zs q) ≡ true) ⊎ (has_part ys q ≡ true)
@@ -150,7 +150,7 @@ pub touch_is_seen : (S : State) (who : Who) (call : Call) (q : Part) → has_par
     → (has_part (sight S who call) q ≡ true) ⊎ (has_part (made_by S who call) q ≡ true)
 unfolding sight touch
 touch_is_seen S who call q h =
-    let own = own_parts who.pid in
+    let own = process_parts who.pid in
     let touched = changed S call (get S.tables who.pid) in
     let rest = reach S call (get S.tables who.pid) in
     elim (around own (made_by S who call) touched q h) [
@@ -162,12 +162,12 @@ touch_is_seen S who call q h =
 -- ---- what is made
 
 made_is_absent : (S : State) (who : Who) (call : Call) (t : Option Table) (q : Part) → IsNearlyValid S
-    → can_number who.pid (meaning_of call).numbers (get S.own who.pid) ≡ true → has_part (made_on S who call t) q ≡ true → IsNotThere S q
+    → can_number who.pid (meaning_of call).numbers (get S.processes who.pid) ≡ true → has_part (made_on S who call t) q ≡ true → IsNotThere S q
 made_is_absent S who call None q v can h = absurd (not_true h)
 made_is_absent S who call (Some table) q v can h =
     parts_are_absent S who.pid (meaning_of call).numbers q v can
-    (unrefused (refusal table call) (new_parts who.pid (meaning_of call).numbers (get S.own who.pid)) q h).1
+    (unrefused (refusal table call) (new_parts who.pid (meaning_of call).numbers (get S.processes who.pid)) q h).1
 
 pub made_is_new : (S : State) (who : Who) (call : Call) (q : Part) → IsValid S
-    → can_number who.pid (meaning_of call).numbers (get S.own who.pid) ≡ true → has_part (made_by S who call) q ≡ true → IsNotThere S q
+    → can_number who.pid (meaning_of call).numbers (get S.processes who.pid) ≡ true → has_part (made_by S who call) q ≡ true → IsNotThere S q
 made_is_new S who call q v can h = made_is_absent S who call (get S.tables who.pid) q v.nearly can h

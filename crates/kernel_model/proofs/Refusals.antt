@@ -48,7 +48,7 @@ refused_step_answer : (constants : Constants) (S : State) (who : Who) (call : Ca
 refused_step_answer constants S who call table reply own refuses =
     ap (λ (o : Outcome). o.answer)
     (outcome_of_table constants S who call table own
-    ∙ ap (λ r. unless r ((meaning_of call).does constants (whole (tick S)) who table)) refuses)
+    ∙ ap (λ r. unless r ((meaning_of call).effect constants (whole (tick S)) who table)) refuses)
 
 pub first_lack_is_named : (constants : Constants) (S : State) (who : Who) (call : Call) (table : Table) (row : Needed) (d : Descriptor)
     → get S.tables who.pid ≡ Some table → HasAll table (named call) → IsFirstLack table (need call) row d
@@ -93,7 +93,7 @@ outcome_from : (constants : Constants) (S : State) (who : Who) (call : Call)
 outcome_from constants S who call =
     outcome_by (λ (o : Outcome). OnReply (IsFrom S who call o) o.answer) constants S who call (λ reply refuses. inl (refuses, refl))
     (λ table own unrefused.
-    own_from S who call ((meaning_of call).does constants (whole (tick S)) who table) ((meaning_of call).outside (whole (tick S)) table)
+    own_from S who call ((meaning_of call).effect constants (whole (tick S)) who table) ((meaning_of call).outside (whole (tick S)) table)
     (outside_of_table S who call table own unrefused) ((proper call).plain constants (whole (tick S)) who table))
 
 reply_from : (constants : Constants) (S : State) (who : Who) (call : Call) (reply : Reply) → step_answer constants S who call ≡ answer.Reply reply
@@ -119,8 +119,8 @@ path_denied_on constants S who call component (Some table) own leads =
     let m = meaning_of call in
     let both = unrefused_path call table component (m.outside (whole (tick S)) table) (refusal table call) leads in
     ap (λ (o : Outcome). o.answer)
-    (outcome_of_table constants S who call table own ∙ ap (λ r. unless r (m.does constants (whole (tick S)) who table)) both.0
-    ∙ denied_outside m.errors component (m.outside (whole (tick S)) table) (m.does constants (whole (tick S)) who table) both.1
+    (outcome_of_table constants S who call table own ∙ ap (λ r. unless r (m.effect constants (whole (tick S)) who table)) both.0
+    ∙ denied_outside m.errors component (m.outside (whole (tick S)) table) (m.effect constants (whole (tick S)) who table) both.1
     ((proper call).plain constants (whole (tick S)) who table))
 
 pub outside_is_denied : (constants : Constants) (S : State) (who : Who) (call : Call) (component : ℕ) → outside S who call ≡ Some component

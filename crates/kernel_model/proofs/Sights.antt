@@ -3,7 +3,7 @@ use Rattle.std.proofs.Common.{◌≡◌, ℕ, ◌==◌, ◌||◌, Bool, List, []
 use Rattle.std.proofs.lemmas.Bool.{eq-eqb}
 use Rattle.std.specs.FinMap.{get}
 use Rattle.abi_types.specs.declared.descriptor.Descriptor.{Descriptor}
-use Rattle.kernel_model.specs.Sight.{own_parts, behind, reached_by, reached}
+use Rattle.kernel_model.specs.Sight.{process_parts, behind, reached_by, reached}
 use Rattle.kernel_model.specs.State.{State, Table, at_open, has_part}
 use Rattle.kernel_model.specs.Step.{tick}
 use Rattle.kernel_model.specs.View.{only, restrict}
@@ -14,7 +14,7 @@ first_seen n rest x = ap (λ b. only (b || rest) x) (eq-eqb n n refl)
 
 -- an open that is seen
 pub open_seen : (S : State) (p : ℕ) (d : Descriptor)
-    → (restrict S (own_parts p ++ (reached_by S (Some d) ++ []))).opened d.id ≡ get S.opens d.id
+    → (restrict S (process_parts p ++ (reached_by S (Some d) ++ []))).opened d.id ≡ get S.opens d.id
 open_seen S p d = first_seen d.id (has_part (behind S (get S.opens d.id) ++ []) (at_open d.id)) (get S.opens d.id)
 
 -- what descriptors reach does not depend on the clock

@@ -23,8 +23,8 @@ use Rattle.kernel_model.specs.Release.{holders}
 use Rattle.tree_model.specs.Changes.{is_file_kind, is_file_node}
 use Rattle.tree_model.specs.declared.limits.TheConstants.{ROOT}
 use Rattle.tree_model.specs.Grants.{IsStartTree, IsGrant, IsGrantOf, AreGrants, HasRightsOfType, MayBegin, type_of_kind, type_of_node}
-use Rattle.kernel_model.specs.Start.{first_open, numbered, granted_descriptor, open_of, open_of_node, granted_open, granted_table, first_own, unwritten, start_state}
-use Rattle.kernel_model.specs.State.{State, Table, Own, Tree, thread_in, thread_of, counts_in}
+use Rattle.kernel_model.specs.Start.{first_open, numbered, granted_descriptor, open_of, open_of_node, granted_open, granted_table, first_process, unwritten, start_state}
+use Rattle.kernel_model.specs.State.{State, Table, ProcessState, Tree, thread_in, thread_of, counts_in}
 use Rattle.kernel_model.specs.Numbers.{object_of}
 use Rattle.kernel_model.specs.Valid.{HasRightsOf, IsNamed, HasBehind, IsValid}
 use Rattle.kernel_model.proofs.Tests.{none_is_no, not_true}
@@ -226,13 +226,13 @@ one_thread t there =
     ]
 
 start_numbered : (tree : Tree) (grants : List Grant) (stdin : List ℕ) (p t : ℕ) → IsSome (thread_of (start_state tree grants stdin) p t)
-    → t ≤ (counts_in (get (start_state tree grants stdin).own p)).threads
+    → t ≤ (counts_in (get (start_state tree grants stdin).processes p)).threads
 start_numbered tree grants stdin p t there =
     elim (eqb_tells p 0) [
-      | inl is ↦ subst (λ o. IsSome (thread_in (option_map (λ (own : Own). own.threads) o) t) → t ≤ (counts_in o).threads)
-          (sym (ap (get (start_state tree grants stdin).own) is.1 ∙ get-insert-same empty 0 first_own)) (one_thread t) there
-      | inr other ↦ absurd (not_true (subst (λ o. IsSome (thread_in (option_map (λ (own : Own). own.threads) o) t))
-          (get-insert-other empty 0 first_own p other.1 ∙ get-empty nat_cmp p) there))
+      | inl is ↦ subst (λ o. IsSome (thread_in (option_map (λ (own : ProcessState). own.threads) o) t) → t ≤ (counts_in o).threads)
+          (sym (ap (get (start_state tree grants stdin).processes) is.1 ∙ get-insert-same empty 0 first_process)) (one_thread t) there
+      | inr other ↦ absurd (not_true (subst (λ o. IsSome (thread_in (option_map (λ (own : ProcessState). own.threads) o) t))
+          (get-insert-other empty 0 first_process p other.1 ∙ get-empty nat_cmp p) there))
     ]
 
 -- the opens of the launch are of no process's number

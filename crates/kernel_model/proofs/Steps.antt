@@ -12,7 +12,7 @@ use Rattle.kernel_model.specs.Laws.{HasSameProcess, MovesOnly, EndsOnly}
 use Rattle.kernel_model.specs.Outcome.{Outcome}
 use Rattle.kernel_model.specs.ProcessCalls.{end_updates}
 use Rattle.kernel_model.specs.Proper.{IsUnset}
-use Rattle.kernel_model.specs.State.{State, Update, set_table, set_own, set_status, set_open, set_node, set_names, set_term, at_proc, at_status, has_part, part_of, put_one, put_all, threads_of}
+use Rattle.kernel_model.specs.State.{State, Update, set_table, set_process, set_status, set_open, set_node, set_names, set_term, at_proc, at_status, has_part, part_of, put_one, put_all, threads_of}
 use Rattle.kernel_model.specs.Step.{tick, outcome, unreleased, step_state, IsStep, end_unreleased, end_state}
 use Rattle.kernel_model.specs.Valid.{IsNearlyValid, IsValid}
 use Rattle.kernel_model.specs.View.{whole}
@@ -47,7 +47,7 @@ end_valid S p status v = release_restores (end_unreleased S p status) (end_nearl
 
 put_one_clock : (u : Update) (S : State) → (put_one u S).clock ≡ S.clock
 put_one_clock (set_table p t) S = refl
-put_one_clock (set_own p own) S = refl
+put_one_clock (set_process p own) S = refl
 put_one_clock (set_status p s) S = refl
 put_one_clock (set_open o kind) S = refl
 put_one_clock (set_node n node) S = refl
@@ -101,6 +101,6 @@ pub end_ends_only : (S : State) (p : ℕ) (status : Status) → EndsOnly S p sta
 unfolding end_state
 end_ends_only S p status = record {
   clock = refl;
-  others = λ q apart. (let unset = end_others p (get S.own p) status q apart in put_others (end_updates p (get S.own p) status) (tick S) q unset.0 unset.1);
+  others = λ q apart. (let unset = end_others p (get S.processes p) status q apart in put_others (end_updates p (get S.processes p) status) (tick S) q unset.0 unset.1);
   stands = get-insert-same S.statuses p status;
 }

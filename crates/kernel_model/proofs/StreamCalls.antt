@@ -14,7 +14,7 @@ use Rattle.abi_types.specs.declared.stream.Stream.{Stream}
 use Rattle.tree_model.specs.Changes.{bytes_in, is_file}
 use Rattle.tree_model.specs.Files.{is_beyond, read_bytes}
 use Rattle.kernel_model.specs.FileBytes.{overwritten, written_count}
-use Rattle.kernel_model.specs.FileOffsets.{Moves, as_offset, moves_open, offset_from, seek_to, sought, stays, write_from, write_on, write_place}
+use Rattle.kernel_model.specs.FileOffsets.{OffsetOutcome, as_offset, with_offset, offset_from, seek_to, sought, stays, write_from, write_on, write_place}
 use Rattle.kernel_model.specs.OpenMeaning.{OpenMeaning}
 use Rattle.kernel_model.specs.Outcome.{Outcome, replies}
 use Rattle.kernel_model.specs.Proper.{IsIn, IsPlain, IsProper, IsUnset}
@@ -37,9 +37,9 @@ use Rattle.kernel_model.proofs.Valids.{IsSameBehind, set_open_nearly_valid, set_
 -- ---- what such a call comes to
 
 -- What is shown of each outcome for an open: of a state with this tree and that open.
-record Fine (errors : List Errno) (changes : List Part) (t : Tree) (o : ℕ) (kind : Option OpenKind) (outcome : Outcome) : Type 0 where
+record Fine (errors : List Errno) (touched : List Part) (t : Tree) (o : ℕ) (kind : Option OpenKind) (outcome : Outcome) : Type 0 where
   apart : AreOfNoProcess outcome.updates
-  sets : (q : Part) → has_part (at_open o ∷ changes) q ≡ false → IsUnset outcome q
+  sets : (q : Part) → has_part (at_open o ∷ touched) q ≡ false → IsUnset outcome q
   plain : IsPlain errors outcome
   valid : (S : State) → tree_of S ≡ t → get S.opens o ≡ kind → IsNearlyValid S → IsNearlyValid (put_all outcome.updates S)
 
@@ -47,23 +47,23 @@ record Fine (errors : List Errno) (changes : List Part) (t : Tree) (o : ℕ) (ki
 abbrev done : Reply → List Update → Outcome
 done reply updates = record { answer = answer.Reply reply; updates = updates }
 
-module _ (errors : List Errno) (changes : List Part) (t : Tree) (o : ℕ) where
-  fine_refused : (kind : Option OpenKind) (errno : Errno) → IsIn errno errors → Fine errors changes t o kind (replies (refused errno))
+module _ (errors : List Errno) (touched : List Part) (t : Tree) (o : ℕ) where
+  fine_refused : (kind : Option OpenKind) (errno : Errno) → IsIn errno errors → Fine errors touched t o kind (replies (refused errno))
   fine_refused kind errno here =
       record { apart = tt; sets = λ q h. refl; plain = (refl, inr (refl, here)); valid = λ S tree there nearly. nearly }
 
-  fine_reply : (kind : Option OpenKind) (a : ℕ) → Fine errors changes t o kind (replies (success a 0))
+  fine_reply : (kind : Option OpenKind) (a : ℕ) → Fine errors touched t o kind (replies (success a 0))
   fine_reply kind a = record { apart = tt; sets = λ q h. refl; plain = (refl, inl refl); valid = λ S tree there nearly. nearly }
 
 -- the offset of a file that is open
 same_with_offset : (node old new flags : ℕ) → IsSameBehind (File node old flags) (File node new flags)
 same_with_offset node old new flags = record { base = refl; inheriting = refl; behind = λ S h. h }
 
-fine_moved : (errors : List Errno) (changes : List Part) (t : Tree) (o node old new flags : ℕ) (reply : Reply) → reply.denial ≡ None → reply.errno ≡ Success
-    → Fine errors changes t o (Some (File node old flags)) (done reply (set_open o (File node new flags) ∷ []))
-fine_moved errors changes t o node old new flags reply plain success = record {
+fine_moved : (errors : List Errno) (touched : List Part) (t : Tree) (o node old new flags : ℕ) (reply : Reply) → reply.denial ≡ None → reply.errno ≡ Success
+    → Fine errors touched t o (Some (File node old flags)) (done reply (set_open o (File node new flags) ∷ []))
+fine_moved errors touched t o node old new flags reply plain success = record {
   apart = (tt, tt);
-  sets = λ q h. ap (λ b. b || false) (outside_cons (at_open o) changes q h).0;
+  sets = λ q h. ap (λ b. b || false) (outside_cons (at_open o) touched q h).0;
   plain = (plain, inl success);
   valid = λ S tree there nearly. set_open_nearly_valid S o (File node old flags) (File node new flags) there (same_with_offset node old new flags) nearly;
 }
@@ -114,9 +114,9 @@ module _ (t w : Tree) (o node old new flags : ℕ) (works : is_file t node ≡ t
 
 -- a meaning of such outcomes
 fine_opens_well : (m : OpenMeaning)
-    → ((now : ℕ) (S : State) (p o : ℕ) (kind : Option OpenKind) → m.does now (restrict S (seen_parts S p o kind)) o kind ≡ m.does now (whole S) o kind)
-    → ((now : ℕ) (v : View) (o : ℕ) (kind : Option OpenKind) → Fine m.errors (m.changes kind) v.branch o kind (m.does now v o kind))
-    → ((S : State) (kind : Option OpenKind) (q : Part) → has_part (m.changes kind) q ≡ true → has_part (behind S kind) q ≡ true)
+    → ((now : ℕ) (S : State) (p o : ℕ) (kind : Option OpenKind) → m.effect now (restrict S (seen_parts S p o kind)) o kind ≡ m.effect now (whole S) o kind)
+    → ((now : ℕ) (v : View) (o : ℕ) (kind : Option OpenKind) → Fine m.errors (m.touched kind) v.branch o kind (m.effect now v o kind))
+    → ((S : State) (kind : Option OpenKind) (q : Part) → has_part (m.touched kind) q ≡ true → has_part (behind S kind) q ≡ true)
     → IsIn Badf m.errors → (m.takes_memory ≡ true → AllByRecursion (λ errno. errno ≢ Nomem) m.errors) → OpensWell m
 fine_opens_well m reads fine seen badf lacks = record {
   reads = reads;
@@ -135,7 +135,7 @@ abbrev write_errors : List Errno
 write_errors = Badf ∷ Fbig ∷ []
 
 -- the moves of a write after which the file's node is this one
-abbrev written_moves : ℕ → ℕ → ℕ → List ℕ → Option Node → Moves
+abbrev written_moves : ℕ → ℕ → ℕ → List ℕ → Option Node → OffsetOutcome
 written_moves node flags at bytes new = record {
   outcome = done (success (written_count at bytes) 0) (node_update node new);
   moved = Some (File node (at + written_count at bytes) flags);
@@ -163,7 +163,7 @@ write_reads : (bytes : List ℕ) (now : ℕ) (S : State) (p o : ℕ) (kind : Opt
 write_reads bytes now S p o None = refl
 write_reads bytes now S p o (Some (Terminal which flags)) = ap (write_term bytes which) (first_seen which false (get S.terms which))
 write_reads bytes now S p o (Some (File node offset flags)) =
-    ap (moves_open o)
+    ap (with_offset o)
     (write_on_alike (tree_of S) (restrict S (seen_parts S p o (Some (File node offset flags)))).branch node offset flags now bytes
     (behind_is_seen S p o (Some (File node offset flags))))
 write_reads bytes now S p o (Some (Directory node flags)) = refl
@@ -175,13 +175,13 @@ write_term_fine : (bytes : List ℕ) (t : Tree) (o which flags : ℕ) (stream : 
 write_term_fine bytes t o which flags None = fine_refused _ _ _ _ _ Badf ([], _, refl)
 write_term_fine bytes t o which flags (Some stream) = fine_term _ _ _ which _ _ _ refl refl
 
-either_fine : (b : Bool) (errors : List Errno) (changes : List Part) (t : Tree) (o : ℕ) (kind : Option OpenKind) (m n : Moves)
-    → Fine errors changes t o kind (moves_open o m) → Fine errors changes t o kind (moves_open o n) → Fine errors changes t o kind (moves_open o (cond b m n))
-either_fine true errors changes t o kind m n first second = first
-either_fine false errors changes t o kind m n first second = second
+either_fine : (b : Bool) (errors : List Errno) (touched : List Part) (t : Tree) (o : ℕ) (kind : Option OpenKind) (m n : OffsetOutcome)
+    → Fine errors touched t o kind (with_offset o m) → Fine errors touched t o kind (with_offset o n) → Fine errors touched t o kind (with_offset o (cond b m n))
+either_fine true errors touched t o kind m n first second = first
+either_fine false errors touched t o kind m n first second = second
 
 write_from_fine : (t : Tree) (o node offset flags now at : ℕ) (bytes : List ℕ)
-    → Fine write_errors (at_node node ∷ []) t o (Some (File node offset flags)) (moves_open o (write_from t node flags now at bytes))
+    → Fine write_errors (at_node node ∷ []) t o (Some (File node offset flags)) (with_offset o (write_from t node flags now at bytes))
 write_from_fine t o node offset flags now at [] = fine_reply _ _ _ _ _ 0
 write_from_fine t o node offset flags now at (b ∷ bytes) =
     either_fine (is_beyond at (b ∷ bytes)) _ _ t o _ (stays (refused Fbig))
@@ -218,7 +218,7 @@ fd_write_is_proper fd bytes = by_open_is_proper (writing bytes) (write_opens_wel
 -- ---- fd_read
 
 -- the moves of a read of a file with these bytes
-abbrev read_moves : ℕ → ℕ → ℕ → ℕ → List ℕ → Moves
+abbrev read_moves : ℕ → ℕ → ℕ → ℕ → List ℕ → OffsetOutcome
 read_moves node offset flags n bytes = record {
   outcome = replies (content (read_bytes bytes offset n));
   moved = Some (File node (offset + length (read_bytes bytes offset n)) flags);
@@ -229,7 +229,7 @@ read_reads : (n now : ℕ) (S : State) (p o : ℕ) (kind : Option OpenKind)
 read_reads n now S p o None = refl
 read_reads n now S p o (Some (Terminal which flags)) = ap (read_term n which) (first_seen which false (get S.terms which))
 read_reads n now S p o (Some (File node offset flags)) =
-    ap (λ x. moves_open o (read_moves node offset flags n (bytes_in x))) (sym (behind_is_seen S p o (Some (File node offset flags))))
+    ap (λ x. with_offset o (read_moves node offset flags n (bytes_in x))) (sym (behind_is_seen S p o (Some (File node offset flags))))
 read_reads n now S p o (Some (Directory node flags)) = refl
 read_reads n now S p o (Some (End reads writes flags)) = refl
 read_reads n now S p o (Some (Process q)) = refl
@@ -275,13 +275,13 @@ module _ (bits whence : ℕ) where
   seek_reads now S p o None = refl
   seek_reads now S p o (Some (Terminal which flags)) = refl
   seek_reads now S p o (Some (File node offset flags)) =
-      ap (λ x. moves_open o (seek_to node flags (sought_by offset x))) (sym (behind_is_seen S p o (Some (File node offset flags))))
+      ap (λ x. with_offset o (seek_to node flags (sought_by offset x))) (sym (behind_is_seen S p o (Some (File node offset flags))))
   seek_reads now S p o (Some (Directory node flags)) = refl
   seek_reads now S p o (Some (End reads writes flags)) = refl
   seek_reads now S p o (Some (Process q)) = refl
 
   seek_to_fine : (t : Tree) (o node offset flags : ℕ) (place : Option ℕ)
-      → Fine (Badf ∷ Inval ∷ []) [] t o (Some (File node offset flags)) (moves_open o (seek_to node flags place))
+      → Fine (Badf ∷ Inval ∷ []) [] t o (Some (File node offset flags)) (with_offset o (seek_to node flags place))
   seek_to_fine t o node offset flags None = fine_refused _ _ _ _ _ Inval (Badf ∷ [], [], refl)
   seek_to_fine t o node offset flags (Some place) = fine_moved _ _ _ o node offset place flags _ refl refl
 

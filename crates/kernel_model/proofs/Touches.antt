@@ -14,7 +14,7 @@ use Rattle.kernel_model.specs.ProcessCalls.{end_updates}
 use Rattle.kernel_model.specs.Proper.{IsUnset}
 use Rattle.tree_model.specs.Retained.{retained-node, retained-table}
 use Rattle.kernel_model.specs.Release.{is_node_kept, is_released, release, without_ended}
-use Rattle.kernel_model.specs.Sight.{own_parts}
+use Rattle.kernel_model.specs.Sight.{process_parts}
 use Rattle.kernel_model.specs.State.{State, Table, tree_of, Part, at_clock, at_proc, at_status, at_open, at_node, at_names, at_term, same_part, has_part, Agree, part_of}
 use Rattle.kernel_model.specs.Step.{tick, unless_refused, changed, made_by, made_on, touch, unless, act_on, outcome, unreleased, step_state, IsStep, IsUntouched, end_unreleased, end_state}
 use Rattle.kernel_model.specs.View.{whole}
@@ -28,14 +28,14 @@ use Rattle.kernel_model.proofs.Valids.{released_stays}
 -- ---- what a call sets
 
 unless_unset : (constants : Constants) (S : State) (who : Who) (table : Table) (call : Call) (r : Option Reply) (q : Part)
-    → has_part (own_parts who.pid
-    ++ (unless_refused r (new_parts who.pid (meaning_of call).numbers (get S.own who.pid)) ++ unless_refused r ((meaning_of call).changes S table))) q ≡ false
-    → IsUnset (unless r ((meaning_of call).does constants (whole (tick S)) who table)) q
+    → has_part (process_parts who.pid
+    ++ (unless_refused r (new_parts who.pid (meaning_of call).numbers (get S.processes who.pid)) ++ unless_refused r ((meaning_of call).touched S table))) q ≡ false
+    → IsUnset (unless r ((meaning_of call).effect constants (whole (tick S)) who table)) q
 unless_unset constants S who table call (Some reply) q h = refl
 unless_unset constants S who table call None q h = (proper call).sets constants S who table q h
 
 act_unset : (constants : Constants) (S : State) (who : Who) (call : Call) (t : Option Table) (q : Part)
-    → has_part (own_parts who.pid ++ (made_on S who call t ++ changed S call t)) q ≡ false → IsUnset (act_on constants (whole (tick S)) who call t) q
+    → has_part (process_parts who.pid ++ (made_on S who call t ++ changed S call t)) q ≡ false → IsUnset (act_on constants (whole (tick S)) who call t) q
 act_unset constants S who call None q h = refl
 act_unset constants S who call (Some table) q h = unless_unset constants S who table call (refusal table call) q h
 
@@ -91,10 +91,10 @@ pub end_is : (S : State) (p : ℕ) (status : Status) → end_state S p status �
 unfolding end_state
 end_is S p status = refl
 
-pub end_keeps : (S : State) (p : ℕ) (status : Status) (q : Part) → has_part (own_parts p) q ≡ false
+pub end_keeps : (S : State) (p : ℕ) (status : Status) (q : Part) → has_part (process_parts p) q ≡ false
     → is_released (end_unreleased S p status) q ≡ false → Agree (end_state S p status) S q
 unfolding end_state
 end_keeps S p status q outside stays =
     agree_through (end_state S p status) (end_unreleased S p status) S q (release_keeps (end_unreleased S p status) q stays)
-    (agree_through (end_unreleased S p status) (tick S) S q (put_keeps (end_updates p (get S.own p) status) (tick S) q (end_unset p (get S.own p) status q outside))
+    (agree_through (end_unreleased S p status) (tick S) S q (put_keeps (end_updates p (get S.processes p) status) (tick S) q (end_unset p (get S.processes p) status q outside))
     (tick_keeps S q (outside_cons at_clock (at_proc p ∷ at_status p ∷ []) q outside).0))

@@ -2,7 +2,7 @@
 --     change_of_tree, put_both      updates of a change are of the tree alone;  updates after others
 --     with_tree u S, tree_same      the state S with the tree u;  updates of the tree lead to such a state
 --     put_change      the updates of a change of the state's tree give it the tree that the change leads to
---     own_nearly_valid      a nearly valid state in which a process has made more is so
+--     process_nearly_valid      a nearly valid state in which a process has made more is so
 --     with_tree_nearly_valid      and so is one with another tree in which no file and no directory is missing
 --     change_nearly_valid      and so is one where a call has made so many nodes and changed the tree
 use Rattle.std.proofs.Common.{◌≡◌, ◌≢◌, ℕ, zero, suc, ◌+◌, ◌^◌, ◌<◌, ◌≤◌, true, false, List, [], ◌∷◌, ◌++◌, map, Option, Some, None, IsSome, is_some, refl, sym, ap, subst, ◌∙◌, arith}
@@ -19,8 +19,8 @@ use Rattle.maps.specs.Maps.{get-insert-same, get-insert-other, same_numbers}
 use Rattle.tree_model.specs.Changes.{is_file}
 use Rattle.tree_model.specs.Entries.{here_or_other}
 use Rattle.tree_model.specs.Tree.{IsTree, is_directory}
-use Rattle.kernel_model.specs.Numbers.{can_number, next_object, object_of, made_more, own_updates}
-use Rattle.kernel_model.specs.State.{State, Names, Own, Tree, tree_of, Part, Update, counts_in, has_part, part_of, put_all, put_one, set_node, set_names, set_own, thread_in, threads_of}
+use Rattle.kernel_model.specs.Numbers.{can_number, next_object, object_of, made_more, process_updates}
+use Rattle.kernel_model.specs.State.{State, Names, ProcessState, Tree, tree_of, Part, Update, counts_in, has_part, part_of, put_all, put_one, set_node, set_names, set_process, thread_in, threads_of}
 use Rattle.kernel_model.specs.TreeUpdates.{Change, change_updates, names_update, names_updates, node_update, nodes_updates}
 use Rattle.kernel_model.specs.Valid.{HasBehind, IsNearlyValid}
 use Rattle.kernel_model.proofs.FileMeanings.{IsOfTree}
@@ -165,7 +165,7 @@ pub record IsTreeAfter (S : State) (u : Tree) : Type 0 where
   pub tree : IsTree u
   pub files : (q : ℕ) → is_file (tree_of S) q ≡ true → is_file u q ≡ true
   pub directories : (q : ℕ) → is_directory (tree_of S) q ≡ true → is_directory u q ≡ true
-  pub made : (p k : ℕ) → p < 0xffffffff → (counts_in (get S.own p)).objects < k → k < 2 ^ 32 → get u.nodes (object_of p k) ≡ None
+  pub made : (p k : ℕ) → p < 0xffffffff → (counts_in (get S.processes p)).objects < k → k < 2 ^ 32 → get u.nodes (object_of p k) ≡ None
 
 behind_after : (S : State) (u : Tree) → IsTreeAfter S u → (kind : OpenKind) → HasBehind S kind → HasBehind (with_tree u S) kind
 behind_after S u after (File q offset flags) h = after.files q h
@@ -190,39 +190,39 @@ with_tree_nearly_valid S u after v = record {
 -- ---- a process that has made more
 
 -- the process has as many threads, and has made no less
-record Grows (own new : Own) : Type 0 where
+record Grows (own new : ProcessState) : Type 0 where
   threads : new.threads ≡ own.threads
   numbered : new.counts.threads ≡ own.counts.threads
   more : own.counts.objects ≤ new.counts.objects
 
-module _ (S : State) (p : ℕ) (own new : Own) (there : get S.own p ≡ Some own) (grows : Grows own new) where
-  same_threads : (q : ℕ) → threads_of (put_one (set_own p new) S) q ≡ threads_of S q
+module _ (S : State) (p : ℕ) (own new : ProcessState) (there : get S.processes p ≡ Some own) (grows : Grows own new) where
+  same_threads : (q : ℕ) → threads_of (put_one (set_process p new) S) q ≡ threads_of S q
   same_threads q =
-      here_or_other (λ k. threads_of (put_one (set_own p new) S) k ≡ threads_of S k) p q
-      (ap (option_map (λ (o : Own). o.threads)) (get-insert-same S.own p new) ∙ ap Some grows.threads ∙ sym (ap (option_map (λ (o : Own). o.threads)) there))
-      (λ other. ap (option_map (λ (o : Own). o.threads)) (get-insert-other S.own p new q other))
+      here_or_other (λ k. threads_of (put_one (set_process p new) S) k ≡ threads_of S k) p q
+      (ap (option_map (λ (o : ProcessState). o.threads)) (get-insert-same S.processes p new) ∙ ap Some grows.threads ∙ sym (ap (option_map (λ (o : ProcessState). o.threads)) there))
+      (λ other. ap (option_map (λ (o : ProcessState). o.threads)) (get-insert-other S.processes p new q other))
 
-  same_numbered : (q : ℕ) → (counts_in (get (insert S.own p new) q)).threads ≡ (counts_in (get S.own q)).threads
+  same_numbered : (q : ℕ) → (counts_in (get (insert S.processes p new) q)).threads ≡ (counts_in (get S.processes q)).threads
   same_numbered q =
-      here_or_other (λ k. (counts_in (get (insert S.own p new) k)).threads ≡ (counts_in (get S.own k)).threads) p q
-      (ap (λ o. (counts_in o).threads) (get-insert-same S.own p new) ∙ grows.numbered ∙ sym (ap (λ o. (counts_in o).threads) there))
-      (λ other. ap (λ o. (counts_in o).threads) (get-insert-other S.own p new q other))
+      here_or_other (λ k. (counts_in (get (insert S.processes p new) k)).threads ≡ (counts_in (get S.processes k)).threads) p q
+      (ap (λ o. (counts_in o).threads) (get-insert-same S.processes p new) ∙ grows.numbered ∙ sym (ap (λ o. (counts_in o).threads) there))
+      (λ other. ap (λ o. (counts_in o).threads) (get-insert-other S.processes p new q other))
 
-  more_made : (q : ℕ) → (counts_in (get S.own q)).objects ≤ (counts_in (get (insert S.own p new) q)).objects
+  more_made : (q : ℕ) → (counts_in (get S.processes q)).objects ≤ (counts_in (get (insert S.processes p new) q)).objects
   more_made q =
-      here_or_other (λ k. (counts_in (get S.own k)).objects ≤ (counts_in (get (insert S.own p new) k)).objects) p q
-      (let after : (counts_in (get (insert S.own p new) p)).objects ≡ new.counts.objects = ap (λ o. (counts_in o).objects) (get-insert-same S.own p new) in
-      let before : (counts_in (get S.own p)).objects ≡ own.counts.objects = ap (λ o. (counts_in o).objects) there in
+      here_or_other (λ k. (counts_in (get S.processes k)).objects ≤ (counts_in (get (insert S.processes p new) k)).objects) p q
+      (let after : (counts_in (get (insert S.processes p new) p)).objects ≡ new.counts.objects = ap (λ o. (counts_in o).objects) (get-insert-same S.processes p new) in
+      let before : (counts_in (get S.processes p)).objects ≡ own.counts.objects = ap (λ o. (counts_in o).objects) there in
       omega (arith, after, before, grows.more))
-      (λ other. let same : (counts_in (get (insert S.own p new) q)).objects ≡ (counts_in (get S.own q)).objects =
-      ap (λ o. (counts_in o).objects) (get-insert-other S.own p new q other) in omega (arith, same))
+      (λ other. let same : (counts_in (get (insert S.processes p new) q)).objects ≡ (counts_in (get S.processes q)).objects =
+      ap (λ o. (counts_in o).objects) (get-insert-other S.processes p new q other) in omega (arith, same))
 
-  set_own_nearly_valid : IsNearlyValid S → IsNearlyValid (put_one (set_own p new) S)
-  set_own_nearly_valid v = record {
+  set_process_nearly_valid : IsNearlyValid S → IsNearlyValid (put_one (set_process p new) S)
+  set_process_nearly_valid v = record {
     named = v.named;
-    behind = λ o kind e. behind_own kind (v.behind o kind e);
+    behind = λ o kind e. behind_process kind (v.behind o kind e);
     tables = v.tables;
-    owns = λ q. some_again S.own p own new q there ∙ v.owns q;
+    owns = λ q. some_again S.processes p own new q there ∙ v.owns q;
     ended = λ q status is ends. ((v.ended q status is ends).0, same_threads q ∙ (v.ended q status is ends).1);
     numbered = λ q t here.
         subst (λ n. t ≤ n) (sym (same_numbered q)) (v.numbered q t (subst (λ o. IsSome (thread_in o t)) (same_threads q) here));
@@ -232,23 +232,23 @@ module _ (S : State) (p : ℕ) (own new : Own) (there : get S.own p ≡ Some own
         v.made_nodes q k small (let more = more_made q in omega (arith, more, beyond)) fits;
     tree = v.tree;
   } where
-    behind_own : (kind : OpenKind) → HasBehind S kind → HasBehind (put_one (set_own p new) S) kind
-    behind_own (File q offset flags) h = h
-    behind_own (Directory q flags) h = h
-    behind_own (End reads writes flags) h = h
-    behind_own (Terminal which flags) h = h
-    behind_own (Process q) h = h
+    behind_process : (kind : OpenKind) → HasBehind S kind → HasBehind (put_one (set_process p new) S) kind
+    behind_process (File q offset flags) h = h
+    behind_process (Directory q flags) h = h
+    behind_process (End reads writes flags) h = h
+    behind_process (Terminal which flags) h = h
+    behind_process (Process q) h = h
 
 -- the state in which the process has made so many more
 abbrev pub counted : ℕ → ℕ → State → State
-counted p count S = put_all (own_updates p count (get S.own p)) S
+counted p count S = put_all (process_updates p count (get S.processes p)) S
 
 -- what holds of the state holds where nothing is made, and where more is
 pub counted_holds : (P : State → Type 0) (S : State) (p count : ℕ) → P S
-    → ((own : Own) → get S.own p ≡ Some own → P (put_one (set_own p (made_more count own)) S)) → P (counted p count S)
+    → ((own : ProcessState) → get S.processes p ≡ Some own → P (put_one (set_process p (made_more count own)) S)) → P (counted p count S)
 counted_holds P S p zero none some = none
 counted_holds P S p (suc count) none some =
-    elim (get S.own p) as (λ o. get S.own p ≡ o → P (put_all (own_updates p (suc count) o) S)) [
+    elim (get S.processes p) as (λ o. get S.processes p ≡ o → P (put_all (process_updates p (suc count) o) S)) [
       | None ↦ λ _. none
       | Some own ↦ λ there. some own there
     ] refl
@@ -259,21 +259,21 @@ counted_tree S p count = counted_holds (λ (T : State). tree_of T ≡ tree_of S)
 pub counted_nearly_valid : (S : State) (p count : ℕ) → IsNearlyValid S → IsNearlyValid (counted p count S)
 counted_nearly_valid S p count v =
     counted_holds IsNearlyValid S p count v (λ own there.
-    set_own_nearly_valid S p own (made_more count own) there (record { threads = refl; numbered = refl; more = omega arith }) v)
+    set_process_nearly_valid S p own (made_more count own) there (record { threads = refl; numbered = refl; more = omega arith }) v)
 
 pub counted_threads : (S : State) (p count q : ℕ) → threads_of (counted p count S) q ≡ threads_of S q
 counted_threads S p count q =
     counted_holds (λ (T : State). threads_of T q ≡ threads_of S q) S p count refl (λ own there.
     same_threads S p own (made_more count own) there (record { threads = refl; numbered = refl; more = omega arith }) q)
 
-pub counted_more : (S : State) (p count : ℕ) → can_number p count (get S.own p) ≡ true
-    → (counts_in (get (counted p count S).own p)).objects ≡ (counts_in (get S.own p)).objects + count
+pub counted_more : (S : State) (p count : ℕ) → can_number p count (get S.processes p) ≡ true
+    → (counts_in (get (counted p count S).processes p)).objects ≡ (counts_in (get S.processes p)).objects + count
 counted_more S p zero can = omega arith
 counted_more S p (suc count) can =
-    elim (get S.own p) as (λ o. get S.own p ≡ o → can_number p (suc count) o ≡ true
-    → (counts_in (get (put_all (own_updates p (suc count) o) S).own p)).objects ≡ (counts_in o).objects + suc count) [
+    elim (get S.processes p) as (λ o. get S.processes p ≡ o → can_number p (suc count) o ≡ true
+    → (counts_in (get (put_all (process_updates p (suc count) o) S).processes p)).objects ≡ (counts_in o).objects + suc count) [
       | None ↦ λ _ can. absurd (not_true can)
-      | Some own ↦ λ there _. ap (λ o. (counts_in o).objects) (get-insert-same S.own p (made_more (suc count) own))
+      | Some own ↦ λ there _. ap (λ o. (counts_in o).objects) (get-insert-same S.processes p (made_more (suc count) own))
     ] refl can
 
 -- ---- a call that has made so many objects and changed the tree
@@ -282,23 +282,23 @@ counted_more S p (suc count) can =
 pub one_object : (p q j k : ℕ) → object_of q k ≡ object_of p j → k < 2 ^ 32 → j < 2 ^ 32 → (q ≡ p) × (k ≡ j)
 one_object p q j k same small fits = (omega (arith, same, small, fits), omega (arith, same, small, fits))
 
-module _ (S : State) (p count new makes : ℕ) (c : Change) (can : can_number p count (get S.own p) ≡ true) (change : IsChangeOf (tree_of S) new makes c)
-    (is_next : makes ≢ 0 → new ≡ next_object p (get S.own p) 1) (enough : makes ≤ count) (v : IsNearlyValid S) where
+module _ (S : State) (p count new makes : ℕ) (c : Change) (can : can_number p count (get S.processes p) ≡ true) (change : IsChangeOf (tree_of S) new makes c)
+    (is_next : makes ≢ 0 → new ≡ next_object p (get S.processes p) 1) (enough : makes ≤ count) (v : IsNearlyValid S) where
   counted_change : IsChangeOf (tree_of (counted p count S)) new makes c
   counted_change = subst (λ t. IsChangeOf t new makes c) (sym (counted_tree S p count)) change
 
   -- the new node is one of those that the process has made now
-  new_is_counted : (q k : ℕ) → (counts_in (get (counted p count S).own q)).objects < k → k < 2 ^ 32 → object_of q k ≡ new → makes ≢ 0 → ⊥
+  new_is_counted : (q k : ℕ) → (counts_in (get (counted p count S).processes q)).objects < k → k < 2 ^ 32 → object_of q k ≡ new → makes ≢ 0 → ⊥
   new_is_counted q k beyond small is some =
       let one : 1 ≤ count = omega (arith, some, enough) in
-      let fits = fewer_fit p 1 count (get S.own p) (omega arith) one can in
-      let at = one_object p q ((counts_in (get S.own p)).objects + 1) k (is ∙ is_next some) small fits.1 in
-      let number : k ≡ (counts_in (get S.own p)).objects + 1 = at.1 in
-      let total : (counts_in (get (counted p count S).own p)).objects ≡ (counts_in (get S.own p)).objects + count = counted_more S p count can in
-      let past : (counts_in (get (counted p count S).own p)).objects < k = subst (λ r. (counts_in (get (counted p count S).own r)).objects < k) at.0 beyond in
+      let fits = fewer_fit p 1 count (get S.processes p) (omega arith) one can in
+      let at = one_object p q ((counts_in (get S.processes p)).objects + 1) k (is ∙ is_next some) small fits.1 in
+      let number : k ≡ (counts_in (get S.processes p)).objects + 1 = at.1 in
+      let total : (counts_in (get (counted p count S).processes p)).objects ≡ (counts_in (get S.processes p)).objects + count = counted_more S p count can in
+      let past : (counts_in (get (counted p count S).processes p)).objects < k = subst (λ r. (counts_in (get (counted p count S).processes r)).objects < k) at.0 beyond in
       omega (arith, number, total, past, one)
 
-  still_unmade : (q k : ℕ) → q < 0xffffffff → (counts_in (get (counted p count S).own q)).objects < k → k < 2 ^ 32 → get c.tree.nodes (object_of q k) ≡ None
+  still_unmade : (q k : ℕ) → q < 0xffffffff → (counts_in (get (counted p count S).processes q)).objects < k → k < 2 ^ 32 → get c.tree.nodes (object_of q k) ≡ None
   still_unmade q k small beyond fits =
       let before : get (tree_of S).nodes (object_of q k) ≡ None =
       ap (λ (t : Tree). get t.nodes (object_of q k)) (sym (counted_tree S p count)) ∙ (counted_nearly_valid S p count v).made_nodes q k small beyond fits in
@@ -314,7 +314,7 @@ module _ (S : State) (p count new makes : ℕ) (c : Change) (can : can_number p 
       (counted_nearly_valid S p count v)
 
   -- such updates lead to that state
-  pub put_counted : put_all (own_updates p count (get S.own p) ++ change_updates c) S ≡ with_tree c.tree (counted p count S)
+  pub put_counted : put_all (process_updates p count (get S.processes p) ++ change_updates c) S ≡ with_tree c.tree (counted p count S)
   put_counted =
-      put_both (own_updates p count (get S.own p)) (change_updates c) S
+      put_both (process_updates p count (get S.processes p)) (change_updates c) S
       ∙ put_change (counted p count S) new makes c (counted_nearly_valid S p count v).tree counted_change

@@ -17,7 +17,7 @@ use Rattle.abi_types.specs.declared.status.Status.TheVariants.{Live}
 use Rattle.abi_types.specs.declared.stream.Stream.{Stream}
 use Rattle.maps.specs.Closure.{member}
 use Rattle.maps.specs.Maps.{get-insert-same, get-insert-other, get-retain, same_numbers, total, weight, total-empty, total-insert, total_at_least}
-use Rattle.kernel_model.specs.ProcessCalls.{ended_own, end_updates}
+use Rattle.kernel_model.specs.ProcessCalls.{ended_process, end_updates}
 use Rattle.tree_model.specs.declared.limits.TheConstants.{ROOT}
 use Rattle.tree_model.specs.Changes.{is_file_node}
 use Rattle.tree_model.specs.Counts.{one_for-same}
@@ -26,7 +26,7 @@ use Rattle.tree_model.specs.Releasing.{retained-all, used_by_links, used_by_open
 use Rattle.tree_model.specs.Retained.{retained, retained-node, retained-no_node, retained-tree}
 use Rattle.tree_model.specs.Tree.{IsTree, is_directory_node, links_in, links_of}
 use Rattle.kernel_model.specs.Release.{names_open, count_in, holders, ends, release, is_ending, is_node_kept, without_ended, without_nodes}
-use Rattle.kernel_model.specs.State.{State, Table, Own, tree_of, put_one, put_all, set_open, set_table, set_term, threads_of, thread_in, thread_of, counts_in}
+use Rattle.kernel_model.specs.State.{State, Table, ProcessState, tree_of, put_one, put_all, set_open, set_table, set_term, threads_of, thread_in, thread_of, counts_in}
 use Rattle.kernel_model.specs.Step.{tick}
 use Rattle.kernel_model.specs.Numbers.{object_of}
 use Rattle.kernel_model.specs.Valid.{fits, fits_inheriting, IsNamed, HasBehind, IsNearlyValid, IsValid}
@@ -297,50 +297,50 @@ ended_after m statuses p status before q s e ends =
     ]
 
 -- what an ended process and all others have of their own, once one more has ended
-own_at : (m : FinMap nat_cmp Own) (p : ℕ) → get (insert m p (ended_own (get m p))) p ≡ Some (ended_own (get m p))
-own_at m p = get-insert-same m p (ended_own (get m p))
+process_at : (m : FinMap nat_cmp ProcessState) (p : ℕ) → get (insert m p (ended_process (get m p))) p ≡ Some (ended_process (get m p))
+process_at m p = get-insert-same m p (ended_process (get m p))
 
-threads_at : (S : State) (p : ℕ) (status : Status) → threads_of (put_all (end_updates p (get S.own p) status) S) p ≡ Some empty
-threads_at S p status = ap (option_map (λ (own : Own). own.threads)) (own_at S.own p)
+threads_at : (S : State) (p : ℕ) (status : Status) → threads_of (put_all (end_updates p (get S.processes p) status) S) p ≡ Some empty
+threads_at S p status = ap (option_map (λ (own : ProcessState). own.threads)) (process_at S.processes p)
 
-own_apart : (S : State) (p : ℕ) (status : Status) (q : ℕ) → q ≢ p → get (put_all (end_updates p (get S.own p) status) S).own q ≡ get S.own q
-own_apart S p status q n = get-insert-other S.own p (ended_own (get S.own p)) q n
+process_apart : (S : State) (p : ℕ) (status : Status) (q : ℕ) → q ≢ p → get (put_all (end_updates p (get S.processes p) status) S).processes q ≡ get S.processes q
+process_apart S p status q n = get-insert-other S.processes p (ended_process (get S.processes p)) q n
 
 threads_ended : (S : State) (p : ℕ) (status : Status) → IsNearlyValid S → (q : ℕ) (s : Status) → get (insert S.statuses p status) q ≡ Some s → s ≢ Live
-    → threads_of (put_all (end_updates p (get S.own p) status) S) q ≡ Some empty
+    → threads_of (put_all (end_updates p (get S.processes p) status) S) q ≡ Some empty
 threads_ended S p status v q s e ends =
     elim (eqb_tells q p) [
-      | inl is ↦ subst (λ j. threads_of (put_all (end_updates p (get S.own p) status) S) j ≡ Some empty) (sym is.1) (threads_at S p status)
-      | inr other ↦ ap (option_map (λ (own : Own). own.threads)) (own_apart S p status q other.1)
+      | inl is ↦ subst (λ j. threads_of (put_all (end_updates p (get S.processes p) status) S) j ≡ Some empty) (sym is.1) (threads_at S p status)
+      | inr other ↦ ap (option_map (λ (own : ProcessState). own.threads)) (process_apart S p status q other.1)
           ∙ (v.ended q s (sym (get-insert-other S.statuses p status q other.1) ∙ e) ends).1
     ]
 
 no_thread : (t : ℕ) → IsSome (thread_in (Some empty) t) → ⊥
 no_thread t h = not_true (subst IsSome (get-empty nat_cmp t) h)
 
-counts_stay : (S : State) (p : ℕ) (status : Status) (q : ℕ) → counts_in (get (put_all (end_updates p (get S.own p) status) S).own q) ≡ counts_in (get S.own q)
+counts_stay : (S : State) (p : ℕ) (status : Status) (q : ℕ) → counts_in (get (put_all (end_updates p (get S.processes p) status) S).processes q) ≡ counts_in (get S.processes q)
 counts_stay S p status q =
     elim (eqb_tells q p) [
-      | inl is ↦ subst (λ j. counts_in (get (put_all (end_updates p (get S.own p) status) S).own j) ≡ counts_in (get S.own j)) (sym is.1)
-          (ap counts_in (own_at S.own p))
-      | inr other ↦ ap counts_in (own_apart S p status q other.1)
+      | inl is ↦ subst (λ j. counts_in (get (put_all (end_updates p (get S.processes p) status) S).processes j) ≡ counts_in (get S.processes j)) (sym is.1)
+          (ap counts_in (process_at S.processes p))
+      | inr other ↦ ap counts_in (process_apart S p status q other.1)
     ]
 
-ended_numbered : (S : State) (p : ℕ) (status : Status) → IsNearlyValid S → (q t : ℕ) → IsSome (thread_of (put_all (end_updates p (get S.own p) status) S) q t)
-    → t ≤ (counts_in (get S.own q)).threads
+ended_numbered : (S : State) (p : ℕ) (status : Status) → IsNearlyValid S → (q t : ℕ) → IsSome (thread_of (put_all (end_updates p (get S.processes p) status) S) q t)
+    → t ≤ (counts_in (get S.processes q)).threads
 ended_numbered S p status v q t there =
     elim (eqb_tells q p) [
       | inl is ↦ absurd (no_thread t (subst (λ o. IsSome (thread_in o t)) (threads_at S p status)
-          (subst (λ j. IsSome (thread_of (put_all (end_updates p (get S.own p) status) S) j t)) is.1 there)))
-      | inr other ↦ v.numbered q t (subst (λ o. IsSome (thread_in (option_map (λ (own : Own). own.threads) o) t)) (own_apart S p status q other.1) there)
+          (subst (λ j. IsSome (thread_of (put_all (end_updates p (get S.processes p) status) S) j t)) is.1 there)))
+      | inr other ↦ v.numbered q t (subst (λ o. IsSome (thread_in (option_map (λ (own : ProcessState). own.threads) o) t)) (process_apart S p status q other.1) there)
     ]
 
-pub end_nearly_valid : (S : State) (p : ℕ) (status : Status) → IsNearlyValid S → IsNearlyValid (put_all (end_updates p (get S.own p) status) S)
+pub end_nearly_valid : (S : State) (p : ℕ) (status : Status) → IsNearlyValid S → IsNearlyValid (put_all (end_updates p (get S.processes p) status) S)
 end_nearly_valid S p status v = record {
   named = λ q n table d there here. v.named q n table d (emptied_before S.tables p q n table d there here) here;
-  behind = λ o kind e. behind_same S (put_all (end_updates p (get S.own p) status) S) (λ _. refl) (λ _ h. h) kind (v.behind o kind e);
+  behind = λ o kind e. behind_same S (put_all (end_updates p (get S.processes p) status) S) (λ _. refl) (λ _ h. h) kind (v.behind o kind e);
   tables = same_keys_inserted S.tables S.statuses p empty status v.tables;
-  owns = same_keys_inserted S.own S.statuses p (ended_own (get S.own p)) status v.owns;
+  owns = same_keys_inserted S.processes S.statuses p (ended_process (get S.processes p)) status v.owns;
   ended = λ q s e ends. (
     ended_after S.tables S.statuses p status (λ r t f live. (v.ended r t f live).0) q s e ends,
     threads_ended S p status v q s e ends,

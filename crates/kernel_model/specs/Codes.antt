@@ -17,7 +17,7 @@ use Rattle.abi_types.specs.contracts.thread.Thread as thread
 use Rattle.abi_types.specs.contracts.waiter.Waiter as waiter
 use Rattle.abi_types.specs.declared.waiter.Waiter.{Waiter}
 use Rattle.fd_table.specs.Table.{table_code}
-use Rattle.kernel_model.specs.State.{State, Table, Threads, Locks, Own, Names}
+use Rattle.kernel_model.specs.State.{State, Table, Threads, Locks, ProcessState, Names}
 
 abbrev pub threads_code : Coded Threads
 threads_code = code coded_ℕ thread.the_row.coded
@@ -38,21 +38,21 @@ locks_code =
     code_by LockFields lock_fields_code (λ l. (l.waiting, (l.at_conditions, (l.granted, (l.signalled, l.late)))))
     (λ f. record { waiting = f.0; at_conditions = f.1.0; granted = f.1.1.0; signalled = f.1.1.1.0; late = f.1.1.1.1 }) (λ _. refl)
 
-abbrev pub own_code : Coded Own
-own_code =
+abbrev pub process_code : Coded ProcessState
+process_code =
     code_by (Threads × (Counts × Locks)) (coded× threads_code (coded× counts.the_row.coded locks_code))
     (λ own. (own.threads, (own.counts, own.locks))) (λ f. record { threads = f.0; counts = f.1.0; locks = f.1.1 }) (λ _. refl)
 
 -- the fields as nested pairs
 abbrev Fields : Type 0
 Fields =
-    ℕ × (FinMap nat_cmp Table × (FinMap nat_cmp Own × (FinMap nat_cmp Status × (FinMap nat_cmp OpenKind × (FinMap nat_cmp Node × (FinMap nat_cmp Names × FinMap nat_cmp Stream))))))
+    ℕ × (FinMap nat_cmp Table × (FinMap nat_cmp ProcessState × (FinMap nat_cmp Status × (FinMap nat_cmp OpenKind × (FinMap nat_cmp Node × (FinMap nat_cmp Names × FinMap nat_cmp Stream))))))
 
 abbrev fields_code : Coded Fields
 fields_code =
     coded× coded_ℕ
     (coded× (code coded_ℕ table_code)
-    (coded× (code coded_ℕ own_code)
+    (coded× (code coded_ℕ process_code)
     (coded× (code coded_ℕ status.the_row.coded)
     (coded× (code coded_ℕ open_kind.the_row.coded)
     (coded× (code coded_ℕ node.the_row.coded)
@@ -60,5 +60,5 @@ fields_code =
 
 abbrev pub state_code : Coded State
 state_code =
-    code_by Fields fields_code (λ S. (S.clock, (S.tables, (S.own, (S.statuses, (S.opens, (S.nodes, (S.names, S.terms))))))))
-    (λ f. record { clock = f.0; tables = f.1.0; own = f.1.1.0; statuses = f.1.1.1.0; opens = f.1.1.1.1.0; nodes = f.1.1.1.1.1.0; names = f.1.1.1.1.1.1.0; terms = f.1.1.1.1.1.1.1 }) (λ _. refl)
+    code_by Fields fields_code (λ S. (S.clock, (S.tables, (S.processes, (S.statuses, (S.opens, (S.nodes, (S.names, S.terms))))))))
+    (λ f. record { clock = f.0; tables = f.1.0; processes = f.1.1.0; statuses = f.1.1.1.0; opens = f.1.1.1.1.0; nodes = f.1.1.1.1.1.0; names = f.1.1.1.1.1.1.0; terms = f.1.1.1.1.1.1.1 }) (λ _. refl)

@@ -14,18 +14,18 @@ use Rattle.kernel_model.specs.Outcome.{replies}
 use Rattle.kernel_model.specs.Reply.{refused}
 
 -- the number of that descriptor, where the call is such a one
-abbrev pub opened_fd : Call → Option ℕ
-opened_fd (call.FileAllocate fd offset length) = Some fd
-opened_fd (call.FileReaddir fd length cookie) = Some fd
-opened_fd (call.FileReadlink fd path length) = Some fd
-opened_fd (call.FileStatFget fd) = Some fd
-opened_fd (call.FileStatFput fd stat flags) = Some fd
-opened_fd (call.FileStatGet lookup path) = Some lookup.fd
-opened_fd (call.FileStatPut lookup path stat flags) = Some lookup.fd
-opened_fd (call.FdPread fd length offset) = Some fd
-opened_fd (call.FdPwrite fd bytes offset) = Some fd
-opened_fd (call.MemMap place length prot flags fd offset) = if is_anonymous flags then None else Some fd
-opened_fd _ = None
+abbrev pub file_fd : Call → Option ℕ
+file_fd (call.FileAllocate fd offset length) = Some fd
+file_fd (call.FileReaddir fd length cookie) = Some fd
+file_fd (call.FileReadlink fd path length) = Some fd
+file_fd (call.FileStatFget fd) = Some fd
+file_fd (call.FileStatFput fd stat flags) = Some fd
+file_fd (call.FileStatGet lookup path) = Some lookup.fd
+file_fd (call.FileStatPut lookup path stat flags) = Some lookup.fd
+file_fd (call.FdPread fd length offset) = Some fd
+file_fd (call.FdPwrite fd bytes offset) = Some fd
+file_fd (call.MemMap place length prot flags fd offset) = if is_anonymous flags then None else Some fd
+file_fd _ = None
 
 -- what the call means by the open; any other call has no meaning there
 abbrev pub file_meaning : Call → FileMeaning

@@ -97,10 +97,10 @@ node_part t _ = []
 
 -- the meaning of a call that changes an open's node so
 abbrev pub changing : (ℕ → Tree → Option OpenKind → Outcome) → FileMeaning
-changing does = record {
-  does = does;
+changing effect = record {
+  effect = effect;
   outside = λ t kind. None;
-  changes = node_part;
+  touched = node_part;
   errors = Badf ∷ Fbig ∷ [];
   takes_memory = true;
 }
@@ -141,7 +141,7 @@ put_found flags stat now t n = becomes_in n (put_times flags stat now t n)
 
 abbrev pub put_by_path : WalkMode → List ℕ → ℕ → FileStat → FileMeaning
 put_by_path mode path flags stat = record (by_path mode path (put_found flags stat)) {
-  changes = λ t kind. found_part (walked t mode path kind);
+  touched = λ t kind. found_part (walked t mode path kind);
   takes_memory = false;
 }
 

@@ -90,9 +90,9 @@ tell_open t (Some (Process p)) = replies (refused Badf)
 -- the meaning of a call that looks at an open so
 abbrev pub looking : (Tree → Option OpenKind → Outcome) → FileMeaning
 looking looks = record {
-  does = λ now t kind. looks t kind;
+  effect = λ now t kind. looks t kind;
   outside = λ t kind. None;
-  changes = λ t kind. [];
+  touched = λ t kind. [];
   errors = Badf ∷ [];
   takes_memory = true;
 }

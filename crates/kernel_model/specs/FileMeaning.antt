@@ -14,11 +14,11 @@ use Rattle.kernel_model.specs.View.{View, whole}
 
 pub record FileMeaning : Type 0 where
   -- what it does, by the time in nanoseconds since 1970
-  pub does : ℕ → Tree → Option OpenKind → Outcome
+  pub effect : ℕ → Tree → Option OpenKind → Outcome
   -- the component at which its path leads outside, if it does
   pub outside : Tree → Option OpenKind → Option ℕ
   -- what it may change of the tree
-  pub changes : Tree → Option OpenKind → List Part
+  pub touched : Tree → Option OpenKind → List Part
   pub errors : List Errno
   pub takes_memory : Bool
 
@@ -33,9 +33,9 @@ on_open row m = record {
   named = row.fd ∷ [];
   need = row ∷ [];
   seen = row.fd ∷ [];
-  does = λ constants v who table. m.does (real_time constants v.clock) v.branch (open_of v (get table row.fd));
+  effect = λ constants v who table. m.effect (real_time constants v.clock) v.branch (open_of v (get table row.fd));
   outside = λ v table. m.outside v.branch (open_of v (get table row.fd));
-  changes = λ S table. m.changes (tree_of S) (open_of (whole S) (get table row.fd));
+  touched = λ S table. m.touched (tree_of S) (open_of (whole S) (get table row.fd));
   numbers = 0;
   errors = m.errors;
   takes_memory = m.takes_memory;

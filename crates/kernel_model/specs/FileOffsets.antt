@@ -12,12 +12,12 @@ use Rattle.kernel_model.specs.Reply.{content, refused, success}
 use Rattle.kernel_model.specs.State.{Tree, Update, set_open}
 
 -- what such a call comes to: what it answers and sets of the file tree, and the open after it, where this is another one then
-pub record Moves : Type 0 where
+pub record OffsetOutcome : Type 0 where
   pub outcome : Outcome
   pub moved : Option OpenKind
 
 -- the open stays as it is
-abbrev pub stays : Reply → Moves
+abbrev pub stays : Reply → OffsetOutcome
 stays reply = record { outcome = replies reply; moved = None }
 
 -- the open of this number is this one now
@@ -26,13 +26,13 @@ open_update o None = []
 open_update o (Some kind) = set_open o kind ∷ []
 
 -- all that it sets
-abbrev pub moves_open : ℕ → Moves → Outcome
-moves_open o m = record { answer = m.outcome.answer; updates = m.outcome.updates ++ open_update o m.moved }
+abbrev pub with_offset : ℕ → OffsetOutcome → Outcome
+with_offset o m = record { answer = m.outcome.answer; updates = m.outcome.updates ++ open_update o m.moved }
 
 -- ---- reading and writing
 
 -- n bytes are read at the offset, which moves on behind them
-abbrev pub read_on : Tree → ℕ → ℕ → ℕ → ℕ → Moves
+abbrev pub read_on : Tree → ℕ → ℕ → ℕ → ℕ → OffsetOutcome
 read_on t node offset flags n = record {
   outcome = replies (content (bytes_at t node offset n));
   moved = Some (File node (offset + length (bytes_at t node offset n)) flags);
@@ -43,7 +43,7 @@ abbrev pub write_place : Tree → ℕ → ℕ → ℕ → ℕ
 write_place t node offset flags = if bit_and flags 1 == 0 then offset else length (bytes_of t node)
 
 -- the bytes are written at a place, and the offset is behind them then; no bytes leave it
-abbrev pub write_from : Tree → ℕ → ℕ → ℕ → ℕ → List ℕ → Moves
+abbrev pub write_from : Tree → ℕ → ℕ → ℕ → ℕ → List ℕ → OffsetOutcome
 write_from t node flags now at [] = stays (success 0 0)
 write_from t node flags now at (b ∷ bytes) =
     if is_beyond at (b ∷ bytes) then stays (refused Fbig)
@@ -52,7 +52,7 @@ write_from t node flags now at (b ∷ bytes) =
       moved = Some (File node (at + written_count at (b ∷ bytes)) flags);
     }
 
-abbrev pub write_on : Tree → ℕ → ℕ → ℕ → ℕ → List ℕ → Moves
+abbrev pub write_on : Tree → ℕ → ℕ → ℕ → ℕ → List ℕ → OffsetOutcome
 write_on t node offset flags now bytes = write_from t node flags now (write_place t node offset flags) bytes
 
 -- ---- seeking
@@ -75,23 +75,23 @@ sought t node offset bits whence =
     else if whence == 3 then as_offset bits
     else None
 
-abbrev pub seek_to : ℕ → ℕ → Option ℕ → Moves
+abbrev pub seek_to : ℕ → ℕ → Option ℕ → OffsetOutcome
 seek_to node flags None = stays (refused Inval)
 seek_to node flags (Some place) = record { outcome = replies (success place 0); moved = Some (File node place flags) }
 
-abbrev pub seek_on : Tree → ℕ → ℕ → ℕ → ℕ → ℕ → Moves
+abbrev pub seek_on : Tree → ℕ → ℕ → ℕ → ℕ → ℕ → OffsetOutcome
 seek_on t node offset flags bits whence = seek_to node flags (sought t node offset bits whence)
 
 -- ---- what each of these calls makes of an open, by the time; one that isn't of a file it refuses
 
-abbrev pub read_open_file : Tree → ℕ → OpenKind → Moves
+abbrev pub read_open_file : Tree → ℕ → OpenKind → OffsetOutcome
 read_open_file t n (File node offset flags) = read_on t node offset flags n
 read_open_file t n _ = stays (refused Badf)
 
-abbrev pub write_open_file : ℕ → Tree → List ℕ → OpenKind → Moves
+abbrev pub write_open_file : ℕ → Tree → List ℕ → OpenKind → OffsetOutcome
 write_open_file now t bytes (File node offset flags) = write_on t node offset flags now bytes
 write_open_file now t bytes _ = stays (refused Badf)
 
-abbrev pub seek_open_file : Tree → ℕ → ℕ → OpenKind → Moves
+abbrev pub seek_open_file : Tree → ℕ → ℕ → OpenKind → OffsetOutcome
 seek_open_file t bits whence (File node offset flags) = seek_on t node offset flags bits whence
 seek_open_file t bits whence _ = stays (refused Badf)

@@ -102,9 +102,9 @@ found_part (LeadsOutside component) = []
 -- the meaning of a call that walks a path so, and goes on at the node that is found
 abbrev pub by_path : WalkMode → List ℕ → (ℕ → Tree → ℕ → Outcome) → FileMeaning
 by_path mode path goes = record {
-  does = λ now t kind. at_walked (goes now t) (walked t mode path kind);
+  effect = λ now t kind. at_walked (goes now t) (walked t mode path kind);
   outside = λ t kind. outside_of (walked t mode path kind);
-  changes = λ t kind. [];
+  touched = λ t kind. [];
   errors = path_errors;
   takes_memory = true;
 }

@@ -22,7 +22,7 @@ use Rattle.kernel_model.specs.Numbers.{can_number}
 use Rattle.kernel_model.specs.Proper.{IsIn, IsProper}
 use Rattle.kernel_model.specs.Release.{ends, is_released, IsEnd}
 use Rattle.kernel_model.specs.Reply.{refused, denied}
-use Rattle.kernel_model.specs.Sight.{own_parts, behind}
+use Rattle.kernel_model.specs.Sight.{process_parts, behind}
 use Rattle.tree_model.specs.Grants.{MayBegin}
 use Rattle.kernel_model.specs.Start.{start_state}
 use Rattle.kernel_model.specs.State.{State, Tree, Table, Part, at_open, at_node, at_names, has_part, Agree, AgreeOn, threads_of}
@@ -103,7 +103,7 @@ IsReachedBy S who call q =
 abbrev pub SightIsReached : Type 0
 SightIsReached =
     (S : State) (who : Who) (call : Call) (q : Part) → has_part (sight S who call) q ≡ true
-    → (has_part (own_parts who.pid) q ≡ true) ⊎ IsReachedBy S who call q
+    → (has_part (process_parts who.pid) q ≡ true) ⊎ IsReachedBy S who call q
 
 -- ---- what a call changes
 
@@ -123,7 +123,7 @@ IsNotThere S q = ⊥
 -- What a call may make isn't there in a valid state, as long as its process can number so many objects.
 abbrev pub MadeIsNew : Type 0
 MadeIsNew =
-    (S : State) (who : Who) (call : Call) (q : Part) → IsValid S → can_number who.pid (meaning_of call).numbers (get S.own who.pid) ≡ true
+    (S : State) (who : Who) (call : Call) (q : Part) → IsValid S → can_number who.pid (meaning_of call).numbers (get S.processes who.pid) ≡ true
     → has_part (made_by S who call) q ≡ true → IsNotThere S q
 
 -- After a step each part that the call does not touch and that the release does not end has the value it had.
@@ -136,7 +136,7 @@ OthersStay =
 -- release ends has the value it had.
 abbrev pub EndKeeps : Type 0
 EndKeeps =
-    (S : State) (p : ℕ) (status : Status) (q : Part) → has_part (own_parts p) q ≡ false
+    (S : State) (p : ℕ) (status : Status) (q : Part) → has_part (process_parts p) q ≡ false
     → is_released (end_unreleased S p status) q ≡ false → Agree (end_state S p status) S q
 
 -- A call that answers an error, want of memory among them, changes only the clock of a valid state.
@@ -147,7 +147,7 @@ ErrorKeeps =
 
 -- both states have the same of a process: its descriptors, what else is its own, and its status
 abbrev pub HasSameProcess : State → State → ℕ → Type 0
-HasSameProcess S T q = (get S.tables q ≡ get T.tables q) × (get S.own q ≡ get T.own q) × (get S.statuses q ≡ get T.statuses q)
+HasSameProcess S T q = (get S.tables q ≡ get T.tables q) × (get S.processes q ≡ get T.processes q) × (get S.statuses q ≡ get T.statuses q)
 
 -- A step takes 1000 nanoseconds, changes nothing of other processes, and leaves a process that lives on its threads.
 pub record MovesOnly (S : State) (who : Who) (T : State) : Type 0 where

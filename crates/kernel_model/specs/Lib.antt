@@ -26,7 +26,7 @@ pub mod NameMeaning
 pub mod NameMaking
 pub mod NameRemoving
 pub mod NameMoving
-pub mod NameCalls
+pub mod EntryCalls
 pub mod Opening
 pub mod SocketCalls
 pub mod WaitCalls

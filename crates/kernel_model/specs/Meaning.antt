@@ -20,12 +20,12 @@ pub record Meaning : Type 0 where
   pub seen : List ℕ
   -- what it does once no descriptor and no right is missing, by what it sees, and by its process's table. It is total: where
   -- a valid state has a part, it answers BADF for want of it.
-  pub does : Constants → View → Who → Table → Outcome
+  pub effect : Constants → View → Who → Table → Outcome
   -- The component at which a path of the call leads outside the directory where it begins, if it does, by the same. The path
   -- says it alone: the call is then denied for it, whatever it does else.
   pub outside : View → Table → Option ℕ
   -- what it may change beside the clock, what is the process's own, and the process's status
-  pub changes : State → Table → List Part
+  pub touched : State → Table → List Part
   -- how many objects it makes at most
   pub numbers : ℕ
   -- the errors that it answers of its own, with nothing changed
@@ -39,9 +39,9 @@ answering errors reply = record {
   named = [];
   need = [];
   seen = [];
-  does = λ constants v who table. replies reply;
+  effect = λ constants v who table. replies reply;
   outside = λ v table. None;
-  changes = λ S table. [];
+  touched = λ S table. [];
   numbers = 0;
   errors = errors;
   takes_memory = false;

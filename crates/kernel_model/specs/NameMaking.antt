@@ -13,7 +13,7 @@ use Rattle.kernel_model.specs.FileChanges.{modified, retimed}
 use Rattle.kernel_model.specs.FilePaths.{path_error, path_errors}
 use Rattle.kernel_model.specs.LastNames.{directory_parts, last_name, last_outside}
 use Rattle.kernel_model.specs.Meaning.{Meaning}
-use Rattle.kernel_model.specs.NameMeaning.{Comes, Refuses, Changes, NameMeaning, at_name, by_name, unless_fault}
+use Rattle.kernel_model.specs.NameMeaning.{NameOutcome, Refuses, Changes, NameMeaning, at_name, by_name, unless_fault}
 use Rattle.kernel_model.specs.Rows.{base_row}
 use Rattle.kernel_model.specs.State.{Tree}
 use Rattle.kernel_model.specs.TreeUpdates.{Change}
@@ -52,15 +52,15 @@ with_node kind now new t d name = record {
   directories = d ∷ new_directories kind new;
 }
 
-abbrev pub make_in : NodeKind → ℕ → ℕ → Tree → ℕ → List ℕ → Comes
+abbrev pub make_in : NodeKind → ℕ → ℕ → Tree → ℕ → List ℕ → NameOutcome
 make_in kind now new t d name = unless_fault errno_of (first_fault (make_faults t d name)) (Changes (with_node kind now new t d name))
 
 -- the meaning of a call that makes such a node by a path
 abbrev pub making : NodeKind → List ℕ → NameMeaning
 making kind path = record {
-  does = λ now new t here there. at_name (make_in kind now new t) (last_name t path here);
+  effect = λ now new t here there. at_name (make_in kind now new t) (last_name t path here);
   outside = λ t here there. last_outside (last_name t path here);
-  changes = λ t here there. directory_parts (last_name t path here);
+  touched = λ t here there. directory_parts (last_name t path here);
   makes = 1;
   errors = path_errors ++ Exist ∷ Again ∷ [];
 }
@@ -88,9 +88,9 @@ text_error text = or_else (path_error text) (empty_error text)
 abbrev pub making_unless : Option Errno → NameMeaning → NameMeaning
 making_unless None m = m
 making_unless (Some errno) m = record m {
-  does = λ now new t here there. Refuses errno;
+  effect = λ now new t here there. Refuses errno;
   outside = λ t here there. None;
-  changes = λ t here there. [];
+  touched = λ t here there. [];
 }
 
 abbrev pub file_symlink : List ℕ → ℕ → List ℕ → Meaning

@@ -12,36 +12,36 @@ use Rattle.kernel_model.specs.ClockCalls.{real_time}
 use Rattle.kernel_model.specs.FileMeaning.{open_of}
 use Rattle.kernel_model.specs.LastNames.{LastName, StandsIn, IsNone, IsOutside}
 use Rattle.kernel_model.specs.Meaning.{Meaning}
-use Rattle.kernel_model.specs.Numbers.{can_number, next_object, own_updates}
+use Rattle.kernel_model.specs.Numbers.{can_number, next_object, process_updates}
 use Rattle.kernel_model.specs.Outcome.{Outcome, replies}
 use Rattle.kernel_model.specs.Reply.{denied, refused, success}
-use Rattle.kernel_model.specs.State.{Own, Part, Tree, tree_of}
+use Rattle.kernel_model.specs.State.{ProcessState, Part, Tree, tree_of}
 use Rattle.kernel_model.specs.TreeUpdates.{Change, change_updates}
 use Rattle.kernel_model.specs.View.{whole}
 
 -- what such a call comes to: it is refused, its path leads outside, or it changes the tree
-pub data Comes : Type 0 where
-  Refuses : Errno → Comes
-  LeadsOut : ℕ → Comes
-  Changes : Change → Comes
+pub data NameOutcome : Type 0 where
+  Refuses : Errno → NameOutcome
+  LeadsOut : ℕ → NameOutcome
+  Changes : Change → NameOutcome
 
 pub record NameMeaning : Type 0 where
   -- what it comes to, by the time in nanoseconds since 1970, the number of the node that it may make, and the opens
-  pub does : ℕ → ℕ → Tree → Option OpenKind → Option OpenKind → Comes
+  pub effect : ℕ → ℕ → Tree → Option OpenKind → Option OpenKind → NameOutcome
   -- the component at which one of its paths leads outside, if one does
   pub outside : Tree → Option OpenKind → Option OpenKind → Option ℕ
   -- what it may change of the tree beside the node that it makes
-  pub changes : Tree → Option OpenKind → Option OpenKind → List Part
+  pub touched : Tree → Option OpenKind → Option OpenKind → List Part
   -- how many nodes it makes
   pub makes : ℕ
   pub errors : List Errno
 
 -- what it does, by what its process has of its own
-abbrev pub outcome_of : ℕ → Option Own → ℕ → Comes → Outcome
+abbrev pub outcome_of : ℕ → Option ProcessState → ℕ → NameOutcome → Outcome
 outcome_of p own makes (Refuses errno) = replies (refused errno)
 outcome_of p own makes (LeadsOut component) = replies (denied (Outside component))
 outcome_of p own makes (Changes change) =
-    if can_number p makes own then record { answer = answer.Reply (success 0 0); updates = own_updates p makes own ++ change_updates change }
+    if can_number p makes own then record { answer = answer.Reply (success 0 0); updates = process_updates p makes own ++ change_updates change }
     else replies (refused Again)
 
 -- the meaning of a call by the path of one descriptor, of which it needs this
@@ -50,11 +50,11 @@ by_name row m = record {
   named = row.fd ∷ [];
   need = row ∷ [];
   seen = row.fd ∷ [];
-  does = λ constants v who table.
-      outcome_of who.pid (v.own who.pid) m.makes
-      (m.does (real_time constants v.clock) (next_object who.pid (v.own who.pid) 1) v.branch (open_of v (get table row.fd)) None);
+  effect = λ constants v who table.
+      outcome_of who.pid (v.process who.pid) m.makes
+      (m.effect (real_time constants v.clock) (next_object who.pid (v.process who.pid) 1) v.branch (open_of v (get table row.fd)) None);
   outside = λ v table. m.outside v.branch (open_of v (get table row.fd)) None;
-  changes = λ S table. m.changes (tree_of S) (open_of (whole S) (get table row.fd)) None;
+  touched = λ S table. m.touched (tree_of S) (open_of (whole S) (get table row.fd)) None;
   numbers = m.makes;
   errors = m.errors;
   takes_memory = true;
@@ -66,12 +66,12 @@ by_names first second m = record {
   named = first.fd ∷ second.fd ∷ [];
   need = first ∷ second ∷ [];
   seen = first.fd ∷ second.fd ∷ [];
-  does = λ constants v who table.
-      outcome_of who.pid (v.own who.pid) m.makes
-      (m.does (real_time constants v.clock) (next_object who.pid (v.own who.pid) 1) v.branch
+  effect = λ constants v who table.
+      outcome_of who.pid (v.process who.pid) m.makes
+      (m.effect (real_time constants v.clock) (next_object who.pid (v.process who.pid) 1) v.branch
       (open_of v (get table first.fd)) (open_of v (get table second.fd)));
   outside = λ v table. m.outside v.branch (open_of v (get table first.fd)) (open_of v (get table second.fd));
-  changes = λ S table. m.changes (tree_of S) (open_of (whole S) (get table first.fd)) (open_of (whole S) (get table second.fd));
+  touched = λ S table. m.touched (tree_of S) (open_of (whole S) (get table first.fd)) (open_of (whole S) (get table second.fd));
   numbers = m.makes;
   errors = m.errors;
   takes_memory = true;
@@ -80,12 +80,12 @@ by_names first second m = record {
 -- ---- parts of what such calls do
 
 -- it goes on with the last name of a path
-abbrev pub at_name : (ℕ → List ℕ → Comes) → LastName → Comes
+abbrev pub at_name : (ℕ → List ℕ → NameOutcome) → LastName → NameOutcome
 at_name goes (StandsIn dir name) = goes dir name
 at_name goes (IsNone errno) = Refuses errno
 at_name goes (IsOutside component) = LeadsOut component
 
 -- it is refused where the tree has a fault for it
-abbrev pub unless_fault : (TreeFault → Errno) → Option TreeFault → Comes → Comes
+abbrev pub unless_fault : (TreeFault → Errno) → Option TreeFault → NameOutcome → NameOutcome
 unless_fault errno_of None comes = comes
 unless_fault errno_of (Some fault) comes = Refuses (errno_of fault)

@@ -15,7 +15,7 @@ use Rattle.kernel_model.specs.FilePaths.{Walked, Ends, Fails, LeadsOutside, foun
 use Rattle.kernel_model.specs.LastNames.{LastName, StandsIn, IsNone, IsOutside, directory_parts, last_name, last_outside}
 use Rattle.kernel_model.specs.Meaning.{Meaning}
 use Rattle.kernel_model.specs.NameMaking.{errno_of, with_new_names}
-use Rattle.kernel_model.specs.NameMeaning.{Comes, Refuses, LeadsOut, Changes, NameMeaning, at_name, by_names, unless_fault}
+use Rattle.kernel_model.specs.NameMeaning.{NameOutcome, Refuses, LeadsOut, Changes, NameMeaning, at_name, by_names, unless_fault}
 use Rattle.kernel_model.specs.NameRemoving.{named_parts, unless_lost, with_new_count}
 use Rattle.kernel_model.specs.Rows.{base_row}
 use Rattle.kernel_model.specs.State.{Tree}
@@ -35,16 +35,16 @@ with_link now t n d name = record {
   directories = d ∷ [];
 }
 
-abbrev pub link_in : ℕ → Tree → ℕ → ℕ → List ℕ → Comes
+abbrev pub link_in : ℕ → Tree → ℕ → ℕ → List ℕ → NameOutcome
 link_in now t n d name = unless_fault link_errno (first_fault (link_faults t d name n)) (Changes (with_link now t n d name))
 
 -- it goes on at the node that a path leads to
-abbrev pub at_found_end : (ℕ → Comes) → End → Comes
+abbrev pub at_found_end : (ℕ → NameOutcome) → End → NameOutcome
 at_found_end goes (end.Found n) = goes n
 at_found_end goes (end.Absent dir from len) = Refuses Noent
 at_found_end goes (end.Last dir from len) = Refuses Noent
 
-abbrev pub at_found : (ℕ → Comes) → Walked → Comes
+abbrev pub at_found : (ℕ → NameOutcome) → Walked → NameOutcome
 at_found goes (Ends end) = at_found_end goes end
 at_found goes (Fails errno) = Refuses errno
 at_found goes (LeadsOutside component) = LeadsOut component
@@ -62,9 +62,9 @@ found_outside second (LeadsOutside component) = Some component
 
 abbrev pub linking : WalkMode → List ℕ → List ℕ → NameMeaning
 linking mode path new_path = record {
-  does = λ now new t here there. at_found (λ n. at_name (link_in now t n) (last_name t new_path there)) (walked t mode path here);
+  effect = λ now new t here there. at_found (λ n. at_name (link_in now t n) (last_name t new_path there)) (walked t mode path here);
   outside = λ t here there. found_outside (last_outside (last_name t new_path there)) (walked t mode path here);
-  changes = λ t here there. found_part (walked t mode path here) ++ directory_parts (last_name t new_path there);
+  touched = λ t here there. found_part (walked t mode path here) ++ directory_parts (last_name t new_path there);
   makes = 0;
   errors = path_errors ++ Perm ∷ Exist ∷ Mlink ∷ [];
 }
@@ -95,7 +95,7 @@ abbrev pub move_or_stay : ℕ → Tree → ℕ → List ℕ → ℕ → List ℕ
 move_or_stay now t from name to new =
     if is_same (entry_of t from name) (entry_of t to new) then no_change t else with_move now t from name to new
 
-abbrev pub rename_in : ℕ → Tree → ℕ → List ℕ → ℕ → List ℕ → Comes
+abbrev pub rename_in : ℕ → Tree → ℕ → List ℕ → ℕ → List ℕ → NameOutcome
 rename_in now t from name to new =
     unless_lost t (entry_of t from name)
     (unless_lost t (entry_of t to new)
@@ -108,10 +108,10 @@ second_outside second (IsOutside component) = Some component
 
 abbrev pub renaming : List ℕ → List ℕ → NameMeaning
 renaming path new_path = record {
-  does = λ now new t here there.
+  effect = λ now new t here there.
       at_name (λ from name. at_name (rename_in now t from name) (last_name t new_path there)) (last_name t path here);
   outside = λ t here there. second_outside (last_outside (last_name t new_path there)) (last_name t path here);
-  changes = λ t here there.
+  touched = λ t here there.
       directory_parts (last_name t path here)
       ++ (directory_parts (last_name t new_path there) ++ named_parts t (last_name t new_path there));
   makes = 0;

@@ -13,7 +13,7 @@ use Rattle.kernel_model.specs.FilePaths.{path_errors}
 use Rattle.kernel_model.specs.LastNames.{LastName, StandsIn, IsNone, IsOutside, directory_parts, last_name, last_outside}
 use Rattle.kernel_model.specs.Meaning.{Meaning}
 use Rattle.kernel_model.specs.NameMaking.{errno_of, with_new_names}
-use Rattle.kernel_model.specs.NameMeaning.{Comes, Refuses, Changes, NameMeaning, at_name, by_name, unless_fault}
+use Rattle.kernel_model.specs.NameMeaning.{NameOutcome, Refuses, Changes, NameMeaning, at_name, by_name, unless_fault}
 use Rattle.kernel_model.specs.Rows.{base_row}
 use Rattle.kernel_model.specs.State.{Part, Tree, at_node}
 use Rattle.kernel_model.specs.TreeUpdates.{Change}
@@ -37,7 +37,7 @@ without_name now t d name n = record {
 }
 
 -- the name is of this node, and the tree has no fault for it
-abbrev pub unlink_node : ℕ → ℕ → Tree → ℕ → List ℕ → Option ℕ → Comes
+abbrev pub unlink_node : ℕ → ℕ → Tree → ℕ → List ℕ → Option ℕ → NameOutcome
 unlink_node flags now t d name None = Refuses Noent
 unlink_node flags now t d name (Some n) =
     if is_directory t n then (if removes_directory flags then Changes (without_name now t d name n) else Refuses Perm)
@@ -49,11 +49,11 @@ unlink_errno flags NotEmpty = if removes_directory flags then Notempty else Perm
 unlink_errno flags fault = errno_of fault
 
 -- A name whose node isn't there is no entry. No tree has such a name.
-abbrev pub unless_lost : Tree → Option ℕ → Comes → Comes
+abbrev pub unless_lost : Tree → Option ℕ → NameOutcome → NameOutcome
 unless_lost t None comes = comes
 unless_lost t (Some n) comes = if is_absent t n then Refuses Noent else comes
 
-abbrev pub unlink_in : ℕ → ℕ → Tree → ℕ → List ℕ → Comes
+abbrev pub unlink_in : ℕ → ℕ → Tree → ℕ → List ℕ → NameOutcome
 unlink_in flags now t d name =
     unless_lost t (entry_of t d name)
     (unless_fault (unlink_errno flags) (first_fault (unlink_faults t d name)) (unlink_node flags now t d name (entry_of t d name)))
@@ -70,9 +70,9 @@ named_parts t (IsOutside component) = []
 
 abbrev pub unlinking : ℕ → List ℕ → NameMeaning
 unlinking flags path = record {
-  does = λ now new t here there. at_name (unlink_in flags now t) (last_name t path here);
+  effect = λ now new t here there. at_name (unlink_in flags now t) (last_name t path here);
   outside = λ t here there. last_outside (last_name t path here);
-  changes = λ t here there. directory_parts (last_name t path here) ++ named_parts t (last_name t path here);
+  touched = λ t here there. directory_parts (last_name t path here) ++ named_parts t (last_name t path here);
   makes = 0;
   errors = path_errors ++ Perm ∷ Notempty ∷ [];
 }

@@ -18,16 +18,16 @@ use Rattle.kernel_model.specs.View.{View, whole}
 
 pub record OpenMeaning : Type 0 where
   -- what it does with the open of this number, by the time in nanoseconds since 1970
-  pub does : ℕ → View → ℕ → Option OpenKind → Outcome
+  pub effect : ℕ → View → ℕ → Option OpenKind → Outcome
   -- what it may change beside the open
-  pub changes : Option OpenKind → List Part
+  pub touched : Option OpenKind → List Part
   pub errors : List Errno
   pub takes_memory : Bool
 
 -- what is done with the open of a descriptor
 abbrev pub at_descriptor : (ℕ → Option OpenKind → Outcome) → View → Option Descriptor → Outcome
-at_descriptor does v None = replies (refused Badf)
-at_descriptor does v (Some d) = does d.id (v.opened d.id)
+at_descriptor effect v None = replies (refused Badf)
+at_descriptor effect v (Some d) = effect d.id (v.opened d.id)
 
 -- the meaning of a call that needs this of the descriptor
 abbrev pub by_open : Needed → OpenMeaning → Meaning
@@ -35,9 +35,9 @@ by_open row m = record {
   named = row.fd ∷ [];
   need = row ∷ [];
   seen = row.fd ∷ [];
-  does = λ constants v who table. at_descriptor (m.does (real_time constants v.clock) v) v (get table row.fd);
+  effect = λ constants v who table. at_descriptor (m.effect (real_time constants v.clock) v) v (get table row.fd);
   outside = λ v table. None;
-  changes = λ S table. open_part (get table row.fd) ++ m.changes (open_of (whole S) (get table row.fd));
+  touched = λ S table. open_part (get table row.fd) ++ m.touched (open_of (whole S) (get table row.fd));
   numbers = 0;
   errors = m.errors;
   takes_memory = m.takes_memory;

@@ -30,11 +30,11 @@ use Rattle.kernel_model.specs.FilePaths.{Walked, Ends, Fails, LeadsOutside, foun
 use Rattle.kernel_model.specs.LastNames.{name_at}
 use Rattle.kernel_model.specs.Meaning.{Meaning}
 use Rattle.kernel_model.specs.NameMaking.{errno_of, with_node}
-use Rattle.kernel_model.specs.Numbers.{can_number, next_object, own_updates}
+use Rattle.kernel_model.specs.Numbers.{can_number, next_object, process_updates}
 use Rattle.kernel_model.specs.Outcome.{Outcome, replies}
 use Rattle.kernel_model.specs.Reply.{denied, refused, success}
 use Rattle.kernel_model.specs.Rows.{asking_row, both, where_set}
-use Rattle.kernel_model.specs.State.{Own, Part, Table, Tree, tree_of, at_node, at_names, set_open, set_table}
+use Rattle.kernel_model.specs.State.{ProcessState, Part, Table, Tree, tree_of, at_node, at_names, set_open, set_table}
 use Rattle.kernel_model.specs.TreeUpdates.{Change, change_updates, no_change}
 use Rattle.kernel_model.specs.Valid.{fits, fits_inheriting}
 use Rattle.kernel_model.specs.View.{whole}
@@ -119,7 +119,7 @@ opened_descriptor o kind stat = record {
 }
 
 -- the open comes behind the nodes that are made with it
-abbrev pub opened_outcome : ℕ → Option Own → Table → FdStat → ℕ → Opened → Outcome
+abbrev pub opened_outcome : ℕ → Option ProcessState → Table → FdStat → ℕ → Opened → Outcome
 opened_outcome p own table stat fd (NotOpened errno) = replies (refused errno)
 opened_outcome p own table stat fd (OpenedOutside component) = replies (denied (Outside component))
 opened_outcome p own table stat fd (Opens kind change makes) =
@@ -128,11 +128,11 @@ opened_outcome p own table stat fd (Opens kind change makes) =
       updates =
           set_open (next_object p own (makes + 1)) kind
           ∷ set_table p (insert table fd (opened_descriptor (next_object p own (makes + 1)) kind stat))
-          ∷ (own_updates p (makes + 1) own ++ change_updates change);
+          ∷ (process_updates p (makes + 1) own ++ change_updates change);
     } else replies (refused Again)
 
 -- a free number is looked for before the path is
-abbrev pub open_at : ℕ → Option Own → Table → FdStat → Opened → Option ℕ → Outcome
+abbrev pub open_at : ℕ → Option ProcessState → Table → FdStat → Opened → Option ℕ → Outcome
 open_at p own table stat opened None = replies (refused Mfile)
 open_at p own table stat opened (Some fd) = opened_outcome p own table stat fd opened
 
@@ -169,14 +169,14 @@ file_open lookup path oflags stat = record {
   named = lookup.fd ∷ [];
   need = open_row lookup.fd oflags stat ∷ [];
   seen = lookup.fd ∷ [];
-  does = λ constants v who table.
-      open_at who.pid (v.own who.pid) table stat
-      (open_walked oflags stat.flags path (real_time constants v.clock) (next_object who.pid (v.own who.pid) 1) v.branch
+  effect = λ constants v who table.
+      open_at who.pid (v.process who.pid) table stat
+      (open_walked oflags stat.flags path (real_time constants v.clock) (next_object who.pid (v.process who.pid) 1) v.branch
       (walked v.branch (open_mode oflags lookup.flags) path (open_of v (get table lookup.fd))))
       (lowest_free table);
   outside = λ v table.
       where_free (lowest_free table) (outside_of (walked v.branch (open_mode oflags lookup.flags) path (open_of v (get table lookup.fd))));
-  changes = λ S table.
+  touched = λ S table.
       parts_where (creates oflags) (absent_parts (walked (tree_of S) (open_mode oflags lookup.flags) path (open_of (whole S) (get table lookup.fd))))
       ++ parts_where (truncates oflags) (found_part (walked (tree_of S) (open_mode oflags lookup.flags) path (open_of (whole S) (get table lookup.fd))));
   numbers = 2;

@@ -9,22 +9,22 @@ use Rattle.kernel_model.specs.Meaning.{Meaning, answering, unbuilt_listing, unbu
 use Rattle.kernel_model.specs.Outcome.{Outcome}
 use Rattle.kernel_model.specs.Reply.{success}
 use Rattle.kernel_model.specs.Rows.{base_row}
-use Rattle.kernel_model.specs.State.{Own, Update, set_table, set_own, set_status, counts_in, no_locks}
+use Rattle.kernel_model.specs.State.{ProcessState, Update, set_table, set_process, set_status, counts_in, no_locks}
 
 -- what an ended process has left: no thread, nobody who waits, and its counts
-abbrev pub ended_own : Option Own → Own
-ended_own own = record { threads = empty; counts = counts_in own; locks = no_locks }
+abbrev pub ended_process : Option ProcessState → ProcessState
+ended_process own = record { threads = empty; counts = counts_in own; locks = no_locks }
 
 -- the end of a process that has this of its own: its status, and no descriptor and no thread left
-abbrev pub end_updates : ℕ → Option Own → Status → List Update
-end_updates p own status = set_status p status ∷ set_table p empty ∷ set_own p (ended_own own) ∷ []
+abbrev pub end_updates : ℕ → Option ProcessState → Status → List Update
+end_updates p own status = set_status p status ∷ set_table p empty ∷ set_process p (ended_process own) ∷ []
 
 -- the calling process ends; the reply reaches no thread
-abbrev pub exit_of : ℕ → Option Own → ℕ → Outcome
+abbrev pub exit_of : ℕ → Option ProcessState → ℕ → Outcome
 exit_of p own code = record { answer = answer.Reply (success 0 0); updates = end_updates p own (Exit code) }
 
 abbrev pub proc_exit : ℕ → Meaning
-proc_exit code = record (answering [] (success 0 0)) { does = λ constants v who table. exit_of who.pid (v.own who.pid) code }
+proc_exit code = record (answering [] (success 0 0)) { effect = λ constants v who table. exit_of who.pid (v.process who.pid) code }
 
 -- the program, and the descriptors that the process has afterwards
 abbrev pub proc_exec : ℕ → List ℕ → Meaning

@@ -15,7 +15,7 @@ use Rattle.kernel_model.specs.Meaning.{Meaning}
 use Rattle.kernel_model.specs.Numbers.{new_parts}
 use Rattle.kernel_model.specs.Outcome.{Outcome, OnReply, replies}
 use Rattle.kernel_model.specs.Reply.{denied}
-use Rattle.kernel_model.specs.Sight.{own_parts, reached}
+use Rattle.kernel_model.specs.Sight.{process_parts, reached}
 use Rattle.kernel_model.specs.State.{State, Table, Part, at_proc, at_status, has_part, part_of, put_all, threads_of}
 use Rattle.kernel_model.specs.Step.{tick}
 use Rattle.kernel_model.specs.Valid.{IsNearlyValid}
@@ -53,28 +53,28 @@ pub record IsProper (m : Meaning) : Type 0 where
   pub sees : AllByRecursion (MaySee m) m.seen
   -- by what it sees it does what it does by the whole state
   pub reads : (constants : Constants) (S : State) (who : Who) (table : Table)
-      → m.does constants (restrict S (own_parts who.pid ++ reached S table m.seen)) who table ≡ m.does constants (whole S) who table
+      → m.effect constants (restrict S (process_parts who.pid ++ reached S table m.seen)) who table ≡ m.effect constants (whole S) who table
   -- and by what it sees its path leads outside where it does by the whole state
   pub walks : (S : State) (who : Who) (table : Table)
-      → m.outside (restrict S (own_parts who.pid ++ reached S table m.seen)) table ≡ m.outside (whole S) table
+      → m.outside (restrict S (process_parts who.pid ++ reached S table m.seen)) table ≡ m.outside (whole S) table
   -- it sets no part beside its process's own, the objects that it makes and what it says that it changes, and it sees what it
   -- changes
   pub sets : (constants : Constants) (S : State) (who : Who) (table : Table) (part : Part)
-      → has_part (own_parts who.pid ++ (new_parts who.pid m.numbers (get S.own who.pid) ++ m.changes S table)) part ≡ false
-      → IsUnset (m.does constants (whole (tick S)) who table) part
-  pub changes : (S : State) (table : Table) (part : Part) → has_part (m.changes S table) part ≡ true → has_part (reached S table m.seen) part ≡ true
+      → has_part (process_parts who.pid ++ (new_parts who.pid m.numbers (get S.processes who.pid) ++ m.touched S table)) part ≡ false
+      → IsUnset (m.effect constants (whole (tick S)) who table) part
+  pub touched : (S : State) (table : Table) (part : Part) → has_part (m.touched S table) part ≡ true → has_part (reached S table m.seen) part ≡ true
   -- where its path leads outside it is denied for that alone; else its reply is a success, or one of its errors with nothing
   -- set; and of these none is want of memory where that may be
   pub plain : (constants : Constants) (v : View) (who : Who) (table : Table)
-      → IsDeniedOutside m.errors (m.outside v table) (m.does constants v who table)
+      → IsDeniedOutside m.errors (m.outside v table) (m.effect constants v who table)
   pub lacks : m.takes_memory ≡ true → AllByRecursion (λ errno. errno ≢ Nomem) m.errors
   -- it sets nothing that another process has of its own
   pub others : (constants : Constants) (v : View) (who : Who) (table : Table) (q : ℕ) → q ≢ who.pid
-      → IsUnset (m.does constants v who table) (at_proc q) × IsUnset (m.does constants v who table) (at_status q)
+      → IsUnset (m.effect constants v who table) (at_proc q) × IsUnset (m.effect constants v who table) (at_status q)
   -- where its process lives on, that has the threads that it had
   pub threads : (constants : Constants) (S : State) (who : Who) (table : Table)
-      → get (put_all (m.does constants (whole S) who table).updates S).statuses who.pid ≡ Some Live
-      → threads_of (put_all (m.does constants (whole S) who table).updates S) who.pid ≡ threads_of S who.pid
+      → get (put_all (m.effect constants (whole S) who table).updates S).statuses who.pid ≡ Some Live
+      → threads_of (put_all (m.effect constants (whole S) who table).updates S) who.pid ≡ threads_of S who.pid
   -- a state that is nearly valid, and in which its process has this table, it leaves so
   pub valid : (constants : Constants) (S : State) (who : Who) (table : Table) → get S.tables who.pid ≡ Some table → IsNearlyValid S
-      → IsNearlyValid (put_all (m.does constants (whole S) who table).updates S)
+      → IsNearlyValid (put_all (m.effect constants (whole S) who table).updates S)

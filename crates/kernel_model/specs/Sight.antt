@@ -8,8 +8,8 @@ use Rattle.tree_model.specs.Tree.{below}
 use Rattle.kernel_model.specs.State.{State, Table, tree_of, Part, at_clock, at_proc, at_status, at_open, at_node, at_names, at_term}
 
 -- the clock, what is the process's own, and its status
-abbrev pub own_parts : ℕ → List Part
-own_parts p = at_clock ∷ at_proc p ∷ at_status p ∷ []
+abbrev pub process_parts : ℕ → List Part
+process_parts p = at_clock ∷ at_proc p ∷ at_status p ∷ []
 
 -- each of these nodes, and the names in it
 abbrev pub node_parts : List ℕ → List Part

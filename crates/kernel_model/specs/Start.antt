@@ -12,7 +12,7 @@ use Rattle.abi_types.specs.declared.status.Status.TheVariants.{Live}
 use Rattle.abi_types.specs.declared.stream.Stream.{Stream}
 use Rattle.abi_types.specs.declared.thread.Thread.TheVariants.{Runnable}
 use Rattle.tree_model.specs.Tree.{is_directory_kind}
-use Rattle.kernel_model.specs.State.{State, Table, Own, Tree, no_locks}
+use Rattle.kernel_model.specs.State.{State, Table, ProcessState, Tree, no_locks}
 
 -- Objects that the launch makes have numbers of process 0xffffffff: 1 to 3 are the standard streams, 4 is the root of
 -- the file tree, and from 5 on come the tree's other nodes and then the opens of the granted descriptors.
@@ -50,8 +50,8 @@ abbrev pub granted_table : Tree → List Grant → Table
 granted_table tree grants = from_entries (numbered (granted_descriptor tree) 0 grants)
 
 -- what process 0 starts with beside its descriptors: thread 1, the one thread that it has numbered, and nobody who waits
-abbrev pub first_own : Own
-first_own = record { threads = insert empty 1 Runnable; counts = record { objects = 0; threads = 1; forks = 0; words = 0 }; locks = no_locks }
+abbrev pub first_process : ProcessState
+first_process = record { threads = insert empty 1 Runnable; counts = record { objects = 0; threads = 1; forks = 0; words = 0 }; locks = no_locks }
 
 -- a standard stream of which so much can be read
 abbrev pub unwritten : List ℕ → Stream
@@ -63,7 +63,7 @@ abbrev pub start_state : Tree → List Grant → List ℕ → State
 start_state tree grants stdin = record {
   clock = 0;
   tables = insert empty 0 (granted_table tree grants);
-  own = insert empty 0 first_own;
+  processes = insert empty 0 first_process;
   statuses = insert empty 0 Live;
   opens = from_entries (numbered (granted_open tree) (first_open tree) grants);
   nodes = tree.nodes;

@@ -32,7 +32,7 @@ no_locks = record { waiting = empty; at_conditions = empty; granted = []; signal
 
 -- what a process has of its own beside its descriptors: its threads, what it has made so far, and who waits. No call makes a
 -- thread wait yet.
-pub record Own : Type 0 where
+pub record ProcessState : Type 0 where
   pub threads : Threads
   pub counts : Counts
   pub locks : Locks
@@ -42,7 +42,7 @@ pub record Own : Type 0 where
 pub record State : Type 0 where
   pub clock : ℕ
   pub tables : FinMap nat_cmp Table
-  pub own : FinMap nat_cmp Own
+  pub processes : FinMap nat_cmp ProcessState
   pub statuses : FinMap nat_cmp Status
   pub opens : FinMap nat_cmp OpenKind
   pub nodes : FinMap nat_cmp Node
@@ -55,7 +55,7 @@ tree_of S = record { nodes = S.nodes; names = S.names }
 
 -- a process's live threads, if it was ever made
 abbrev pub threads_of : State → ℕ → Option Threads
-threads_of S p = option_map (λ (own : Own). own.threads) (get S.own p)
+threads_of S p = option_map (λ (own : ProcessState). own.threads) (get S.processes p)
 
 -- the thread with this number, if there is one
 abbrev pub thread_in : Option Threads → ℕ → Option Thread
@@ -79,7 +79,7 @@ abbrev pub no_counts : Counts
 no_counts = record { objects = 0; threads = 0; forks = 0; words = 0 }
 
 -- what a process has made so far
-abbrev pub counts_in : Option Own → Counts
+abbrev pub counts_in : Option ProcessState → Counts
 counts_in None = no_counts
 counts_in (Some own) = own.counts
 
@@ -113,7 +113,7 @@ has_part (part ∷ parts) q = same_part part q || has_part parts q
 -- the part has the same value in both states
 abbrev pub Agree : State → State → Part → Type 0
 Agree S T at_clock = S.clock ≡ T.clock
-Agree S T (at_proc p) = (get S.tables p ≡ get T.tables p) × (get S.own p ≡ get T.own p)
+Agree S T (at_proc p) = (get S.tables p ≡ get T.tables p) × (get S.processes p ≡ get T.processes p)
 Agree S T (at_status p) = get S.statuses p ≡ get T.statuses p
 Agree S T (at_open o) = get S.opens o ≡ get T.opens o
 Agree S T (at_node n) = get S.nodes n ≡ get T.nodes n
@@ -128,7 +128,7 @@ AgreeOn S T (part ∷ parts) = Agree S T part × AgreeOn S T parts
 -- a new value of one part
 pub data Update : Type 0 where
   set_table : ℕ → Table → Update
-  set_own : ℕ → Own → Update
+  set_process : ℕ → ProcessState → Update
   set_status : ℕ → Status → Update
   set_open : ℕ → OpenKind → Update
   set_node : ℕ → Node → Update
@@ -138,7 +138,7 @@ pub data Update : Type 0 where
 -- the part that an update sets
 abbrev pub part_of : Update → Part
 part_of (set_table p t) = at_proc p
-part_of (set_own p own) = at_proc p
+part_of (set_process p own) = at_proc p
 part_of (set_status p s) = at_status p
 part_of (set_open o kind) = at_open o
 part_of (set_node n node) = at_node n
@@ -148,7 +148,7 @@ part_of (set_term k stream) = at_term k
 -- the state with one part set
 abbrev pub put_one : Update → State → State
 put_one (set_table p t) S = record S { tables = insert S.tables p t }
-put_one (set_own p own) S = record S { own = insert S.own p own }
+put_one (set_process p own) S = record S { processes = insert S.processes p own }
 put_one (set_status p s) S = record S { statuses = insert S.statuses p s }
 put_one (set_open o kind) S = record S { opens = insert S.opens o kind }
 put_one (set_node n node) S = record S { nodes = insert S.nodes n node }

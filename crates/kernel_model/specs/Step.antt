@@ -15,7 +15,7 @@ use Rattle.kernel_model.specs.Outcome.{Outcome, replies}
 use Rattle.kernel_model.specs.ProcessCalls.{end_updates}
 use Rattle.kernel_model.specs.Release.{release, is_released}
 use Rattle.kernel_model.specs.Reply.{refused}
-use Rattle.kernel_model.specs.Sight.{own_parts, reached}
+use Rattle.kernel_model.specs.Sight.{process_parts, reached}
 use Rattle.kernel_model.specs.State.{State, Table, Part, has_part, put_all}
 use Rattle.kernel_model.specs.View.{View, restrict}
 
@@ -37,24 +37,24 @@ reach S call (Some table) = unless_refused (refusal table call) (reached S table
 
 -- all that a call may read: the clock, what is its process's own, and what its descriptors reach
 unfoldable pub sight : State → Who → Call → List Part
-sight S who call = own_parts who.pid ++ reach S call (get S.tables who.pid)
+sight S who call = process_parts who.pid ++ reach S call (get S.tables who.pid)
 
 -- what a call may change through its descriptors, where none is absent and no right is missing
 abbrev pub changed : State → Call → Option Table → List Part
 changed S call None = []
-changed S call (Some table) = unless_refused (refusal table call) ((meaning_of call).changes S table)
+changed S call (Some table) = unless_refused (refusal table call) ((meaning_of call).touched S table)
 
 -- the objects that a call may make, where none is absent and no right is missing
 abbrev pub made_on : State → Who → Call → Option Table → List Part
 made_on S who call None = []
-made_on S who call (Some table) = unless_refused (refusal table call) (new_parts who.pid (meaning_of call).numbers (get S.own who.pid))
+made_on S who call (Some table) = unless_refused (refusal table call) (new_parts who.pid (meaning_of call).numbers (get S.processes who.pid))
 
 abbrev pub made_by : State → Who → Call → List Part
 made_by S who call = made_on S who call (get S.tables who.pid)
 
 -- all that a call may change, but for what the release ends
 unfoldable pub touch : State → Who → Call → List Part
-touch S who call = own_parts who.pid ++ (made_by S who call ++ changed S call (get S.tables who.pid))
+touch S who call = process_parts who.pid ++ (made_by S who call ++ changed S call (get S.tables who.pid))
 
 -- ---- what a call does
 
@@ -65,7 +65,7 @@ unless (Some reply) outcome = replies reply
 
 abbrev pub act_on : Constants → View → Who → Call → Option Table → Outcome
 act_on constants v who call None = replies (refused Badf)
-act_on constants v who call (Some table) = unless (refusal table call) ((meaning_of call).does constants v who table)
+act_on constants v who call (Some table) = unless (refusal table call) ((meaning_of call).effect constants v who table)
 
 -- a call of a process's thread, by a view of the state
 abbrev pub act : Constants → View → Who → Call → Outcome
@@ -130,7 +130,7 @@ IsUntouched constants S who call part =
 -- ---- the end of a process from outside, by a trap or at the end of its turns
 
 abbrev pub end_unreleased : State → ℕ → Status → State
-end_unreleased S p status = put_all (end_updates p (get S.own p) status) (tick S)
+end_unreleased S p status = put_all (end_updates p (get S.processes p) status) (tick S)
 
 unfoldable pub end_state : State → ℕ → Status → State
 end_state S p status = release (end_unreleased S p status)

@@ -7,7 +7,7 @@ use Rattle.abi_types.specs.declared.open_kind.OpenKind.{OpenKind}
 use Rattle.abi_types.specs.declared.open_kind.OpenKind.TheVariants.{File, Terminal}
 use Rattle.abi_types.specs.declared.reply.Answer.TheVariants as answer
 use Rattle.abi_types.specs.declared.stream.Stream.{Stream}
-use Rattle.kernel_model.specs.FileOffsets.{moves_open, read_on, seek_open_file, write_on}
+use Rattle.kernel_model.specs.FileOffsets.{with_offset, read_on, seek_open_file, write_on}
 use Rattle.kernel_model.specs.Meaning.{Meaning}
 use Rattle.kernel_model.specs.OpenMeaning.{OpenMeaning, by_open}
 use Rattle.kernel_model.specs.Outcome.{Outcome, replies}
@@ -43,13 +43,13 @@ write_term bytes which (Some stream) = record {
 abbrev pub write_open : ℕ → View → List ℕ → ℕ → Option OpenKind → Outcome
 write_open now v bytes o None = replies (refused Badf)
 write_open now v bytes o (Some (Terminal which flags)) = write_term bytes which (v.term which)
-write_open now v bytes o (Some (File node offset flags)) = moves_open o (write_on v.branch node offset flags now bytes)
+write_open now v bytes o (Some (File node offset flags)) = with_offset o (write_on v.branch node offset flags now bytes)
 write_open now v bytes o (Some _) = replies (refused Badf)
 
 abbrev pub writing : List ℕ → OpenMeaning
 writing bytes = record {
-  does = λ now v. write_open now v bytes;
-  changes = written_part;
+  effect = λ now v. write_open now v bytes;
+  touched = written_part;
   errors = Badf ∷ Fbig ∷ [];
   takes_memory = true;
 }
@@ -71,13 +71,13 @@ read_term n which (Some stream) = record {
 abbrev pub read_open : View → ℕ → ℕ → Option OpenKind → Outcome
 read_open v n o None = replies (refused Badf)
 read_open v n o (Some (Terminal which flags)) = read_term n which (v.term which)
-read_open v n o (Some (File node offset flags)) = moves_open o (read_on v.branch node offset flags n)
+read_open v n o (Some (File node offset flags)) = with_offset o (read_on v.branch node offset flags n)
 read_open v n o (Some _) = replies (refused Badf)
 
 abbrev pub reading : ℕ → OpenMeaning
 reading n = record {
-  does = λ now v. read_open v n;
-  changes = stream_part;
+  effect = λ now v. read_open v n;
+  touched = stream_part;
   errors = Badf ∷ [];
   takes_memory = true;
 }
@@ -90,12 +90,12 @@ fd_read fd n = by_open (base_row fd FD_READ) (reading n)
 -- the open of this number is moved
 abbrev pub seek_open : View → ℕ → ℕ → ℕ → Option OpenKind → Outcome
 seek_open v bits whence o None = replies (refused Badf)
-seek_open v bits whence o (Some kind) = moves_open o (seek_open_file v.branch bits whence kind)
+seek_open v bits whence o (Some kind) = with_offset o (seek_open_file v.branch bits whence kind)
 
 abbrev pub seeking : ℕ → ℕ → OpenMeaning
 seeking bits whence = record {
-  does = λ now v. seek_open v bits whence;
-  changes = λ kind. [];
+  effect = λ now v. seek_open v bits whence;
+  touched = λ kind. [];
   errors = Badf ∷ Inval ∷ [];
   takes_memory = false;
 }

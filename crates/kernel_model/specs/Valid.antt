@@ -60,11 +60,11 @@ pub record IsNearlyValid (S : State) : Type 0 where
   pub named : (p n : ℕ) (table : Table) (d : Descriptor) → get S.tables p ≡ Some table → get table n ≡ Some d → IsNamed (get S.opens d.id) d
   pub behind : (o : ℕ) (kind : OpenKind) → get S.opens o ≡ Some kind → HasBehind S kind
   pub tables : (p : ℕ) → is_some (get S.tables p) ≡ is_some (get S.statuses p)
-  pub owns : (p : ℕ) → is_some (get S.own p) ≡ is_some (get S.statuses p)
+  pub owns : (p : ℕ) → is_some (get S.processes p) ≡ is_some (get S.statuses p)
   pub ended : (p : ℕ) (status : Status) → get S.statuses p ≡ Some status → status ≢ Live → (get S.tables p ≡ Some empty) × (threads_of S p ≡ Some empty)
-  pub numbered : (p t : ℕ) → IsSome (thread_of S p t) → t ≤ (counts_in (get S.own p)).threads
-  pub made : (p k : ℕ) → p < 0xffffffff → (counts_in (get S.own p)).objects < k → k < 2 ^ 32 → get S.opens (object_of p k) ≡ None
-  pub made_nodes : (p k : ℕ) → p < 0xffffffff → (counts_in (get S.own p)).objects < k → k < 2 ^ 32 → get S.nodes (object_of p k) ≡ None
+  pub numbered : (p t : ℕ) → IsSome (thread_of S p t) → t ≤ (counts_in (get S.processes p)).threads
+  pub made : (p k : ℕ) → p < 0xffffffff → (counts_in (get S.processes p)).objects < k → k < 2 ^ 32 → get S.opens (object_of p k) ≡ None
+  pub made_nodes : (p k : ℕ) → p < 0xffffffff → (counts_in (get S.processes p)).objects < k → k < 2 ^ 32 → get S.nodes (object_of p k) ≡ None
   pub tree : IsTree (tree_of S)
 
 -- a state is valid where it is nearly so, each open is held, and each node is the root, has a name or is open

@@ -4,14 +4,14 @@ use Rattle.std.specs.FinMap.{get, retain_keys}
 use Rattle.abi_types.specs.declared.open_kind.OpenKind.{OpenKind}
 use Rattle.abi_types.specs.declared.status.Status.{Status}
 use Rattle.abi_types.specs.declared.stream.Stream.{Stream}
-use Rattle.kernel_model.specs.State.{State, Table, Own, Tree, tree_of, Part, at_proc, at_status, at_open, at_node, at_names, at_term, has_part}
+use Rattle.kernel_model.specs.State.{State, Table, ProcessState, Tree, tree_of, Part, at_proc, at_status, at_open, at_node, at_names, at_term, has_part}
 
 -- what is seen of a state: the moment, for each number the value of its part, where that is seen, and the nodes and names of
 -- the file tree that are seen
 pub record View : Type 0 where
   pub clock : ℕ
   pub table : ℕ → Option Table
-  pub own : ℕ → Option Own
+  pub process : ℕ → Option ProcessState
   pub status : ℕ → Option Status
   pub opened : ℕ → Option OpenKind
   pub branch : Tree
@@ -26,7 +26,7 @@ abbrev pub restrict : State → List Part → View
 restrict S parts = record {
   clock = S.clock;
   table = λ p. only (has_part parts (at_proc p)) (get S.tables p);
-  own = λ p. only (has_part parts (at_proc p)) (get S.own p);
+  process = λ p. only (has_part parts (at_proc p)) (get S.processes p);
   status = λ p. only (has_part parts (at_status p)) (get S.statuses p);
   opened = λ o. only (has_part parts (at_open o)) (get S.opens o);
   branch = record { nodes = retain_keys S.nodes (λ n. has_part parts (at_node n)); names = retain_keys S.names (λ n. has_part parts (at_names n)) };
@@ -38,7 +38,7 @@ abbrev pub whole : State → View
 whole S = record {
   clock = S.clock;
   table = λ p. get S.tables p;
-  own = λ p. get S.own p;
+  process = λ p. get S.processes p;
   status = λ p. get S.statuses p;
   opened = λ o. get S.opens o;
   branch = tree_of S;

@@ -7,12 +7,12 @@ use Rattle.abi_types.specs.declared.call.Call.TheVariants.{FdClose, FdDup, FdPre
 use Rattle.abi_types.specs.declared.call.Call.TheVariants.{FileAllocate, FileReaddir, FileReadlink, FileStatFget, FileStatFput, FileStatGet, FileStatPut}
 use Rattle.abi_types.specs.declared.call.Call.TheVariants.{FileCreate, FileLink, FileOpen, FileRename, FileSymlink, FileUnlink}
 use Rattle.abi_types.specs.declared.place.Place.{Place}
-use Rattle.fd_calls.specs.Calls.{moved_fd}
-use Rattle.kernel_model.specs.FileCalls.{opened_fd}
+use Rattle.fd_calls.specs.Calls.{offset_fd}
+use Rattle.kernel_model.specs.FileCalls.{file_fd}
 use Rattle.kernel_model.specs.FileMeaning.{on_open}
 use Rattle.kernel_model.specs.Meaning.{Meaning}
 use Rattle.kernel_model.specs.MemoryCalls.{is_anonymous, map_row, map_zeros, mapping, mem_map}
-use Rattle.kernel_model.specs.NameCalls.{named_fds}
+use Rattle.kernel_model.specs.EntryCalls.{entry_fds}
 use Rattle.kernel_model.proofs.Tests.{none_is_no}
 use Rattle.kernel_parts.specs.Answering.{DoesMore}
 
@@ -23,9 +23,9 @@ pub record IsOther (call : Call) : Type 0 where
   pub replace : (from to : ℕ) → call ≢ FdReplace from to
   pub stat_get : (fd : ℕ) → call ≢ FdStatGet fd
   pub stat_put : (fd : ℕ) (stat : FdStat) (flags : ℕ) → call ≢ FdStatPut fd stat flags
-  pub file : opened_fd call ≡ None
-  pub moves : moved_fd call ≡ None
-  pub names : named_fds call ≡ None
+  pub file : file_fd call ≡ None
+  pub moves : offset_fd call ≡ None
+  pub names : entry_fds call ≡ None
   pub opens : (lookup : Lookup) (path : List ℕ) (oflags : ℕ) (stat : FdStat) → call ≢ FileOpen lookup path oflags stat
   pub exit : (code : ℕ) → call ≢ ProcExit code
 

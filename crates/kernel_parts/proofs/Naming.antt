@@ -13,21 +13,21 @@ use Rattle.abi_types.specs.declared.open_kind.OpenKind.{OpenKind}
 use Rattle.abi_types.specs.declared.reply.Answer.TheVariants as answer
 use Rattle.abi_types.specs.declared.reply.Reply.{Reply}
 use Rattle.file_calls.specs.Walks.{reply_of}
-use Rattle.file_calls.specs.declared.refusal.Refusal.{Refusal}
-use Rattle.file_calls.specs.declared.refusal.Refusal.TheVariants as refusal
-use Rattle.kernel_model.specs.NameCalls.{name_meaning, named_fds}
+use Rattle.file_calls.specs.declared.path_fault.PathFault.{PathFault}
+use Rattle.file_calls.specs.declared.path_fault.PathFault.TheVariants as path_fault
+use Rattle.kernel_model.specs.EntryCalls.{name_meaning, entry_fds}
 use Rattle.kernel_model.specs.NameMaking.{making, making_unless, text_error}
-use Rattle.kernel_model.specs.NameMeaning.{Comes, Refuses, LeadsOut, Changes, NameMeaning, outcome_of}
-use Rattle.kernel_model.specs.Numbers.{can_number, made_more, next_object, own_updates}
+use Rattle.kernel_model.specs.NameMeaning.{NameOutcome, Refuses, LeadsOut, Changes, NameMeaning, outcome_of}
+use Rattle.kernel_model.specs.Numbers.{can_number, made_more, next_object, process_updates}
 use Rattle.kernel_model.specs.Outcome.{Outcome, replies}
 use Rattle.kernel_model.specs.Reply.{refused, success}
-use Rattle.kernel_model.specs.State.{Own, Tree}
+use Rattle.kernel_model.specs.State.{ProcessState, Tree}
 use Rattle.kernel_model.specs.TreeUpdates.{Change, change_updates}
 use Rattle.kernel_model.proofs.Tests.{none_is_no, not_true, same_some}
-use Rattle.name_calls.specs.Checks.{IsTold}
-use Rattle.name_calls.specs.Done.{FailsAs}
-use Rattle.name_calls.specs.declared.failure.Failure.TheVariants.{Refused}
-use Rattle.kernel_parts.specs.Names.{IsLeftBy, number_of}
+use Rattle.entry_calls.specs.Checks.{IsTold}
+use Rattle.entry_calls.specs.Done.{FailsAs}
+use Rattle.entry_calls.specs.declared.failure.Failure.TheVariants.{Refused}
+use Rattle.kernel_parts.specs.Entries.{IsLeftBy, number_of}
 
 -- ---- the node that a call makes
 
@@ -35,7 +35,7 @@ text_makes_one : (o : Option Errno) (path : List ℕ) (node : NodeKind) → (mak
 text_makes_one None path node = refl
 text_makes_one (Some errno) path node = refl
 
-pub one_new : (called : Call) → IsSome (named_fds called) → (name_meaning called).makes ≢ 0 → (name_meaning called).makes ≡ 1
+pub one_new : (called : Call) → IsSome (entry_fds called) → (name_meaning called).makes ≢ 0 → (name_meaning called).makes ≡ 1
 one_new (call.FileCreate fd path type) some makes = refl
 one_new (call.FileLink lookup path new_fd new_path) some makes = absurd (makes refl)
 one_new (call.FileRename fd path new_fd new_path) some makes = absurd (makes refl)
@@ -44,14 +44,14 @@ one_new (call.FileUnlink fd path flags) some makes = absurd (makes refl)
 one_new unnamed some makes = absurd (not_true some)
 
 -- the number of the last node that it makes serves as well as that of the first
-pub new_again : (called : Call) → IsSome (named_fds called) → (p now : ℕ) (own : Option Own) (t : Tree) (here there : Option OpenKind)
-    → (name_meaning called).does now (next_object p own (name_meaning called).makes) t here there ≡ (name_meaning called).does now (next_object p own 1) t here there
+pub new_again : (called : Call) → IsSome (entry_fds called) → (p now : ℕ) (own : Option ProcessState) (t : Tree) (here there : Option OpenKind)
+    → (name_meaning called).effect now (next_object p own (name_meaning called).makes) t here there ≡ (name_meaning called).effect now (next_object p own 1) t here there
 new_again (call.FileCreate fd path type) some p now own t here there = refl
 new_again (call.FileLink lookup path new_fd new_path) some p now own t here there = refl
 new_again (call.FileRename fd path new_fd new_path) some p now own t here there = refl
 new_again (call.FileSymlink text fd path) some p now own t here there =
     let m : NameMeaning = making_unless (text_error text) (making (kind.Link text) path) in
-    ap (λ k. m.does now (next_object p own k) t here there) (text_makes_one (text_error text) path (kind.Link text))
+    ap (λ k. m.effect now (next_object p own k) t here there) (text_makes_one (text_error text) path (kind.Link text))
 new_again (call.FileUnlink fd path flags) some p now own t here there = refl
 new_again unnamed some p now own t here there = absurd (not_true some)
 
@@ -60,36 +60,36 @@ number_by : (b : Bool) (k n : ℕ) → cond b (Some k) None ≡ Some n → (b �
 number_by true k n is = (refl, sym (same_some k n is))
 number_by false k n is = absurd (none_is_no n is)
 
-pub numbered_is : (p count n : ℕ) (own : Option Own) → number_of p count own ≡ Some n → (can_number p count own ≡ true) × (n ≡ next_object p own count)
+pub numbered_is : (p count n : ℕ) (own : Option ProcessState) → number_of p count own ≡ Some n → (can_number p count own ≡ true) × (n ≡ next_object p own count)
 numbered_is p count n own is = number_by (can_number p count own) (next_object p own count) n is
 
 unnumbered_by : (b : Bool) (k : ℕ) → cond b (Some k) None ≡ None → b ≡ false
 unnumbered_by true k is = absurd (none_is_no k (sym is))
 unnumbered_by false k is = refl
 
-pub unnumbered : (p count : ℕ) (own : Option Own) → number_of p count own ≡ None → can_number p count own ≡ false
+pub unnumbered : (p count : ℕ) (own : Option ProcessState) → number_of p count own ≡ None → can_number p count own ≡ false
 unnumbered p count own is = unnumbered_by (can_number p count own) (next_object p own count) is
 
 -- ---- how it is done
 
-abbrev comes_of : Refusal → Comes
-comes_of (refusal.Errno errno) = Refuses errno
-comes_of (refusal.Outside component) = LeadsOut component
+abbrev comes_of : PathFault → NameOutcome
+comes_of (path_fault.Errno errno) = Refuses errno
+comes_of (path_fault.Outside component) = LeadsOut component
 
-pub failed_is : (comes : Comes) (why : Refusal) → FailsAs comes (Refused why) → comes ≡ comes_of why
-failed_is comes (refusal.Errno errno) is = is
-failed_is comes (refusal.Outside component) is = is
+pub failed_is : (comes : NameOutcome) (why : PathFault) → FailsAs comes (Refused why) → comes ≡ comes_of why
+failed_is comes (path_fault.Errno errno) is = is
+failed_is comes (path_fault.Outside component) is = is
 
-pub told_is : (A : Type 0) (comes : Comes) (why : Refusal) → IsTold {A = A} comes (Err why) → comes ≡ comes_of why
-told_is A comes (refusal.Errno errno) is = is
-told_is A comes (refusal.Outside component) is = is
+pub told_is : (A : Type 0) (comes : NameOutcome) (why : PathFault) → IsTold {A = A} comes (Err why) → comes ≡ comes_of why
+told_is A comes (path_fault.Errno errno) is = is
+told_is A comes (path_fault.Outside component) is = is
 
-module _ (p makes : ℕ) (own new : Own) (t u : Tree) (comes : Comes) (reply : Reply) where
-  refused_so : (why : Refusal) → new ≡ own → u ≡ t → reply ≡ reply_of why → IsLeftBy p makes own new t u (comes_of why) reply
-  refused_so (refusal.Errno errno) own_is tree_is is = record { answered = ap answer.Reply is; numbered = own_is; changed = tree_is }
-  refused_so (refusal.Outside component) own_is tree_is is = record { answered = ap answer.Reply is; numbered = own_is; changed = tree_is }
+module _ (p makes : ℕ) (own new : ProcessState) (t u : Tree) (comes : NameOutcome) (reply : Reply) where
+  refused_so : (why : PathFault) → new ≡ own → u ≡ t → reply ≡ reply_of why → IsLeftBy p makes own new t u (comes_of why) reply
+  refused_so (path_fault.Errno errno) own_is tree_is is = record { answered = ap answer.Reply is; numbered = own_is; changed = tree_is }
+  refused_so (path_fault.Outside component) own_is tree_is is = record { answered = ap answer.Reply is; numbered = own_is; changed = tree_is }
 
-  pub refused_left : (why : Refusal) → comes ≡ comes_of why → new ≡ own → u ≡ t → reply ≡ reply_of why → IsLeftBy p makes own new t u comes reply
+  pub refused_left : (why : PathFault) → comes ≡ comes_of why → new ≡ own → u ≡ t → reply ≡ reply_of why → IsLeftBy p makes own new t u comes reply
   refused_left why comes_is own_is tree_is is = subst (λ k. IsLeftBy p makes own new t u k reply) (sym comes_is) (refused_so why own_is tree_is is)
 
   -- a change, by whether the process can make so many
@@ -99,7 +99,7 @@ module _ (p makes : ℕ) (own new : Own) (t u : Tree) (comes : Comes) (reply : R
 
   abbrev outcome_by : Change → Bool → Outcome
   outcome_by c b =
-      cond b (record { answer = answer.Reply (success 0 0); updates = own_updates p makes (Some own) ++ change_updates c }) (replies (refused Again))
+      cond b (record { answer = answer.Reply (success 0 0); updates = process_updates p makes (Some own) ++ change_updates c }) (replies (refused Again))
 
   pub counted_out : (c : Change) → comes ≡ Changes c → can_number p makes (Some own) ≡ false → new ≡ own → u ≡ t → reply ≡ refused Again
       → IsLeftBy p makes own new t u comes reply

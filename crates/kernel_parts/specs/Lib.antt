@@ -1,5 +1,5 @@
 pub mod Start
 pub mod Answering
 pub mod Changes
-pub mod Names
+pub mod Entries
 pub mod StreamCalls

@@ -8,7 +8,7 @@ use Rattle.abi_types.specs.declared.call.Call.TheVariants as call
 use Rattle.abi_types.specs.declared.stream.Stream.{Stream}
 use Rattle.kernel_model.specs.Outcome.{Outcome, replies}
 use Rattle.kernel_model.specs.Reply.{refused}
-use Rattle.kernel_model.specs.State.{Update, set_table, set_own, set_status, set_open, set_node, set_names, set_term}
+use Rattle.kernel_model.specs.State.{Update, set_table, set_process, set_status, set_open, set_node, set_names, set_term}
 use Rattle.kernel_model.specs.StreamCalls.{read_term, write_term}
 
 -- the standard streams after these updates
@@ -16,7 +16,7 @@ abbrev pub terms_after : List Update → FinMap nat_cmp Stream → FinMap nat_cm
 terms_after [] terms = terms
 terms_after (set_term k stream ∷ updates) terms = terms_after updates (insert terms k stream)
 terms_after (set_table p table ∷ updates) terms = terms_after updates terms
-terms_after (set_own p own ∷ updates) terms = terms_after updates terms
+terms_after (set_process p own ∷ updates) terms = terms_after updates terms
 terms_after (set_status p status ∷ updates) terms = terms_after updates terms
 terms_after (set_open o kind ∷ updates) terms = terms_after updates terms
 terms_after (set_node n node ∷ updates) terms = terms_after updates terms

@@ -26,7 +26,7 @@ fn placed(place: Place) -> Reply
 /// answers NOSYS.
 pub fn answer_of(call: &Call) -> Reply
     requires { ¬ DoesMore call.now }
-    ensures { (c : constants.Constants) (v : View) (w : who.Who) (table : Table) → (meaning_of call.now).does c v w table ≡ replies result }
+    ensures { (c : constants.Constants) (v : View) (w : who.Who) (table : Table) → (meaning_of call.now).effect c v w table ≡ replies result }
 {
     match call {
         Call::MemMap { place, .. } => placed(*place),

@@ -3,9 +3,9 @@
 #![tactic(auto)]
 
 pub use answering::answer_of;
-pub use names::{Caller, change_names, opened};
-pub use opening::{Opening, put_opening};
-pub use own::Own;
+pub use entries::{Caller, change_entries, open_of};
+pub use installing::{Opening, put_opening};
+pub use process::ProcessState;
 pub use releasing::{forget_nameless, release};
 pub use start::{granted, single, streams};
 pub use stream_calls::on_stream;
@@ -14,9 +14,9 @@ pub use table_change::TableChange;
 pub use terminal::Terminal;
 
 mod answering;
-mod names;
-mod opening;
-mod own;
+mod entries;
+mod installing;
+mod process;
 mod releasing;
 mod start;
 mod stream_calls;

@@ -62,7 +62,7 @@ pub fn on_stream(
 ) -> Result<Answer, AllocError>
     ensures ok { IfOk result (λ given. (given ≡ (stream_outcome call.now which (map.get terms.old which)).answer)
         × (terms.new ≡ terms_after (stream_outcome call.now which (map.get terms.old which)).updates terms.old)) }
-    ensures only { OnErr result ((model.moving_meaning call.now).takes_memory ≡ true) }
+    ensures only { OnErr result ((model.offset_meaning call.now).takes_memory ≡ true) }
     ensures err { OnErr result (terms.new ≡ terms.old) }
     ensures there { (k : ℕ) → IsSome (map.get terms.old k) → IsSome (map.get terms.new k) }
 {

@@ -14,8 +14,8 @@ use Rattle.run_types.specs.declared.history.Act.{Act}
 use Rattle.run_types.specs.declared.history.Act.TheVariants as act
 use Rattle.run_types.specs.declared.history.Entry.{Entry}
 use Rattle.run_types.specs.declared.launch.Launch.{Launch}
-use Rattle.kernel_model.specs.Start.{first_own, start_state}
-use Rattle.kernel_model.specs.State.{State, Own, threads_of, thread_in}
+use Rattle.kernel_model.specs.Start.{first_process, start_state}
+use Rattle.kernel_model.specs.State.{State, ProcessState, threads_of, thread_in}
 use Rattle.maps.specs.Maps.{get-insert-same}
 use Rattle.rv_interp.specs.declared.turns.TurnEnd.TheVariants.{Quantum}
 use Rattle.run_model.specs.Legal.{IsRunnable, MayTurn, AreWhole, Fits, FollowsFrom, Legal}
@@ -138,7 +138,7 @@ first_registers_are launch = ap or_no_registers (get-insert-same empty 1 (first_
 -- the threads of process 0 are thread 1 alone, which is runnable
 pub first_threads : (launch : Launch) → threads_of (start_world launch).state 0 ≡ Some (insert empty 1 Runnable)
 unfolding start_world
-first_threads launch = ap (option_map (λ (own : Own). own.threads)) (get-insert-same empty 0 first_own)
+first_threads launch = ap (option_map (λ (own : ProcessState). own.threads)) (get-insert-same empty 0 first_process)
 
 pub first_thread : (launch : Launch) → IsRunnable (start_world launch).state 0 1
 first_thread launch = ap (λ o. thread_in o 1) (first_threads launch) ∙ get-insert-same empty 1 Runnable

@@ -23,7 +23,7 @@ use Rattle.kernel_model.specs.Laws.{HasSameSight, EndsAlike, HasAll, IsFirstLack
 use Rattle.kernel_model.specs.Need.{missing}
 use Rattle.kernel_model.specs.Release.{is_released}
 use Rattle.kernel_model.specs.Reply.{denied}
-use Rattle.kernel_model.specs.Sight.{own_parts}
+use Rattle.kernel_model.specs.Sight.{process_parts}
 use Rattle.kernel_model.specs.State.{State, Table, Part, at_clock, same_part, has_part, Agree, AgreeOn}
 use Rattle.kernel_model.specs.Step.{sight, outcome, unreleased, failed, IsStep, IsUntouched, end_unreleased}
 use Rattle.run_model.specs.World.{World, who_of, apply, world}
@@ -58,7 +58,7 @@ pub record CallIsConfined (constants : Constants) (S : State) (who : Who) (call 
 -- what the release ends has the value it had.
 abbrev pub EndIsConfined : State → ℕ → Status → State → Type 0
 EndIsConfined S p status T =
-    (part : Part) → has_part (own_parts p) part ≡ false → is_released (end_unreleased S p status) part ≡ false → Agree T S part
+    (part : Part) → has_part (process_parts p) part ≡ false → is_released (end_unreleased S p status) part ≡ false → Agree T S part
 
 -- Each part but the clock has the value it had.
 abbrev pub OnlyClockChanges : State → State → Type 0

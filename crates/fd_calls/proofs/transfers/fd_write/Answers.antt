@@ -6,7 +6,7 @@ use Rattle.kernel_model.specs.FileOffsets.{write_open_file}
 use Rattle.kernel_model.proofs.FileBytes.{overwritten_reworks}
 use Rattle.file_calls.specs.Opens.{IsThere}
 use Rattle.file_calls.proofs.Reworked.{nodes_stay, overwritten_still}
-use Rattle.fd_calls.specs.Moved.{IsMoved}
+use Rattle.fd_calls.specs.AtOffset.{IsAtOffset}
 use Rattle.fd_calls.proofs.Written.{written_moves}
 use Rattle.fd_calls.proofs.transfers.fd_write.Goals as goal
 
@@ -19,7 +19,7 @@ returns-in_ok-count-in-File-clause-ok c =
     let bytes = c.args.bytes.now in
     let count = c.in_ok-count-in-File.count in
     let reply = c.success-in-File.result in
-    subst (λ (kind : OpenKind). IsMoved (write_open_file c.args.now t bytes kind) t u kind (File node (at + count) c.in-File.flags) reply) (sym c.in-File.is)
+    subst (λ (kind : OpenKind). IsAtOffset (write_open_file c.args.now t bytes kind) t u kind (File node (at + count) c.in-File.flags) reply) (sym c.in-File.is)
     (written_moves t u node c.in-File.offset c.in-File.flags c.args.now at bytes count reply c.write_place-at.ensures
     (sym c.is_empty.ensures ∙ c.if-is_empty.false) (omega arith) (subst (IsThere t) c.in-File.is c.requires)
     c.in_ok-count-in-File.ensures.ok c.in_ok-count-in-File.ensures.count c.success-in-File.ensures)

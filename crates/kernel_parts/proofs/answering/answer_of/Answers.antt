@@ -10,7 +10,7 @@ use Rattle.kernel_parts.proofs.answering.answer_of.Goals as goal
 pub returns-in-MemMap : goal.returns-in-MemMap
 returns-in-MemMap c = λ constants v who table.
     let m = c.in-MemMap in
-    ap (λ (called : Call). (meaning_of called).does constants v who table) m.is
-    ∙ ap (λ (meant : Meaning). meant.does constants v who table)
+    ap (λ (called : Call). (meaning_of called).effect constants v who table) m.is
+    ∙ ap (λ (meant : Meaning). meant.effect constants v who table)
     (maps_zeros m.place m.length m.prot m.flags m.fd m.offset (subst (λ (called : Call). ¬ DoesMore called) m.is c.requires))
     ∙ ap replies (sym c.placed.ensures)

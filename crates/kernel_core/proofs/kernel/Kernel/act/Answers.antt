@@ -15,12 +15,12 @@ use Rattle.kernel_model.specs.Valid.{IsValid}
 use Rattle.kernel_model.specs.View.{whole}
 use Rattle.kernel_model.proofs.Valids.{release_valid}
 use Rattle.kernel_core.specs.Files.{file_outcome}
-use Rattle.kernel_core.specs.Moving.{moving_outcome}
-use Rattle.kernel_core.specs.Names.{name_outcome}
+use Rattle.kernel_core.specs.OffsetCalls.{offset_outcome}
+use Rattle.kernel_core.specs.Entries.{entry_outcome}
 use Rattle.kernel_parts.proofs.Answers.{no_more}
 use Rattle.kernel_core.proofs.FileCalls.{file_does}
-use Rattle.kernel_core.proofs.MovingCalls.{moving_does}
-use Rattle.kernel_core.proofs.NameCalls.{names_does}
+use Rattle.kernel_core.proofs.OffsetCalls.{offset_does}
+use Rattle.kernel_core.proofs.EntryCalls.{entries_does}
 use Rattle.kernel_core.proofs.Acts.{act_refused, act_allowed, by_outcome, stat_get_sets_nothing}
 use Rattle.kernel_core.proofs.kernel.Kernel.act.Goals as goal
 use Rattle.kernel_core.proofs.kernel.Kernel.act.Goals.{After-refusal}
@@ -55,7 +55,7 @@ replied c reply is =
 
 -- a call that isn't refused, and that sets nothing
 answered : (c : After-refusal) (reply case : Reply) → c.refusal.result ≡ None
-    → (meaning_of c.args.call.now).does c.args.constants.now (whole c.args.self.now) c.args.who.now c.in-Some.table.now ≡ replies case → reply ≡ case
+    → (meaning_of c.args.call.now).effect c.args.constants.now (whole c.args.self.now) c.args.who.now c.in-Some.table.now ≡ replies case → reply ≡ case
     → IsAnswered c (answer.Reply reply)
 answered c reply case allowed is same =
     replied c reply
@@ -79,7 +79,7 @@ returns-in-FdStatGet-clause-ok c =
     let found = get table c.in-FdStatGet.fd in
     let allowed : act constants (whole S) who c.args.call.now ≡ stat_get (whole S) found =
     act_allowed constants S who c.args.call.now table (there a) (rows a ∙ c.in_default-refusal.is)
-    ∙ ap (λ call. (meaning_of call).does constants (whole S) who table) c.in-FdStatGet.is in
+    ∙ ap (λ call. (meaning_of call).effect constants (whole S) who table) c.in-FdStatGet.is in
     by_outcome constants S S who c.args.call.now (answer.Reply c.fd_stat_get.result) (stat_get (whole S) found) allowed
     (c.fd_stat_get.ensures table (there a), sym (ap (λ us. release (put_all us S)) (stat_get_sets_nothing (whole S) found) ∙ release_valid S (valid a)))
 
@@ -91,9 +91,9 @@ answer_of-requires c =
       replace = c.in_default-call.not-FdReplace;
       stat_get = c.in_default-call.not-FdStatGet;
       stat_put = c.in_default-call.not-FdStatPut;
-      file = sym c.opened_fd.ensures ∙ c.in_default-opened_fd.is;
-      moves = sym c.moved_fd.ensures ∙ c.in_default-moved_fd.is;
-      names = sym c.named_fds.ensures ∙ c.in_default-named_fds.is;
+      file = sym c.file_fd.ensures ∙ c.in_default-file_fd.is;
+      moves = sym c.offset_fd.ensures ∙ c.in_default-offset_fd.is;
+      names = sym c.entry_fds.ensures ∙ c.in_default-entry_fds.is;
       opens = c.in_default-call.not-FileOpen;
       exit = c.in_default-call.not-ProcExit;
     })
@@ -103,45 +103,45 @@ returns-in_default-call-clause-ok c =
     answered (goal.at.returns-in_default-call-clause-ok c).After-refusal c.answer_of.result c.answer_of.result c.in_default-refusal.is
     (c.answer_of.ensures c.args.constants.now (whole c.args.self.now) c.args.who.now c.in-Some.table.now) refl
 
-pub returns-in-Some-named_fds-clause-ok : goal.returns-in-Some-named_fds-clause-ok
-returns-in-Some-named_fds-clause-ok c =
-    let a = (goal.at.returns-in-Some-named_fds-clause-ok c).After-refusal in
+pub returns-in-Some-entry_fds-clause-ok : goal.returns-in-Some-entry_fds-clause-ok
+returns-in-Some-entry_fds-clause-ok c =
+    let a = (goal.at.returns-in-Some-entry_fds-clause-ok c).After-refusal in
     let constants = c.args.constants.now in
     let S = c.args.self.now in
     let who = c.args.who.now in
     let call = c.args.call.now in
     let table = c.in-Some.table.now in
-    let fd = c.in-Some-named_fds.fd in
-    let other = c.in-Some-named_fds.other in
-    let allowed : act constants (whole S) who call ≡ name_outcome constants S who.pid table fd other call =
+    let fd = c.in-Some-entry_fds.fd in
+    let other = c.in-Some-entry_fds.other in
+    let allowed : act constants (whole S) who call ≡ entry_outcome constants S who.pid table fd other call =
     act_allowed constants S who call table (there a) (rows a ∙ c.in_default-refusal.is)
-    ∙ names_does constants S who table call fd other (sym c.named_fds.ensures ∙ c.in-Some-named_fds.is) in
-    IfOk-weaker _ _ _ (λ given done. by_outcome constants S c.name_call.new.self who call given _ allowed (done table (there a))) c.name_call.ensures.ok
+    ∙ entries_does constants S who table call fd other (sym c.entry_fds.ensures ∙ c.in-Some-entry_fds.is) in
+    IfOk-weaker _ _ _ (λ given done. by_outcome constants S c.entry_call.new.self who call given _ allowed (done table (there a))) c.entry_call.ensures.ok
 
-pub returns-in-Some-opened_fd-clause-ok : goal.returns-in-Some-opened_fd-clause-ok
-returns-in-Some-opened_fd-clause-ok c =
-    let a = (goal.at.returns-in-Some-opened_fd-clause-ok c).After-refusal in
+pub returns-in-Some-file_fd-clause-ok : goal.returns-in-Some-file_fd-clause-ok
+returns-in-Some-file_fd-clause-ok c =
+    let a = (goal.at.returns-in-Some-file_fd-clause-ok c).After-refusal in
     let constants = c.args.constants.now in
     let S = c.args.self.now in
     let who = c.args.who.now in
     let call = c.args.call.now in
     let table = c.in-Some.table.now in
-    let fd = c.in-Some-opened_fd.fd in
+    let fd = c.in-Some-file_fd.fd in
     let allowed : act constants (whole S) who call ≡ file_outcome constants S table fd call =
     act_allowed constants S who call table (there a) (rows a ∙ c.in_default-refusal.is)
-    ∙ file_does constants S who table call fd (sym c.opened_fd.ensures ∙ c.in-Some-opened_fd.is) in
+    ∙ file_does constants S who table call fd (sym c.file_fd.ensures ∙ c.in-Some-file_fd.is) in
     IfOk-weaker _ _ _ (λ given done. by_outcome constants S c.file_call.new.self who call given _ allowed (done table (there a))) c.file_call.ensures.ok
 
-pub returns-in-Some-moved_fd-clause-ok : goal.returns-in-Some-moved_fd-clause-ok
-returns-in-Some-moved_fd-clause-ok c =
-    let a = (goal.at.returns-in-Some-moved_fd-clause-ok c).After-refusal in
+pub returns-in-Some-offset_fd-clause-ok : goal.returns-in-Some-offset_fd-clause-ok
+returns-in-Some-offset_fd-clause-ok c =
+    let a = (goal.at.returns-in-Some-offset_fd-clause-ok c).After-refusal in
     let constants = c.args.constants.now in
     let S = c.args.self.now in
     let who = c.args.who.now in
     let call = c.args.call.now in
     let table = c.in-Some.table.now in
-    let fd = c.in-Some-moved_fd.fd in
-    let allowed : act constants (whole S) who call ≡ moving_outcome constants S table fd call =
+    let fd = c.in-Some-offset_fd.fd in
+    let allowed : act constants (whole S) who call ≡ offset_outcome constants S table fd call =
     act_allowed constants S who call table (there a) (rows a ∙ c.in_default-refusal.is)
-    ∙ moving_does constants S who table call fd (sym c.moved_fd.ensures ∙ c.in-Some-moved_fd.is) in
-    IfOk-weaker _ _ _ (λ given done. by_outcome constants S c.moving_call.new.self who call given _ allowed (done table (there a))) c.moving_call.ensures.ok
+    ∙ offset_does constants S who table call fd (sym c.offset_fd.ensures ∙ c.in-Some-offset_fd.is) in
+    IfOk-weaker _ _ _ (λ given done. by_outcome constants S c.offset_call.new.self who call given _ allowed (done table (there a))) c.offset_call.ensures.ok

@@ -37,7 +37,7 @@ abbrev unchanged : In_err-reply → State
 unchanged c = record {
   clock = c.self.inside.clock;
   tables = insert c.self.inside.tables c.from-p.result c.apply.new.table;
-  own = c.self.inside.own;
+  processes = c.self.inside.processes;
   statuses = c.self.inside.statuses;
   opens = c.apply.new.objects.kinds;
   nodes = c.self.inside.tree.nodes;
@@ -53,7 +53,7 @@ as_before : (c : In_err-reply) → unchanged c ≡ the_view c.self.inside
 as_before c = λ i. record {
   clock = c.self.inside.clock;
   tables = same_tables c i;
-  own = c.self.inside.own;
+  processes = c.self.inside.processes;
   statuses = c.self.inside.statuses;
   opens = (ap (λ (h : Held). h.kinds) c.in_err-reply.ensures.same_objects) i;
   nodes = c.self.inside.tree.nodes;
@@ -87,7 +87,7 @@ abbrev fields : After-release → State
 fields c = record {
   clock = c.self.inside.clock;
   tables = insert c.self.inside.tables c.from-p.result c.apply.new.table;
-  own = c.self.inside.own;
+  processes = c.self.inside.processes;
   statuses = c.self.inside.statuses;
   opens = c.release.new.objects.kinds;
   nodes = c.release.new.tree.nodes;
@@ -122,7 +122,7 @@ after c =
     ∙ retain_same _ _ _ (λ o. ap (λ (n : ℕ). not (n == 0)) (counted c o)) in
     let tree : c.release.new.tree ≡ retained k.tree (is_used (retain_keys (opens_after k.objects.kinds (us c)) (λ o. not (holders (changed c) o == 0))) k.tree) =
     c.release.ensures.tree ∙ ap (λ (m : FinMap nat_cmp OpenKind). retained k.tree (is_used m k.tree)) opens in
-    (λ i. record { clock = k.clock; tables = set c i; own = k.own; statuses = k.statuses; opens = opens i; nodes = (tree i).nodes; names = (tree i).names; terms = k.terms })
+    (λ i. record { clock = k.clock; tables = set c i; processes = k.processes; statuses = k.statuses; opens = opens i; nodes = (tree i).nodes; names = (tree i).names; terms = k.terms })
     ∙ sym (ap without_nodes (ended_is (changed c)))
     ∙ sym (ap release (puts_are (us c) (the_view k) c.args.pid c.get_mut.result.now (there c) (change_of_own c.args.pid k.objects.kinds c.get_mut.result.now c.args.change.now)))
 

@@ -4,7 +4,7 @@ use Rattle.std.specs.FinMap.{FinMap, get, insert, empty, retain_keys}
 use Rattle.abi_types.specs.declared.open_kind.OpenKind.{OpenKind}
 use Rattle.maps.specs.Maps.{number, total}
 use Rattle.object_store.specs.Objects.{Held, is_held}
-use Rattle.kernel_model.specs.ProcessCalls.{ended_own, end_updates}
+use Rattle.kernel_model.specs.ProcessCalls.{ended_process, end_updates}
 use Rattle.tree_model.specs.Opens.{is_used}
 use Rattle.tree_model.specs.Retained.{retained}
 use Rattle.kernel_model.specs.Release.{count_in, holders, release, without_nodes}
@@ -35,7 +35,7 @@ abbrev fields : After-release → State
 fields c = record {
   clock = c.self.inside.clock;
   tables = insert c.self.inside.tables c.from-p.result c.let_go_all.new.table;
-  own = insert c.self.inside.own c.from-p.result c.end.new.self;
+  processes = insert c.self.inside.processes c.from-p.result c.end.new.self;
   statuses = c.replace.new.self;
   opens = c.release.new.objects.kinds;
   nodes = c.release.new.tree.nodes;
@@ -43,15 +43,15 @@ fields c = record {
   terms = c.self.inside.terms;
 }
 
-after : (c : After-release) → fields c ≡ release (put_all (end_updates c.args.pid (get c.self.inside.own c.args.pid) c.args.status) (the_view c.self.inside))
+after : (c : After-release) → fields c ≡ release (put_all (end_updates c.args.pid (get c.self.inside.processes c.args.pid) c.args.status) (the_view c.self.inside))
 after c =
     let k = c.self.inside in
     let same : c.from-p.result ≡ c.args.pid = c.from-p.ensures ∙ c.pid.view_is in
     let tables : insert k.tables c.from-p.result c.let_go_all.new.table ≡ insert k.tables c.args.pid empty =
     ap (insert k.tables c.from-p.result) c.let_go_all.ensures.empty ∙ ap (λ (p : ℕ). insert k.tables p empty) same in
-    let there : Some c.get_mut.result.now ≡ get k.own c.args.pid = c.get_mut.ensures.value ∙ ap (get k.own) same in
-    let own : insert k.own c.from-p.result c.end.new.self ≡ insert k.own c.args.pid (ended_own (get k.own c.args.pid)) =
-    ap (insert k.own c.from-p.result) (c.end.ensures ∙ ap ended_own there) ∙ ap (λ (p : ℕ). insert k.own p (ended_own (get k.own c.args.pid))) same in
+    let there : Some c.get_mut.result.now ≡ get k.processes c.args.pid = c.get_mut.ensures.value ∙ ap (get k.processes) same in
+    let own : insert k.processes c.from-p.result c.end.new.self ≡ insert k.processes c.args.pid (ended_process (get k.processes c.args.pid)) =
+    ap (insert k.processes c.from-p.result) (c.end.ensures ∙ ap ended_process there) ∙ ap (λ (p : ℕ). insert k.processes p (ended_process (get k.processes c.args.pid))) same in
     let statuses : c.replace.new.self ≡ insert k.statuses c.args.pid c.args.status =
     c.replace.ensures.new ∙ ap (λ (p : ℕ). insert k.statuses p c.args.status) same in
     let opens : c.release.new.objects.kinds ≡ retain_keys k.objects.kinds (λ o. not (total (count_in o) (insert k.tables c.args.pid empty) == 0)) =
@@ -60,8 +60,8 @@ after c =
     ∙ retain_same _ _ _ (λ o. ap (λ (n : ℕ). not (n == 0)) (left c o)) in
     let tree : c.release.new.tree ≡ retained k.tree (is_used (retain_keys k.objects.kinds (λ o. not (total (count_in o) (insert k.tables c.args.pid empty) == 0))) k.tree) =
     c.release.ensures.tree ∙ ap (λ (m : FinMap nat_cmp OpenKind). retained k.tree (is_used m k.tree)) opens in
-    (λ i. record { clock = k.clock; tables = tables i; own = own i; statuses = statuses i; opens = opens i; nodes = (tree i).nodes; names = (tree i).names; terms = k.terms })
-    ∙ sym (ap without_nodes (ended_is (put_all (end_updates c.args.pid (get k.own c.args.pid) c.args.status) (the_view k))))
+    (λ i. record { clock = k.clock; tables = tables i; processes = own i; statuses = statuses i; opens = opens i; nodes = (tree i).nodes; names = (tree i).names; terms = k.terms })
+    ∙ sym (ap without_nodes (ended_is (put_all (end_updates c.args.pid (get k.processes c.args.pid) c.args.status) (the_view k))))
 
 -- each node is used before anything ends, as in each valid state
 pub release-requires-clause-used : goal.release-requires-clause-used

@@ -15,7 +15,7 @@ use Rattle.kernel_model.specs.Reply.{success}
 use Rattle.kernel_model.specs.State.{State, Table, Tree, counts_in, put_all, tree_of}
 use Rattle.kernel_model.specs.Valid.{IsValid}
 use Rattle.kernel_model.proofs.Valids.{release_restores, release_valid, same_value}
-use Rattle.name_calls.specs.Plans.{change_of, makes_of}
+use Rattle.entry_calls.specs.Plans.{change_of, makes_of}
 use Rattle.kernel_core.specs.Opening.{IsOpening, open_outcome}
 use Rattle.kernel_core.specs.contracts.kernel.Kernel.{the_view}
 use Rattle.kernel_core.proofs.Changes.{moved_holders}
@@ -111,8 +111,8 @@ make-requires d =
     let S = the_view d.self.inside in
     let fits = open_fits S d.args.pid d.get_mut-table.result.now d.args.lookup.now d.args.path.now d.args.oflags d.args.stat.now d.in-Ok.opening
     (planned (goal.at.make-requires d).After-get_mut-table) d.self.invariant.valid in
-    let own : get S.own d.args.pid ≡ Some d.get_mut.result.now =
-    ap (get S.own) (sym (d.from-p.ensures ∙ d.pid.view_is)) ∙ sym d.get_mut.ensures.value in
+    let own : get S.processes d.args.pid ≡ Some d.get_mut.result.now =
+    ap (get S.processes) (sym (d.from-p.ensures ∙ d.pid.view_is)) ∙ sym d.get_mut.ensures.value in
     let made = ap (λ o. (counts_in o).objects) own in
     let makes = d.makes.ensures in
     omega (arith, fits.1, made, makes)
@@ -129,8 +129,8 @@ forget_nameless-requires d =
 there : (c : After-success) → get c.self.inside.tables c.args.pid ≡ Some c.get_mut-table.result.now
 there c = ap (get c.self.inside.tables) (sym (c.from-p.ensures ∙ c.pid.view_is)) ∙ sym c.get_mut-table.ensures.value
 
-owned : (c : After-success) → get c.self.inside.own c.args.pid ≡ Some c.get_mut.result.now
-owned c = ap (get c.self.inside.own) (sym (c.from-p.ensures ∙ c.pid.view_is)) ∙ sym c.get_mut.ensures.value
+owned : (c : After-success) → get c.self.inside.processes c.args.pid ≡ Some c.get_mut.result.now
+owned c = ap (get c.self.inside.processes) (sym (c.from-p.ensures ∙ c.pid.view_is)) ∙ sym c.get_mut.ensures.value
 
 abbrev Plans : After-success → Type 0
 Plans c = IsOpening (the_view c.self.inside) c.args.pid c.get_mut-table.result.now c.args.lookup.now c.args.path.now c.args.oflags c.args.stat.now c.in-Ok.opening
@@ -144,7 +144,7 @@ outcome c =
 abbrev fields : After-success → State
 fields c = record (the_view c.self.inside) {
   tables = insert c.self.inside.tables c.from-p.result c.put_opening.new.table;
-  own = insert c.self.inside.own c.from-p.result c.make.new.self;
+  processes = insert c.self.inside.processes c.from-p.result c.make.new.self;
   opens = c.put_opening.new.objects.kinds;
   nodes = c.forget_nameless.new.tree.nodes;
   names = c.forget_nameless.new.tree.names;
@@ -160,16 +160,16 @@ after c plan =
     let tables : insert S.tables c.from-p.result c.put_opening.new.table ≡ insert S.tables p (insert c.get_mut-table.result.now o.fd o.descriptor) =
     ap (insert S.tables c.from-p.result) c.in_ok-put_opening.ensures.table
     ∙ ap (λ (q : ℕ). insert S.tables q (insert c.get_mut-table.result.now o.fd o.descriptor)) same in
-    let own : insert S.own c.from-p.result c.make.new.self ≡ insert S.own p (made_more (makes_of o.plan + 1) c.get_mut.result.now) =
-    ap (insert S.own c.from-p.result) (c.make.ensures ∙ ap (λ k. made_more (k + 1) c.get_mut.result.now) c.makes.ensures)
-    ∙ ap (λ (q : ℕ). insert S.own q (made_more (makes_of o.plan + 1) c.get_mut.result.now)) same in
+    let own : insert S.processes c.from-p.result c.make.new.self ≡ insert S.processes p (made_more (makes_of o.plan + 1) c.get_mut.result.now) =
+    ap (insert S.processes c.from-p.result) (c.make.ensures ∙ ap (λ k. made_more (k + 1) c.get_mut.result.now) c.makes.ensures)
+    ∙ ap (λ (q : ℕ). insert S.processes q (made_more (makes_of o.plan + 1) c.get_mut.result.now)) same in
     let opens : c.put_opening.new.objects.kinds ≡ insert S.opens o.descriptor.id o.kind = c.in_ok-put_opening.ensures.kinds in
-    let u : Tree = (change_of o.plan c.args.path.now now (next_object p (get S.own p) 1) (tree_of S)).tree in
+    let u : Tree = (change_of o.plan c.args.path.now now (next_object p (get S.processes p) 1) (tree_of S)).tree in
     let changed : c.put_opening.new.tree ≡ u =
     c.in_ok-put_opening.ensures.tree ∙ ap (λ n. (change_of o.plan c.args.path.now now n (tree_of S)).tree) plan.new in
     let tree : c.forget_nameless.new.tree ≡ retained u (is_used (insert S.opens o.descriptor.id o.kind) u) =
     c.forget_nameless.ensures ∙ (λ i. retained (changed i) (is_used (opens i) (changed i))) in
-    (λ i. record S { tables = tables i; own = own i; opens = opens i; nodes = (tree i).nodes; names = (tree i).names })
+    (λ i. record S { tables = tables i; processes = own i; opens = opens i; nodes = (tree i).nodes; names = (tree i).names })
     ∙ open_released S p c.get_mut-table.result.now c.args.lookup.now c.args.path.now c.args.oflags c.args.stat.now o plan c.self.invariant.valid (there c) now
     c.get_mut.result.now (owned c)
 

@@ -1,14 +1,14 @@
 use Rattle.std.proofs.Common.{◌≡◌, ℕ, ◌+◌, ◌-◌, None, Some, option_copied, refl, sym, ap, subst, ◌∙◌}
 use Rattle.std.specs.FinMap.{get}
 use Rattle.abi_base.specs.declared.errno.Errno.TheVariants.{Badf}
-use Rattle.file_calls.specs.declared.refusal.Refusal.TheVariants as refusal
+use Rattle.file_calls.specs.declared.path_fault.PathFault.TheVariants as path_fault
 use Rattle.kernel_model.specs.Numbers.{can_number, next_object}
 use Rattle.kernel_model.specs.Opening.{opened_descriptor}
 use Rattle.kernel_model.specs.Outcome.{replies}
 use Rattle.kernel_model.specs.State.{State, Table, tree_of}
 use Rattle.kernel_model.proofs.Valids.{same_value}
-use Rattle.name_calls.specs.Plans.{makes_of, opened_by, opened_of}
-use Rattle.kernel_parts.specs.Names.{number_of, open_in}
+use Rattle.entry_calls.specs.Plans.{makes_of, opened_by, opened_of}
+use Rattle.kernel_parts.specs.Entries.{number_of, open_in}
 use Rattle.kernel_core.specs.Opening.{IsOpening, open_outcome, opened_at}
 use Rattle.kernel_core.specs.contracts.kernel.Kernel.{the_view}
 use Rattle.kernel_parts.proofs.Lowest.{full_is_none}
@@ -21,8 +21,8 @@ use Rattle.kernel_core.proofs.kernel.Kernel.plan_opening.Goals.{In-Some-Some, In
 there : (c : In-Some-Some) → get c.self.inside.tables c.args.pid ≡ Some c.in-Some-Some.table.now
 there c = ap (get c.self.inside.tables) (sym (c.from-p.ensures ∙ c.pid.view_is)) ∙ sym c.in-Some-Some.ensures.value
 
-owned : (c : In-Some-Some) → get c.self.inside.own c.args.pid ≡ Some c.in-Some-Some.own.now
-owned c = ap (get c.self.inside.own) (sym (c.from-p.ensures ∙ c.pid.view_is)) ∙ sym c.in-Some-Some.ensures'.value
+owned : (c : In-Some-Some) → get c.self.inside.processes c.args.pid ≡ Some c.in-Some-Some.own.now
+owned c = ap (get c.self.inside.processes) (sym (c.from-p.ensures ∙ c.pid.view_is)) ∙ sym c.in-Some-Some.ensures'.value
 
 -- what holds of the state as it is kept, and of its table, holds as it is seen
 seen : (c : In-Some-Some) (P : State → Table → Type 0) → P (the_view c.self.inside) c.in-Some-Some.table.now
@@ -40,26 +40,26 @@ returns-in_default-lowest-clause-refused d = λ table here now.
     (full_is_none d.in-Some-Some.table.now (d.self.invariant.small d.args.pid d.in-Some-Some.table.now (there c)) (d.in_default-lowest.ensures.full.0 refl))
     d.refused-in_default-lowest.ensures) table here
 
-pub returns-in_default-opened-clause-refused : goal.returns-in_default-opened-clause-refused
-returns-in_default-opened-clause-refused d = λ table here now.
-    let c = (goal.at.returns-in_default-opened-clause-refused d).In-Some-Some in
+pub returns-in_default-open_of-clause-refused : goal.returns-in_default-open_of-clause-refused
+returns-in_default-open_of-clause-refused d = λ table here now.
+    let c = (goal.at.returns-in_default-open_of-clause-refused d).In-Some-Some in
     let S = the_view d.self.inside in
-    let none : None ≡ open_in S.opens (get d.in-Some-Some.table.now d.args.lookup.now.fd) = ap option_copied (sym d.in_default-opened.is) ∙ d.opened.ensures in
-    seen c (λ T t. open_outcome now T d.args.pid t d.args.lookup.now d.args.path.now d.args.oflags d.args.stat.now ≡ replies d.refused-in_default-opened.result)
+    let none : None ≡ open_in S.opens (get d.in-Some-Some.table.now d.args.lookup.now.fd) = ap option_copied (sym d.in_default-open_of.is) ∙ d.open_of.ensures in
+    seen c (λ T t. open_outcome now T d.args.pid t d.args.lookup.now d.args.path.now d.args.oflags d.args.stat.now ≡ replies d.refused-in_default-open_of.result)
     (refused_opens_none now S d.args.pid d.in-Some-Some.table.now d.args.lookup.now d.args.path.now d.args.oflags d.args.stat.now
-    d.refused-in_default-opened.result d.in-Some.fd (refusal.Errno Badf) d.in-Some.ensures.free
-    (opens_from now (next_object d.args.pid (get S.own d.args.pid) 1) S d.in-Some-Some.table.now d.args.lookup.now d.args.path.now d.args.oflags d.args.stat.now None none)
-    d.refused-in_default-opened.ensures) table here
+    d.refused-in_default-open_of.result d.in-Some.fd (path_fault.Errno Badf) d.in-Some.ensures.free
+    (opens_from now (next_object d.args.pid (get S.processes d.args.pid) 1) S d.in-Some-Some.table.now d.args.lookup.now d.args.path.now d.args.oflags d.args.stat.now None none)
+    d.refused-in_default-open_of.ensures) table here
 
 pub returns-in-Err-clause-refused : goal.returns-in-Err-clause-refused
 returns-in-Err-clause-refused d = λ table here now.
     let c = (goal.at.returns-in-Err-clause-refused d).In-Some-Some in
     let S = the_view d.self.inside in
-    let new : ℕ = next_object d.args.pid (get S.own d.args.pid) 1 in
+    let new : ℕ = next_object d.args.pid (get S.processes d.args.pid) 1 in
     seen c (λ T t. open_outcome now T d.args.pid t d.args.lookup.now d.args.path.now d.args.oflags d.args.stat.now ≡ replies d.reply_of.result)
     (refused_opens_none now S d.args.pid d.in-Some-Some.table.now d.args.lookup.now d.args.path.now d.args.oflags d.args.stat.now
     d.reply_of.result d.in-Some.fd d.in-Err.refusal d.in-Some.ensures.free
-    (opens_from now new S d.in-Some-Some.table.now d.args.lookup.now d.args.path.now d.args.oflags d.args.stat.now (Some d.in-Some-opened.here.now) d.in-Some-opened.ensures
+    (opens_from now new S d.in-Some-Some.table.now d.args.lookup.now d.args.path.now d.args.oflags d.args.stat.now (Some d.in-Some-open_of.here.now) d.in-Some-open_of.ensures
     ∙ d.plan_open.ensures d.args.stat.now.flags now new ∙ ap (λ r. opened_of r d.args.path.now (tree_of S) d.args.stat.now.flags now new) d.in-Err.is)
     d.reply_of.ensures) table here
 
@@ -69,7 +69,7 @@ planned : (c : In-Ok) (now new : ℕ)
     ≡ opened_by c.in-Ok.plan c.args.path.now (tree_of (the_view c.self.inside)) c.args.stat.now.flags now new
 planned c now new =
     opens_from now new (the_view c.self.inside) c.in-Some-Some.table.now c.args.lookup.now c.args.path.now c.args.oflags c.args.stat.now
-    (Some c.in-Some-opened.here.now) c.in-Some-opened.ensures
+    (Some c.in-Some-open_of.here.now) c.in-Some-open_of.ensures
     ∙ c.plan_open.ensures c.args.stat.now.flags now new
     ∙ ap (λ r. opened_of r c.args.path.now (tree_of (the_view c.self.inside)) c.args.stat.now.flags now new) c.in-Ok.is
 
@@ -77,7 +77,7 @@ pub returns-in_default-numbered-clause-refused : goal.returns-in_default-numbere
 returns-in_default-numbered-clause-refused d = λ table here now.
     let c = (goal.at.returns-in_default-numbered-clause-refused d).In-Some-Some in
     let S = the_view d.self.inside in
-    let new : ℕ = next_object d.args.pid (get S.own d.args.pid) 1 in
+    let new : ℕ = next_object d.args.pid (get S.processes d.args.pid) 1 in
     let none : number_of d.args.pid (makes_of d.in-Ok.plan + 1) (Some d.in-Some-Some.own.now) ≡ None =
     ap (λ k. number_of d.args.pid (k + 1) (Some d.in-Some-Some.own.now)) (sym d.makes.ensures) ∙ sym d.numbered.ensures.number ∙ d.in_default-numbered.is in
     seen c (λ T t. open_outcome now T d.args.pid t d.args.lookup.now d.args.path.now d.args.oflags d.args.stat.now ≡ replies d.refused-in_default-numbered.result)
@@ -97,7 +97,7 @@ returns-clause-ok d = λ table here.
     let found : number_of p (makes + 1) (Some d.in-Some-Some.own.now) ≡ Some d.in-Some-numbered.id =
     ap (λ k. number_of p (k + 1) (Some d.in-Some-Some.own.now)) (sym d.makes.ensures) ∙ sym d.numbered.ensures.number ∙ d.in-Some-numbered.is in
     let number = numbered_is p (makes + 1) d.in-Some-numbered.id (Some d.in-Some-Some.own.now) found in
-    let last : d.in-Some-numbered.id ≡ next_object p (get S.own p) (makes + 1) =
+    let last : d.in-Some-numbered.id ≡ next_object p (get S.processes p) (makes + 1) =
     number.1 ∙ ap (λ o. next_object p o (makes + 1)) (sym (owned c)) in
     seen c (λ T t. IsOpening T p t d.args.lookup.now d.args.path.now d.args.oflags stat (record {
       fd = d.in-Some.fd;
@@ -109,7 +109,7 @@ returns-clause-ok d = λ table here.
     (record {
       free = d.in-Some.ensures.free;
       can = ap (can_number p (makes + 1)) (owned c) ∙ number.0;
-      new = first_number p makes d.id.inside.0 d.from.result (get S.own p) (d.id.view_is ∙ last) (d.from.ensures ∙ d.makes-2.ensures);
+      new = first_number p makes d.id.inside.0 d.from.result (get S.processes p) (d.id.view_is ∙ last) (d.from.ensures ∙ d.makes-2.ensures);
       kind = d.kind.ensures;
       descriptor = d.descriptor.ensures stat.flags (d.id.inside.0 - d.from.result)
           ∙ ap (λ k. opened_descriptor d.in-Some-numbered.id k stat) (sym d.kind.ensures) ∙ ap (λ n. opened_descriptor n d.kind.result stat) last;

@@ -1,0 +1,73 @@
+use Rattle.std.proofs.Common.{◌≡◌, ℕ, List, Option, None, Some, option_copied, refl, sym, ap, ◌∙◌}
+use Rattle.abi_base.specs.declared.errno.Errno.{Errno}
+use Rattle.abi_types.specs.declared.call.Call.{Call}
+use Rattle.abi_types.specs.declared.node.NodeKind.{NodeKind}
+use Rattle.abi_types.specs.declared.node.NodeKind.TheVariants as kind
+use Rattle.abi_types.specs.declared.open_kind.OpenKind.{OpenKind}
+use Rattle.tree_model.specs.Tree.{Tree}
+use Rattle.kernel_model.specs.FilePaths.{lookup_mode}
+use Rattle.kernel_model.specs.EntryCalls.{name_meaning}
+use Rattle.kernel_model.specs.NameMaking.{making, making_unless, text_error}
+use Rattle.kernel_model.specs.NameMeaning.{NameOutcome, NameMeaning}
+use Rattle.kernel_model.specs.NameMoving.{linking, renaming}
+use Rattle.kernel_model.specs.NameRemoving.{unlinking}
+use Rattle.entry_calls.proofs.Endings.{done_as}
+use Rattle.entry_calls.proofs.dispatch.on_entries.Goals as goal
+
+-- a call that makes a node has no second path
+second_unseen : (e : Option Errno) (kind : NodeKind) (path : List ℕ) (now new : ℕ) (t : Tree) (here there : Option OpenKind)
+    → (making_unless e (making kind path)).effect now new t here None ≡ (making_unless e (making kind path)).effect now new t here there
+second_unseen None kind path now new t here there = refl
+second_unseen (Some errno) kind path now new t here there = refl
+
+pub returns-in-FileCreate : goal.returns-in-FileCreate
+returns-in-FileCreate c =
+    let t = c.args.tree.now in
+    let effect : NameMeaning → NameOutcome = λ m. m.effect c.args.now c.args.new t (Some c.args.here.now) (option_copied c.args.there) in
+    done_as t c.file_create.new.tree c.file_create.result _ (effect (name_meaning c.args.call.now))
+    (ap (λ path. effect (making kind.Directory path)) c.as_slice.ensures ∙ ap (λ (call : Call). effect (name_meaning call)) (sym c.in-FileCreate.is))
+    c.file_create.ensures
+
+pub returns-in-FileLink : goal.returns-in-FileLink
+returns-in-FileLink c =
+    let t = c.args.tree.now in
+    let effect : NameMeaning → NameOutcome = λ m. m.effect c.args.now c.args.new t (Some c.args.here.now) (option_copied c.args.there) in
+    let mode = lookup_mode c.in-FileLink.lookup.flags in
+    done_as t c.file_link.new.tree c.file_link.result _ (effect (name_meaning c.args.call.now))
+    (ap (λ path. effect (linking mode path c.as_slice-in-FileLink-2.result.now)) c.as_slice-in-FileLink.ensures
+    ∙ ap (λ path. effect (linking mode c.in-FileLink.path path)) c.as_slice-in-FileLink-2.ensures
+    ∙ ap (λ (call : Call). effect (name_meaning call)) (sym c.in-FileLink.is))
+    (c.file_link.ensures c.args.new)
+
+pub returns-in-FileRename : goal.returns-in-FileRename
+returns-in-FileRename c =
+    let t = c.args.tree.now in
+    let effect : NameMeaning → NameOutcome = λ m. m.effect c.args.now c.args.new t (Some c.args.here.now) (option_copied c.args.there) in
+    done_as t c.file_rename.new.tree c.file_rename.result _ (effect (name_meaning c.args.call.now))
+    (ap (λ path. effect (renaming path c.as_slice-in-FileRename-2.result.now)) c.as_slice-in-FileRename.ensures
+    ∙ ap (λ path. effect (renaming c.in-FileRename.path path)) c.as_slice-in-FileRename-2.ensures
+    ∙ ap (λ (call : Call). effect (name_meaning call)) (sym c.in-FileRename.is))
+    (c.file_rename.ensures c.args.new)
+
+pub returns-in-FileSymlink : goal.returns-in-FileSymlink
+returns-in-FileSymlink c =
+    let t = c.args.tree.now in
+    let effect : NameMeaning → NameOutcome = λ m. m.effect c.args.now c.args.new t (Some c.args.here.now) (option_copied c.args.there) in
+    done_as t c.file_symlink.new.tree c.file_symlink.result _ (effect (name_meaning c.args.call.now))
+    (second_unseen (text_error c.as_slice-in-FileSymlink.result.now) (kind.Link c.as_slice-in-FileSymlink.result.now)
+    c.as_slice-in-FileSymlink-2.result.now c.args.now c.args.new t (Some c.args.here.now) (option_copied c.args.there)
+    ∙ ap (λ text. effect (making_unless (text_error text) (making (kind.Link text) c.as_slice-in-FileSymlink-2.result.now)))
+    c.as_slice-in-FileSymlink.ensures
+    ∙ ap (λ path. effect (making_unless (text_error c.in-FileSymlink.text) (making (kind.Link c.in-FileSymlink.text) path)))
+    c.as_slice-in-FileSymlink-2.ensures
+    ∙ ap (λ (call : Call). effect (name_meaning call)) (sym c.in-FileSymlink.is))
+    c.file_symlink.ensures
+
+pub returns-in-FileUnlink : goal.returns-in-FileUnlink
+returns-in-FileUnlink c =
+    let t = c.args.tree.now in
+    let effect : NameMeaning → NameOutcome = λ m. m.effect c.args.now c.args.new t (Some c.args.here.now) (option_copied c.args.there) in
+    done_as t c.file_unlink.new.tree c.file_unlink.result _ (effect (name_meaning c.args.call.now))
+    (ap (λ path. effect (unlinking c.in-FileUnlink.flags path)) c.as_slice-in-FileUnlink.ensures
+    ∙ ap (λ (call : Call). effect (name_meaning call)) (sym c.in-FileUnlink.is))
+    (c.file_unlink.ensures c.args.new)

@@ -1,0 +1,21 @@
+use Rattle.std.proofs.Common.{◌∙◌, ap}
+use Rattle.tree_model.specs.Changes.{first_fault, made, make_faults}
+use Rattle.kernel_model.specs.NameMaking.{errno_of, with_new_names, with_node}
+use Rattle.kernel_model.specs.NameMeaning.{Changes}
+use Rattle.entry_calls.proofs.Endings.{failed_as, unless_none}
+use Rattle.entry_calls.proofs.making.make_in.Goals as goal
+
+pub returns-in-Ok : goal.returns-in-Ok
+returns-in-Ok c =
+    let t = c.args.tree.now in
+    let faults = first_fault (make_faults t c.args.dir c.args.name.now) in
+    let change = with_node c.args.kind c.args.now c.args.new t c.args.dir c.args.name.now in
+    let is_made = c.in-Ok.ensures.ok ∙ ap (made t c.args.dir c.args.name.now c.args.new) c.node_of.ensures in (
+      change,
+      unless_none errno_of faults (Changes change) c.in-Ok.ensures.allowed,
+      c.set_modified.ensures ∙ ap (λ u. with_new_names c.args.now u c.args.dir) is_made,
+    )
+
+pub returns-in-Err : goal.returns-in-Err
+returns-in-Err c =
+    (failed_as errno_of _ _ c.in-Err.fault c.failed.result c.in-Err.ensures.fault c.failed.ensures, c.in-Err.ensures.err)

@@ -1,0 +1,19 @@
+use Rattle.std.proofs.Common.{◌∙◌, ap}
+use Rattle.tree_model.specs.Changes.{first_fault, link_faults}
+use Rattle.kernel_model.specs.NameMaking.{with_new_names}
+use Rattle.kernel_model.specs.NameMeaning.{Changes}
+use Rattle.kernel_model.specs.NameMoving.{link_errno, with_link}
+use Rattle.kernel_model.specs.NameRemoving.{with_new_count}
+use Rattle.entry_calls.proofs.Endings.{unless_none}
+use Rattle.entry_calls.proofs.moving.link_in.Goals as goal
+
+pub returns-in-Ok : goal.returns-in-Ok
+returns-in-Ok c =
+    let t = c.args.tree.now in
+    let faults = first_fault (link_faults t c.args.dir c.args.name.now c.args.node) in
+    let change = with_link c.args.now t c.args.node c.args.dir c.args.name.now in (
+      change,
+      unless_none link_errno faults (Changes change) c.in-Ok.ensures.allowed,
+      c.set_recounted.ensures ∙ ap (λ u. with_new_count c.args.now u c.args.node)
+          (c.set_modified.ensures ∙ ap (λ u. with_new_names c.args.now u c.args.dir) c.in-Ok.ensures.ok),
+    )

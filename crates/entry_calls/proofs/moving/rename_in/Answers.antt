@@ -1,0 +1,60 @@
+use Rattle.std.proofs.Common.{◌≡◌, Bool, true, false, Option, sym, ◌∙◌, ap, subst}
+use Rattle.std.specs.Prelude.{ℕ, if◌then◌else◌}
+use Rattle.tree_model.specs.Changes.{first_fault, is_same, moved_to, rename_faults, replaced}
+use Rattle.tree_model.specs.Tree.{Tree, entry_of}
+use Rattle.kernel_model.specs.NameMaking.{errno_of, with_new_names}
+use Rattle.kernel_model.specs.NameMeaning.{NameOutcome, Changes}
+use Rattle.kernel_model.specs.NameMoving.{move_or_stay, with_move, with_new_count_of}
+use Rattle.kernel_model.specs.TreeUpdates.{no_change}
+use Rattle.entry_calls.specs.Done.{FailsAs}
+use Rattle.entry_calls.proofs.Endings.{failed_as, unless_none}
+use Rattle.entry_calls.proofs.moving.rename_in.Goals as goal
+
+pub returns-then-not-stays : goal.returns-then-not-stays
+returns-then-not-stays c =
+    let t = c.args.tree.now in
+    let name = c.args.name.now in
+    let new = c.args.new_name.now in
+    let faults = first_fault (rename_faults t c.args.from name c.args.to new) in
+    let move = with_move c.args.now t c.args.from name c.args.to new in
+    let differ : false ≡ is_same (entry_of t c.args.from name) (entry_of t c.args.to new) =
+    c.if-not-stays.ensures ∙ ap (λ e. is_same e c.entry-2.result) c.entry.ensures ∙ ap (is_same (entry_of t c.args.from name)) c.entry-2.ensures in (
+      move,
+      c.names_lead.ensures c.args.from name _ ∙ c.names_lead.ensures c.args.to new _
+          ∙ unless_none errno_of faults (Changes (move_or_stay c.args.now t c.args.from name c.args.to new)) c.in-Ok.ensures.allowed
+          ∙ ap (λ (b : Bool). Changes (if b then no_change t else move)) (sym differ),
+      c.set_moved.ensures
+          ∙ ap (λ (old : Option ℕ). with_new_count_of c.args.now
+          (with_new_names c.args.now (with_new_names c.args.now c.rename.new.self c.args.from) c.args.to) old) c.in-Ok.ensures.replaced
+          ∙ ap (λ (u : Tree). with_new_count_of c.args.now (with_new_names c.args.now (with_new_names c.args.now u c.args.from) c.args.to)
+          (replaced t c.args.from name c.args.to new))
+          c.in-Ok.ensures.ok,
+    )
+
+pub returns-else-not-stays : goal.returns-else-not-stays
+returns-else-not-stays c =
+    let t = c.args.tree.now in
+    let name = c.args.name.now in
+    let new = c.args.new_name.now in
+    let faults = first_fault (rename_faults t c.args.from name c.args.to new) in
+    let same : true ≡ is_same (entry_of t c.args.from name) (entry_of t c.args.to new) =
+    c.if-not-stays.ensures ∙ ap (λ e. is_same e c.entry-2.result) c.entry.ensures ∙ ap (is_same (entry_of t c.args.from name)) c.entry-2.ensures in (
+      no_change t,
+      c.names_lead.ensures c.args.from name _ ∙ c.names_lead.ensures c.args.to new _
+          ∙ unless_none errno_of faults (Changes (move_or_stay c.args.now t c.args.from name c.args.to new)) c.in-Ok.ensures.allowed
+          ∙ ap (λ (b : Bool). Changes (if b then no_change t else with_move c.args.now t c.args.from name c.args.to new)) (sym same),
+      c.in-Ok.ensures.ok
+          ∙ ap (λ (b : Bool). if b then t else moved_to t c.args.from name c.args.to new (entry_of t c.args.from name)) (sym same),
+    )
+
+pub returns-in-Err : goal.returns-in-Err
+returns-in-Err c =
+    let t = c.args.tree.now in
+    let name = c.args.name.now in
+    let new = c.args.new_name.now in (
+      subst (λ (comes : NameOutcome). FailsAs comes c.failed.result)
+          (sym (c.names_lead.ensures c.args.to new _) ∙ sym (c.names_lead.ensures c.args.from name _))
+          (failed_as errno_of (first_fault (rename_faults t c.args.from name c.args.to new))
+          (Changes (move_or_stay c.args.now t c.args.from name c.args.to new)) c.in-Err.fault c.failed.result c.in-Err.ensures.fault c.failed.ensures),
+      c.in-Err.ensures.err,
+    )

@@ -1,0 +1,11 @@
+use Rattle.std.proofs.Common.{Some}
+use Rattle.kernel_model.specs.LastNames.{last_name}
+use Rattle.kernel_model.specs.NameRemoving.{unlink_in}
+use Rattle.entry_calls.proofs.Endings.{place_done}
+use Rattle.entry_calls.proofs.removing.file_unlink.Goals as goal
+
+pub returns : goal.returns
+returns c new =
+    let t = c.args.tree.now in
+    place_done t c.unlink_in.new.tree c.unlink_in.result (unlink_in c.args.flags c.args.now t) c.args.path.now c.name_at.result.now
+    (last_name t c.args.path.now (Some c.args.here.now)) c.in_ok-place.place c.in_ok-place.ensures c.name_at.ensures c.unlink_in.ensures

@@ -1,0 +1,32 @@
+use Rattle.std.proofs.Common.{refl, sym, ap, subst, ◌∙◌}
+use Rattle.tree_model.specs.Changes.{IsRefusal, first_fault, unlink_faults}
+use Rattle.tree_model.specs.Tree.{entry_of}
+use Rattle.kernel_model.specs.NameMeaning.{NameOutcome}
+use Rattle.kernel_model.specs.NameRemoving.{unlink_errno, unlink_node}
+use Rattle.entry_calls.specs.Done.{FailsAs}
+use Rattle.entry_calls.proofs.Endings.{done_as, failed_as, unless_none}
+use Rattle.entry_calls.proofs.removing.unlink_in.Goals as goal
+
+pub returns-in-Ok : goal.returns-in-Ok
+returns-in-Ok c =
+    let t = c.args.tree.now in
+    let name = c.args.name.now in
+    let faults = first_fault (unlink_faults t c.args.dir name) in
+    let goes = unlink_node c.args.flags c.args.now t c.args.dir name in
+    done_as t c.unlink_node.new.tree c.unlink_node.result _ _
+    (ap goes (sym c.in-Ok.ensures.node)
+    ∙ sym (unless_none (unlink_errno c.args.flags) faults (goes (entry_of t c.args.dir name)) c.in-Ok.ensures.checks)
+    ∙ sym (c.names_lead.ensures c.args.dir name _))
+    c.unlink_node.ensures
+
+pub returns-in-Err : goal.returns-in-Err
+returns-in-Err c =
+    let t = c.args.tree.now in
+    let name = c.args.name.now in
+    let fault = c.in-Err.fault in
+    let faults = first_fault (unlink_faults t c.args.dir name) in (
+      subst (λ (comes : NameOutcome). FailsAs comes c.unlink_failed.result) (sym (c.names_lead.ensures c.args.dir name _))
+          (failed_as (unlink_errno c.args.flags) faults (unlink_node c.args.flags c.args.now t c.args.dir name (entry_of t c.args.dir name)) fault
+          c.unlink_failed.result (subst (λ o. IsRefusal o fault) (sym c.in-Err.ensures.checks) refl) c.unlink_failed.ensures),
+      refl,
+    )

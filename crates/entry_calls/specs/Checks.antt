@@ -1,0 +1,12 @@
+-- What a call would come to, as it is told before it is done.
+use Rattle.std.specs.Prelude.{◌≡◌, Result, Ok, Err}
+use Rattle.file_calls.specs.declared.path_fault.PathFault.{PathFault}
+use Rattle.file_calls.specs.declared.path_fault.PathFault.TheVariants as path_fault
+use Rattle.kernel_model.specs.NameMeaning.{NameOutcome, Refuses, LeadsOut, Changes}
+use Rattle.kernel_model.specs.TreeUpdates.{Change}
+
+-- it changes the tree, or is refused so
+abbrev pub IsTold : {A : Type 0} → NameOutcome → Result A PathFault → Type 0
+IsTold comes (Ok x) = (change : Change) × (comes ≡ Changes change)
+IsTold comes (Err (path_fault.Errno errno)) = comes ≡ Refuses errno
+IsTold comes (Err (path_fault.Outside component)) = comes ≡ LeadsOut component

@@ -1,0 +1,33 @@
+-- How a call on names ends.
+use Rattle.std.specs.Prelude.{◌≡◌, ⊤, ℕ, zero, suc, true, Result, Ok, Err}
+use Rattle.abi_base.specs.declared.errno.Errno.{Errno}
+use Rattle.file_calls.specs.declared.path_fault.PathFault.TheVariants as path_fault
+use Rattle.kernel_model.specs.NameMeaning.{NameOutcome, Refuses, LeadsOut, Changes}
+use Rattle.kernel_model.specs.TreeUpdates.{Change}
+use Rattle.entry_calls.specs.declared.failure.Failure.{Failure}
+use Rattle.entry_calls.specs.declared.failure.Failure.TheVariants.{Refused, NoMemory}
+use Rattle.tree_model.specs.Changes.{is_absent}
+use Rattle.tree_model.specs.Tree.{Tree}
+use Rattle.tree_model.specs.declared.fault.TreeFault.{TreeFault}
+use Rattle.tree_model.specs.declared.fault.TreeFault.TheVariants as fault
+
+-- why it isn't done where the tree has this fault, by the error for that fault
+abbrev pub failure_of : (TreeFault → Errno) → TreeFault → Failure
+failure_of errno_of fault.NoMemory = NoMemory
+failure_of errno_of f = Refused (path_fault.Errno (errno_of f))
+
+-- it fails so: it is refused as the definition says, or memory is wanting
+abbrev pub FailsAs : NameOutcome → Failure → Type 0
+FailsAs comes (Refused (path_fault.Errno errno)) = comes ≡ Refuses errno
+FailsAs comes (Refused (path_fault.Outside component)) = comes ≡ LeadsOut component
+FailsAs comes NoMemory = ⊤
+
+-- It comes to a change of the tree old to the tree new; or it fails, and the tree stays.
+abbrev pub IsDone : {A : Type 0} → NameOutcome → Tree → Tree → Result A Failure → Type 0
+IsDone comes old new (Ok x) = (change : Change) × (comes ≡ Changes change) × (new ≡ change.tree)
+IsDone comes old new (Err failure) = FailsAs comes failure × (new ≡ old)
+
+-- the number of a node that is made, where one is, is none in the tree
+abbrev pub IsNew : ℕ → Tree → ℕ → Type 0
+IsNew zero t new = ⊤
+IsNew (suc makes) t new = is_absent t new ≡ true

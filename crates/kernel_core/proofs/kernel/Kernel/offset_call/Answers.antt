@@ -1,0 +1,121 @@
+use Rattle.std.proofs.Common.{◌≡◌, ℕ, ◌+◌, Option, Some, None, is_some, refl, sym, ap, subst, ◌∙◌}
+use Rattle.std.proofs.lemmas.Result.{IfOk-weaker}
+use Rattle.std.specs.FinMap.{get}
+use Rattle.std.specs.Option.{IfSome}
+use Rattle.abi_types.specs.declared.descriptor.Descriptor.{Descriptor}
+use Rattle.abi_types.specs.declared.open_kind.OpenKind.{OpenKind}
+use Rattle.abi_types.specs.declared.reply.Answer.{Answer}
+use Rattle.abi_types.specs.declared.reply.Answer.TheVariants as answer
+use Rattle.maps.specs.Maps.{number}
+use Rattle.object_store.specs.Nodes.{IsOfSameNode}
+use Rattle.object_store.specs.Objects.{Held}
+use Rattle.kernel_model.specs.State.{State, Table}
+use Rattle.kernel_model.specs.Valid.{IsValid}
+use Rattle.kernel_model.proofs.Valids.{same_value}
+use Rattle.kernel_parts.specs.StreamCalls.{terms_after}
+use Rattle.kernel_parts.specs.StreamCalls.{stream_outcome}
+use Rattle.kernel_core.specs.contracts.kernel.Kernel.{the_view}
+use Rattle.kernel_core.proofs.FileCalls.{there_behind}
+use Rattle.kernel_core.proofs.OffsetCalls.{IsOffsetStep, offset_answers, offset_same, offset_valid, stream_answers, unnamed_answers, unopened_answers, with_terms}
+use Rattle.kernel_core.proofs.Streams.{written_valid}
+use Rattle.kernel_core.proofs.kernel.Kernel.offset_call.Goals as goal
+use Rattle.kernel_core.proofs.kernel.Kernel.offset_call.Goals.{In-Some}
+
+-- the descriptor with the number, by the table that was found
+named : (c : In-Some) (table : Table) (o : Option Descriptor) → get c.self.inside.tables c.args.pid ≡ Some table → o ≡ get c.in-Some.table.now c.args.fd
+    → get table c.args.fd ≡ o
+named c table o here is =
+    let had : get c.self.inside.tables c.args.pid ≡ Some c.in-Some.table.now =
+    ap (get c.self.inside.tables) (sym (c.from.ensures ∙ c.pid.view_is)) ∙ sym c.in-Some.ensures.value in
+    ap (λ (t : Table). get t c.args.fd) (sym (same_value _ _ _ had here)) ∙ sym is
+
+pub returns-in_default-get-clause-ok : goal.returns-in_default-get-clause-ok
+returns-in_default-get-clause-ok d = λ table here.
+    let c = (goal.at.returns-in_default-get-clause-ok d).In-Some in
+    let S = d.self.inside in
+    subst (λ (X : State). get X.tables d.args.pid ≡ Some table
+    → IsOffsetStep d.args.constants.now X table d.args.fd d.args.call.now (answer.Reply d.refused-in_default-get.result) X) d.self.view_is
+    (λ there. unnamed_answers d.args.constants.now (the_view S) table d.args.fd d.args.call.now d.refused-in_default-get.result d.self.invariant.valid
+    (named c table None there d.in_default-get.ensures) d.refused-in_default-get.ensures) here
+
+pub returns-in_default-get-2-clause-ok : goal.returns-in_default-get-2-clause-ok
+returns-in_default-get-2-clause-ok d = λ table here.
+    let c = (goal.at.returns-in_default-get-2-clause-ok d).In-Some in
+    let S = d.self.inside in
+    subst (λ (X : State). get X.tables d.args.pid ≡ Some table
+    → IsOffsetStep d.args.constants.now X table d.args.fd d.args.call.now (answer.Reply d.refused-in_default-get-2.result) X) d.self.view_is
+    (λ there. unopened_answers d.args.constants.now (the_view S) table d.args.fd d.args.call.now d.refused-in_default-get-2.result d.in-Some-get.descriptor.now
+    d.requires.on d.self.invariant.valid (named c table (Some d.in-Some-get.descriptor.now) there d.in-Some-get.ensures) (sym d.in_default-get-2.ensures)
+    d.refused-in_default-get-2.ensures) here
+
+-- ---- a standard stream
+
+pub invariant_of-self : goal.invariant_of-self
+invariant_of-self c = record {
+  valid = written_valid (the_view c.self.inside) c.on_stream.new.terms c.on_stream.ensures.there c.self.invariant.valid;
+  counted = c.self.invariant.counted;
+  small = c.self.invariant.small;
+  processes = c.self.invariant.processes;
+}
+
+pub returns-in-Terminal-clause-ok : goal.returns-in-Terminal-clause-ok
+returns-in-Terminal-clause-ok d =
+    let c = (goal.at.returns-in-Terminal-clause-ok d).In-Some in
+    let S = d.self.inside in
+    let stream = get S.terms d.in-Terminal.which in
+    let step : (given : Answer) → (given ≡ (stream_outcome d.args.call.now d.in-Terminal.which stream).answer)
+    × (d.on_stream.new.terms ≡ terms_after (stream_outcome d.args.call.now d.in-Terminal.which stream).updates S.terms)
+    → (table : Table) → get d.args.self.now.tables d.args.pid ≡ Some table
+    → IsOffsetStep d.args.constants.now d.args.self.now table d.args.fd d.args.call.now given (with_terms (the_view S) d.on_stream.new.terms) =
+    λ given done table here.
+    subst (λ (X : State). get X.tables d.args.pid ≡ Some table
+    → IsOffsetStep d.args.constants.now X table d.args.fd d.args.call.now given (with_terms (the_view S) d.on_stream.new.terms)) d.self.view_is
+    (λ there. stream_answers d.args.constants.now (the_view S) table d.args.fd d.args.call.now d.requires.on d.in-Some-get.descriptor.now d.in-Terminal.which
+    d.in-Terminal.flags d.on_stream.new.terms d.self.invariant.valid (named c table (Some d.in-Some-get.descriptor.now) there d.in-Some-get.ensures)
+    (sym d.in-Some-get-2.ensures ∙ ap Some d.in-Terminal.is) d.on_stream.ensures.there given done.0 done.1) here in
+    IfOk-weaker _ _ _ step d.on_stream.ensures.ok
+
+-- ---- any other open
+
+pub at_offset-requires : goal.at_offset-requires
+at_offset-requires c =
+    there_behind (the_view c.self.inside) c.in-Some-get-2.kind.now
+    (c.self.invariant.valid.nearly.behind c.in-Some-get.descriptor.now.id c.in-Some-get-2.kind.now (sym c.in-Some-get-2.ensures))
+
+pub set-requires : goal.set-requires
+set-requires c = record {
+  there = ap is_some (sym c.in-Some-get-2.ensures);
+  same_node = subst (λ (o : Option OpenKind). IfSome o (IsOfSameNode c.at_offset.new.kind)) c.in-Some-get-2.ensures
+      (offset_same (c.self.inside.clock + c.args.constants.now.epoch) c.self.inside.tree c.at_offset.new.tree c.args.call.now c.in-Some-get-2.kind.now
+      c.at_offset.new.kind c.in_ok-reply.reply c.in_ok-reply.ensures.ok);
+}
+
+pub invariant_of-self-2 : goal.invariant_of-self-2
+invariant_of-self-2 c = record {
+  valid = subst (λ (h : Held). IsValid (record (the_view c.self.inside) { opens = h.kinds; nodes = c.at_offset.new.tree.nodes; names = c.at_offset.new.tree.names }))
+      (sym c.set.ensures)
+      (offset_valid c.args.call.now c.args.fd (c.self.inside.clock + c.args.constants.now.epoch) c.requires.on (the_view c.self.inside)
+      c.in-Some-get.descriptor.now.id c.in-Some-get-2.kind.now c.at_offset.new.kind (sym c.in-Some-get-2.ensures) c.in_default-kind.not-Terminal
+      c.self.invariant.valid c.at_offset.new.tree c.in_ok-reply.reply c.in_ok-reply.ensures.ok c.in_ok-reply.ensures.nodes);
+  counted = λ o. ap (λ (h : Held). number (get h.counts o)) c.set.ensures ∙ c.self.invariant.counted o;
+  small = c.self.invariant.small;
+  processes = c.self.invariant.processes;
+}
+
+pub returns : goal.returns
+returns d = record {
+  ok = λ table here.
+      let c = (goal.at.returns d).In-Some in
+      let S = d.self.inside in
+      let t = d.at_offset.new.tree in
+      subst (λ (X : State). get X.tables d.args.pid ≡ Some table → IsOffsetStep d.args.constants.now X table d.args.fd d.args.call.now (answer.Reply d.in_ok-reply.reply)
+      (record (the_view S) { opens = d.set.new.self.kinds; nodes = t.nodes; names = t.names })) d.self.view_is
+      (λ there. subst (λ (h : Held). IsOffsetStep d.args.constants.now (the_view S) table d.args.fd d.args.call.now (answer.Reply d.in_ok-reply.reply)
+      (record (the_view S) { opens = h.kinds; nodes = t.nodes; names = t.names })) (sym d.set.ensures)
+      (offset_answers d.args.call.now d.args.fd (d.self.inside.clock + d.args.constants.now.epoch) d.requires.on (the_view S) d.in-Some-get.descriptor.now.id
+      d.in-Some-get-2.kind.now d.at_offset.new.kind (sym d.in-Some-get-2.ensures) d.in_default-kind.not-Terminal d.self.invariant.valid t d.in_ok-reply.reply
+      d.in_ok-reply.ensures.ok d.in_ok-reply.ensures.nodes d.args.constants.now table d.in-Some-get.descriptor.now refl
+      (named c table (Some d.in-Some-get.descriptor.now) there d.in-Some-get.ensures) refl)) here;
+  only = tt;
+  err = tt;
+}

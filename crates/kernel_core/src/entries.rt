@@ -1,0 +1,53 @@
+//! The calls that make names of files, move them or take them away.
+ghost use Rattle.std.specs.Prelude.{◌≡◌, ◌+◌, ◌<◌, ◌^◌, true, Some, IsSome, IfOk, OnErr};
+ghost use Rattle.std.specs.FinMap as map;
+ghost use Rattle.kernel_core.specs.Entries.{entry_outcome};
+ghost use Rattle.kernel_model.specs.Calls.{takes_memory};
+ghost use Rattle.kernel_model.specs.EntryCalls as model;
+ghost use Rattle.kernel_model.specs.Release.{release};
+ghost use Rattle.kernel_model.specs.State.{put_all, Table};
+
+use crate::kernel::Kernel;
+use abi_types::{Answer, Call, Constants, Errno, Pid};
+use kernel_parts::{Caller, change_entries, forget_nameless, open_of};
+use right_rules::refused;
+use std::alloc::AllocError;
+
+impl Kernel {
+    // Does a call on names, by the path of one descriptor or of two. What nothing leads to any more goes. `Err` changes nothing.
+    pub(crate) fn entry_call(
+        &mut self,
+        constants: &Constants,
+        pid: Pid,
+        fd: u32,
+        other: Option<u32>,
+        call: &Call,
+    ) -> Result<Answer, AllocError>
+        requires there { IsSome (map.get self.old.statuses pid) }
+        requires on { model.entry_fds call.now ≡ Some (fd, other) }
+        requires named { (table : Table) → map.get self.old.tables pid ≡ Some table → IsSome (map.get table fd) }
+        requires early { self.old.clock + constants.now.epoch < 2 ^ 64 }
+        ensures ok { IfOk result (λ given. (table : Table) → map.get self.old.tables pid ≡ Some table →
+            (given ≡ (entry_outcome constants.now self.old pid table fd other call.now).answer)
+            × (self.new ≡ release (put_all (entry_outcome constants.now self.old pid table fd other call.now).updates self.old))) }
+        ensures only { OnErr result (takes_memory call.now ≡ true) }
+        ensures err { OnErr result (self.new ≡ self.old) }
+    {
+        let p = u64::from(pid.0);
+        let Some(table) = self.tables.get(p) else {
+            return Ok(Answer::Reply(refused(Errno::Badf)));
+        };
+        let Some(here) = open_of(&self.objects, table, Some(fd)) else {
+            unreachable!()
+        };
+        let there = open_of(&self.objects, table, other);
+        let caller = Caller {
+            pid,
+            time: self.clock + constants.epoch,
+        };
+        let own = self.processes.get_mut(p);
+        let reply = change_entries(self.alloc, own, &mut self.tree, &caller, here, there, call)?;
+        forget_nameless(&mut self.tree, &self.objects);
+        Ok(Answer::Reply(reply))
+    }
+}

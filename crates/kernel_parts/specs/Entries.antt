@@ -1,0 +1,43 @@
+-- What calls on names leave of the tree, and of what their process has of its own.
+use Rattle.std.specs.Prelude.{◌≡◌, ℕ, Option, None, Some, if◌then◌else◌}
+use Rattle.std.specs.Ordering.{nat_cmp}
+use Rattle.std.specs.FinMap.{FinMap, get}
+use Rattle.abi_types.specs.declared.descriptor.Descriptor.{Descriptor}
+use Rattle.abi_types.specs.declared.open_kind.OpenKind.{OpenKind}
+use Rattle.abi_types.specs.declared.reply.Answer.TheVariants as answer
+use Rattle.abi_types.specs.declared.reply.Reply.{Reply}
+use Rattle.kernel_model.specs.NameMeaning.{NameOutcome, Refuses, LeadsOut, Changes, outcome_of}
+use Rattle.kernel_model.specs.Numbers.{can_number, made_more, next_object}
+use Rattle.kernel_model.specs.State.{ProcessState, Table, Tree}
+
+-- the number of the last of so many objects that a process makes next, where it can make so many
+abbrev pub number_of : ℕ → ℕ → Option ProcessState → Option ℕ
+number_of p count own = if can_number p count own then Some (next_object p own count) else None
+
+-- the open of a descriptor
+abbrev pub open_in : FinMap nat_cmp OpenKind → Option Descriptor → Option OpenKind
+open_in opens None = None
+open_in opens (Some d) = get opens d.id
+
+-- the open of the descriptor with this number in a table, where a number is named
+abbrev pub open_at : FinMap nat_cmp OpenKind → Table → Option ℕ → Option OpenKind
+open_at opens table None = None
+open_at opens table (Some fd) = open_in opens (get table fd)
+
+-- what the process has of its own once that is done, where it makes so many nodes
+abbrev pub process_left : ℕ → ℕ → ProcessState → NameOutcome → ProcessState
+process_left p makes own (Refuses errno) = own
+process_left p makes own (LeadsOut component) = own
+process_left p makes own (Changes change) = if can_number p makes (Some own) then made_more makes own else own
+
+-- and the tree
+abbrev pub tree_left : ℕ → ℕ → ProcessState → Tree → NameOutcome → Tree
+tree_left p makes own t (Refuses errno) = t
+tree_left p makes own t (LeadsOut component) = t
+tree_left p makes own t (Changes change) = if can_number p makes (Some own) then change.tree else t
+
+-- a call that comes to this is done: its reply, and what the process has of its own and the tree after it
+pub record IsLeftBy (p makes : ℕ) (own new : ProcessState) (t u : Tree) (comes : NameOutcome) (reply : Reply) : Type 0 where
+  pub answered : answer.Reply reply ≡ (outcome_of p (Some own) makes comes).answer
+  pub numbered : new ≡ process_left p makes own comes
+  pub changed : u ≡ tree_left p makes own t comes

@@ -1,0 +1,70 @@
+//! The calls that make names of files, move them or take them away: what they leave of the tree and of what their process has of
+//! its own.
+ghost use Rattle.std.specs.Prelude.{◌≡◌, true, Some, IsSome, IfOk, OnErr, option_copied};
+ghost use Rattle.kernel_parts.specs.Entries.{IsLeftBy, open_at};
+ghost use Rattle.kernel_model.specs.EntryCalls as model;
+ghost use Rattle.kernel_model.specs.Numbers.{can_number, next_object};
+ghost use Rattle.entry_calls.specs.Done.{IsNew};
+
+use crate::process::ProcessState;
+use abi_types::{Call, Errno, OpenKind, Pid, Reply};
+use entry_calls::{Failure, check_entries, makes, on_entries};
+use fd_table::FdTable;
+use file_calls::reply_of;
+use file_tree::Tree;
+use object_store::Objects;
+use right_rules::{refused, success};
+use std::alloc::{AllocError, Global};
+
+/// The open of the descriptor with this number, where a number is named.
+pub fn open_of<'a>(objects: &'a Objects, table: &FdTable, fd: Option<u32>) -> Option<&'a OpenKind>
+    ensures { option_copied result ≡ open_at objects.now.kinds table.now fd }
+{
+    let descriptor = table.get(fd?)?;
+    objects.get(descriptor.id)
+}
+
+/// Who does a call, and when.
+#[derive(Clone, Copy)]
+pub struct Caller {
+    /// The process.
+    pub pid: Pid,
+    /// The time, in nanoseconds since 1970.
+    pub time: u64,
+}
+
+/// Does a call on names from these opens. Where its process can't number what it would make, it is refused, though for any
+/// other reason first. `Err` changes nothing.
+pub fn change_entries(
+    alloc: Global,
+    own: &mut ProcessState,
+    tree: &mut Tree,
+    caller: &Caller,
+    here: &OpenKind,
+    there: Option<&OpenKind>,
+    call: &Call,
+) -> Result<Reply, AllocError>
+    requires names { IsSome (model.entry_fds call.now) }
+    requires new { can_number caller.now.pid (model.name_meaning call.now).makes (Some own.old) ≡ true
+        → IsNew (model.name_meaning call.now).makes tree.old (next_object caller.now.pid (Some own.old) (model.name_meaning call.now).makes) }
+    ensures done { IfOk result (IsLeftBy caller.now.pid (model.name_meaning call.now).makes own.old own.new tree.old tree.new
+        ((model.name_meaning call.now).effect caller.now.time (next_object caller.now.pid (Some own.old) 1) tree.old (Some here.now) (option_copied there.entry))) }
+    ensures same_process { OnErr result (own.new ≡ own.old) }
+    ensures same_tree { OnErr result (tree.new ≡ tree.old) }
+{
+    let count = makes(call);
+    let Some(new) = own.numbered(caller.pid, count) else {
+        return match check_entries(tree, here, call) {
+            Ok(()) => Ok(refused(Errno::Again)),
+            Err(refusal) => Ok(reply_of(refusal)),
+        };
+    };
+    match on_entries(alloc, tree, here, there, caller.time, new, call) {
+        Ok(()) => {
+            own.make(count);
+            Ok(success(0, 0))
+        }
+        Err(Failure::Refused(refusal)) => Ok(reply_of(refusal)),
+        Err(Failure::NoMemory) => Err(AllocError),
+    }
+}
