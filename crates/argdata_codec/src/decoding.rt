@@ -8,7 +8,7 @@ ghost use Rattle.argdata_codec.specs.Faults.{Decodes, Names};
 use crate::fault::Malformed;
 use crate::value::Value;
 use crate::{place, reading};
-use lists::Refusal;
+use lists::Stop;
 use std::alloc::{AllocError, Global};
 use thiserror::Error;
 
@@ -40,8 +40,8 @@ pub fn decode(alloc: Global, bytes: &[u8]) -> Result<Value, ArgFault>
 {
     match reading::value(alloc, DEPTH, bytes) {
         Ok(value) => Ok(value),
-        Err(Refusal::Memory) => Err(ArgFault::NoMemory),
-        Err(Refusal::At(Malformed)) => Err(fault(alloc, bytes)),
+        Err(Stop::Memory) => Err(ArgFault::NoMemory),
+        Err(Stop::At(Malformed)) => Err(fault(alloc, bytes)),
     }
 }
 

@@ -6,7 +6,7 @@ ghost use Rattle.argdata_codec.specs.Reading.{value_at};
 use crate::fault::Malformed;
 use crate::turn::{LengthStep, Turn};
 use crate::{reading, tag};
-use lists::Refusal;
+use lists::Stop;
 use std::alloc::{AllocError, Global};
 
 // The room behind so many bytes.
@@ -187,8 +187,8 @@ fn whole_field(
     let size = size as usize;
     match reading::value(alloc, depth, front(bytes, size)) {
         Ok(_) => Ok(Some(size)),
-        Err(Refusal::At(Malformed)) => Ok(None),
-        Err(Refusal::Memory) => Err(AllocError),
+        Err(Stop::At(Malformed)) => Ok(None),
+        Err(Stop::Memory) => Err(AllocError),
     }
 }
 

@@ -10,11 +10,11 @@ use crate::pair_list::PairList;
 use crate::tag;
 use crate::value::Value;
 use crate::value_list::ValueList;
-use lists::{Bytes, Refusal, Text};
+use lists::{Bytes, Stop, Text};
 use std::alloc::Global;
 
 #[cycle(read)]
-pub fn value(alloc: Global, depth: usize, bytes: &[u8]) -> Result<Value, Refusal<Malformed>>
+pub fn value(alloc: Global, depth: usize, bytes: &[u8]) -> Result<Value, Stop<Malformed>>
     ensures { Reads shape_of result (value_at depth bytes.now) }
 {
     match bytes {
@@ -26,36 +26,32 @@ pub fn value(alloc: Global, depth: usize, bytes: &[u8]) -> Result<Value, Refusal
         [tag::MAP, body @ ..] => Ok(Value::Map(pair_list(alloc, depth, body)?)),
         [tag::SEQ, body @ ..] => Ok(Value::Seq(value_list(alloc, depth, body)?)),
         [tag::STR, body @ ..] => Ok(Value::Str(text(alloc, body)?)),
-        _ => Err(Refusal::At(Malformed)),
+        _ => Err(Stop::At(Malformed)),
     }
 }
 
 // The pairs of a map that may be of some depth.
 #[cycle(read)]
 #[tactic(auto, unfolding(crate::specs::Reading::pairs_at))]
-fn pair_list(alloc: Global, depth: usize, body: &[u8]) -> Result<PairList, Refusal<Malformed>>
+fn pair_list(alloc: Global, depth: usize, body: &[u8]) -> Result<PairList, Stop<Malformed>>
     ensures { Reads (λ ps. ps) result (pairs_at depth body.now) }
 {
-    let inside = depth.checked_sub(1).ok_or(Refusal::At(Malformed))?;
+    let inside = depth.checked_sub(1).ok_or(Stop::At(Malformed))?;
     Ok(PairList::from_vec(pairs(alloc, inside, body)?))
 }
 
 // The values of a sequence that may be of some depth.
 #[cycle(read)]
 #[tactic(auto, unfolding(crate::specs::Reading::items_at))]
-fn value_list(alloc: Global, depth: usize, body: &[u8]) -> Result<ValueList, Refusal<Malformed>>
+fn value_list(alloc: Global, depth: usize, body: &[u8]) -> Result<ValueList, Stop<Malformed>>
     ensures { Reads (λ xs. xs) result (items_at depth body.now) }
 {
-    let inside = depth.checked_sub(1).ok_or(Refusal::At(Malformed))?;
+    let inside = depth.checked_sub(1).ok_or(Stop::At(Malformed))?;
     Ok(ValueList::from_vec(items(alloc, inside, body)?))
 }
 
 #[cycle(read)]
-fn pairs(
-    alloc: Global,
-    depth: usize,
-    body: &[u8],
-) -> Result<Vec<(Value, Value)>, Refusal<Malformed>>
+fn pairs(alloc: Global, depth: usize, body: &[u8]) -> Result<Vec<(Value, Value)>, Stop<Malformed>>
     ensures { Reads (λ v. map pair_of v.items) result (pairs_of (value_at depth) body.now) }
 {
     let mut pairs = Vec::new(alloc);
@@ -70,7 +66,7 @@ fn pairs(
 }
 
 #[cycle(read)]
-fn items(alloc: Global, depth: usize, body: &[u8]) -> Result<Vec<Value>, Refusal<Malformed>>
+fn items(alloc: Global, depth: usize, body: &[u8]) -> Result<Vec<Value>, Stop<Malformed>>
     ensures { Reads (λ v. map shape_of v.items) result (items_of (value_at depth) body.now) }
 {
     let mut items = Vec::new(alloc);
@@ -85,7 +81,7 @@ fn items(alloc: Global, depth: usize, body: &[u8]) -> Result<Vec<Value>, Refusal
 
 // The value of the field at the front, and the bytes after it.
 #[cycle(read)]
-fn entry(alloc: Global, depth: usize, bytes: &[u8]) -> Result<(Value, &[u8]), Refusal<Malformed>>
+fn entry(alloc: Global, depth: usize, bytes: &[u8]) -> Result<(Value, &[u8]), Stop<Malformed>>
     ensures reads { Reads (λ x. (shape_of x.0, x.1.now)) result (entry_at (value_at depth) bytes.now) }
     ensures shorter { IfOk result (λ x. length x.1.now < length bytes.now) }
 {
@@ -94,7 +90,7 @@ fn entry(alloc: Global, depth: usize, bytes: &[u8]) -> Result<(Value, &[u8]), Re
 }
 
 // The bytes of the field at the front, and the bytes after it.
-fn field(bytes: &[u8]) -> Result<(&[u8], &[u8]), Refusal<Malformed>>
+fn field(bytes: &[u8]) -> Result<(&[u8], &[u8]), Stop<Malformed>>
     ensures reads { Reads (λ x. (x.0.now, x.1.now)) result (field_at 0 bytes.now) }
     ensures shorter { IfOk result (λ x. length x.1.now < length bytes.now) }
 {
@@ -106,51 +102,51 @@ fn field(bytes: &[u8]) -> Result<(&[u8], &[u8]), Refusal<Malformed>>
         if *byte >= 128 {
             let length = sum - 128;
             if length > left {
-                return Err(Refusal::At(Malformed));
+                return Err(Stop::At(Malformed));
             }
             return Ok(after.split_at(length as usize));
         }
         if sum == 0 || sum > left {
-            return Err(Refusal::At(Malformed));
+            return Err(Stop::At(Malformed));
         }
         groups = sum;
         rest = after;
     }
-    Err(Refusal::At(Malformed))
+    Err(Stop::At(Malformed))
 }
 
-fn boolean(body: &[u8]) -> Result<bool, Refusal<Malformed>>
+fn boolean(body: &[u8]) -> Result<bool, Stop<Malformed>>
     ensures { Reads (λ b. b) result (boolean_at body.now) }
 {
     match body {
         [] => Ok(false),
         [1] => Ok(true),
-        _ => Err(Refusal::At(Malformed)),
+        _ => Err(Stop::At(Malformed)),
     }
 }
 
-fn descriptor(body: &[u8]) -> Result<u32, Refusal<Malformed>>
+fn descriptor(body: &[u8]) -> Result<u32, Stop<Malformed>>
     ensures { Reads (λ n. n) result (descriptor_at body.now) }
 {
     match body {
         [a, b, c, d] => Ok(u32::from_be_bytes([*a, *b, *c, *d])),
-        _ => Err(Refusal::At(Malformed)),
+        _ => Err(Stop::At(Malformed)),
     }
 }
 
 #[tactic(auto, unfolding(crate::specs::Reading::integer_at))]
-fn integer(body: &[u8]) -> Result<i128, Refusal<Malformed>>
+fn integer(body: &[u8]) -> Result<i128, Stop<Malformed>>
     ensures { Reads (λ i. i) result (integer_at body.now) }
 {
     if body.len() > 9 {
-        return Err(Refusal::At(Malformed));
+        return Err(Stop::At(Malformed));
     }
     let (number, top) = number(body);
     let integer = signed_number(top, number);
     if is_argument(integer) && width(integer) == body.len() {
         Ok(integer)
     } else {
-        Err(Refusal::At(Malformed))
+        Err(Stop::At(Malformed))
     }
 }
 
@@ -191,27 +187,27 @@ fn is_argument(integer: i128) -> bool
 }
 
 #[tactic(auto, unfolding(crate::specs::Reading::text_at))]
-fn text(alloc: Global, body: &[u8]) -> Result<Text, Refusal<Malformed>>
+fn text(alloc: Global, body: &[u8]) -> Result<Text, Stop<Malformed>>
     ensures { Reads (λ t. t) result (text_at body.now) }
 {
     let content = content(body)?;
     match str::from_utf8(content) {
         Ok(text) => Ok(Text::from_string(String::from_str(alloc, text)?)),
-        Err(_) => Err(Refusal::At(Malformed)),
+        Err(_) => Err(Stop::At(Malformed)),
     }
 }
 
 // What stands before the first zero byte, which is to be the last byte.
-fn content(body: &[u8]) -> Result<&[u8], Refusal<Malformed>>
+fn content(body: &[u8]) -> Result<&[u8], Stop<Malformed>>
     ensures { Reads (λ x. x.now) result (before_zero body.now) }
 {
     for (i, byte) in body.iter().enumerate() {
         if *byte == 0 {
             if i + 1 < body.len() {
-                return Err(Refusal::At(Malformed));
+                return Err(Stop::At(Malformed));
             }
             return Ok(&body[..i]);
         }
     }
-    Err(Refusal::At(Malformed))
+    Err(Stop::At(Malformed))
 }

@@ -12,17 +12,17 @@ use Rattle.abi_structures.specs.declared.structures.FdStat.{FdStat}
 use Rattle.guest_memory.specs.declared.fault.MemFault.{MemFault}
 use Rattle.guest_memory.specs.Page.{Pages}
 use Rattle.guest_memory.proofs.PageRanges.{second_true}
-use Rattle.argument_reading.specs.Arguments.{argument, low}
-use Rattle.argument_reading.specs.Ranges.{gathered_in, ranges_at}
-use Rattle.argument_reading.specs.declared.ranges.TheConstants.{MOST_IOVECS}
+use Rattle.codec_arguments.specs.Arguments.{argument, low}
+use Rattle.codec_arguments.specs.Ranges.{gathered_in, ranges_at}
+use Rattle.codec_arguments.specs.declared.ranges.TheConstants.{MOST_IOVECS}
 use Rattle.call_codec.specs.Args.{call_of, args_of, is_of_descriptors, is_of_files}
 use Rattle.call_codec.specs.MemoryCalls.{has_bits, has_one, if_mapped, is_aligned, is_guests, map_refusal, mem_advise_of, mem_map_of, mem_protect_of, mem_sync_of, mem_unmap_of, pages_in, protect_refusal, unless_refused, writes_and_executes}
 use Rattle.call_codec.specs.Spelled.{descriptor_call, is_among, or_refused}
 use Rattle.call_codec.specs.WriteCall.{fd_write_with, fd_write_of}
 use Rattle.call_codec.proofs.FileReadings.{OfFiles, file_holds}
 use Rattle.call_codec.proofs.Readings.{IsListedRefusal, descriptor_holds}
-use Rattle.call_reading.specs.DescriptorCalls.{fd_pread_of, fd_pwrite_of, fd_read_of, fd_seek_of, fd_stat_get_of, fd_stat_put_of}
-use Rattle.file_reading.specs.FileCalls.{file_call}
+use Rattle.codec_calls.specs.DescriptorCalls.{fd_pread_of, fd_pwrite_of, fd_read_of, fd_seek_of, fd_stat_get_of, fd_stat_put_of}
+use Rattle.codec_files.specs.Numbers.{file_call}
 
 -- what holds of both calls holds of the one of them that the test chooses
 pub either_call : (P : Call → Type 0) (b : Bool) (x y : Call) → P x → P y → P (cond b x y)

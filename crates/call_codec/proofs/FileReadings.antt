@@ -13,22 +13,22 @@ use Rattle.abi_structures.specs.declared.structures.FdStat.{FdStat}
 use Rattle.abi_structures.specs.declared.structures.FileStat.{FileStat}
 use Rattle.guest_memory.specs.Bytes.{bytes_at}
 use Rattle.guest_memory.specs.Page.{Pages}
-use Rattle.argument_reading.specs.Arguments.{argument, low}
-use Rattle.argument_reading.specs.Bytes.{bytes_in, path_in, unread_path, writable}
-use Rattle.argument_reading.specs.Reading.{refuse_when}
-use Rattle.argument_reading.specs.Structures.{fdstat_at, filestat_at, filestat_of}
-use Rattle.argument_reading.specs.declared.bytes.TheConstants.{MOST_OF_PATH}
-use Rattle.argument_reading.specs.declared.ranges.TheConstants.{MOST_TRANSFERRED}
+use Rattle.codec_arguments.specs.Arguments.{argument, low}
+use Rattle.codec_arguments.specs.Bytes.{bytes_in, path_in, unread_path, writable}
+use Rattle.codec_arguments.specs.Reading.{refuse_when}
+use Rattle.codec_arguments.specs.Structures.{fdstat_at, filestat_at, filestat_of}
+use Rattle.codec_arguments.specs.declared.bytes.TheConstants.{MOST_OF_PATH}
+use Rattle.codec_arguments.specs.declared.ranges.TheConstants.{MOST_TRANSFERRED}
 use Rattle.call_codec.specs.Spelled.{or_refused}
 use Rattle.call_codec.proofs.Readings.{IsListedRefusal, after, fault_listed, fdstat_listed, made_listed, test_listed, writable_listed}
-use Rattle.call_reading.specs.DescriptorCalls.{asks_unknown}
-use Rattle.call_reading.specs.Flags.{has_unknown}
-use Rattle.file_reading.specs.FileCalls.{file_call}
-use Rattle.file_reading.specs.Lookups.{lookup_of, looks_unknown}
-use Rattle.file_reading.specs.NameCalls.{file_create_of, file_link_of, file_open_of, file_readlink_of, file_rename_of, file_symlink_of, file_unlink_of, opens_wrongly}
-use Rattle.file_reading.specs.NodeCalls.{file_advise_of, file_allocate_of, file_readdir_of, file_stat_fget_of, file_stat_fput_of, file_stat_get_of, file_stat_put_of, sets_wrongly}
-use Rattle.file_reading.specs.declared.name_calls.TheConstants.{DIRECTORY, REMOVEDIR}
-use Rattle.file_reading.specs.declared.node_calls.TheConstants.{SIZE}
+use Rattle.codec_calls.specs.DescriptorCalls.{asks_unknown}
+use Rattle.codec_calls.specs.Flags.{has_unknown}
+use Rattle.codec_files.specs.Numbers.{file_call}
+use Rattle.codec_files.specs.Lookups.{lookup_of, looks_unknown}
+use Rattle.codec_files.specs.ByPath.{file_create_of, file_link_of, file_open_of, file_readlink_of, file_rename_of, file_symlink_of, file_unlink_of, opens_wrongly}
+use Rattle.codec_files.specs.ByNode.{file_advise_of, file_allocate_of, file_readdir_of, file_stat_fget_of, file_stat_fput_of, file_stat_get_of, file_stat_put_of, sets_wrongly}
+use Rattle.codec_files.specs.declared.by_path.TheConstants.{DIRECTORY, REMOVEDIR}
+use Rattle.codec_files.specs.declared.by_node.TheConstants.{SIZE}
 
 -- a path that can't be read refuses with FAULT alone
 path_listed : (m : Pages) (a n : ℕ) (given : Errno) → path_in m a n ≡ Err given → IsListedRefusal given

@@ -12,7 +12,7 @@ use Rattle.abi_base.specs.declared.errno.Errno.TheVariants.{Success, Fault, Inva
 use Rattle.guest_memory.specs.Changes.{all_there, lowest_gap, without_pages}
 use Rattle.guest_memory.specs.Page.{Pages}
 use Rattle.guest_memory.proofs.Changes.{there_is}
-use Rattle.argument_reading.specs.Arguments.{argument, low}
+use Rattle.codec_arguments.specs.Arguments.{argument, low}
 use Rattle.call_codec.specs.MemoryCalls.{has_bits, is_aligned, pages_in, place_in, unless_refused}
 use Rattle.call_codec.specs.Refusals.{Conditions, success, when, AnswersFirst, errno_of, IsMisaligned, LacksPages, Holds, room_conditions, AdviseIsListed, MapIsListed, ProtectIsListed, SyncIsListed, UnmapIsListed}
 

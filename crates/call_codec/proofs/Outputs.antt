@@ -17,20 +17,20 @@ use Rattle.guest_memory.specs.Bytes.{byte_at, bytes_from, in_front}
 use Rattle.guest_memory.specs.Page.{Pages}
 use Rattle.guest_memory.specs.Written.{write_of, written_over}
 use Rattle.guest_memory.proofs.Writes.{SameRights, ok_after, rights_kept}
-use Rattle.argument_reading.specs.Arguments.{argument}
-use Rattle.argument_reading.specs.Bytes.{path_in, writable}
-use Rattle.argument_reading.specs.Ranges.{counted, ranges_at, room_among, room_in, room_of}
-use Rattle.argument_reading.specs.Reading.{◌>>=◌, or_fault, refuse_when}
-use Rattle.argument_reading.specs.declared.ranges.TheConstants.{MOST_TRANSFERRED}
+use Rattle.codec_arguments.specs.Arguments.{argument}
+use Rattle.codec_arguments.specs.Bytes.{path_in, writable}
+use Rattle.codec_arguments.specs.Ranges.{counted, ranges_at, room_among, room_in, room_of}
+use Rattle.codec_arguments.specs.Reading.{◌>>=◌, or_fault, refuse_when}
+use Rattle.codec_arguments.specs.declared.ranges.TheConstants.{MOST_TRANSFERRED}
 use Rattle.call_codec.specs.Output.{fdstat_bytes, filestat_bytes, or_unwritten, with_bytes}
 use Rattle.call_codec.specs.OutputLaws.{AreWrittenInto, TakesBytes, TakesFileState, TakesUpTo, EntriesAreWritten, FoundStateIsWritten, LinkIsWritten, OpenStateIsWritten, PreadIsWritten, ReadIsWritten, StateIsWritten}
 use Rattle.call_codec.proofs.Layouts.{fdstat_length, filestat_length}
 use Rattle.call_codec.proofs.Puts.{call_suits}
 use Rattle.call_codec.proofs.Readings.{after}
-use Rattle.call_reading.specs.DescriptorCalls.{fd_pread_of, fd_read_of, fd_stat_get_of, has_many, is_beyond}
-use Rattle.file_reading.specs.Lookups.{looks_unknown}
-use Rattle.file_reading.specs.NameCalls.{file_readlink_of}
-use Rattle.file_reading.specs.NodeCalls.{file_readdir_of, file_stat_fget_of, file_stat_get_of}
+use Rattle.codec_calls.specs.DescriptorCalls.{fd_pread_of, fd_read_of, fd_stat_get_of, has_many, is_beyond}
+use Rattle.codec_files.specs.Lookups.{looks_unknown}
+use Rattle.codec_files.specs.ByPath.{file_readlink_of}
+use Rattle.codec_files.specs.ByNode.{file_readdir_of, file_stat_fget_of, file_stat_get_of}
 
 -- ---- one write
 

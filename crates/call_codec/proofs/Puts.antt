@@ -26,13 +26,13 @@ use Rattle.guest_memory.specs.Page.{Page, Pages}
 use Rattle.guest_memory.specs.Ranges.{IsPageAddress, in_range}
 use Rattle.guest_memory.proofs.Changes.{are_there, gap_of_lowest, protected_is, unmapped_is, without_free, without_none}
 use Rattle.guest_memory.proofs.PageRanges.{first_true, second_true, inside, is_inside, not_both, no_page_unless, none_changed}
-use Rattle.argument_reading.specs.Reading.{◌>>=◌, refuse_when}
+use Rattle.codec_arguments.specs.Reading.{◌>>=◌, refuse_when}
 use Rattle.call_codec.proofs.Calls.{args_hold}
 use Rattle.call_codec.proofs.Readings.{after, test_false}
-use Rattle.call_reading.specs.DescriptorCalls.{fd_pread_of, fd_read_of, fd_stat_get_of, has_many}
-use Rattle.file_reading.specs.NameCalls.{file_readlink_of}
-use Rattle.file_reading.specs.NodeCalls.{file_readdir_of, file_stat_fget_of, file_stat_get_of}
-use Rattle.argument_reading.specs.Arguments.{argument, low}
+use Rattle.codec_calls.specs.DescriptorCalls.{fd_pread_of, fd_read_of, fd_stat_get_of, has_many}
+use Rattle.codec_files.specs.ByPath.{file_readlink_of}
+use Rattle.codec_files.specs.ByNode.{file_readdir_of, file_stat_fget_of, file_stat_get_of}
+use Rattle.codec_arguments.specs.Arguments.{argument, low}
 use Rattle.call_codec.specs.Args.{args_of}
 use Rattle.call_codec.specs.MemoryCalls.{has_bits, is_aligned, is_guests, is_range, is_sync, pages_in, if_mapped, mem_advise_of, mem_map_of, mem_protect_of, mem_sync_of, mem_unmap_of, map_refusal, protect_refusal, unless_refused, place_at, place_in, place_in_gap, place_of, writes_and_executes, has_one, MayMapAt, MayMapThere}
 

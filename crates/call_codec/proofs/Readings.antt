@@ -12,14 +12,14 @@ use Rattle.guest_memory.specs.declared.access.Access.TheVariants.{Write}
 use Rattle.guest_memory.specs.declared.fault.MemFault.{MemFault}
 use Rattle.guest_memory.specs.Bytes.{bytes_at, bytes_from}
 use Rattle.guest_memory.specs.Page.{Pages}
-use Rattle.argument_reading.specs.Arguments.{argument, low}
-use Rattle.argument_reading.specs.Bytes.{writable}
-use Rattle.argument_reading.specs.Ranges.{gathered_in, ranges_at, room_among}
-use Rattle.argument_reading.specs.Reading.{◌>>=◌, or_fault, refuse_when}
-use Rattle.argument_reading.specs.Structures.{fdstat_at, fdstat_of}
+use Rattle.codec_arguments.specs.Arguments.{argument, low}
+use Rattle.codec_arguments.specs.Bytes.{writable}
+use Rattle.codec_arguments.specs.Ranges.{gathered_in, ranges_at, room_among}
+use Rattle.codec_arguments.specs.Reading.{◌>>=◌, or_fault, refuse_when}
+use Rattle.codec_arguments.specs.Structures.{fdstat_at, fdstat_of}
 use Rattle.call_codec.specs.Spelled.{descriptor_call}
 use Rattle.call_codec.specs.WriteCall.{fd_write_of}
-use Rattle.call_reading.specs.DescriptorCalls.{asks_unknown, fd_close_of, fd_create1_of, fd_create2_of, fd_datasync_of, fd_dup_of, fd_pread_of, fd_pwrite_of, fd_read_of, fd_replace_of, fd_seek_of, fd_stat_get_of, fd_stat_put_of, fd_sync_of, has_many, is_beyond, is_file_type, is_pair, unmade}
+use Rattle.codec_calls.specs.DescriptorCalls.{asks_unknown, fd_close_of, fd_create1_of, fd_create2_of, fd_datasync_of, fd_dup_of, fd_pread_of, fd_pwrite_of, fd_read_of, fd_replace_of, fd_seek_of, fd_stat_get_of, fd_stat_put_of, fd_sync_of, has_many, is_beyond, is_file_type, is_pair, unmade}
 
 -- ---- errors of refusals
 

@@ -6,8 +6,8 @@ use Rattle.abi_types.specs.declared.call.Call.TheVariants.{ProcExit, Refused}
 use Rattle.abi_base.specs.declared.errno.Errno.TheVariants.{Nosys}
 use Rattle.abi_base.specs.Registers.{Registers}
 use Rattle.guest_memory.specs.Page.{Pages}
-use Rattle.argument_reading.specs.Arguments.{argument, low}
-use Rattle.file_reading.specs.FileCalls.{CopiesPath, file_call}
+use Rattle.codec_arguments.specs.Arguments.{argument, low}
+use Rattle.codec_files.specs.Numbers.{CopiesPath, file_call}
 use Rattle.call_codec.specs.MemoryCalls.{mem_advise_of, mem_map_of, mem_protect_of, mem_sync_of, mem_unmap_of}
 use Rattle.call_codec.specs.Spelled.{descriptor_call, is_among, or_refused}
 

@@ -18,7 +18,7 @@ use Rattle.guest_memory.specs.Mapping.{page_limit}
 use Rattle.guest_memory.specs.Page.{Pages}
 use Rattle.guest_memory.specs.Ranges.{IsPageAddress}
 use Rattle.guest_memory.specs.Written.{set_bytes}
-use Rattle.argument_reading.specs.Arguments.{argument, low}
+use Rattle.codec_arguments.specs.Arguments.{argument, low}
 
 -- ---- arguments
 

@@ -14,8 +14,8 @@ use Rattle.abi_types.specs.declared.reply.Payload.TheVariants.{Content}
 use Rattle.guest_memory.specs.declared.fault.MemFault.{MemFault}
 use Rattle.guest_memory.specs.Page.{Pages}
 use Rattle.guest_memory.specs.Written.{write_of}
-use Rattle.argument_reading.specs.Arguments.{argument}
-use Rattle.argument_reading.specs.Ranges.{ranges_at}
+use Rattle.codec_arguments.specs.Arguments.{argument}
+use Rattle.codec_arguments.specs.Ranges.{ranges_at}
 
 -- the memory after a write, or as it was
 abbrev pub or_unwritten : Pages → Result Pages MemFault → Pages

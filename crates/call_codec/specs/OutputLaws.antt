@@ -14,9 +14,9 @@ use Rattle.abi_types.specs.declared.reply.Payload.{Payload}
 use Rattle.guest_memory.specs.Page.{Pages}
 use Rattle.guest_memory.specs.Ranges.{in_range}
 use Rattle.guest_memory.specs.Written.{write_of}
-use Rattle.argument_reading.specs.Arguments.{argument}
-use Rattle.argument_reading.specs.Ranges.{ranges_at}
-use Rattle.argument_reading.specs.declared.ranges.TheConstants.{MOST_TRANSFERRED}
+use Rattle.codec_arguments.specs.Arguments.{argument}
+use Rattle.codec_arguments.specs.Ranges.{ranges_at}
+use Rattle.codec_arguments.specs.declared.ranges.TheConstants.{MOST_TRANSFERRED}
 use Rattle.call_codec.specs.Args.{args_of}
 use Rattle.call_codec.specs.MemoryCalls.{pages_in, prot_of}
 use Rattle.call_codec.specs.Output.{content_of, fdstat_bytes, filestat_bytes, with_bytes}

@@ -11,7 +11,7 @@ use Rattle.abi_types.specs.declared.reply.Reply.{Reply}
 use Rattle.abi_base.specs.Errno.{number_of}
 use Rattle.abi_base.specs.Registers.{Registers, with_pc, with_x}
 use Rattle.guest_memory.specs.Page.{Pages}
-use Rattle.argument_reading.specs.Arguments.{argument}
+use Rattle.codec_arguments.specs.Arguments.{argument}
 use Rattle.call_codec.specs.MemoryCalls.{memory_with, on_success, pages_in, prot_of, with_mapping, IsSomewhere}
 use Rattle.call_codec.specs.Output.{content_of, with_content, with_payload}
 

@@ -14,7 +14,7 @@ use Rattle.abi_base.specs.Registers.{Registers}
 use Rattle.guest_memory.specs.Changes.{lowest_gap, without_pages}
 use Rattle.guest_memory.specs.Mapping.{AreThere}
 use Rattle.guest_memory.specs.Page.{Pages}
-use Rattle.argument_reading.specs.Arguments.{argument, low}
+use Rattle.codec_arguments.specs.Arguments.{argument, low}
 use Rattle.call_codec.specs.MemoryCalls.{has_bits, pages_in, mem_advise_of, mem_map_of, mem_protect_of, mem_sync_of, mem_unmap_of}
 
 -- conditions in an order, each with the error that it answers

@@ -7,18 +7,18 @@ use Rattle.abi_base.specs.declared.errno.Errno.TheVariants.{Nosys}
 use Rattle.abi_base.specs.Registers.{Registers}
 use Rattle.abi_types.specs.declared.call.Call.{Call}
 use Rattle.abi_types.specs.declared.call.Call.TheVariants.{ProcExit, Refused}
-use Rattle.argument_reading.specs.Arguments.{argument, low}
+use Rattle.codec_arguments.specs.Arguments.{argument, low}
 use Rattle.call_codec.specs.MemoryCalls.{mem_advise_of, mem_map_of, mem_protect_of, mem_sync_of, mem_unmap_of}
 use Rattle.call_codec.specs.WriteCall.{fd_write_of}
-use Rattle.call_reading.specs.ClockCalls.{clock_res_get_of, clock_time_get_of}
-use Rattle.call_reading.specs.DescriptorCalls.{fd_close_of, fd_create1_of, fd_create2_of, fd_datasync_of, fd_dup_of, fd_pread_of, fd_pwrite_of, fd_read_of, fd_replace_of, fd_seek_of, fd_stat_get_of, fd_stat_put_of, fd_sync_of}
-use Rattle.call_reading.specs.LockCalls.{condvar_signal_of, lock_unlock_of, thread_exit_of}
-use Rattle.call_reading.specs.ProcessCalls.{proc_exec_of, proc_fork_of, proc_raise_of, random_get_of}
-use Rattle.call_reading.specs.SocketCalls.{sock_recv_of, sock_send_of, sock_shutdown_of}
-use Rattle.call_reading.specs.ThreadCalls.{thread_create_of, thread_yield_of}
-use Rattle.file_reading.specs.FileCalls.{file_call}
+use Rattle.codec_calls.specs.ClockCalls.{clock_res_get_of, clock_time_get_of}
+use Rattle.codec_calls.specs.DescriptorCalls.{fd_close_of, fd_create1_of, fd_create2_of, fd_datasync_of, fd_dup_of, fd_pread_of, fd_pwrite_of, fd_read_of, fd_replace_of, fd_seek_of, fd_stat_get_of, fd_stat_put_of, fd_sync_of}
+use Rattle.codec_calls.specs.LockCalls.{condvar_signal_of, lock_unlock_of, thread_exit_of}
+use Rattle.codec_calls.specs.ProcessCalls.{proc_exec_of, proc_fork_of, proc_raise_of, random_get_of}
+use Rattle.codec_calls.specs.SocketCalls.{sock_recv_of, sock_send_of, sock_shutdown_of}
+use Rattle.codec_calls.specs.ThreadCalls.{thread_create_of, thread_yield_of}
+use Rattle.codec_files.specs.Numbers.{file_call}
 use Rattle.guest_memory.specs.Page.{Pages}
-use Rattle.poll_reading.specs.Poll.{poll_of}
+use Rattle.codec_poll.specs.Poll.{poll_of}
 
 -- the calls about descriptors, by number
 unfoldable pub descriptor_call : Pages → Registers → ℕ → Result Call Errno

@@ -6,9 +6,9 @@ use Rattle.abi_base.specs.declared.errno.Errno.TheVariants.{Fault, Inval}
 use Rattle.abi_base.specs.Registers.{Registers}
 use Rattle.guest_memory.specs.declared.fault.MemFault.{MemFault}
 use Rattle.guest_memory.specs.Page.{Pages}
-use Rattle.argument_reading.specs.Arguments.{argument, low}
-use Rattle.argument_reading.specs.Ranges.{gathered_in, ranges_at}
-use Rattle.argument_reading.specs.declared.ranges.TheConstants.{MOST_IOVECS}
+use Rattle.codec_arguments.specs.Arguments.{argument, low}
+use Rattle.codec_arguments.specs.Ranges.{gathered_in, ranges_at}
+use Rattle.codec_arguments.specs.declared.ranges.TheConstants.{MOST_IOVECS}
 
 -- fd_write of these bytes; memory that can't be read is FAULT
 abbrev pub fd_write_with : ℕ → Result (List ℕ) MemFault → Call

@@ -2,7 +2,7 @@
 ghost use Rattle.std.specs.Prelude.{◌≡◌, IfOk, OnErr, slice_index};
 ghost use Rattle.call_codec.specs.Args.{args_of, IsCopied};
 ghost use Rattle.call_codec.specs.Spelled.{descriptor_call, or_refused};
-ghost use Rattle.file_reading.specs.FileCalls.{CopiesPath, file_call};
+ghost use Rattle.codec_files.specs.Numbers.{CopiesPath, file_call};
 
 use crate::memory_calls::{
     MEM_ADVISE, MEM_MAP, MEM_PROTECT, MEM_SYNC, MEM_UNMAP, mem_advise, mem_map, mem_protect,
@@ -10,8 +10,8 @@ use crate::memory_calls::{
 };
 use crate::reading::descriptor_call;
 use abi_types::{Call, Errno, Regs};
-use argument_reading::{Refusal, low};
-use file_reading::file_call;
+use codec_arguments::{ArgumentFault, low};
+use codec_files::file_call;
 use guest_memory::GuestMemory;
 use std::alloc::{AllocError, Global};
 
@@ -56,8 +56,8 @@ fn of_descriptors(
 {
     match descriptor_call(alloc, regs, memory, number) {
         Ok(call) => Ok(call),
-        Err(Refusal::Errno(errno)) => Ok(Call::Refused { number, errno }),
-        Err(Refusal::NoMemory) => Err(AllocError),
+        Err(ArgumentFault::Errno(errno)) => Ok(Call::Refused { number, errno }),
+        Err(ArgumentFault::NoMemory) => Err(AllocError),
     }
 }
 
@@ -73,7 +73,7 @@ fn of_files(
 {
     match file_call(alloc, regs, memory, number) {
         Ok(call) => Ok(call),
-        Err(Refusal::Errno(errno)) => Ok(Call::Refused { number, errno }),
-        Err(Refusal::NoMemory) => Err(AllocError),
+        Err(ArgumentFault::Errno(errno)) => Ok(Call::Refused { number, errno }),
+        Err(ArgumentFault::NoMemory) => Err(AllocError),
     }
 }

@@ -1,12 +1,12 @@
 //! The calls that a process makes about its own memory, from registers and memory.
 ghost use Rattle.std.specs.Prelude.{◌≡◌, ◌≤◌, ◌+◌, ◌*◌, ◌^◌};
-ghost use Rattle.argument_reading.specs.Arguments.{low};
+ghost use Rattle.codec_arguments.specs.Arguments.{low};
 ghost use Rattle.call_codec.specs.MemoryCalls.{has_bits, has_one, writes_and_executes, pages_in, is_aligned, is_guests, if_mapped, mem_advise_of, protect_refusal, mem_protect_of, is_sync, mem_sync_of, is_range, mem_unmap_of, map_refusal, place_at, place_in_gap, place_of, mem_map_of};
 ghost use Rattle.guest_memory.specs.Ranges.{IsPageAddress};
 
 use abi_base::{GUEST_BEGIN, GUEST_END, PAGE_LIMIT, PAGE_SIZE};
 use abi_types::{Call, Errno, Place, Regs};
-use argument_reading::low;
+use codec_arguments::low;
 use guest_memory::GuestMemory;
 
 /// The number of mem_advise.

@@ -1,12 +1,12 @@
 //! What a call that succeeded writes into the caller's memory.
 ghost use Rattle.std.specs.Prelude.{◌≡◌, ◌≤◌, OnOk, OnErr};
-ghost use Rattle.argument_reading.specs.Arguments.{argument};
+ghost use Rattle.codec_arguments.specs.Arguments.{argument};
 ghost use Rattle.call_codec.specs.Output.{content_of, fdstat_bytes, filestat_bytes, scattered, with_bytes, with_content, with_payload};
 
 use abi_layout::{write_fdstat, write_filestat};
 use abi_structures::Iovec;
 use abi_types::{Payload, Regs};
-use argument_reading::{MOST_IOVECS, read_ranges};
+use codec_arguments::{MOST_IOVECS, read_ranges};
 use guest_memory::GuestMemory;
 use std::alloc::{AllocError, Global};
 

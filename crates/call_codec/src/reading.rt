@@ -1,22 +1,22 @@
 //! From registers and memory to a call, for every call that there is.
 ghost use Rattle.std.specs.Prelude.{◌≡◌, IfOk, IsTrue, OnErr, slice_index};
-ghost use Rattle.argument_reading.specs.Reading.{LacksMemory, Reads};
+ghost use Rattle.codec_arguments.specs.Reading.{LacksMemory, Reads};
 ghost use Rattle.call_codec.specs.Args.{IsCopied};
 ghost use Rattle.call_codec.specs.Spelled.{descriptor_call, is_copied, memory_call, numbered, process_call, spelled_of, thread_call};
 
 use crate::memory_calls::{mem_advise, mem_map, mem_protect, mem_sync, mem_unmap};
 use crate::write_call::fd_write;
 use abi_types::{Call, Errno, Regs};
-use argument_reading::{Refusal, low};
-use call_reading::{
+use codec_arguments::{ArgumentFault, low};
+use codec_calls::{
     clock_res_get, clock_time_get, condvar_signal, fd_close, fd_create1, fd_create2, fd_datasync,
     fd_dup, fd_pread, fd_pwrite, fd_read, fd_replace, fd_seek, fd_stat_get, fd_stat_put, fd_sync,
     lock_unlock, proc_exec, proc_fork, proc_raise, random_get, sock_recv, sock_send, sock_shutdown,
     thread_create, thread_exit, thread_yield,
 };
-use file_reading::file_call;
+use codec_files::file_call;
+use codec_poll::poll;
 use guest_memory::GuestMemory;
-use poll_reading::poll;
 use std::alloc::{AllocError, Global};
 
 /// The calls about descriptors, by number.
@@ -26,13 +26,13 @@ pub(crate) fn descriptor_call(
     regs: &Regs,
     memory: &GuestMemory,
     number: u64,
-) -> Result<Call, Refusal>
+) -> Result<Call, ArgumentFault>
     ensures reads { Reads result (descriptor_call memory.now regs.now number) }
     ensures only { LacksMemory result → IsCopied number }
 {
     match number {
         3 => Ok(fd_close(regs)),
-        4 => Err(Refusal::Errno(fd_create1(regs))),
+        4 => Err(ArgumentFault::Errno(fd_create1(regs))),
         5 => Ok(fd_create2(regs)?),
         6 => Ok(fd_datasync(regs)),
         7 => Ok(fd_dup(regs)),
@@ -45,7 +45,7 @@ pub(crate) fn descriptor_call(
         14 => Ok(fd_stat_put(regs, memory)?),
         15 => Ok(fd_sync(regs)),
         16 => Ok(fd_write(alloc, regs, memory)?),
-        _ => Err(Refusal::Errno(Errno::Nosys)),
+        _ => Err(ArgumentFault::Errno(Errno::Nosys)),
     }
 }
 
@@ -72,7 +72,7 @@ fn process_call(
     memory: &GuestMemory,
     left: u64,
     number: u64,
-) -> Result<Call, Refusal>
+) -> Result<Call, ArgumentFault>
     ensures reads { Reads result (process_call memory.now regs.now left number) }
     ensures only { LacksMemory result → IsTrue (is_copied number) }
 {
@@ -87,7 +87,7 @@ fn process_call(
         43 => sock_recv(alloc, regs, memory),
         44 => sock_send(alloc, regs, memory),
         45 => Ok(sock_shutdown(regs)?),
-        _ => Err(Refusal::Errno(Errno::Nosys)),
+        _ => Err(ArgumentFault::Errno(Errno::Nosys)),
     }
 }
 
@@ -98,7 +98,7 @@ fn thread_call(
     regs: &Regs,
     memory: &GuestMemory,
     number: u64,
-) -> Result<Call, Refusal>
+) -> Result<Call, ArgumentFault>
     ensures reads { Reads result (thread_call memory.now regs.now number) }
     ensures only { LacksMemory result → IsTrue (is_copied number) }
 {
@@ -111,7 +111,7 @@ fn thread_call(
         46 => Ok(thread_create(regs, memory)?),
         47 => Ok(thread_exit(regs, memory)?),
         48 => Ok(thread_yield()),
-        _ => Err(Refusal::Errno(Errno::Nosys)),
+        _ => Err(ArgumentFault::Errno(Errno::Nosys)),
     }
 }
 
@@ -122,7 +122,7 @@ fn numbered(
     memory: &GuestMemory,
     left: u64,
     number: u64,
-) -> Result<Call, Refusal>
+) -> Result<Call, ArgumentFault>
     ensures reads { Reads result (numbered memory.now regs.now left number) }
     ensures only { LacksMemory result → IsTrue (is_copied number) }
 {
@@ -149,7 +149,7 @@ pub fn read_call(
     let number = regs.get(17);
     match numbered(alloc, regs, memory, left, number) {
         Ok(call) => Ok(call),
-        Err(Refusal::Errno(errno)) => Ok(Call::Refused { number, errno }),
-        Err(Refusal::NoMemory) => Err(AllocError),
+        Err(ArgumentFault::Errno(errno)) => Ok(Call::Refused { number, errno }),
+        Err(ArgumentFault::NoMemory) => Err(AllocError),
     }
 }

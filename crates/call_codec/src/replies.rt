@@ -1,7 +1,7 @@
 //! From an answer back to the registers and the memory.
 ghost use Rattle.std.specs.Prelude.{◌≡◌, ◌≤◌, ◌/◌, ◌^◌, OnOk, OnErr};
 ghost use Rattle.abi_types.specs.declared.place.Place.TheVariants as place;
-ghost use Rattle.argument_reading.specs.Arguments.{argument};
+ghost use Rattle.codec_arguments.specs.Arguments.{argument};
 ghost use Rattle.call_codec.specs.Args.{args_of};
 ghost use Rattle.call_codec.specs.MemoryCalls.{IsSomewhere, MayMapAt, MayMapThere, with_change, with_mapping, pages_in, prot_of};
 ghost use Rattle.call_codec.specs.Put.{answered_memory, answered_of, memory_after, put_of, with_results, TakesRoom};
@@ -14,7 +14,7 @@ use crate::memory_calls::{has_bits, pages_in};
 use crate::output::{content, put_content, put_payload};
 use abi_base::{GUEST_END, PAGE_SIZE};
 use abi_types::{Answer, Call, Errno, Payload, Place, Prot, Regs, Reply};
-use argument_reading::low;
+use codec_arguments::low;
 use guest_memory::GuestMemory;
 use std::alloc::{AllocError, Global};
 

@@ -1,11 +1,11 @@
 //! fd_write, from registers and memory.
 ghost use Rattle.std.specs.Prelude.{◌≡◌, ◌≤◌, IfOk};
 ghost use Rattle.std.specs.Result.{result_ok};
-ghost use Rattle.argument_reading.specs.Ranges.{gathered_in, ranges_at};
+ghost use Rattle.codec_arguments.specs.Ranges.{gathered_in, ranges_at};
 ghost use Rattle.call_codec.specs.WriteCall.{fd_write_of};
 
 use abi_types::{Bytes, Call, Errno, Regs};
-use argument_reading::{MOST_IOVECS, gather, low, read_ranges};
+use codec_arguments::{MOST_IOVECS, gather, low, read_ranges};
 use guest_memory::GuestMemory;
 use std::alloc::{AllocError, Global};
 

@@ -5,18 +5,18 @@ mod file_source;
 mod out_sink;
 
 use file_source::FileSource;
-use launch_run::{Refusal, run_launch};
+use launch_run::{LaunchRefusal, run_launch};
 use out_sink::OutSink;
 use std::process::ExitCode;
 use std::rt::Env;
 use std::{env, fs, io};
 
 // The words of the command line. Words that aren't text are refused like words that aren't in the grammar.
-fn command_line(rt: &(impl Env + AllocGlobal)) -> Result<Vec<String>, Refusal<'static>> {
+fn command_line(rt: &(impl Env + AllocGlobal)) -> Result<Vec<String>, LaunchRefusal<'static>> {
     match env::args(rt) {
-        Ok(args) => args.collect(rt.alloc()).map_err(|_| Refusal::Memory),
-        Err(error) if error.kind() == io::ErrorKind::OutOfMemory => Err(Refusal::Memory),
-        Err(_) => Err(Refusal::Words),
+        Ok(args) => args.collect(rt.alloc()).map_err(|_| LaunchRefusal::Memory),
+        Err(error) if error.kind() == io::ErrorKind::OutOfMemory => Err(LaunchRefusal::Memory),
+        Err(_) => Err(LaunchRefusal::Words),
     }
 }
 

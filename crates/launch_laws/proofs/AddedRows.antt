@@ -2,15 +2,15 @@
 use Rattle.std.proofs.Common.{◌≡◌, ◌≢◌, ◌⊎◌, inl, inr, ℕ, zero, suc, ◌==◌, ◌&&◌, ◌||◌, not, Bool, true, false, cond, if◌then◌else◌, List, [], ◌∷◌, ◌++◌, codes, Option, Some, None, is_some, Result, Ok, Err, refl, sym, ap, subst, ◌∙◌}
 use Rattle.std.specs.List.{take_while, AllByRecursion}
 use Rattle.std.proofs.lemmas.List.Sums.{take_while-cons}
-use Rattle.yaml_scalars.specs.declared.kind.YamlKind.TheVariants as kinds
-use Rattle.yaml_scalars.specs.Spaces.{is_one_of, begins_with, after_gap}
-use Rattle.yaml_values.specs.Shape.{Shape, Content, node, mapping, sequence, of_list, of_pairs, content_of}
-use Rattle.yaml_values.specs.Flow.{value_at}
-use Rattle.launch_rows.specs.declared.fault.Fault.{Fault}
+use Rattle.launch_scalars.specs.declared.kind.YamlKind.TheVariants as kinds
+use Rattle.launch_scalars.specs.Spaces.{is_one_of, begins_with, after_gap}
+use Rattle.launch_values.specs.Shape.{Shape, Content, node, mapping, sequence, of_list, of_pairs, content_of}
+use Rattle.launch_values.specs.Flow.{value_at}
+use Rattle.launch_lines.specs.declared.fault.Fault.{Fault}
 use Rattle.lists.specs.Results.{◌>>=◌}
-use Rattle.launch_rows.specs.Faults.{unless}
-use Rattle.launch_rows.specs.Rows.{Row, is_dash, is_open, behind_key, after_key, at_row, in_row, is_start, is_stop, is_marker, is_directive}
-use Rattle.launch_rows.specs.Views.{IsEndOf}
+use Rattle.launch_lines.specs.Faults.{unless}
+use Rattle.launch_lines.specs.Rows.{Row, is_dash, is_open, behind_key, after_key, at_row, in_row, is_start, is_stop, is_marker, is_directive}
+use Rattle.launch_lines.specs.Views.{IsEndOf}
 use Rattle.launch_yaml.specs.Entries.{Entry, is_deeper, is_item_at, begins_with_item_at, belongs_there, belongs, entries_after, never, is_key_awaiting, map_entries, sequence_entries, after_while}
 use Rattle.launch_yaml.specs.Blocks.{Tagging, untagged, tagged, in_base64, is_untagged, mode_of, node_of, binary_place, tagging_at, text_behind, rows_behind, alone, Block, begins_block, value_in, tagged_value_in, value_below, value_with, behind_dash, item_of, items_of, key_at, value_of_entry, pair_of, pairs_of, block_at}
 use Rattle.launch_yaml.specs.Document.{after_directive, is_inside, root_of, end_at, after_document, body_of, document_of}

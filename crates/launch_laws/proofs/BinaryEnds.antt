@@ -1,19 +1,19 @@
 -- A `!!binary` at the end of a row.
 use Rattle.std.proofs.Common.{◌≡◌, ℕ, zero, suc, ◌+◌, ◌-◌, ◌==◌, ◌&&◌, not, Bool, true, false, if◌then◌else◌, List, [], ◌∷◌, ◌++◌, length, drop, Option, Some, None, Result, Ok, Err, refl, sym, ap, ◌∙◌, append_assoc, length-append, arith}
 use Rattle.std.proofs.lemmas.Bool.Decides.{nat_tests}
-use Rattle.yaml_scalars.specs.declared.kind.YamlKind.TheVariants as kinds
-use Rattle.yaml_scalars.specs.declared.fault.LineFault.{LineFault}
-use Rattle.yaml_scalars.specs.Spaces.{begins_with, after_gap}
-use Rattle.yaml_scalars.specs.Plain.{begins_plain, is_behind_key, plain_length}
-use Rattle.yaml_scalars.specs.Quoted.{closed, unclosed, put, in_single, escape, escaped, in_double, quoted}
-use Rattle.yaml_scalars.specs.Scalars.{is_quote}
-use Rattle.yaml_values.specs.Tags.{Tag, named, bytes_in_base64, tag_at}
-use Rattle.launch_rows.specs.declared.fault.Fault.{Fault}
+use Rattle.launch_scalars.specs.declared.kind.YamlKind.TheVariants as kinds
+use Rattle.launch_scalars.specs.declared.fault.LineFault.{LineFault}
+use Rattle.launch_scalars.specs.Spaces.{begins_with, after_gap}
+use Rattle.launch_scalars.specs.Plain.{begins_plain, is_behind_key, plain_length}
+use Rattle.launch_scalars.specs.Quoted.{closed, unclosed, put, in_single, escape, escaped, in_double, quoted}
+use Rattle.launch_scalars.specs.Scalars.{is_quote}
+use Rattle.launch_values.specs.Tags.{Tag, named, bytes_in_base64, tag_at}
+use Rattle.launch_lines.specs.declared.fault.Fault.{Fault}
 use Rattle.lists.specs.Results.{◌>>=◌}
 use Rattle.lists.proofs.Chosen.{ok_is, err_ok}
-use Rattle.launch_rows.specs.Rows.{Row, behind_colon, behind_quoted, behind_key, after_key, in_row}
-use Rattle.launch_rows.specs.Views.{IsEndOf}
-use Rattle.launch_rows.proofs.Ends.{end_further, gap_end}
+use Rattle.launch_lines.specs.Rows.{Row, behind_colon, behind_quoted, behind_key, after_key, in_row}
+use Rattle.launch_lines.specs.Views.{IsEndOf}
+use Rattle.launch_lines.proofs.Ends.{end_further, gap_end}
 use Rattle.launch_yaml.specs.Blocks.{Tagging, tagged, in_base64, tagging_of, wrong_in, tagging_at, behind_dash}
 use Rattle.launch_laws.specs.Laws.{EndsWithBinary}
 

@@ -2,8 +2,8 @@
 use Rattle.std.proofs.Common.{ℕ, Bool, true, false, List, [], ◌∷◌, ◌++◌, codes, Some, None, refl, sym, subst}
 use Rattle.base64.specs.Engines.{standard}
 use Rattle.base64.specs.GeneralPurpose.{encode_of}
-use Rattle.yaml_values.specs.Documents.{IsSound, IsSoundContent, AreSoundItems, AreSoundPairs}
-use Rattle.yaml_values.specs.Shape.{Shape, Content, Shapes, Pairs, node, null, boolean, integer, text, binary, mapping, sequence, no_items, item, no_pairs, pair, content_of}
+use Rattle.launch_values.specs.Documents.{IsSound, IsSoundContent, AreSoundItems, AreSoundPairs}
+use Rattle.launch_values.specs.Shape.{Shape, Content, Shapes, Pairs, node, null, boolean, integer, text, binary, mapping, sequence, no_items, item, no_pairs, pair, content_of}
 use Rattle.launch_laws.specs.Printed.{in_quotes, printed, printed_value, behind_tag, printed_items, further_items, printed_pairs, further_pairs, IsTagName, IsKey, IsSpellable, IsSpellableRoot, IsSpellableValue, AreSpellableItems, AreSpellablePairs}
 use Rattle.launch_laws.proofs.CleanTexts.{IsClean, clean_nil, clean_append, clean_visible, clean_text}
 use Rattle.launch_laws.proofs.PrintedTexts.{clean_quotes}

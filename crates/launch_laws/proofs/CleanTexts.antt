@@ -9,8 +9,8 @@ use Rattle.std.proofs.lemmas.Bool.{and_parts, cases_eq, cond-false, cond-true, e
 use Rattle.std.proofs.lemmas.Bool.Decides.{nat_tests}
 use Rattle.std.proofs.lemmas.List.{append-nil}
 use Rattle.std.proofs.lemmas.Str.{IsUtf8-append, IsUtf8-encode, IsUtf8-nil, encodes-chars, scalars-chars, utf8_valid_len-IsUtf8}
-use Rattle.yaml_scalars.specs.Characters.{begins_control, control_at, invalid_at, earlier, bad_at}
-use Rattle.yaml_scalars.proofs.Escaped.{ascii_utf8}
+use Rattle.launch_scalars.specs.Characters.{begins_control, control_at, invalid_at, earlier, bad_at}
+use Rattle.launch_scalars.proofs.Escaped.{ascii_utf8}
 
 -- UTF-8 without a control character, whatever stands behind it
 pub record IsClean (bytes : List ℕ) : Type 0 where

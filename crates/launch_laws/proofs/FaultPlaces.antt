@@ -2,20 +2,20 @@
 use Rattle.std.proofs.Common.{◌≡◌, ℕ, zero, suc, ◌==◌, ◌&&◌, not, Bool, true, false, cond, if◌then◌else◌, List, [], ◌∷◌, drop, codes, Option, Some, None, is_some, Result, Ok, Err, refl, sym, subst}
 use Rattle.std.specs.List.{list_any, take_while, AllByRecursion}
 use Rattle.std.proofs.lemmas.List.Sums.{take_while-cons}
-use Rattle.yaml_scalars.specs.declared.kind.YamlKind.TheVariants as kinds
-use Rattle.yaml_scalars.specs.declared.fault.LineFault.{LineFault}
-use Rattle.yaml_scalars.specs.Spaces.{is_one_of, begins_with, after_gap}
-use Rattle.yaml_values.specs.declared.mode.Mode.TheVariants as modes
-use Rattle.yaml_values.specs.Shape.{Shape, Content, node, null, mapping, sequence, of_list, of_pairs, content_of}
-use Rattle.yaml_values.specs.Resolution.{scalar_value}
-use Rattle.yaml_values.specs.Tags.{Tag, named, bytes_in_base64, tag_at}
-use Rattle.yaml_values.specs.Keys.{same_key}
-use Rattle.yaml_values.specs.Flow.{value_at}
-use Rattle.launch_rows.specs.declared.fault.Fault.{Fault}
+use Rattle.launch_scalars.specs.declared.kind.YamlKind.TheVariants as kinds
+use Rattle.launch_scalars.specs.declared.fault.LineFault.{LineFault}
+use Rattle.launch_scalars.specs.Spaces.{is_one_of, begins_with, after_gap}
+use Rattle.launch_values.specs.declared.mode.Mode.TheVariants as modes
+use Rattle.launch_values.specs.Shape.{Shape, Content, node, null, mapping, sequence, of_list, of_pairs, content_of}
+use Rattle.launch_values.specs.Resolution.{scalar_value}
+use Rattle.launch_values.specs.Tags.{Tag, named, bytes_in_base64, tag_at}
+use Rattle.launch_values.specs.Keys.{same_key}
+use Rattle.launch_values.specs.Flow.{value_at}
+use Rattle.launch_lines.specs.declared.fault.Fault.{Fault}
 use Rattle.lists.specs.Results.{◌>>=◌}
 use Rattle.lists.proofs.Chosen.{ok_is, err_ok}
-use Rattle.launch_rows.specs.Faults.{unless, comes_before}
-use Rattle.launch_rows.specs.Rows.{Row, is_dash, begins_key, behind_key, after_key, at_row, place_in, in_row, is_start, is_stop, is_marker, is_directive}
+use Rattle.launch_lines.specs.Faults.{unless, comes_before}
+use Rattle.launch_lines.specs.Rows.{Row, is_dash, begins_key, behind_key, after_key, at_row, place_in, in_row, is_start, is_stop, is_marker, is_directive}
 use Rattle.launch_yaml.specs.Entries.{Entry, belongs, entries_after, never, is_key_awaiting, map_entries, sequence_entries, after_while}
 use Rattle.launch_yaml.specs.Blocks.{Tagging, untagged, tagged, in_base64, is_untagged, tagging_of, mode_of, node_of, unless_binary, absent, wrong_in, tagging_at, text_behind, rows_behind, alone, Block, begins_block, value_in, unless_key, tagged_value_in, value_below, value_with, no_entry, behind_dash, item_of, items_of, key_of, wrong_key, new_key, new_key_of, key_at, value_of_entry, pair_of, pairs_of, too_deep, items_at, pairs_at, block_at}
 use Rattle.launch_yaml.specs.Document.{after_directive, first_column, is_inside, root_of, end_at, after_document, body_of, document_of}

@@ -2,16 +2,16 @@
 use Rattle.std.proofs.Common.{◌≡◌, ◌≢◌, ◌⊎◌, inl, inr, ℕ, zero, suc, ◌+◌, ◌<◌, ◌≤◌, ◌==◌, ◌&&◌, Bool, true, false, if◌then◌else◌, List, [], ◌∷◌, ◌++◌, length, drop, Option, Some, None, Result, Ok, Err, refl, sym, ap, subst, ◌∙◌, append_assoc, arith}
 use Rattle.std.specs.Prelude.{nat_eq}
 use Rattle.std.specs.List.{starts_with, AllByRecursion}
-use Rattle.yaml_scalars.specs.Characters.{bad_at}
-use Rattle.yaml_scalars.specs.declared.kind.YamlKind.{YamlKind}
-use Rattle.yaml_scalars.specs.declared.kind.YamlKind.TheVariants as kinds
-use Rattle.yaml_values.specs.Shape.{Shape}
-use Rattle.launch_rows.specs.declared.fault.Fault.{Fault}
-use Rattle.launch_rows.specs.Faults.{comes_before, first_of, first_fault, beside}
-use Rattle.launch_rows.specs.Lines.{without_mark, onto_first, pieces, without_return, without_returns, lines_of, lines, tab_at, or_further, first_line, plain_fault}
-use Rattle.launch_rows.specs.Rows.{Row, indentation, unless_nothing, row_of, rows_from}
-use Rattle.launch_rows.proofs.Pieces.{some_piece}
-use Rattle.launch_rows.proofs.FirstFaults.{earlier_first, earlier_second, IsFrom, first_line_from}
+use Rattle.launch_scalars.specs.Characters.{bad_at}
+use Rattle.launch_scalars.specs.declared.kind.YamlKind.{YamlKind}
+use Rattle.launch_scalars.specs.declared.kind.YamlKind.TheVariants as kinds
+use Rattle.launch_values.specs.Shape.{Shape}
+use Rattle.launch_lines.specs.declared.fault.Fault.{Fault}
+use Rattle.launch_lines.specs.Faults.{comes_before, first_of, first_fault, beside}
+use Rattle.launch_lines.specs.Lines.{without_mark, onto_first, pieces, without_return, without_returns, lines_of, lines, tab_at, or_further, first_line, plain_fault}
+use Rattle.launch_lines.specs.Rows.{Row, indentation, unless_nothing, row_of, rows_from}
+use Rattle.launch_lines.proofs.Pieces.{some_piece}
+use Rattle.launch_lines.proofs.FirstFaults.{earlier_first, earlier_second, IsFrom, first_line_from}
 use Rattle.launch_yaml.specs.Document.{document_of, document_in, parse_at}
 use Rattle.launch_laws.specs.Laws.{LacksScalar, LacksStart, EndsWithReturn, FaultsStay}
 use Rattle.launch_laws.proofs.LineEnds.{other_byte, both_true, mark}

@@ -2,19 +2,19 @@
 use Rattle.std.proofs.Common.{◌≡◌, ℕ, zero, suc, ◌==◌, ◌||◌, Bool, true, false, if◌then◌else◌, List, [], ◌∷◌, map, length, drop, codes, Option, Some, None, Result, Ok, Err, refl, sym, ap, ◌∙◌, arith}
 use Rattle.std.specs.Prelude.{IfOk}
 use Rattle.std.specs.List.{list_any}
-use Rattle.yaml_scalars.specs.declared.kind.YamlKind.TheVariants as kinds
-use Rattle.yaml_scalars.specs.declared.fault.LineFault.{LineFault}
+use Rattle.launch_scalars.specs.declared.kind.YamlKind.TheVariants as kinds
+use Rattle.launch_scalars.specs.declared.fault.LineFault.{LineFault}
 use Rattle.lists.specs.Results.{◌>>=◌}
-use Rattle.yaml_scalars.specs.Results.{fault}
-use Rattle.yaml_scalars.specs.Spaces.{is_one_of, begins_with, begins_with_one_of, after_gap}
-use Rattle.yaml_values.specs.declared.mode.Mode.{Mode}
-use Rattle.yaml_values.specs.declared.mode.Mode.TheVariants as modes
-use Rattle.yaml_values.specs.Shape.{Shape, Content, Shapes, Pairs, node, null, boolean, integer, text, binary, mapping, sequence, item, pair, of_list, of_pairs, content_of, depth_of_content}
-use Rattle.yaml_values.specs.Resolution.{scalar_value}
-use Rattle.yaml_values.specs.Tags.{Tag, named, bytes_in_base64, tag_at}
-use Rattle.yaml_values.specs.Keys.{same_key, unless_there}
-use Rattle.yaml_values.specs.Flow.{is_absent, value_with, in_node, tagged_with, node_with, separator, with_more, goes_on, items_with, items_of, key_with, after_colon, keyed_with, pair_with, pairs_with, pairs_of, sequence_with, mapping_with, collection_at, value_at}
-use Rattle.yaml_values.proofs.SoundValues.{IsFlat, scalar_flat}
+use Rattle.launch_scalars.specs.Results.{fault}
+use Rattle.launch_scalars.specs.Spaces.{is_one_of, begins_with, begins_with_one_of, after_gap}
+use Rattle.launch_values.specs.declared.mode.Mode.{Mode}
+use Rattle.launch_values.specs.declared.mode.Mode.TheVariants as modes
+use Rattle.launch_values.specs.Shape.{Shape, Content, Shapes, Pairs, node, null, boolean, integer, text, binary, mapping, sequence, item, pair, of_list, of_pairs, content_of, depth_of_content}
+use Rattle.launch_values.specs.Resolution.{scalar_value}
+use Rattle.launch_values.specs.Tags.{Tag, named, bytes_in_base64, tag_at}
+use Rattle.launch_values.specs.Keys.{same_key, unless_there}
+use Rattle.launch_values.specs.Flow.{is_absent, value_with, in_node, tagged_with, node_with, separator, with_more, goes_on, items_with, items_of, key_with, after_colon, keyed_with, pair_with, pairs_with, pairs_of, sequence_with, mapping_with, collection_at, value_at}
+use Rattle.launch_values.proofs.SoundValues.{IsFlat, scalar_flat}
 use Rattle.launch_yaml.specs.Renumbering.{renumber, renumber_value, renumber_items, renumber_pairs}
 
 -- ---- results

@@ -5,11 +5,11 @@ use Rattle.std.specs.List.{starts_with, AllByRecursion}
 use Rattle.std.proofs.lemmas.Bool.{cases_Bool}
 use Rattle.std.proofs.lemmas.Bool.Decides.{nat_tests}
 use Rattle.std.proofs.lemmas.List.{map-append}
-use Rattle.yaml_values.specs.Shape.{Shape}
-use Rattle.launch_rows.specs.declared.fault.Fault.{Fault}
-use Rattle.launch_rows.specs.Faults.{comes_before, beside}
-use Rattle.launch_rows.specs.Lines.{without_mark, onto_first, pieces, without_return, without_returns, lines_of, lines, plain_fault}
-use Rattle.launch_rows.specs.Rows.{Row, indentation, unless_nothing, row_of, rows_from}
+use Rattle.launch_values.specs.Shape.{Shape}
+use Rattle.launch_lines.specs.declared.fault.Fault.{Fault}
+use Rattle.launch_lines.specs.Faults.{comes_before, beside}
+use Rattle.launch_lines.specs.Lines.{without_mark, onto_first, pieces, without_return, without_returns, lines_of, lines, plain_fault}
+use Rattle.launch_lines.specs.Rows.{Row, indentation, unless_nothing, row_of, rows_from}
 use Rattle.launch_yaml.specs.Document.{document_of, parse_at}
 use Rattle.launch_laws.specs.Laws.{LinesAreTold, MarkChangesNothing, with_returns, HasNoReturn, ReturnsChangeNothing, place_of, EmptyLinesAreNoRows}
 

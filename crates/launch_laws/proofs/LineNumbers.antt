@@ -4,14 +4,14 @@ use Rattle.std.specs.Prelude.{nat_lt, nat_le}
 use Rattle.std.proofs.lemmas.Bool.{cases_Bool}
 use Rattle.std.proofs.lemmas.Bool.Decides.{nat_tests}
 use Rattle.std.proofs.lemmas.List.{map-append}
-use Rattle.yaml_scalars.specs.Characters.{bad_at}
-use Rattle.yaml_scalars.specs.declared.kind.YamlKind.{YamlKind}
-use Rattle.yaml_scalars.specs.declared.kind.YamlKind.TheVariants as kinds
-use Rattle.yaml_values.specs.Shape.{Shape}
-use Rattle.launch_rows.specs.declared.fault.Fault.{Fault}
-use Rattle.launch_rows.specs.Faults.{first_fault, beside}
-use Rattle.launch_rows.specs.Lines.{tab_at, or_further, first_line, plain_fault}
-use Rattle.launch_rows.specs.Rows.{Row, indentation, unless_nothing, row_of, rows_from}
+use Rattle.launch_scalars.specs.Characters.{bad_at}
+use Rattle.launch_scalars.specs.declared.kind.YamlKind.{YamlKind}
+use Rattle.launch_scalars.specs.declared.kind.YamlKind.TheVariants as kinds
+use Rattle.launch_values.specs.Shape.{Shape}
+use Rattle.launch_lines.specs.declared.fault.Fault.{Fault}
+use Rattle.launch_lines.specs.Faults.{first_fault, beside}
+use Rattle.launch_lines.specs.Lines.{tab_at, or_further, first_line, plain_fault}
+use Rattle.launch_lines.specs.Rows.{Row, indentation, unless_nothing, row_of, rows_from}
 use Rattle.launch_yaml.specs.Document.{document_of}
 use Rattle.launch_yaml.specs.Renumbering.{renumber, renumber_fault, renumber_row, renumbered, one_more}
 use Rattle.launch_laws.specs.Laws.{EmptyLinesChangeNumbers}

@@ -4,15 +4,15 @@ use Rattle.std.specs.Prelude.{nat_eq, nat_le}
 use Rattle.std.specs.List.{starts_with, prefix_len}
 use Rattle.std.proofs.lemmas.Bool.{cond-false, cond-true, ne_eqb}
 use Rattle.lists.specs.Results.{◌>>=◌}
-use Rattle.yaml_scalars.specs.declared.kind.YamlKind.TheVariants as kinds
-use Rattle.yaml_scalars.specs.Characters.{begins_control, control_at}
-use Rattle.yaml_scalars.specs.Plain.{is_space_or_end}
-use Rattle.yaml_scalars.specs.Spaces.{after_gap}
-use Rattle.yaml_values.specs.Shape.{Shape}
-use Rattle.launch_rows.specs.declared.fault.Fault.{Fault}
-use Rattle.launch_rows.specs.Faults.{unless, first_fault, beside}
-use Rattle.launch_rows.specs.Lines.{onto_first, pieces, without_returns, lines_of, lines, tab_at, or_further, plain_fault}
-use Rattle.launch_rows.specs.Rows.{Row, is_indentation, indentation, unless_nothing, rows_from, is_alone, is_start, is_stop, is_marker, is_directive, at_row}
+use Rattle.launch_scalars.specs.declared.kind.YamlKind.TheVariants as kinds
+use Rattle.launch_scalars.specs.Characters.{begins_control, control_at}
+use Rattle.launch_scalars.specs.Plain.{is_space_or_end}
+use Rattle.launch_scalars.specs.Spaces.{after_gap}
+use Rattle.launch_values.specs.Shape.{Shape}
+use Rattle.launch_lines.specs.declared.fault.Fault.{Fault}
+use Rattle.launch_lines.specs.Faults.{unless, first_fault, beside}
+use Rattle.launch_lines.specs.Lines.{onto_first, pieces, without_returns, lines_of, lines, tab_at, or_further, plain_fault}
+use Rattle.launch_lines.specs.Rows.{Row, is_indentation, indentation, unless_nothing, rows_from, is_alone, is_start, is_stop, is_marker, is_directive, at_row}
 use Rattle.launch_yaml.specs.Document.{after_directive, after_head, is_inside, root_of, after_document, body_of, document_of, document_in, parse_at}
 use Rattle.launch_laws.specs.PrintingLaws.{PrintedReadsBack}
 use Rattle.launch_laws.specs.Printed.{printed}

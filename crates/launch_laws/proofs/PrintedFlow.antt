@@ -8,20 +8,20 @@ use Rattle.std.proofs.lemmas.Bool.{cases_eq, cond-false, cond-true, ne_eqb}
 use Rattle.base64.specs.Engines.{standard}
 use Rattle.base64.specs.GeneralPurpose.{encode_of}
 use Rattle.lists.specs.Results.{◌>>=◌}
-use Rattle.yaml_scalars.specs.declared.kind.YamlKind.TheVariants as kinds
-use Rattle.yaml_scalars.specs.declared.fault.LineFault.{LineFault}
-use Rattle.yaml_scalars.specs.Characters.{bad_at}
-use Rattle.yaml_scalars.specs.Results.{fault}
-use Rattle.yaml_scalars.specs.Scalars.{unless_at}
-use Rattle.yaml_scalars.specs.Spaces.{is_one_of, begins_with, begins_with_one_of, after_spaces, unless_comment, after_gap}
-use Rattle.yaml_values.specs.declared.mode.Mode.{Mode}
-use Rattle.yaml_values.specs.declared.mode.Mode.TheVariants as modes
-use Rattle.yaml_values.specs.Documents.{IsText, IsSound, IsSoundContent}
-use Rattle.yaml_values.specs.Flow.{is_absent, value_with, in_node, tagged_with, node_with}
-use Rattle.yaml_values.specs.KeySets.{IsScalarKey}
-use Rattle.yaml_values.specs.Resolution.{scalar_value}
-use Rattle.yaml_values.specs.Shape.{Shape, Content, node, null, boolean, integer, text, binary, mapping, sequence}
-use Rattle.yaml_values.specs.Tags.{Tag, named, bytes_in_base64, ends_name, name_length, is_name, is_binary, tag_with, tag_at}
+use Rattle.launch_scalars.specs.declared.kind.YamlKind.TheVariants as kinds
+use Rattle.launch_scalars.specs.declared.fault.LineFault.{LineFault}
+use Rattle.launch_scalars.specs.Characters.{bad_at}
+use Rattle.launch_scalars.specs.Results.{fault}
+use Rattle.launch_scalars.specs.Scalars.{unless_at}
+use Rattle.launch_scalars.specs.Spaces.{is_one_of, begins_with, begins_with_one_of, after_spaces, unless_comment, after_gap}
+use Rattle.launch_values.specs.declared.mode.Mode.{Mode}
+use Rattle.launch_values.specs.declared.mode.Mode.TheVariants as modes
+use Rattle.launch_values.specs.Documents.{IsText, IsSound, IsSoundContent}
+use Rattle.launch_values.specs.Flow.{is_absent, value_with, in_node, tagged_with, node_with}
+use Rattle.launch_values.specs.KeySets.{IsScalarKey}
+use Rattle.launch_values.specs.Resolution.{scalar_value}
+use Rattle.launch_values.specs.Shape.{Shape, Content, node, null, boolean, integer, text, binary, mapping, sequence}
+use Rattle.launch_values.specs.Tags.{Tag, named, bytes_in_base64, ends_name, name_length, is_name, is_binary, tag_with, tag_at}
 use Rattle.launch_laws.specs.Printed.{in_quotes, printed, printed_value, IsTagName, IsTagOn, IsSpellableValue}
 use Rattle.launch_yaml.specs.Renumbering.{renumber, renumber_value}
 use Rattle.launch_laws.proofs.CleanTexts.{clean_text, bad_none}

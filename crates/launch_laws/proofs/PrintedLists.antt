@@ -6,17 +6,17 @@ use Rattle.std.proofs.lemmas.Bool.{cond-false}
 use Rattle.std.proofs.lemmas.Cmp.{int_eq_equiv, nat_list_eq_equiv}
 use Rattle.std.proofs.lemmas.List.{length-append}
 use Rattle.lists.specs.Results.{◌>>=◌}
-use Rattle.yaml_scalars.specs.declared.kind.YamlKind.TheVariants as kinds
-use Rattle.yaml_scalars.specs.declared.fault.LineFault.{LineFault}
-use Rattle.yaml_scalars.specs.Results.{fault}
-use Rattle.yaml_scalars.specs.Spaces.{is_one_of, begins_with, after_gap}
-use Rattle.yaml_values.specs.declared.mode.Mode.TheVariants as modes
-use Rattle.yaml_values.specs.Documents.{IsSound, IsSoundContent, AreSoundItems, AreSoundPairs}
-use Rattle.yaml_values.specs.Flow.{is_absent, node_with, goes_on, items_with, items_of, key_with, after_colon, keyed_with, pair_with, pairs_with, pairs_of, collection_at}
-use Rattle.yaml_values.specs.KeySets.{IsScalarKey}
-use Rattle.yaml_values.specs.Keys.{same_key, unless_there}
-use Rattle.yaml_values.specs.Resolution.{scalar_value}
-use Rattle.yaml_values.specs.Shape.{Shape, Content, Shapes, Pairs, node, null, boolean, integer, text, binary, mapping, sequence, no_items, item, no_pairs, pair, of_list, of_pairs, to_list, to_pairs, content_of, depth_of, depth_of_content, depth_of_items, depth_of_pairs}
+use Rattle.launch_scalars.specs.declared.kind.YamlKind.TheVariants as kinds
+use Rattle.launch_scalars.specs.declared.fault.LineFault.{LineFault}
+use Rattle.launch_scalars.specs.Results.{fault}
+use Rattle.launch_scalars.specs.Spaces.{is_one_of, begins_with, after_gap}
+use Rattle.launch_values.specs.declared.mode.Mode.TheVariants as modes
+use Rattle.launch_values.specs.Documents.{IsSound, IsSoundContent, AreSoundItems, AreSoundPairs}
+use Rattle.launch_values.specs.Flow.{is_absent, node_with, goes_on, items_with, items_of, key_with, after_colon, keyed_with, pair_with, pairs_with, pairs_of, collection_at}
+use Rattle.launch_values.specs.KeySets.{IsScalarKey}
+use Rattle.launch_values.specs.Keys.{same_key, unless_there}
+use Rattle.launch_values.specs.Resolution.{scalar_value}
+use Rattle.launch_values.specs.Shape.{Shape, Content, Shapes, Pairs, node, null, boolean, integer, text, binary, mapping, sequence, no_items, item, no_pairs, pair, of_list, of_pairs, to_list, to_pairs, content_of, depth_of, depth_of_content, depth_of_items, depth_of_pairs}
 use Rattle.launch_laws.specs.Printed.{printed, printed_value, printed_items, further_items, printed_pairs, further_pairs, IsKey, keys_of, IsSpellable, IsSpellableValue, AreSpellableItems, AreSpellablePairs}
 use Rattle.launch_yaml.specs.Renumbering.{renumber, renumber_value, renumber_items, renumber_pairs}
 use Rattle.launch_laws.proofs.PrintedScalars.{Starts, outside, no_scalar, scalar_starts, scalar_read}

@@ -14,23 +14,23 @@ use lib.Pointwise.{pointwise}
 use Rattle.base64.specs.Engines.{standard}
 use Rattle.base64.specs.GeneralPurpose.{encode_of}
 use Rattle.lists.specs.Results.{◌>>=◌}
-use Rattle.yaml_scalars.specs.declared.kind.YamlKind.TheVariants as kinds
-use Rattle.yaml_scalars.specs.declared.fault.LineFault.{LineFault}
-use Rattle.yaml_scalars.specs.Plain.{begins_plain, is_space_or_end, plain_length}
-use Rattle.yaml_scalars.specs.Quoted.{Quoted, quoted}
-use Rattle.yaml_scalars.specs.Scalars.{is_quote}
-use Rattle.yaml_scalars.specs.Spaces.{is_one_of, after_gap}
-use Rattle.yaml_values.specs.declared.mode.Mode.{Mode}
-use Rattle.yaml_values.specs.declared.mode.Mode.TheVariants as modes
-use Rattle.yaml_values.specs.Documents.{IsText, IsSound, IsSoundContent}
-use Rattle.yaml_values.specs.Flow.{collection_at, value_at}
-use Rattle.yaml_values.specs.KeySets.{IsScalarKey}
-use Rattle.yaml_values.specs.Resolution.{scalar_value}
-use Rattle.yaml_values.specs.Shape.{Shape, Content, node, null, boolean, integer, text, binary, mapping, sequence, depth_of, depth_of_content}
-use Rattle.yaml_values.specs.Tags.{Tag, named, bytes_in_base64, name_length, tag_at}
-use Rattle.launch_rows.specs.declared.fault.Fault.{Fault}
-use Rattle.launch_rows.specs.Faults.{unless}
-use Rattle.launch_rows.specs.Rows.{Row, is_dash, behind_colon, behind_quoted, behind_key, in_row}
+use Rattle.launch_scalars.specs.declared.kind.YamlKind.TheVariants as kinds
+use Rattle.launch_scalars.specs.declared.fault.LineFault.{LineFault}
+use Rattle.launch_scalars.specs.Plain.{begins_plain, is_space_or_end, plain_length}
+use Rattle.launch_scalars.specs.Quoted.{Quoted, quoted}
+use Rattle.launch_scalars.specs.Scalars.{is_quote}
+use Rattle.launch_scalars.specs.Spaces.{is_one_of, after_gap}
+use Rattle.launch_values.specs.declared.mode.Mode.{Mode}
+use Rattle.launch_values.specs.declared.mode.Mode.TheVariants as modes
+use Rattle.launch_values.specs.Documents.{IsText, IsSound, IsSoundContent}
+use Rattle.launch_values.specs.Flow.{collection_at, value_at}
+use Rattle.launch_values.specs.KeySets.{IsScalarKey}
+use Rattle.launch_values.specs.Resolution.{scalar_value}
+use Rattle.launch_values.specs.Shape.{Shape, Content, node, null, boolean, integer, text, binary, mapping, sequence, depth_of, depth_of_content}
+use Rattle.launch_values.specs.Tags.{Tag, named, bytes_in_base64, name_length, tag_at}
+use Rattle.launch_lines.specs.declared.fault.Fault.{Fault}
+use Rattle.launch_lines.specs.Faults.{unless}
+use Rattle.launch_lines.specs.Rows.{Row, is_dash, behind_colon, behind_quoted, behind_key, in_row}
 use Rattle.launch_yaml.specs.Blocks.{Tagging, untagged, tagged, in_base64, tagging_of, mode_of, node_of, unless_binary, wrong_in, text_behind, rows_behind, alone, begins_block, value_in, unless_key, value_below, block_at}
 use Rattle.launch_yaml.specs.Document.{root_of}
 use Rattle.launch_laws.specs.Printed.{in_quotes, spelled, printed, printed_value, IsTagName, IsSpellableRoot, IsSpellableValue}

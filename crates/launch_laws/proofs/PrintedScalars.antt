@@ -17,23 +17,23 @@ use Rattle.base64.specs.GeneralPurpose.{IsBytes, encode_of}
 use Rattle.base64.specs.Rfc4648.{encode_symbols, padding_len}
 use Rattle.base64.proofs.EngineFacts.{IsAscii-encode_of, decode_of-encode_of}
 use Rattle.lists.specs.Results.{◌>>=◌}
-use Rattle.yaml_scalars.specs.declared.kind.YamlKind.{YamlKind}
-use Rattle.yaml_scalars.specs.declared.fault.LineFault.{LineFault}
-use Rattle.yaml_scalars.specs.Characters.{bad_at}
-use Rattle.yaml_scalars.specs.Numbers.{is_in_range, is_word, is_below, all_digits, are_digits, number_behind, without_sign, integer_of}
-use Rattle.yaml_scalars.specs.Numbers as numbers
-use Rattle.yaml_scalars.specs.Plain.{begins_plain, ends_plain, is_behind_key, plain_length}
-use Rattle.yaml_scalars.specs.Quoted.{digit_of}
-use Rattle.yaml_scalars.specs.Results.{at_place}
-use Rattle.yaml_scalars.specs.Scalars.{Scalar, is_quote, unless_at, plain_at, quoted_scalar, quoted_at, scalar_at}
-use Rattle.yaml_scalars.specs.Spaces.{is_one_of, begins_with, without_last_spaces}
-use Rattle.yaml_scalars.proofs.Escaped.{AreNonzero}
-use Rattle.yaml_values.specs.declared.mode.Mode.{Mode}
-use Rattle.yaml_values.specs.declared.mode.Mode.TheVariants as modes
-use Rattle.yaml_values.specs.Documents.{IsText, IsSoundContent}
-use Rattle.yaml_values.specs.KeySets.{IsScalarKey}
-use Rattle.yaml_values.specs.Resolution.{decoded, meaning, number_or_text, ranged, resolved, scalar_value}
-use Rattle.yaml_values.specs.Shape.{Content, null, boolean, integer, text, binary, mapping, sequence}
+use Rattle.launch_scalars.specs.declared.kind.YamlKind.{YamlKind}
+use Rattle.launch_scalars.specs.declared.fault.LineFault.{LineFault}
+use Rattle.launch_scalars.specs.Characters.{bad_at}
+use Rattle.launch_scalars.specs.Numbers.{is_in_range, is_word, is_below, all_digits, are_digits, number_behind, without_sign, integer_of}
+use Rattle.launch_scalars.specs.Numbers as numbers
+use Rattle.launch_scalars.specs.Plain.{begins_plain, ends_plain, is_behind_key, plain_length}
+use Rattle.launch_scalars.specs.Quoted.{digit_of}
+use Rattle.launch_scalars.specs.Results.{at_place}
+use Rattle.launch_scalars.specs.Scalars.{Scalar, is_quote, unless_at, plain_at, quoted_scalar, quoted_at, scalar_at}
+use Rattle.launch_scalars.specs.Spaces.{is_one_of, begins_with, without_last_spaces}
+use Rattle.launch_scalars.proofs.Escaped.{AreNonzero}
+use Rattle.launch_values.specs.declared.mode.Mode.{Mode}
+use Rattle.launch_values.specs.declared.mode.Mode.TheVariants as modes
+use Rattle.launch_values.specs.Documents.{IsText, IsSoundContent}
+use Rattle.launch_values.specs.KeySets.{IsScalarKey}
+use Rattle.launch_values.specs.Resolution.{decoded, meaning, number_or_text, ranged, resolved, scalar_value}
+use Rattle.launch_values.specs.Shape.{Content, null, boolean, integer, text, binary, mapping, sequence}
 use Rattle.launch_laws.specs.Printed.{in_quotes, printed_value}
 use Rattle.launch_laws.proofs.CleanTexts.{IsClean, bad_none, clean_append, clean_byte, clean_nil, clean_visible}
 use Rattle.launch_laws.proofs.PrintedTexts.{clean_quotes, text_read}

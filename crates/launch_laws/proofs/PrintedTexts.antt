@@ -11,13 +11,13 @@ use Rattle.std.proofs.lemmas.Bool.Decides.{nat_tests}
 use Rattle.std.proofs.lemmas.List.{append-nil, length-append}
 use Rattle.std.proofs.lemmas.Str.{encodes-chars, scalars-chars}
 use Rattle.lists.specs.Results.{◌>>=◌}
-use Rattle.yaml_scalars.specs.declared.fault.LineFault.{LineFault}
-use Rattle.yaml_scalars.specs.Characters.{bad_at}
-use Rattle.yaml_scalars.specs.Quoted.{Quoted, closed, put, digit_of, with_digit, hexadecimal, is_escapable, character_of, escape, escaped, in_double, quoted, told, taken_of}
-use Rattle.yaml_scalars.specs.Scalars.{Scalar, unless_at, unless_bad, quoted_scalar, quoted_at, scalar_at}
-use Rattle.yaml_scalars.proofs.Escaped.{AreNonzero}
-use Rattle.yaml_scalars.proofs.Utf8.{nonzero_left, nonzero_right}
-use Rattle.yaml_values.specs.Documents.{IsText}
+use Rattle.launch_scalars.specs.declared.fault.LineFault.{LineFault}
+use Rattle.launch_scalars.specs.Characters.{bad_at}
+use Rattle.launch_scalars.specs.Quoted.{Quoted, closed, put, digit_of, with_digit, hexadecimal, is_escapable, character_of, escape, escaped, in_double, quoted, told, taken_of}
+use Rattle.launch_scalars.specs.Scalars.{Scalar, unless_at, unless_bad, quoted_scalar, quoted_at, scalar_at}
+use Rattle.launch_scalars.proofs.Escaped.{AreNonzero}
+use Rattle.launch_scalars.proofs.Utf8.{nonzero_left, nonzero_right}
+use Rattle.launch_values.specs.Documents.{IsText}
 use Rattle.launch_laws.specs.Printed.{escape_of, spelled, in_quotes}
 use Rattle.launch_laws.proofs.CleanTexts.{IsClean, clean_nil, clean_append, clean_byte, clean_visible, clean_character, bad_none, either}
 

@@ -3,14 +3,14 @@ use Rattle.std.proofs.Common.{◌≡◌, ℕ, ◌==◌, Bool, true, false, ◌||
 use Rattle.std.specs.Prelude.{IfOk}
 use Rattle.std.specs.List.{AllByRecursion, take_while}
 use Rattle.lists.proofs.Steps.{on_bind, on_any}
-use Rattle.yaml_scalars.specs.Spaces.{is_one_of}
-use Rattle.yaml_values.specs.Documents.{IsDocument}
-use Rattle.yaml_values.specs.Shape.{Shape, Content, Shapes, Pairs, node, null, boolean, integer, text, binary, mapping, sequence, no_items, item, no_pairs, pair}
-use Rattle.yaml_values.specs.Tags.{ends_name}
-use Rattle.launch_rows.specs.declared.fault.Fault.{Fault}
-use Rattle.launch_rows.specs.Faults.{unless, beside}
-use Rattle.launch_rows.specs.Lines.{lines, plain_fault}
-use Rattle.launch_rows.specs.Rows.{Row, rows_from}
+use Rattle.launch_scalars.specs.Spaces.{is_one_of}
+use Rattle.launch_values.specs.Documents.{IsDocument}
+use Rattle.launch_values.specs.Shape.{Shape, Content, Shapes, Pairs, node, null, boolean, integer, text, binary, mapping, sequence, no_items, item, no_pairs, pair}
+use Rattle.launch_values.specs.Tags.{ends_name}
+use Rattle.launch_lines.specs.declared.fault.Fault.{Fault}
+use Rattle.launch_lines.specs.Faults.{unless, beside}
+use Rattle.launch_lines.specs.Lines.{lines, plain_fault}
+use Rattle.launch_lines.specs.Rows.{Row, rows_from}
 use Rattle.launch_yaml.specs.Document.{after_head, first_column, is_inside, root_of, after_document, body_of, document_of, parse_at}
 use Rattle.launch_yaml.specs.Entries.{after_while}
 use Rattle.launch_yaml.proofs.SoundRows.{parsed_is_document}

@@ -4,18 +4,18 @@ use Rattle.std.specs.Prelude.{IfOk}
 use Rattle.std.specs.List.{list_any}
 use Rattle.lists.specs.Results.{◌>>=◌}
 use Rattle.lists.proofs.Steps.{on_both, on_bind, on_any}
-use Rattle.yaml_scalars.specs.declared.kind.YamlKind.TheVariants as kinds
-use Rattle.yaml_scalars.specs.declared.fault.LineFault.{LineFault}
-use Rattle.yaml_scalars.specs.Results.{fault}
-use Rattle.yaml_scalars.specs.Spaces.{is_one_of, begins_with, begins_with_one_of, after_gap}
-use Rattle.yaml_values.specs.declared.mode.Mode.{Mode}
-use Rattle.yaml_values.specs.declared.mode.Mode.TheVariants as modes
-use Rattle.yaml_values.specs.Flow.{is_absent, value_with, in_node, tagged_with, node_with, separator, with_more, goes_on, items_with, items_of, key_with, after_colon, keyed_with, pair_with, pairs_with, pairs_of, sequence_with, mapping_with, collection_at, value_at}
-use Rattle.yaml_values.specs.KeySets.{IsScalarKey}
-use Rattle.yaml_values.specs.Keys.{same_key, unless_there}
-use Rattle.yaml_values.specs.Resolution.{scalar_value}
-use Rattle.yaml_values.specs.Shape.{Shape, Content, node, null, mapping, sequence, of_list, of_pairs, content_of}
-use Rattle.yaml_values.specs.Tags.{Tag, named, bytes_in_base64, tag_at}
+use Rattle.launch_scalars.specs.declared.kind.YamlKind.TheVariants as kinds
+use Rattle.launch_scalars.specs.declared.fault.LineFault.{LineFault}
+use Rattle.launch_scalars.specs.Results.{fault}
+use Rattle.launch_scalars.specs.Spaces.{is_one_of, begins_with, begins_with_one_of, after_gap}
+use Rattle.launch_values.specs.declared.mode.Mode.{Mode}
+use Rattle.launch_values.specs.declared.mode.Mode.TheVariants as modes
+use Rattle.launch_values.specs.Flow.{is_absent, value_with, in_node, tagged_with, node_with, separator, with_more, goes_on, items_with, items_of, key_with, after_colon, keyed_with, pair_with, pairs_with, pairs_of, sequence_with, mapping_with, collection_at, value_at}
+use Rattle.launch_values.specs.KeySets.{IsScalarKey}
+use Rattle.launch_values.specs.Keys.{same_key, unless_there}
+use Rattle.launch_values.specs.Resolution.{scalar_value}
+use Rattle.launch_values.specs.Shape.{Shape, Content, node, null, mapping, sequence, of_list, of_pairs, content_of}
+use Rattle.launch_values.specs.Tags.{Tag, named, bytes_in_base64, tag_at}
 use Rattle.launch_laws.specs.Printed.{IsTagName, IsSpellable, AreSpellableItems}
 use Rattle.launch_laws.proofs.PrintedFlow.{Values, Nodes}
 use Rattle.launch_laws.proofs.ReadNames.{IsReadTag, tag_is_read}

@@ -7,18 +7,18 @@ use Rattle.std.proofs.lemmas.Bool.{or_parts}
 use Rattle.base64.specs.Engines.{standard}
 use Rattle.base64.specs.GeneralPurpose.{decode_of}
 use Rattle.lists.proofs.Steps.{on_both, on_bind}
-use Rattle.yaml_scalars.specs.declared.kind.YamlKind.{YamlKind}
-use Rattle.yaml_scalars.specs.declared.kind.YamlKind.TheVariants as kinds
-use Rattle.yaml_scalars.specs.Numbers.{integer_of, is_float, is_in_range, is_word}
-use Rattle.yaml_scalars.specs.Results.{at_place}
-use Rattle.yaml_scalars.specs.Scalars.{Scalar, scalar_at}
-use Rattle.yaml_scalars.proofs.ScalarSteps.{scalar_text}
-use Rattle.yaml_values.specs.declared.mode.Mode.{Mode}
-use Rattle.yaml_values.specs.declared.mode.Mode.TheVariants as modes
-use Rattle.yaml_values.specs.KeySets.{IsScalarKey}
-use Rattle.yaml_values.specs.Keys.{same_key}
-use Rattle.yaml_values.specs.Resolution.{decoded, meaning, number_or_text, resolved, scalar_value}
-use Rattle.yaml_values.specs.Shape.{Shape, Content, null, boolean, integer, text, binary, mapping, sequence, content_of, of_pairs}
+use Rattle.launch_scalars.specs.declared.kind.YamlKind.{YamlKind}
+use Rattle.launch_scalars.specs.declared.kind.YamlKind.TheVariants as kinds
+use Rattle.launch_scalars.specs.Numbers.{integer_of, is_float, is_in_range, is_word}
+use Rattle.launch_scalars.specs.Results.{at_place}
+use Rattle.launch_scalars.specs.Scalars.{Scalar, scalar_at}
+use Rattle.launch_scalars.proofs.ScalarSteps.{scalar_text}
+use Rattle.launch_values.specs.declared.mode.Mode.{Mode}
+use Rattle.launch_values.specs.declared.mode.Mode.TheVariants as modes
+use Rattle.launch_values.specs.KeySets.{IsScalarKey}
+use Rattle.launch_values.specs.Keys.{same_key}
+use Rattle.launch_values.specs.Resolution.{decoded, meaning, number_or_text, resolved, scalar_value}
+use Rattle.launch_values.specs.Shape.{Shape, Content, null, boolean, integer, text, binary, mapping, sequence, content_of, of_pairs}
 use Rattle.launch_laws.specs.Printed.{is_taggable, IsKey, keys_of, IsSpellable, IsSpellableValue, AreSpellablePairs}
 use Rattle.launch_laws.proofs.PrintedLists.{same_sym}
 use Rattle.launch_laws.proofs.ReadBytes.{AreBytes, decoded_are_bytes}

@@ -9,14 +9,14 @@ use Rattle.std.proofs.lemmas.Bool.{eq-eqb, le-ltb, lt-ltb, or_parts}
 use Rattle.std.proofs.lemmas.Bool.Decides.{nat_tests}
 use Rattle.std.proofs.lemmas.Str.{encodes-chars}
 use Rattle.lists.proofs.Steps.{on_both}
-use Rattle.yaml_scalars.specs.declared.kind.YamlKind.TheVariants as kinds
-use Rattle.yaml_scalars.specs.declared.fault.LineFault.{LineFault}
-use Rattle.yaml_scalars.specs.Characters.{is_upper_control, control_at, invalid_at, earlier, bad_at}
-use Rattle.yaml_scalars.specs.Results.{fault}
-use Rattle.yaml_scalars.specs.Scalars.{unless_at}
-use Rattle.yaml_scalars.specs.Spaces.{is_one_of}
-use Rattle.yaml_scalars.proofs.ScalarSteps.{good_utf8}
-use Rattle.yaml_values.specs.Tags.{Tag, named, bytes_in_base64, ends_name, name_length, is_name, is_binary, tag_at}
+use Rattle.launch_scalars.specs.declared.kind.YamlKind.TheVariants as kinds
+use Rattle.launch_scalars.specs.declared.fault.LineFault.{LineFault}
+use Rattle.launch_scalars.specs.Characters.{is_upper_control, control_at, invalid_at, earlier, bad_at}
+use Rattle.launch_scalars.specs.Results.{fault}
+use Rattle.launch_scalars.specs.Scalars.{unless_at}
+use Rattle.launch_scalars.specs.Spaces.{is_one_of}
+use Rattle.launch_scalars.proofs.ScalarSteps.{good_utf8}
+use Rattle.launch_values.specs.Tags.{Tag, named, bytes_in_base64, ends_name, name_length, is_name, is_binary, tag_at}
 use Rattle.launch_laws.specs.Printed.{IsTagName}
 use Rattle.launch_laws.proofs.CleanTexts.{calm_parts, either}
 

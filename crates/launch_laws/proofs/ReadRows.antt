@@ -4,19 +4,19 @@ use Rattle.std.specs.Prelude.{IfOk}
 use Rattle.std.specs.List.{list_any}
 use Rattle.lists.specs.Results.{◌>>=◌}
 use Rattle.lists.proofs.Steps.{on_both, on_bind}
-use Rattle.yaml_scalars.specs.declared.kind.YamlKind.TheVariants as kinds
-use Rattle.yaml_scalars.specs.declared.fault.LineFault.{LineFault}
-use Rattle.yaml_scalars.specs.Spaces.{is_one_of, begins_with, after_gap}
-use Rattle.yaml_values.specs.declared.mode.Mode.TheVariants as modes
-use Rattle.yaml_values.specs.Flow.{value_at}
-use Rattle.yaml_values.specs.KeySets.{IsScalarKey}
-use Rattle.yaml_values.specs.Keys.{same_key}
-use Rattle.yaml_values.specs.Resolution.{scalar_value}
-use Rattle.yaml_values.specs.Shape.{Shape, Content, node, null, mapping, sequence, of_list, of_pairs, content_of}
-use Rattle.yaml_values.specs.Tags.{Tag, named, bytes_in_base64, tag_at}
-use Rattle.launch_rows.specs.declared.fault.Fault.{Fault}
-use Rattle.launch_rows.specs.Faults.{unless}
-use Rattle.launch_rows.specs.Rows.{Row, is_dash, begins_key, behind_key, after_key, at_row, in_row}
+use Rattle.launch_scalars.specs.declared.kind.YamlKind.TheVariants as kinds
+use Rattle.launch_scalars.specs.declared.fault.LineFault.{LineFault}
+use Rattle.launch_scalars.specs.Spaces.{is_one_of, begins_with, after_gap}
+use Rattle.launch_values.specs.declared.mode.Mode.TheVariants as modes
+use Rattle.launch_values.specs.Flow.{value_at}
+use Rattle.launch_values.specs.KeySets.{IsScalarKey}
+use Rattle.launch_values.specs.Keys.{same_key}
+use Rattle.launch_values.specs.Resolution.{scalar_value}
+use Rattle.launch_values.specs.Shape.{Shape, Content, node, null, mapping, sequence, of_list, of_pairs, content_of}
+use Rattle.launch_values.specs.Tags.{Tag, named, bytes_in_base64, tag_at}
+use Rattle.launch_lines.specs.declared.fault.Fault.{Fault}
+use Rattle.launch_lines.specs.Faults.{unless}
+use Rattle.launch_lines.specs.Rows.{Row, is_dash, begins_key, behind_key, after_key, at_row, in_row}
 use Rattle.launch_yaml.specs.Entries.{Entry, map_entries, sequence_entries}
 use Rattle.launch_yaml.specs.Blocks.{Tagging, untagged, tagged, in_base64, is_untagged, tagging_of, mode_of, node_of, binary_place, unless_binary, absent, wrong_in, tagging_at, text_behind, rows_behind, alone, Block, begins_block, value_in, unless_key, tagged_value_in, value_below, value_with, no_entry, behind_dash, item_of, items_of, key_of, wrong_key, new_key, new_key_of, key_at, value_of_entry, pair_of, pairs_of, too_deep, items_at, pairs_at, block_at}
 use Rattle.launch_laws.specs.Printed.{IsTagName, IsSpellable, AreSpellableItems}

@@ -4,16 +4,16 @@ use Rattle.std.specs.Prelude.{nat_le, nat_eq, ◌||◌, length, codes}
 use Rattle.std.specs.List.{take_while, prefix_len, starts_with}
 use Rattle.std.proofs.lemmas.Bool.Decides.{nat_tests}
 use Rattle.std.proofs.lemmas.List.Sums.{take_while-cons}
-use Rattle.yaml_scalars.specs.declared.kind.YamlKind.TheVariants as kinds
-use Rattle.yaml_scalars.specs.Spaces.{begins_with, unless_comment, after_spaces, after_gap}
-use Rattle.yaml_scalars.specs.Plain.{is_space_or_end}
-use Rattle.yaml_values.specs.Shape.{Shape, Content, node}
-use Rattle.yaml_values.specs.Tags.{Tag, tag_at}
-use Rattle.yaml_scalars.specs.declared.fault.LineFault.{LineFault}
-use Rattle.launch_rows.specs.declared.fault.Fault.{Fault}
+use Rattle.launch_scalars.specs.declared.kind.YamlKind.TheVariants as kinds
+use Rattle.launch_scalars.specs.Spaces.{begins_with, unless_comment, after_spaces, after_gap}
+use Rattle.launch_scalars.specs.Plain.{is_space_or_end}
+use Rattle.launch_values.specs.Shape.{Shape, Content, node}
+use Rattle.launch_values.specs.Tags.{Tag, tag_at}
+use Rattle.launch_scalars.specs.declared.fault.LineFault.{LineFault}
+use Rattle.launch_lines.specs.declared.fault.Fault.{Fault}
 use Rattle.lists.specs.Results.{◌>>=◌}
-use Rattle.launch_rows.specs.Faults.{unless}
-use Rattle.launch_rows.specs.Rows.{Row, behind_key, is_before_space, is_marker, is_stop, in_row}
+use Rattle.launch_lines.specs.Faults.{unless}
+use Rattle.launch_lines.specs.Rows.{Row, behind_key, is_before_space, is_marker, is_stop, in_row}
 use Rattle.launch_yaml.specs.Entries.{after_while}
 use Rattle.launch_yaml.specs.Blocks.{Tagging, untagged, tagged, tagging_of, wrong_in, begins_block, value_in, unless_key, value_below, block_at}
 use Rattle.launch_yaml.specs.Document.{is_inside, root_of, after_document, body_of}

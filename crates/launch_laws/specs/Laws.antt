@@ -1,15 +1,15 @@
 -- What of a text changes nothing of the document that it is.
 use Rattle.std.specs.Prelude.{◌≡◌, ◌≢◌, ◌≤◌, ◌⊎◌, ℕ, ◌==◌, if◌then◌else◌, true, false, List, [], ◌∷◌, ◌++◌, length, map, Some, None, Ok, Err}
 use Rattle.std.specs.List.{AllByRecursion}
-use Rattle.yaml_scalars.specs.Spaces.{after_gap}
-use Rattle.yaml_scalars.specs.declared.kind.YamlKind.TheVariants as kinds
-use Rattle.yaml_values.specs.Shape.{Shape, node}
-use Rattle.yaml_values.specs.Tags.{named, bytes_in_base64, tag_at}
+use Rattle.launch_scalars.specs.Spaces.{after_gap}
+use Rattle.launch_scalars.specs.declared.kind.YamlKind.TheVariants as kinds
+use Rattle.launch_values.specs.Shape.{Shape, node}
+use Rattle.launch_values.specs.Tags.{named, bytes_in_base64, tag_at}
 use Rattle.lists.specs.Results.{◌>>=◌}
-use Rattle.launch_rows.specs.declared.fault.Fault.{Fault}
-use Rattle.launch_rows.specs.Faults.{comes_before}
-use Rattle.launch_rows.specs.Lines.{without_mark, lines, plain_fault}
-use Rattle.launch_rows.specs.Rows.{Row, rows_from, row_of, is_marker, is_directive}
+use Rattle.launch_lines.specs.declared.fault.Fault.{Fault}
+use Rattle.launch_lines.specs.Faults.{comes_before}
+use Rattle.launch_lines.specs.Lines.{without_mark, lines, plain_fault}
+use Rattle.launch_lines.specs.Rows.{Row, rows_from, row_of, is_marker, is_directive}
 use Rattle.launch_yaml.specs.Blocks.{begins_block, wrong_in}
 use Rattle.launch_yaml.specs.Document.{body_of, document_in, parse_at}
 use Rattle.launch_yaml.specs.Renumbering.{renumbered, one_more}

@@ -9,12 +9,12 @@ use Rattle.std.specs.List.{AllByRecursion, IsDistinct, flat_map}
 use Rattle.std.specs.Str.{IsUtf8, chars}
 use Rattle.base64.specs.GeneralPurpose.{encode_of}
 use Rattle.base64.specs.Engines.{standard}
-use Rattle.yaml_scalars.specs.Spaces.{is_one_of}
-use Rattle.yaml_values.specs.Shape.{Shape, Content, Shapes, Pairs, node, null, boolean, integer, text, binary, mapping, sequence, no_items, item, no_pairs, pair, to_pairs, content_of}
-use Rattle.yaml_values.specs.Documents.{IsDocument}
-use Rattle.yaml_values.specs.KeySets.{IsScalarKey}
-use Rattle.yaml_values.specs.Keys.{same_key}
-use Rattle.yaml_values.specs.Tags.{is_name, ends_name}
+use Rattle.launch_scalars.specs.Spaces.{is_one_of}
+use Rattle.launch_values.specs.Shape.{Shape, Content, Shapes, Pairs, node, null, boolean, integer, text, binary, mapping, sequence, no_items, item, no_pairs, pair, to_pairs, content_of}
+use Rattle.launch_values.specs.Documents.{IsDocument}
+use Rattle.launch_values.specs.KeySets.{IsScalarKey}
+use Rattle.launch_values.specs.Keys.{same_key}
+use Rattle.launch_values.specs.Tags.{is_name, ends_name}
 
 -- ---- texts
 

@@ -1,7 +1,7 @@
 -- Documents of launch files as texts.
 use Rattle.std.specs.Prelude.{ℕ, ◌≡◌, false, List, Ok}
-use Rattle.yaml_values.specs.Documents.{IsDocument}
-use Rattle.yaml_values.specs.Shape.{Shape}
+use Rattle.launch_values.specs.Documents.{IsDocument}
+use Rattle.launch_values.specs.Shape.{Shape}
 use Rattle.launch_yaml.specs.Document.{parse_at}
 use Rattle.launch_yaml.specs.Renumbering.{renumber}
 use Rattle.launch_laws.specs.Printed.{printed, IsSpellable, IsPrintable, HasFlowNames}

@@ -2,9 +2,9 @@
 use Rattle.std.proofs.Common.{◌≡◌, ℕ, zero, suc, ◌+◌, ◌<◌, ◌≤◌, List, [], ◌∷◌, ◌++◌, length, map, drop, get_or, refl, sym, ap, ◌∙◌, arith}
 use Rattle.std.proofs.lemmas.List.{length-append}
 use Rattle.argdata_codec.specs.Shape as arguments
-use Rattle.yaml_values.specs.declared.node.Node.{Node}
-use Rattle.yaml_values.specs.Shape.{of_list, of_pairs}
-use Rattle.yaml_values.specs.Views.{shape_of, pair_of}
+use Rattle.launch_values.specs.declared.node.Node.{Node}
+use Rattle.launch_values.specs.Shape.{of_list, of_pairs}
+use Rattle.launch_values.specs.Views.{shape_of, pair_of}
 use Rattle.launch_plan.specs.Tagged.{tagged}
 use Rattle.launch_plan.specs.Values.{count, value_of, item_values, pair_values}
 use Rattle.launch_plan.proofs.Grants.{left_of, pairs_left_of, item_here, pair_here}

@@ -1,8 +1,8 @@
 -- What stands in a list is no deeper than the list.
 use Rattle.std.proofs.Common.{ℕ, zero, suc, ◌<◌, ◌≤◌, List, [], ◌∷◌, length, get_or, map, max, arith}
-use Rattle.yaml_values.specs.declared.node.Node.{Node}
-use Rattle.yaml_values.specs.Shape.{of_list, of_pairs, depth_of, depth_of_items, depth_of_pairs}
-use Rattle.yaml_values.specs.Views.{shape_of, pair_of}
+use Rattle.launch_values.specs.declared.node.Node.{Node}
+use Rattle.launch_values.specs.Shape.{of_list, of_pairs, depth_of, depth_of_items, depth_of_pairs}
+use Rattle.launch_values.specs.Views.{shape_of, pair_of}
 
 pub item_depth : (xs : List Node) (i : ℕ) (d : Node) → i < length xs → depth_of (shape_of (get_or xs i d)) ≤ depth_of_items (of_list (map shape_of xs))
 item_depth [] i d lt = absurd (omega arith)

@@ -13,7 +13,7 @@ use Rattle.abi_types.specs.declared.open_type.OpenType.{OpenType}
 use Rattle.lists.specs.Results.{◌>>=◌}
 use Rattle.tree_model.specs.Grants.{IsGrant, HasRightsOfType, type_of_node}
 use Rattle.tree_model.specs.Tree.{Tree}
-use Rattle.yaml_values.specs.Shape.{Content, Pairs, null, boolean, integer, text, binary, mapping, sequence}
+use Rattle.launch_values.specs.Shape.{Content, Pairs, null, boolean, integer, text, binary, mapping, sequence}
 use Rattle.launch_plan.specs.declared.fault.PlanFault.{PlanFault}
 use Rattle.launch_plan.specs.declared.fault.PlanFault.TheVariants as faults
 use Rattle.launch_plan.specs.declared.files.Asked.{Asked}

@@ -8,9 +8,9 @@ use Rattle.std.proofs.lemmas.Nat.Bits.{bit_at_or, same_from_bits}
 use Rattle.abi_base.specs.declared.rights.Rights.{Rights}
 use Rattle.lists.specs.Results.{◌>>=◌}
 use Rattle.tree_model.specs.Tree.{Tree}
-use Rattle.yaml_values.specs.declared.node.Node.{Node}
-use Rattle.yaml_values.specs.Shape.{Shapes, Pairs, item, pair, of_list, of_pairs}
-use Rattle.yaml_values.specs.Views.{shape_of, pair_of}
+use Rattle.launch_values.specs.declared.node.Node.{Node}
+use Rattle.launch_values.specs.Shape.{Shapes, Pairs, item, pair, of_list, of_pairs}
+use Rattle.launch_values.specs.Views.{shape_of, pair_of}
 use Rattle.launch_plan.specs.declared.fault.PlanFault.{PlanFault}
 use Rattle.launch_plan.specs.declared.files.Asked.{Asked}
 use Rattle.launch_plan.specs.Files.{Part, right_of, listed, part_of, with_part, parts_of, are_parts, has_path, later, together, asked_by, asked_of, asked_with, as_rights}

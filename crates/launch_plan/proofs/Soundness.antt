@@ -5,9 +5,9 @@ use Rattle.std.proofs.lemmas.Bool.{ltb-true}
 use Rattle.std.proofs.lemmas.List.{length-append}
 use Rattle.argdata_codec.specs.Shape as arguments
 use Rattle.argdata_codec.specs.Spelling.{IsInRange, IsSpellable, ItemsAreSpellable, PairsAreSpellable, CanBeSpelled}
-use Rattle.yaml_values.specs.Shape.{Shape, Content, Shapes, Pairs, node, null, boolean, integer, text, binary, mapping, sequence, no_items, item, no_pairs, pair, depth_of, depth_of_content, depth_of_items, depth_of_pairs}
-use Rattle.yaml_scalars.specs.Numbers.{is_in_range}
-use Rattle.yaml_values.specs.Documents.{IsSound, IsSoundContent, AreSoundItems, AreSoundPairs, IsDocument}
+use Rattle.launch_values.specs.Shape.{Shape, Content, Shapes, Pairs, node, null, boolean, integer, text, binary, mapping, sequence, no_items, item, no_pairs, pair, depth_of, depth_of_content, depth_of_items, depth_of_pairs}
+use Rattle.launch_scalars.specs.Numbers.{is_in_range}
+use Rattle.launch_values.specs.Documents.{IsSound, IsSoundContent, AreSoundItems, AreSoundPairs, IsDocument}
 use Rattle.launch_plan.specs.Tagged.{tagged, tagged_in, tagged_in_items, tagged_in_pairs}
 use Rattle.launch_plan.specs.Values.{count, value_of, content_value, item_values, pair_values}
 

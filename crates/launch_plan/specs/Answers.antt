@@ -2,7 +2,7 @@
 use Rattle.std.specs.Prelude.{◌≡◌, List, Result, Ok, Err}
 use Rattle.abi_base.specs.declared.grant.Grant.{Grant}
 use Rattle.tree_model.specs.Tree.{Tree}
-use Rattle.yaml_values.specs.Shape.{Shape}
+use Rattle.launch_values.specs.Shape.{Shape}
 use Rattle.launch_plan.specs.declared.fault.PlanFault.{PlanFault}
 use Rattle.launch_plan.specs.declared.fault.PlanFault.TheVariants.{NoMemory}
 use Rattle.launch_plan.specs.declared.planning.Planned.{Planned}

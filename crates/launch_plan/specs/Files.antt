@@ -18,9 +18,9 @@ use Rattle.abi_base.specs.declared.rights.Rights.{Rights}
 use Rattle.abi_base.specs.Rights.{meet_of, names}
 use Rattle.abi_types.specs.declared.open_type.OpenType.{OpenType}
 use Rattle.abi_types.specs.OpenTypes.{rights_of, inheriting_of}
-use Rattle.yaml_values.specs.Shape.{Shape, Content, Shapes, Pairs, node, null, boolean, integer, text, binary, mapping, sequence}
-use Rattle.yaml_values.specs.Shape.{no_items, item, no_pairs, pair, of_list}
-use Rattle.yaml_values.specs.Views.{shape_of}
+use Rattle.launch_values.specs.Shape.{Shape, Content, Shapes, Pairs, node, null, boolean, integer, text, binary, mapping, sequence}
+use Rattle.launch_values.specs.Shape.{no_items, item, no_pairs, pair, of_list}
+use Rattle.launch_values.specs.Views.{shape_of}
 use Rattle.path_lookup.specs.Split.{slash}
 use Rattle.path_lookup.specs.Walk.{WalkEnd, walk_of}
 use Rattle.path_lookup.specs.declared.ends.End.TheVariants as end

@@ -4,7 +4,7 @@ use Rattle.abi_base.specs.declared.grant.Grant.{Grant}
 use Rattle.abi_base.specs.declared.limits.TheConstants.{MOST_ARGDATA, MOST_DESCRIPTORS}
 use Rattle.argdata_codec.specs.Writing.{spelling}
 use Rattle.tree_model.specs.Tree.{Tree}
-use Rattle.yaml_values.specs.Shape.{Shape}
+use Rattle.launch_values.specs.Shape.{Shape}
 use Rattle.launch_plan.specs.declared.fault.PlanFault.{PlanFault}
 use Rattle.launch_plan.specs.declared.fault.PlanFault.TheVariants as faults
 use Rattle.lists.specs.Results.{◌>>=◌}

@@ -1,7 +1,7 @@
 -- The argument data of a document: the document, with a descriptor in the place of each node that has a tag.
 use Rattle.std.specs.Prelude.{ℕ, ◌+◌, length, Some, None}
 use Rattle.argdata_codec.specs.Shape as arguments
-use Rattle.yaml_values.specs.Shape.{Shape, Content, Shapes, Pairs, node, null, boolean, integer, text, binary, mapping, sequence, no_items, item, no_pairs, pair}
+use Rattle.launch_values.specs.Shape.{Shape, Content, Shapes, Pairs, node, null, boolean, integer, text, binary, mapping, sequence, no_items, item, no_pairs, pair}
 use Rattle.launch_plan.specs.Tagged.{tagged}
 
 -- how many nodes with a tag are in a node

@@ -2,15 +2,15 @@
 ghost use Rattle.std.specs.Prelude.{◌≡◌, ◌+◌, ◌<◌, ◌^◌, map, IfOk, OnOk, length};
 ghost use Rattle.argdata_codec.specs.Views.{shape_of as argument_of, pair_of as argument_pair_of};
 ghost use Rattle.argdata_codec.specs.Shape.{of_list as arguments_of_list, of_pairs as arguments_of_pairs};
-ghost use Rattle.yaml_values.specs.Shape.{of_list, of_pairs};
-ghost use Rattle.yaml_values.specs.Views.{shape_of, pair_of, content_of_value};
+ghost use Rattle.launch_values.specs.Shape.{of_list, of_pairs};
+ghost use Rattle.launch_values.specs.Views.{shape_of, pair_of, content_of_value};
 ghost use Rattle.launch_plan.specs.Tagged.{tagged_in, tagged_in_items, tagged_in_pairs};
 ghost use Rattle.launch_plan.specs.Values.{count, value_of, content_value, item_values, pair_values};
 
 use argdata_codec::{PairList, Value, ValueList};
+use launch_values::{Node, NodeValue};
 use lists::TryClone;
 use std::alloc::{AllocError, Global};
-use yaml_values::{Node, NodeValue};
 
 /// The value of a node, whose descriptors are numbered from the next number on.
 #[cycle(arguments)]

@@ -1,17 +1,17 @@
 //! The descriptors of files and directories that nodes ask for.
 ghost use Rattle.std.specs.Prelude.{◌≡◌, ◌&&◌, map, option_map, option_copied};
-ghost use Rattle.yaml_values.specs.Shape.{of_list, of_pairs};
-ghost use Rattle.yaml_values.specs.Views.{shape_of, pair_of, content_of_value};
+ghost use Rattle.launch_values.specs.Shape.{of_list, of_pairs};
+ghost use Rattle.launch_values.specs.Views.{shape_of, pair_of, content_of_value};
 ghost use Rattle.launch_plan.specs.Files as spec;
 
 use crate::fault::PlanFault;
 use abi_base::{Grant, GrantTarget, ObjId, Rights};
 use abi_types::NodeKind;
 use file_tree::Tree;
+use launch_values::{Node, NodeValue};
 use lists::Text;
 use path_lookup::{End, WalkMode};
 use tree_model::ROOT;
-use yaml_values::{Node, NodeValue};
 
 // All rights of a file and of a directory, and all that a directory may pass on.
 const FILE: Rights = Rights(0x11c3801ff);

@@ -1,8 +1,8 @@
 //! The plan of a launch.
 ghost use Rattle.std.specs.Prelude.{◌≡◌, ◌≤◌, ◌<◌, ◌^◌, IfOk, length};
 ghost use Rattle.argdata_codec.specs.Writing.{spelling};
-ghost use Rattle.yaml_values.specs.Documents.{IsDocument};
-ghost use Rattle.yaml_values.specs.Views.{shape_of};
+ghost use Rattle.launch_values.specs.Documents.{IsDocument};
+ghost use Rattle.launch_values.specs.Views.{shape_of};
 ghost use Rattle.tree_model.specs.Grants.{AreGrants};
 ghost use Rattle.launch_plan.specs.Tagged.{tagged};
 ghost use Rattle.launch_plan.specs.Values.{value_of};

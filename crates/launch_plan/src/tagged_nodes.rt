@@ -1,7 +1,7 @@
 //! The nodes of a document that have a tag, and the descriptors that they ask for.
 ghost use Rattle.std.specs.Prelude.{◌≡◌, [], ◌∷◌, map};
-ghost use Rattle.yaml_values.specs.Shape.{of_list, of_pairs};
-ghost use Rattle.yaml_values.specs.Views.{shape_of, pair_of, content_of_value};
+ghost use Rattle.launch_values.specs.Shape.{of_list, of_pairs};
+ghost use Rattle.launch_values.specs.Views.{shape_of, pair_of, content_of_value};
 ghost use Rattle.launch_plan.specs.Tagged.{stream_of, stream_grant, grant_of, tagged, tagged_in, tagged_in_items, tagged_in_pairs};
 ghost use Rattle.launch_plan.specs.Answers.{Adds};
 
@@ -9,8 +9,8 @@ use crate::fault::PlanFault;
 use crate::files::file_grant;
 use abi_base::{Grant, GrantList, GrantTarget, Rights};
 use file_tree::Tree;
+use launch_values::{Node, NodeValue};
 use lists::Text;
-use yaml_values::{Node, NodeValue};
 
 // The rights of standard input, and those of standard output and standard error.
 const READING: Rights = Rights(0x1008_000a);

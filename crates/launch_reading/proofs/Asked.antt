@@ -4,7 +4,7 @@ use Rattle.std.specs.Prelude.{Option, None, Some}
 use Rattle.std.specs.List.{All}
 use Rattle.std.specs.Option.{option_to_list}
 use Rattle.std.proofs.lemmas.List.Elements.{All-nil, All-cons, All-head, All-tail}
-use Rattle.launch_words.specs.Settings.{Settings}
+use Rattle.command_line.specs.Settings.{Settings}
 use Rattle.launch_reading.specs.Launch.{standard_input, settings_inputs}
 
 pub record MayRead (P : List ℕ → Type 0) (settings : Settings) : Type 0 where

@@ -6,18 +6,18 @@ use Rattle.run_types.specs.declared.launch.Launch.{Launch}
 use Rattle.tree_model.specs.Grants.{MayBegin}
 use Rattle.tree_model.specs.Tree.{Tree}
 use Rattle.abi_base.specs.declared.grant.Grant.{Grant}
-use Rattle.yaml_values.specs.Shape.{Shape}
-use Rattle.launch_rows.specs.declared.fault.Fault.{Fault}
+use Rattle.launch_values.specs.Shape.{Shape}
+use Rattle.launch_lines.specs.declared.fault.Fault.{Fault}
 use Rattle.launch_yaml.specs.Document.{parse_at}
 use Rattle.launch_plan.specs.declared.fault.PlanFault.{PlanFault}
 use Rattle.launch_plan.specs.Plan.{plan_of}
 use Rattle.launch_plan.proofs.Plans.{IsPlan, plan_is}
 use Rattle.tree_document.proofs.StartTrees.{meaning_start}
-use Rattle.launch_words.specs.Settings.{Settings, IsWithin}
+use Rattle.command_line.specs.Settings.{Settings, IsWithin}
 use Rattle.launch_reading.specs.Launch.{IsBuiltLaunch, times_of}
 use Rattle.launch_reading.specs.LaunchText.{with_plan, with_document, planned_text}
 use Rattle.call_codec.specs.Bounded.{IsBounded}
-use Rattle.launch_reading.specs.declared.lines.Refusal.{Refusal}
+use Rattle.launch_reading.specs.declared.refusal.LaunchRefusal.{LaunchRefusal}
 use Rattle.std.specs.Prelude.{IfOk}
 
 -- what a launch text gives is a plan
@@ -55,10 +55,10 @@ bounded settings launch within b =
       turns = omega (arith, b.turns, within.turns.1);
     }
 
-pub all_begin : (settings : Settings) (read : Result Launch Refusal) → IfOk read (IsBuiltLaunch settings) → IfOk read (λ launch. MayBegin launch.tree launch.grants)
+pub all_begin : (settings : Settings) (read : Result Launch LaunchRefusal) → IfOk read (IsBuiltLaunch settings) → IfOk read (λ launch. MayBegin launch.tree launch.grants)
 all_begin settings (Ok launch) b = begins settings launch b
 all_begin settings (Err refusal) b = tt
 
-pub all_bounded : (settings : Settings) (read : Result Launch Refusal) → IsWithin settings → IfOk read (IsBuiltLaunch settings) → IfOk read IsBounded
+pub all_bounded : (settings : Settings) (read : Result Launch LaunchRefusal) → IsWithin settings → IfOk read (IsBuiltLaunch settings) → IfOk read IsBounded
 all_bounded settings (Ok launch) within b = bounded settings launch within b
 all_bounded settings (Err refusal) within b = tt

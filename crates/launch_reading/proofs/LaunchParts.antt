@@ -8,16 +8,16 @@ use Rattle.input_output.specs.Source.{Told, Untold, Lacking, Content, IsWhole, I
 use Rattle.elf_image.specs.Checks.{fault_of}
 use Rattle.elf_image.specs.declared.fault.ElfFault.{ElfFault}
 use Rattle.run_types.specs.declared.launch.Launch.{Launch}
-use Rattle.launch_words.specs.Settings.{Settings}
+use Rattle.command_line.specs.Settings.{Settings}
 use Rattle.launch_reading.specs.Inputs.{AreRead, IsReadAs, IsUnread, IsUnreadOf, IsNoLaunch, IsNoLaunchOf}
 use Rattle.launch_reading.specs.Launch.{Spelled, untold, refuses, spells, input_limit, standard_input, launch_with, times_of, spelled_text, spelled_tree, spelled_at, spelled_by, spelled_with, spelled_optional, inputs_spell, settings_inputs, IsToldAs, IsBuiltLaunch, AnswersSpelled}
 use Rattle.launch_reading.specs.LaunchText.{TextPlan, planned_text}
 use Rattle.tree_model.specs.Tree.{Tree as FileTree}
 use Rattle.tree_document.specs.Meaning.{meaning}
-use Rattle.launch_reading.specs.Lines.{too_long_line}
+use Rattle.launch_reading.specs.Refusal.{too_long_line}
 use Rattle.launch_reading.specs.declared.inputs.Inputs.{Inputs}
-use Rattle.launch_reading.specs.declared.lines.Refusal.{Refusal}
-use Rattle.launch_reading.specs.declared.lines.Refusal.TheVariants.{Words, Input, TooLong, Program, Tree, LaunchText, Memory}
+use Rattle.launch_reading.specs.declared.refusal.LaunchRefusal.{LaunchRefusal}
+use Rattle.launch_reading.specs.declared.refusal.LaunchRefusal.TheVariants.{Words, Input, TooLong, Program, Tree, LaunchText, Memory}
 
 -- what is spelled is told so
 told_as : (s answer : Spelled) → s ≡ answer → IsToldAs s answer
@@ -53,7 +53,7 @@ pub read_as_told : (o : Option (List ℕ)) (told later : List ℕ → Told) (byt
 read_as_told None told later bytes stays read = read
 read_as_told (Some name) told later bytes stays read = (subst (λ t. IsWhole t bytes) (stays name) read.0, read.1)
 
-unread_told : (name : List ℕ) (told later : List ℕ → Told) (rose early : Type 0) (r : Refusal) → ((n : List ℕ) → later n ≡ told n) → (rose → early) →
+unread_told : (name : List ℕ) (told later : List ℕ → Told) (rose early : Type 0) (r : LaunchRefusal) → ((n : List ℕ) → later n ≡ told n) → (rose → early) →
     IsUnread name (later name) rose r → IsUnread name (told name) early r
 unread_told name told later rose early Words stays since h = h
 unread_told name told later rose early (Input n) stays since h = (h.0, since h.1)
@@ -63,13 +63,13 @@ unread_told name told later rose early (Tree byte) stays since h = h
 unread_told name told later rose early (LaunchText fault) stays since h = h
 unread_told name told later rose early Memory stays since h = h
 
-pub optional_unread_told : (o : Option (List ℕ)) (told later : List ℕ → Told) (rose early : Type 0) (r : Refusal) → ((n : List ℕ) → later n ≡ told n) → (rose → early) →
+pub optional_unread_told : (o : Option (List ℕ)) (told later : List ℕ → Told) (rose early : Type 0) (r : LaunchRefusal) → ((n : List ℕ) → later n ≡ told n) → (rose → early) →
     IsUnreadOf o later rose r → IsUnreadOf o told early r
 optional_unread_told None told later rose early r stays since h = h
 optional_unread_told (Some name) told later rose early r stays since h = unread_told name told later rose early r stays since h
 
 -- an input was not read
-unread_here : (o : Option (List ℕ)) (told : List ℕ → Told) (next : List ℕ → Spelled) (rest : List (List ℕ)) (rose : Type 0) (r : Refusal) →
+unread_here : (o : Option (List ℕ)) (told : List ℕ → Told) (next : List ℕ → Spelled) (rest : List (List ℕ)) (rose : Type 0) (r : LaunchRefusal) →
     IsUnreadOf o told rose r → IsNoLaunchOf (option_to_list o ++ rest) (spelled_optional o told next) rose r
 unread_here None told next rest rose r h = absurd h
 unread_here (Some name) told next rest rose Words h = absurd h
@@ -89,7 +89,7 @@ behind_names None rest n h = h
 behind_names (Some name) rest n h = (suc h.0, omega (arith, h.1), h.2)
 
 -- an input was read, and one behind it gives no launch
-unread_behind : (o : Option (List ℕ)) (told : List ℕ → Told) (next : List ℕ → Spelled) (bytes : List ℕ) (rest : List (List ℕ)) (rose : Type 0) (r : Refusal) →
+unread_behind : (o : Option (List ℕ)) (told : List ℕ → Told) (next : List ℕ → Spelled) (bytes : List ℕ) (rest : List (List ℕ)) (rose : Type 0) (r : LaunchRefusal) →
     IsReadAs o told bytes → IsNoLaunchOf rest (next bytes) rose r → IsNoLaunchOf (option_to_list o ++ rest) (spelled_optional o told next) rose r
 unread_behind o told next bytes rest rose Words read h = h
 unread_behind o told next bytes rest rose (Input n) read h = (behind_names o rest n.now h.0, h.1)
@@ -113,7 +113,7 @@ abbrev after_nothing : Settings → (List ℕ → Told) → List ℕ → Spelled
 after_nothing settings told program = spelled_optional (Some standard_input) told (after_program settings told program)
 
 -- an input was not read, where those before it were
-module _ (settings : Settings) (told : List ℕ → Told) (rose : Type 0) (r : Refusal) (program : List ℕ) (read : IsReadAs (Some settings.program) told program) where
+module _ (settings : Settings) (told : List ℕ → Told) (rose : Type 0) (r : LaunchRefusal) (program : List ℕ) (read : IsReadAs (Some settings.program) told program) where
   pub text_unread : IsUnreadOf (Some standard_input) told rose r → IsNoLaunchOf (settings_inputs settings) (inputs_spell settings told) rose r
   text_unread h =
       unread_behind (Some settings.program) told (after_nothing settings told) program (standard_input ∷ (option_to_list settings.tree ++ option_to_list settings.stdin)) rose r read
@@ -148,13 +148,13 @@ all_read settings told inputs answer read e =
     (told_as (spelled_by settings inputs) answer e))))
 
 -- the launch is the one that is spelled
-pub launch_told : (settings : Settings) (told : List ℕ → Told) (inputs : Inputs) (r : Result Launch Refusal) → AreRead settings told inputs →
+pub launch_told : (settings : Settings) (told : List ℕ → Told) (inputs : Inputs) (r : Result Launch LaunchRefusal) → AreRead settings told inputs →
     IfOk r (λ launch. spelled_by settings inputs ≡ spells launch) → IfOk r (λ launch. IsToldAs (inputs_spell settings told) (spells launch))
 launch_told settings told inputs (Ok launch) read e = all_read settings told inputs (spells launch) read e
 launch_told settings told inputs (Err refusal) read e = tt
 
 -- the refusal is the one that is spelled
-refusal_is_told : (names : List (List ℕ)) (settings : Settings) (told : List ℕ → Told) (inputs : Inputs) (rose : Type 0) (r : Refusal) → AreRead settings told inputs →
+refusal_is_told : (names : List (List ℕ)) (settings : Settings) (told : List ℕ → Told) (inputs : Inputs) (rose : Type 0) (r : LaunchRefusal) → AreRead settings told inputs →
     IsNoLaunch (spelled_by settings inputs) r → IsNoLaunchOf names (inputs_spell settings told) rose r
 refusal_is_told names settings told inputs rose Words read e = absurd e
 refusal_is_told names settings told inputs rose (Input n) read e = absurd e
@@ -164,7 +164,7 @@ refusal_is_told names settings told inputs rose (Tree byte) read e = all_read se
 refusal_is_told names settings told inputs rose (LaunchText fault) read e = all_read settings told inputs _ read e
 refusal_is_told names settings told inputs rose Memory read e = tt
 
-pub refusal_told : (settings : Settings) (told : List ℕ → Told) (inputs : Inputs) (rose : Type 0) (r : Result Launch Refusal) → AreRead settings told inputs →
+pub refusal_told : (settings : Settings) (told : List ℕ → Told) (inputs : Inputs) (rose : Type 0) (r : Result Launch LaunchRefusal) → AreRead settings told inputs →
     IfErr r (IsNoLaunch (spelled_by settings inputs)) → IfErr r (IsNoLaunchOf (settings_inputs settings) (inputs_spell settings told) rose)
 refusal_told settings told inputs rose (Ok launch) read e = tt
 refusal_told settings told inputs rose (Err refusal) read e = refusal_is_told (settings_inputs settings) settings told inputs rose refusal read e
@@ -199,7 +199,7 @@ module _ (settings : Settings) (inputs : Inputs) (short : length inputs.tree ≤
   built_at (Some fault) launch is e = cc
   built_at None launch is e = built_tree (meaning (times_of settings) inputs.tree) launch is refl e
 
-  pub built : (r : Result Launch Refusal) → IfOk r (λ launch. spelled_by settings inputs ≡ spells launch) → IfOk r (IsBuiltLaunch settings)
+  pub built : (r : Result Launch LaunchRefusal) → IfOk r (λ launch. spelled_by settings inputs ≡ spells launch) → IfOk r (IsBuiltLaunch settings)
   unfolding spelled_by
   built (Ok launch) e = built_at (fault_of inputs.program) launch refl e
   built (Err refusal) e = tt
@@ -210,7 +210,7 @@ read_short None told bytes read = subst (λ xs. length xs ≤ input_limit) (sym 
 read_short (Some name) told bytes read = read.1
 
 -- what is answered is what is spelled
-refusal_answers : (names : List (List ℕ)) (spelled : Spelled) (rose : Type 0) (r : Refusal) → ¬ rose → IsNoLaunchOf names spelled rose r → AnswersSpelled spelled (Err r)
+refusal_answers : (names : List (List ℕ)) (spelled : Spelled) (rose : Type 0) (r : LaunchRefusal) → ¬ rose → IsNoLaunchOf names spelled rose r → AnswersSpelled spelled (Err r)
 refusal_answers names untold rose r calm h = tt
 refusal_answers names (refuses status line) rose Words calm h = absurd h
 refusal_answers names (refuses status line) rose (Input n) calm h = absurd (calm h.1)
@@ -232,7 +232,7 @@ launch_answers untold launch h = tt
 launch_answers (refuses status line) launch h = cc
 launch_answers (spells other) launch h = inl (cc)
 
-pub answers : (names : List (List ℕ)) (spelled : Spelled) (rose : Type 0) (r : Result Launch Refusal) → IfOk r (λ launch. IsToldAs spelled (spells launch)) →
+pub answers : (names : List (List ℕ)) (spelled : Spelled) (rose : Type 0) (r : Result Launch LaunchRefusal) → IfOk r (λ launch. IsToldAs spelled (spells launch)) →
     IfErr r (IsNoLaunchOf names spelled rose) → ¬ rose → AnswersSpelled spelled r
 answers names spelled rose (Ok launch) told refused calm = launch_answers spelled launch told
 answers names spelled rose (Err refusal) told refused calm = refusal_answers names spelled rose refusal calm refused

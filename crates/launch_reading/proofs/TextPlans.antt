@@ -1,6 +1,6 @@
 -- What a launch text gives, part by part.
 use Rattle.std.proofs.Common.{◌≡◌, ℕ, List, Ok, Err, ap, ◌∙◌}
-use Rattle.yaml_values.specs.Shape.{Shape}
+use Rattle.launch_values.specs.Shape.{Shape}
 use Rattle.launch_yaml.specs.declared.document.YamlFault.{YamlFault}
 use Rattle.launch_yaml.specs.declared.document.YamlFault.TheVariants.{At, NoMemory}
 use Rattle.launch_yaml.specs.Document.{parse_at}

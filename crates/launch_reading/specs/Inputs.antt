@@ -1,23 +1,23 @@
 -- Why the inputs of a run were not read, or spell no launch.
 use Rattle.std.specs.Prelude.{◌≡◌, ◌≤◌, ℕ, ⊤, List, [], length, Option, None, Some, Contains}
 use Rattle.input_output.specs.Source.{Told, IsLongerThan, IsWhole}
-use Rattle.launch_words.specs.Settings.{Settings}
+use Rattle.command_line.specs.Settings.{Settings}
 use Rattle.launch_reading.specs.Launch.{Spelled, refuses, input_limit, standard_input, IsToldAs}
-use Rattle.launch_reading.specs.Lines.{too_long_line, program_line, tree_line, launch_line}
+use Rattle.launch_reading.specs.Refusal.{too_long_line, program_line, tree_line, launch_line}
 use Rattle.launch_reading.specs.declared.inputs.Inputs.{Inputs}
-use Rattle.launch_reading.specs.declared.lines.Refusal.{Refusal}
-use Rattle.launch_reading.specs.declared.lines.Refusal.TheVariants.{Words, Input, TooLong, Program, Tree, LaunchText, Memory}
+use Rattle.launch_reading.specs.declared.refusal.LaunchRefusal.{LaunchRefusal}
+use Rattle.launch_reading.specs.declared.refusal.LaunchRefusal.TheVariants.{Words, Input, TooLong, Program, Tree, LaunchText, Memory}
 
 -- why the input of this name was not read: a read failed, so that a fault was counted; it is longer than an input may
 -- be; or memory is wanting
-abbrev pub IsUnread : List ℕ → Told → Type 0 → Refusal → Type 0
+abbrev pub IsUnread : List ℕ → Told → Type 0 → LaunchRefusal → Type 0
 IsUnread name told rose (Input n) = (n.now ≡ name) × rose
 IsUnread name told rose (TooLong n) = (n.now ≡ name) × IsLongerThan input_limit told
 IsUnread name told rose Memory = ⊤
 IsUnread name told rose _ = ⊥
 
 -- the same of an input that may not be asked for
-abbrev pub IsUnreadOf : Option (List ℕ) → (List ℕ → Told) → Type 0 → Refusal → Type 0
+abbrev pub IsUnreadOf : Option (List ℕ) → (List ℕ → Told) → Type 0 → LaunchRefusal → Type 0
 IsUnreadOf None told rose refusal = ⊥
 IsUnreadOf (Some name) told rose refusal = IsUnread name (told name) rose refusal
 
@@ -34,7 +34,7 @@ pub record AreRead (settings : Settings) (told : List ℕ → Told) (inputs : In
   pub stdin : IsReadAs settings.stdin told inputs.stdin
 
 -- why a program, a tree document and a launch text give no launch
-abbrev pub IsNoLaunch : Spelled → Refusal → Type 0
+abbrev pub IsNoLaunch : Spelled → LaunchRefusal → Type 0
 IsNoLaunch spelled (Program found) = spelled ≡ refuses 67 (program_line found)
 IsNoLaunch spelled (Tree byte) = spelled ≡ refuses 68 (tree_line byte)
 IsNoLaunch spelled (LaunchText fault) = spelled ≡ refuses 65 (launch_line fault)
@@ -44,7 +44,7 @@ IsNoLaunch spelled _ = ⊥
 -- why inputs of these names give no launch, of which this is spelled: one could not be read, so that a fault was
 -- counted; one is too long, or the program, the tree document or the launch text is refused, where anything is told as it
 -- is spelled; or memory is wanting
-abbrev pub IsNoLaunchOf : List (List ℕ) → Spelled → Type 0 → Refusal → Type 0
+abbrev pub IsNoLaunchOf : List (List ℕ) → Spelled → Type 0 → LaunchRefusal → Type 0
 IsNoLaunchOf names spelled rose (Input n) = Contains names n.now × rose
 IsNoLaunchOf names spelled rose (TooLong n) = Contains names n.now × IsToldAs spelled (refuses 66 (too_long_line n.now))
 IsNoLaunchOf names spelled rose (Program found) = IsToldAs spelled (refuses 67 (program_line found))

@@ -9,15 +9,15 @@ use Rattle.elf_image.specs.declared.fault.ElfFault.{ElfFault}
 use Rattle.run_types.specs.declared.launch.Launch.{Launch}
 use Rattle.abi_base.specs.declared.grant.Grant.{Grant}
 use Rattle.abi_types.specs.declared.node.Times.{Times}
-use Rattle.launch_words.specs.Settings.{Settings}
-use Rattle.launch_words.specs.Words.{words_of}
+use Rattle.command_line.specs.Settings.{Settings}
+use Rattle.command_line.specs.Reading.{words_of}
 use Rattle.tree_model.specs.Tree.{Tree}
 use Rattle.tree_document.specs.Meaning.{meaning}
 use Rattle.launch_reading.specs.LaunchText.{TextPlan, planned_text}
-use Rattle.launch_reading.specs.Lines.{words_line, input_line, too_long_line, program_line, tree_line, launch_line, line_of, status_of}
+use Rattle.launch_reading.specs.Refusal.{words_line, input_line, too_long_line, program_line, tree_line, launch_line, line_of, status_of}
 use Rattle.launch_reading.specs.declared.inputs.Inputs.{Inputs}
-use Rattle.launch_reading.specs.declared.lines.Refusal.{Refusal}
-use Rattle.launch_reading.specs.declared.lines.Refusal.TheVariants.{Input, TooLong, Memory}
+use Rattle.launch_reading.specs.declared.refusal.LaunchRefusal.{LaunchRefusal}
+use Rattle.launch_reading.specs.declared.refusal.LaunchRefusal.TheVariants.{Input, TooLong, Memory}
 
 -- What is spelled: a launch; a refusal with its status and its line; or nothing that could be compared, where the
 -- source does not tell an input.
@@ -147,28 +147,28 @@ IsBuiltBy None launch = ⊥
 IsBuiltBy (Some settings) launch = IsBuiltLaunch settings launch
 
 -- the refusal is of an input that could not be read, with such a name
-abbrev pub IfInput : Refusal → (List ℕ → Type 0) → Type 0
+abbrev pub IfInput : LaunchRefusal → (List ℕ → Type 0) → Type 0
 IfInput (Input name) P = P name.now
 IfInput _ P = ⊤
 
 -- the refusal is of an input that is too long, with such a name
-abbrev pub IfTooLong : Refusal → (List ℕ → Type 0) → Type 0
+abbrev pub IfTooLong : LaunchRefusal → (List ℕ → Type 0) → Type 0
 IfTooLong (TooLong name) P = P name.now
 IfTooLong _ P = ⊤
 
 -- the refusal is of what the words and the inputs spell: it is no fault of reading and no want of memory
-abbrev pub IsOfTexts : Refusal → Type 0
+abbrev pub IsOfTexts : LaunchRefusal → Type 0
 IsOfTexts (Input name) = ⊥
 IsOfTexts Memory = ⊥
 IsOfTexts _ = ⊤
 
 -- the refusal that is spelled, or want of memory
-abbrev pub IsRefusedAs : ℕ → List ℕ → Result Launch Refusal → Type 0
+abbrev pub IsRefusedAs : ℕ → List ℕ → Result Launch LaunchRefusal → Type 0
 IsRefusedAs status line (Ok launch) = ⊥
 IsRefusedAs status line (Err refusal) = (refusal ≡ Memory) ⊎ ((status_of refusal ≡ status) × (line_of refusal ≡ line))
 
 -- What is answered is what is spelled, where anything is told of it, or want of memory.
-abbrev pub AnswersSpelled : Spelled → Result Launch Refusal → Type 0
+abbrev pub AnswersSpelled : Spelled → Result Launch LaunchRefusal → Type 0
 AnswersSpelled untold result = ⊤
 AnswersSpelled (refuses status line) result = IsRefusedAs status line result
 AnswersSpelled (spells launch) result = (result ≡ Ok launch) ⊎ (result ≡ Err Memory)

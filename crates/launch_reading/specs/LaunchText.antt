@@ -1,8 +1,8 @@
 -- What a launch text gives a program that begins with a file tree, or its first fault.
 use Rattle.std.specs.Prelude.{◌≡◌, ℕ, List, Option, None, Some, Result, Ok, Err}
 use Rattle.abi_base.specs.declared.grant.Grant.{Grant}
-use Rattle.yaml_values.specs.Shape.{Shape}
-use Rattle.launch_rows.specs.declared.fault.Fault.{Fault}
+use Rattle.launch_values.specs.Shape.{Shape}
+use Rattle.launch_lines.specs.declared.fault.Fault.{Fault}
 use Rattle.launch_yaml.specs.Document.{parse_at}
 use Rattle.launch_yaml.specs.declared.document.YamlFault.{YamlFault}
 use Rattle.launch_yaml.specs.declared.document.YamlFault.TheVariants.{At, NoMemory}

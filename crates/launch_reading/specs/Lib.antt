@@ -1,4 +1,4 @@
 pub mod LaunchText
 pub mod Launch
-pub mod Lines
+pub mod Refusal
 pub mod Inputs

@@ -3,18 +3,18 @@ ghost use Rattle.std.specs.Prelude.{◌≡◌, ◌≤◌, ℕ, List, length, All
 ghost use Rattle.std.specs.Option.{option_to_list};
 ghost use Rattle.input_output.specs.Source.{Rose, IsWhole};
 ghost use Rattle.tree_model.specs.Grants.{MayBegin};
-ghost use Rattle.launch_words.specs.Settings.{IsWithin, view};
+ghost use Rattle.command_line.specs.Settings.{IsWithin, view};
 ghost use Rattle.launch_reading.specs.Inputs.{AreRead, IsReadAs, IsUnread, IsUnreadOf, IsNoLaunch, IsNoLaunchOf};
 ghost use Rattle.launch_reading.specs.Launch.{spells, input_limit, spelled_by, inputs_spell, settings_inputs, times_of, IsToldAs, IsBuiltLaunch, AnswersSpelled};
 ghost use Rattle.call_codec.specs.Bounded.{IsBounded};
 
 use crate::launch_text::plan_text;
-use crate::lines::Refusal;
+use crate::refusal::LaunchRefusal;
 use abi_types::Times;
+use command_line::LaunchSettings;
 use elf_image::{ElfFault, read_elf};
 use input_output::{ReadFault, Source, read_whole};
 use launch_plan::Planned;
-use launch_words::LaunchWords;
 use lists::Bytes;
 use run_types::{Constants, Launch};
 use std::alloc::{AllocError, Global};
@@ -36,14 +36,14 @@ pub struct Inputs {
     pub stdin: Bytes,
 }
 
-impl<'a> From<AllocError> for Refusal<'a> {
+impl<'a> From<AllocError> for LaunchRefusal<'a> {
     ghost use Rattle.std.specs.Prelude.{◌≡◌};
-    ghost use Rattle.launch_reading.specs.declared.lines.Refusal.TheVariants.{Memory};
+    ghost use Rattle.launch_reading.specs.declared.refusal.LaunchRefusal.TheVariants.{Memory};
 
     ghost from_gives = { λ _ refusal. refusal ≡ Memory };
 
-    fn from(_error: AllocError) -> Refusal<'a> {
-        Refusal::Memory
+    fn from(_error: AllocError) -> LaunchRefusal<'a> {
+        LaunchRefusal::Memory
     }
 }
 
@@ -52,7 +52,7 @@ fn read_input<'a, S: Source>(
     alloc: Global,
     source: &mut S,
     name: &'a str,
-) -> Result<Bytes, Refusal<'a>>
+) -> Result<Bytes, LaunchRefusal<'a>>
     requires { S.may_read source.old name.now }
     ensures told_stays { (n : List ℕ) → S.told source.new n ≡ S.told source.old n }
     ensures may_read_stays { (n : List ℕ) → S.may_read source.old n → S.may_read source.new n }
@@ -63,9 +63,9 @@ fn read_input<'a, S: Source>(
 {
     match read_whole(alloc, source, name) {
         Ok(bytes) => Ok(bytes),
-        Err(ReadFault::Failed) => Err(Refusal::Input(name)),
-        Err(ReadFault::TooLong) => Err(Refusal::TooLong(name)),
-        Err(ReadFault::NoMemory) => Err(Refusal::Memory),
+        Err(ReadFault::Failed) => Err(LaunchRefusal::Input(name)),
+        Err(ReadFault::TooLong) => Err(LaunchRefusal::TooLong(name)),
+        Err(ReadFault::NoMemory) => Err(LaunchRefusal::Memory),
     }
 }
 
@@ -74,7 +74,7 @@ fn read_optional<'a, S: Source>(
     alloc: Global,
     source: &mut S,
     name: Option<&'a str>,
-) -> Result<Bytes, Refusal<'a>>
+) -> Result<Bytes, LaunchRefusal<'a>>
     requires { All (S.may_read source.old) (option_to_list (option_map (λ name. name.now) name)) }
     ensures told_stays { (n : List ℕ) → S.told source.new n ≡ S.told source.old n }
     ensures may_read_stays { (n : List ℕ) → S.may_read source.old n → S.may_read source.new n }
@@ -91,9 +91,9 @@ fn read_optional<'a, S: Source>(
 // Reads the inputs of these settings, in their order.
 fn read_inputs<'a, S: Source>(
     alloc: Global,
-    settings: &LaunchWords<'a>,
+    settings: &LaunchSettings<'a>,
     source: &mut S,
-) -> Result<Inputs, Refusal<'a>>
+) -> Result<Inputs, LaunchRefusal<'a>>
     requires { All (S.may_read source.old) (settings_inputs (view settings.now)) }
     ensures told_stays { (n : List ℕ) → S.told source.new n ≡ S.told source.old n }
     ensures may_read_stays { (n : List ℕ) → S.may_read source.old n → S.may_read source.new n }
@@ -114,7 +114,7 @@ fn read_inputs<'a, S: Source>(
 }
 
 // The times of all nodes that a launch begins with.
-fn times_of(settings: &LaunchWords<'_>) -> Times
+fn times_of(settings: &LaunchSettings<'_>) -> Times
     ensures { result ≡ times_of (view settings.now) }
 {
     Times {
@@ -128,22 +128,22 @@ fn times_of(settings: &LaunchWords<'_>) -> Times
 #[tactic(auto, unfolding(crate::specs::Launch::spelled_by))]
 fn launch_from<'a>(
     alloc: Global,
-    settings: &LaunchWords<'a>,
+    settings: &LaunchSettings<'a>,
     inputs: Inputs,
-) -> Result<Launch, Refusal<'a>>
+) -> Result<Launch, LaunchRefusal<'a>>
     requires { length inputs.tree ≤ input_limit }
     ensures ok { IfOk result (λ launch. spelled_by (view settings.now) inputs ≡ spells launch) }
     ensures err { IfErr result (IsNoLaunch (spelled_by (view settings.now) inputs)) }
 {
     let elf = match read_elf(alloc, inputs.program.as_slice()) {
         Ok(elf) => elf,
-        Err(ElfFault::NoMemory) => return Err(Refusal::Memory),
-        Err(fault) => return Err(Refusal::Program(fault)),
+        Err(ElfFault::NoMemory) => return Err(LaunchRefusal::Memory),
+        Err(fault) => return Err(LaunchRefusal::Program(fault)),
     };
     let tree = match read_tree(alloc, inputs.tree.as_slice(), times_of(settings)) {
         Ok(tree) => tree,
-        Err(TreeDocFault::At { byte }) => return Err(Refusal::Tree(byte)),
-        Err(TreeDocFault::NoMemory) => return Err(Refusal::Memory),
+        Err(TreeDocFault::At { byte }) => return Err(LaunchRefusal::Tree(byte)),
+        Err(TreeDocFault::NoMemory) => return Err(LaunchRefusal::Memory),
     };
     match plan_text(alloc, inputs.text.as_slice(), &tree) {
         Ok(Planned { argdata, grants }) => Ok(Launch {
@@ -158,8 +158,8 @@ fn launch_from<'a>(
             },
             turns: settings.turns,
         }),
-        Err(Some(fault)) => Err(Refusal::LaunchText(fault)),
-        Err(None) => Err(Refusal::Memory),
+        Err(Some(fault)) => Err(LaunchRefusal::LaunchText(fault)),
+        Err(None) => Err(LaunchRefusal::Memory),
     }
 }
 
@@ -170,9 +170,9 @@ fn launch_from<'a>(
 /// the launch text. Where the source tells nothing of an input, only its bytes as they were read are looked at.
 pub fn read_launch<'a, S: Source>(
     alloc: Global,
-    settings: &LaunchWords<'a>,
+    settings: &LaunchSettings<'a>,
     source: &mut S,
-) -> Result<Launch, Refusal<'a>>
+) -> Result<Launch, LaunchRefusal<'a>>
     requires may_read { All (S.may_read source.old) (settings_inputs (view settings.now)) }
     requires within { IsWithin (view settings.now) }
 

@@ -1,7 +1,7 @@
 //! What a launch text gives a program.
 ghost use Rattle.std.specs.Prelude.{◌≡◌, IfOk, IfErr, Ok};
-ghost use Rattle.yaml_values.specs.Documents.{IsDocument};
-ghost use Rattle.yaml_values.specs.Views.{shape_of};
+ghost use Rattle.launch_values.specs.Documents.{IsDocument};
+ghost use Rattle.launch_values.specs.Views.{shape_of};
 ghost use Rattle.launch_plan.specs.Plan.{plan_of};
 ghost use Rattle.launch_reading.specs.LaunchText.{with_plan, planned_text, IsTextFault, of_file, of_plan, line_of_fault};
 

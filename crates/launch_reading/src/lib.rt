@@ -3,8 +3,8 @@
 
 pub use inputs::{Inputs, read_launch};
 pub use launch_text::{LaunchFault, plan_text};
-pub use lines::Refusal;
+pub use refusal::LaunchRefusal;
 
 mod inputs;
 mod launch_text;
-mod lines;
+mod refusal;

@@ -10,11 +10,11 @@ use Rattle.run_types.specs.declared.launch.Launch.{Launch}
 use Rattle.tree_model.specs.Grants.{MayBegin}
 use Rattle.run_model.proofs.Confinements.{legal_is_confined}
 use Rattle.authority_laws.proofs.Histories.{legal_is_recorded}
-use Rattle.launch_words.specs.Settings.{Settings}
+use Rattle.command_line.specs.Settings.{Settings}
 use Rattle.launch_reading.specs.Launch.{Spelled, untold, refuses, spells, words_spell, inputs_with, history_with, AnswersSpelled, IsToldAs, IsBuiltBy}
-use Rattle.launch_reading.specs.Lines.{words_line, memory_line, status_of}
-use Rattle.launch_reading.specs.declared.lines.Refusal.{Refusal}
-use Rattle.launch_reading.specs.declared.lines.Refusal.TheVariants.{Words, Input, TooLong, Program, Tree, LaunchText, Memory}
+use Rattle.launch_reading.specs.Refusal.{words_line, memory_line, status_of}
+use Rattle.launch_reading.specs.declared.refusal.LaunchRefusal.{LaunchRefusal}
+use Rattle.launch_reading.specs.declared.refusal.LaunchRefusal.TheVariants.{Words, Input, TooLong, Program, Tree, LaunchText, Memory}
 use Rattle.launch_run.specs.declared.top.RunEnd.{RunEnd}
 use Rattle.launch_run.specs.declared.top.RunEnd.TheVariants.{Reported, Unwritten, NotBegun, Lacking}
 use Rattle.launch_run.specs.declared.top.TopEnd.{TopEnd}
@@ -40,7 +40,7 @@ where_kept P r true holds = tt
 where_kept P r false holds = holds
 
 -- want of memory has a status of its own
-memory_status : (refusal : Refusal) → ◌≡◌ {A = Result Launch Refusal} (Err refusal) (Err Memory) → status_of refusal ≡ 70
+memory_status : (refusal : LaunchRefusal) → ◌≡◌ {A = Result Launch LaunchRefusal} (Err refusal) (Err Memory) → status_of refusal ≡ 70
 memory_status Words is = absurd (cc)
 memory_status (Input name) is = absurd (cc)
 memory_status (TooLong name) is = absurd (cc)
@@ -157,7 +157,7 @@ module _ (given : Option Settings) (told : List ℕ → Told) (rose : Type 0) (b
   top_words (Ran NotBegun) o is = absurd (omega arith)
   top_words (Ran (Lacking r)) o is = absurd (omega arith)
 
-  words_status : (refusal : Refusal) → (refusal ≡ Words) ⊎ (refusal ≡ Memory) → (status_of refusal ≡ 2) ⊎ (status_of refusal ≡ 70)
+  words_status : (refusal : LaunchRefusal) → (refusal ≡ Words) ⊎ (refusal ≡ Memory) → (status_of refusal ≡ 2) ⊎ (status_of refusal ≡ 70)
   words_status refusal (inl is) = inl (ap status_of is)
   words_status refusal (inr is) = inr (ap status_of is)
 
@@ -223,7 +223,7 @@ module _ (given : Option Settings) (told : List ℕ → Told) (rose : Type 0) (b
   -- ---- what is spelled is answered
 
   -- a refusal that is spelled, or want of memory
-  completes_refused : (spelled : Spelled) (refusal : Refusal) → AnswersSpelled spelled (Err refusal) → Completes spelled sink_rose (status_of refusal)
+  completes_refused : (spelled : Spelled) (refusal : LaunchRefusal) → AnswersSpelled spelled (Err refusal) → Completes spelled sink_rose (status_of refusal)
   completes_refused untold refusal h = tt
   completes_refused (refuses status line) refusal (inl memory) = inr (ap status_of memory)
   completes_refused (refuses status line) refusal (inr is) = inl is.0

@@ -16,14 +16,14 @@ use Rattle.run_model.specs.Ends.{Ended}
 use Rattle.run_model.specs.Legal.{Legal}
 use Rattle.run_model.specs.World.{world}
 use Rattle.authority_laws.specs.Laws.{IsRecorded}
-use Rattle.launch_words.specs.Settings.{Settings}
+use Rattle.command_line.specs.Settings.{Settings}
 use Rattle.launch_reading.specs.Launch.{Spelled, untold, refuses, spells, words_spell, inputs_with, history_with, IsToldAs, IsBuiltBy, IfInput, IfTooLong, IsOfTexts, AnswersSpelled}
 use Rattle.elf_image.specs.declared.fault.ElfFault.{ElfFault}
-use Rattle.launch_reading.specs.Lines.{line_of, status_of, memory_line, input_line, program_line, tree_line, launch_line, too_long_line}
+use Rattle.launch_reading.specs.Refusal.{line_of, status_of, memory_line, input_line, program_line, tree_line, launch_line, too_long_line}
 use Rattle.run_report.specs.Report.{report_of}
 use Rattle.launch_reading.specs.declared.launch_text.LaunchFault.{LaunchFault}
-use Rattle.launch_reading.specs.declared.lines.Refusal.{Refusal}
-use Rattle.launch_reading.specs.declared.lines.Refusal.TheVariants.{Words, Memory}
+use Rattle.launch_reading.specs.declared.refusal.LaunchRefusal.{LaunchRefusal}
+use Rattle.launch_reading.specs.declared.refusal.LaunchRefusal.TheVariants.{Words, Memory}
 use Rattle.launch_run.specs.declared.top.Finished.{Finished}
 use Rattle.launch_run.specs.declared.top.RunEnd.{RunEnd}
 use Rattle.launch_run.specs.declared.top.RunEnd.TheVariants.{Reported, Unwritten, NotBegun, Lacking}
@@ -81,7 +81,7 @@ TellsEnd before after rose (Lacking r) = Wrote before after rose memory_line
 -- count of faults rose
 
 -- a refusal, which is the first that the words and the inputs spell, where anything is told of it
-pub record IsRefusalOf (given : Option Settings) (told : List ℕ → Told) (rose : Type 0) (refusal : Refusal) : Type 0 where
+pub record IsRefusalOf (given : Option Settings) (told : List ℕ → Told) (rose : Type 0) (refusal : LaunchRefusal) : Type 0 where
   pub words_refused : refusal ≡ Words → given ≡ None
   pub words_answered : given ≡ None → (refusal ≡ Words) ⊎ (refusal ≡ Memory)
   pub input : IfInput refusal (λ name. Contains (inputs_with given) name × rose)

@@ -1,20 +1,20 @@
 //! The top call: from the words of a command line to a status, a record, and what is written.
 ghost use Rattle.std.specs.Prelude.{◌≡◌, ◌≢◌, ◌⊎◌, ◌≤◌, ℕ, List, [], None, Some, IsSome, IfSome, IsSomeAnd, map, string_bytes, All};
 ghost use Rattle.input_output.specs.Source.{Rose};
-ghost use Rattle.launch_words.specs.Settings.{IsWithin, view};
-ghost use Rattle.launch_words.specs.Words.{words_of};
+ghost use Rattle.command_line.specs.Settings.{IsWithin, view};
+ghost use Rattle.command_line.specs.Reading.{words_of};
 ghost use Rattle.run_report.specs.Report.{report_of};
 ghost use Rattle.launch_reading.specs.Launch.{launch_of, inputs_of, settings_inputs, asks_history};
-ghost use Rattle.launch_reading.specs.Lines.{line_of, words_line, memory_line};
+ghost use Rattle.launch_reading.specs.Refusal.{line_of, words_line, memory_line};
 ghost use Rattle.call_codec.specs.Bounded.{IsBounded};
 ghost use Rattle.plain_run.specs.Run.{IsBetween, IsLive};
 ghost use Rattle.launch_run.specs.TopCall.{Wrote, IsEndOf, IsToldEnd, TellsEnd, IsTopEnd, IsTopStatus, IsInputRefused, IsProgramRefused, IsTreeRefused, IsTextRefused, HasReported, HasFailed, IsKept, Completes, status_number, kept_of, finished_run, finished_of};
 ghost use Rattle.launch_run.specs.declared.top.TopEnd.TheVariants.{Refused};
 
 use abi_types::Status;
+use command_line::{CommandLineFault, LaunchSettings, read_words};
 use input_output::{Sink, Source, write_whole};
-use launch_reading::{Refusal, read_launch};
-use launch_words::{LaunchWords, WordsFault, read_words};
+use launch_reading::{LaunchRefusal, read_launch};
 use plain_run::{FIRST, Run};
 use run_report::report;
 use run_types::{Launch, Record};
@@ -92,12 +92,12 @@ fn tell_end<K: Sink>(end: &RunEnd, sink: &mut K)
 {
     match end {
         RunEnd::Reported(..) | RunEnd::Unwritten(_) => {}
-        RunEnd::NotBegun | RunEnd::Lacking(_) => refuse(&Refusal::Memory, sink),
+        RunEnd::NotBegun | RunEnd::Lacking(_) => refuse(&LaunchRefusal::Memory, sink),
     }
 }
 
 // Writes a refusal's line. A fault of the sink changes nothing of the status.
-fn refuse<K: Sink>(refusal: &Refusal<'_>, sink: &mut K)
+fn refuse<K: Sink>(refusal: &LaunchRefusal<'_>, sink: &mut K)
     ensures faults_never_fall { K.faults sink.old ≤ K.faults sink.new }
     ensures wrote { Wrote (K.written sink.old) (K.written sink.new) (Rose (K.faults sink.old) (K.faults sink.new)) (line_of refusal.now) }
 {
@@ -119,13 +119,13 @@ fn run_told<K: Sink>(alloc: Global, launch: Launch, lines: bool, sink: &mut K) -
 #[derive(Drop)]
 pub enum TopEnd<'a> {
     /// No run began.
-    Refused(Refusal<'a>),
+    Refused(LaunchRefusal<'a>),
     /// A run came to this end.
     Ran(RunEnd),
 }
 
 // A refusal, with its line written.
-fn refused<'a, K: Sink>(refusal: Refusal<'a>, sink: &mut K) -> TopEnd<'a>
+fn refused<'a, K: Sink>(refusal: LaunchRefusal<'a>, sink: &mut K) -> TopEnd<'a>
     ensures end { result ≡ Refused refusal.entry }
     ensures faults_never_fall { K.faults sink.old ≤ K.faults sink.new }
     ensures wrote { Wrote (K.written sink.old) (K.written sink.new) (Rose (K.faults sink.old) (K.faults sink.new)) (line_of refusal.entry) }
@@ -137,7 +137,7 @@ fn refused<'a, K: Sink>(refusal: Refusal<'a>, sink: &mut K) -> TopEnd<'a>
 // Reads the launch of these settings, runs it, and writes its report, or the line of a refusal.
 fn run_settings<'a, S: Source, K: Sink>(
     alloc: Global,
-    settings: &LaunchWords<'a>,
+    settings: &LaunchSettings<'a>,
     source: &mut S,
     sink: &mut K,
 ) -> TopEnd<'a>
@@ -170,8 +170,8 @@ fn launch_and_run<'a, S: Source, K: Sink>(
 {
     match read_words(alloc, words) {
         Ok(settings) => run_settings(alloc, &settings, source, sink),
-        Err(WordsFault::Refused) => refused(Refusal::Words, sink),
-        Err(WordsFault::NoMemory) => refused(Refusal::Memory, sink),
+        Err(CommandLineFault::Refused) => refused(LaunchRefusal::Words, sink),
+        Err(CommandLineFault::NoMemory) => refused(LaunchRefusal::Memory, sink),
     }
 }
 

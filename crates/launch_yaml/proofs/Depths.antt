@@ -1,10 +1,10 @@
 -- A map or a sequence of a depth, by its parts.
 use Rattle.std.proofs.Common.{◌≡◌, ℕ, suc, ◌-◌, ◌≤◌, List, Bool, true, false, Result, Ok, ap, sym, ◌∙◌, arith}
 use Rattle.std.specs.Prelude.{if◌then◌else◌}
-use Rattle.yaml_values.specs.Shape.{Shape, Content, sequence, mapping, of_list, of_pairs}
-use Rattle.launch_rows.specs.declared.fault.Fault.{Fault}
+use Rattle.launch_values.specs.Shape.{Shape, Content, sequence, mapping, of_list, of_pairs}
+use Rattle.launch_lines.specs.declared.fault.Fault.{Fault}
 use Rattle.lists.specs.Results.{◌>>=◌}
-use Rattle.launch_rows.specs.Rows.{Row, is_dash}
+use Rattle.launch_lines.specs.Rows.{Row, is_dash}
 use Rattle.launch_yaml.specs.Blocks.{items_at, pairs_at, block_at}
 
 pub sequence_is : (depth inside : ℕ) (is_root : Bool) (r : Row) (rs : List Row) (read whole : List Shape) → (1 ≤ depth) × (inside ≡ depth - 1) → is_dash r.content ≡ true

@@ -4,21 +4,21 @@ use Rattle.std.proofs.Math.Seq.{take-length}
 use Rattle.std.proofs.lemmas.List.{append-nil}
 use Rattle.std.specs.Prelude.{◌&&◌, ◌||◌, not, ◌==◌, if◌then◌else◌, is_some}
 use Rattle.std.specs.List.{take_while, prefix_len, list_any}
-use Rattle.yaml_values.specs.Shape.{Shape, Content, node, content_of}
-use Rattle.yaml_values.specs.Keys.{same_key}
-use Rattle.yaml_scalars.specs.declared.kind.YamlKind.TheVariants as kinds
-use Rattle.launch_rows.specs.declared.fault.Fault.{Fault}
-use Rattle.launch_rows.specs.declared.line.Line.{Line}
-use Rattle.lists.specs.declared.refusal.Refusal.{Refusal}
+use Rattle.launch_values.specs.Shape.{Shape, Content, node, content_of}
+use Rattle.launch_values.specs.Keys.{same_key}
+use Rattle.launch_scalars.specs.declared.kind.YamlKind.TheVariants as kinds
+use Rattle.launch_lines.specs.declared.fault.Fault.{Fault}
+use Rattle.launch_lines.specs.declared.line.Line.{Line}
+use Rattle.lists.specs.declared.stop.Stop.{Stop}
 use Rattle.lists.specs.Results.{◌>>=◌, Gives}
-use Rattle.yaml_values.specs.declared.node.Node.{Node}
-use Rattle.yaml_values.specs.Views.{shape_of}
+use Rattle.launch_values.specs.declared.node.Node.{Node}
+use Rattle.launch_values.specs.Views.{shape_of}
 use Rattle.std.proofs.lemmas.Bool.Decides.{nat_tests}
 use Rattle.lists.proofs.Steps.{bind_alike}
-use Rattle.launch_rows.specs.Rows.{Row, is_dash, at_row, begins_key, behind_key}
+use Rattle.launch_lines.specs.Rows.{Row, is_dash, at_row, begins_key, behind_key}
 use Rattle.launch_yaml.specs.Entries.{Entry, after_while, belongs, entries_after, never, is_key_awaiting, map_entries, sequence_entries}
 use Rattle.launch_yaml.specs.Blocks.{Block, untagged, value_with, behind_dash, item_of, items_of, pairs_of, pair_of, key_of, new_key_of, key_at, no_entry, wrong_key, value_of_entry, block_at}
-use Rattle.launch_rows.specs.Views.{row, rows, lines_from}
+use Rattle.launch_lines.specs.Views.{row, rows, lines_from}
 
 -- what was read before, and what is still read
 abbrev pub with_front : {A : Type 0} → List A → Result (List A) Fault → Result (List A) Fault
@@ -253,7 +253,7 @@ behind_first (b ∷ bs) some =
     let size : suc (length bs) - 1 ≡ length bs = omega arith in
     ap (λ n. take n bs) size ∙ take-length bs
 
-pub item_is : (depth column : ℕ) (is_root : Bool) (e : Entry) (behind : Row) (bytes : List ℕ) (result : Result Node (Refusal Fault)) → e.first.column ≡ column → is_dash e.first.content ≡ true
+pub item_is : (depth column : ℕ) (is_root : Bool) (e : Entry) (behind : Row) (bytes : List ℕ) (result : Result Node (Stop Fault)) → e.first.column ≡ column → is_dash e.first.content ≡ true
     → behind ≡ behind_dash e.first → bytes ≡ behind.content
     → Gives shape_of result (value_with (block_at depth) depth false untagged true behind e.others bytes)
     → Gives shape_of result (item_of (block_at depth) depth column is_root e)

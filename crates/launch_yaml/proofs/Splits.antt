@@ -3,8 +3,8 @@ use Rattle.std.proofs.Common.{◌≡◌, ℕ, List, take, drop, Bool, ap, sym, �
 use Rattle.std.specs.Prelude.{◌&&◌}
 use Rattle.std.specs.List.{take_while, prefix_len}
 use Rattle.std.proofs.lemmas.List.{take-map, drop-map}
-use Rattle.launch_rows.specs.declared.line.Line.{Line}
-use Rattle.launch_rows.specs.Views.{row, rows}
+use Rattle.launch_lines.specs.declared.line.Line.{Line}
+use Rattle.launch_lines.specs.Views.{row, rows}
 use Rattle.launch_yaml.specs.Entries.{begins_with_item_at, belongs_there, belongs, after_while}
 
 pub mine_is : (text : List ℕ) (column : ℕ) (awaits items : Bool) (n : ℕ) (ls mine : List Line) → mine ≡ take n ls → n ≡ prefix_len (belongs_there column items) (rows text ls)

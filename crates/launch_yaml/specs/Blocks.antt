@@ -1,21 +1,21 @@
 -- Values that stand on rows.
 use Rattle.std.specs.Prelude.{ℕ, zero, suc, ◌==◌, ◌&&◌, ◌||◌, not, if◌then◌else◌, nat_le, Bool, true, false, List, [], ◌∷◌, length, drop, codes, Option, Some, None, is_some, Result, Ok, Err}
 use Rattle.std.specs.List.{list_any}
-use Rattle.yaml_scalars.specs.declared.kind.YamlKind.{YamlKind}
-use Rattle.yaml_scalars.specs.declared.kind.YamlKind.TheVariants as kinds
-use Rattle.yaml_scalars.specs.Spaces.{is_one_of, begins_with, after_gap}
-use Rattle.yaml_scalars.specs.Plain.{wrong_beginning}
-use Rattle.yaml_values.specs.declared.mode.Mode.{Mode}
-use Rattle.yaml_values.specs.declared.mode.Mode.TheVariants as modes
-use Rattle.yaml_values.specs.Shape.{Shape, Content, node, null, mapping, sequence, of_list, of_pairs, content_of}
-use Rattle.yaml_values.specs.Resolution.{scalar_value}
-use Rattle.yaml_values.specs.Tags.{Tag, named, bytes_in_base64, tag_at}
-use Rattle.yaml_values.specs.Keys.{same_key}
-use Rattle.yaml_values.specs.Flow.{value_at}
-use Rattle.launch_rows.specs.declared.fault.Fault.{Fault}
+use Rattle.launch_scalars.specs.declared.kind.YamlKind.{YamlKind}
+use Rattle.launch_scalars.specs.declared.kind.YamlKind.TheVariants as kinds
+use Rattle.launch_scalars.specs.Spaces.{is_one_of, begins_with, after_gap}
+use Rattle.launch_scalars.specs.Plain.{wrong_beginning}
+use Rattle.launch_values.specs.declared.mode.Mode.{Mode}
+use Rattle.launch_values.specs.declared.mode.Mode.TheVariants as modes
+use Rattle.launch_values.specs.Shape.{Shape, Content, node, null, mapping, sequence, of_list, of_pairs, content_of}
+use Rattle.launch_values.specs.Resolution.{scalar_value}
+use Rattle.launch_values.specs.Tags.{Tag, named, bytes_in_base64, tag_at}
+use Rattle.launch_values.specs.Keys.{same_key}
+use Rattle.launch_values.specs.Flow.{value_at}
+use Rattle.launch_lines.specs.declared.fault.Fault.{Fault}
 use Rattle.lists.specs.Results.{◌>>=◌}
-use Rattle.launch_rows.specs.Faults.{unless, first_of}
-use Rattle.launch_rows.specs.Rows.{Row, is_dash, begins_key, behind_key, after_key, behind_colon, at_row, place_in, in_row, from}
+use Rattle.launch_lines.specs.Faults.{unless, first_of}
+use Rattle.launch_lines.specs.Rows.{Row, is_dash, begins_key, behind_key, after_key, behind_colon, at_row, place_in, in_row, from}
 use Rattle.launch_yaml.specs.Entries.{Entry, map_entries, sequence_entries}
 
 -- ---- tags before values

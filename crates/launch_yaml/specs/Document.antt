@@ -1,13 +1,13 @@
 -- Documents.
 use Rattle.std.specs.Prelude.{ℕ, ◌&&◌, not, if◌then◌else◌, nat_le, Bool, List, [], ◌∷◌, Option, Some, None, Result, Ok}
 use Rattle.std.specs.List.{take_while}
-use Rattle.yaml_scalars.specs.declared.kind.YamlKind.TheVariants as kinds
-use Rattle.yaml_values.specs.Shape.{Shape, node, null}
-use Rattle.launch_rows.specs.declared.fault.Fault.{Fault}
+use Rattle.launch_scalars.specs.declared.kind.YamlKind.TheVariants as kinds
+use Rattle.launch_values.specs.Shape.{Shape, node, null}
+use Rattle.launch_lines.specs.declared.fault.Fault.{Fault}
 use Rattle.lists.specs.Results.{◌>>=◌}
-use Rattle.launch_rows.specs.Faults.{unless, beside}
-use Rattle.launch_rows.specs.Lines.{lines, plain_fault}
-use Rattle.launch_rows.specs.Rows.{Row, rows_from, at_row, is_start, is_stop, is_marker, is_directive}
+use Rattle.launch_lines.specs.Faults.{unless, beside}
+use Rattle.launch_lines.specs.Lines.{lines, plain_fault}
+use Rattle.launch_lines.specs.Rows.{Row, rows_from, at_row, is_start, is_stop, is_marker, is_directive}
 use Rattle.launch_yaml.specs.Entries.{after_while}
 use Rattle.launch_yaml.specs.Blocks.{root_at}
 

@@ -1,7 +1,7 @@
 -- The entries of a block: a row at its column, or left of it, with the rows that belong to it.
 use Rattle.std.specs.Prelude.{ℕ, ◌==◌, ◌&&◌, ◌||◌, if◌then◌else◌, nat_lt, Bool, false, List, [], ◌∷◌, drop}
 use Rattle.std.specs.List.{take_while, prefix_len}
-use Rattle.launch_rows.specs.Rows.{Row, is_dash, is_open, awaits_value, behind_key}
+use Rattle.launch_lines.specs.Rows.{Row, is_dash, is_open, awaits_value, behind_key}
 
 -- the rows behind the front of rows that pass a test
 abbrev pub after_while : (Row → Bool) → List Row → List Row

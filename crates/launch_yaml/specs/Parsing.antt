@@ -1,8 +1,8 @@
 -- What `parse` answers.
 use Rattle.std.specs.Prelude.{◌≡◌, Result, Ok, Err}
-use Rattle.yaml_values.specs.Shape.{Shape}
-use Rattle.yaml_values.specs.Views.{shape_of}
-use Rattle.launch_rows.specs.declared.fault.Fault.{Fault}
+use Rattle.launch_values.specs.Shape.{Shape}
+use Rattle.launch_values.specs.Views.{shape_of}
+use Rattle.launch_lines.specs.declared.fault.Fault.{Fault}
 use Rattle.launch_yaml.specs.declared.document.Doc.{Doc}
 use Rattle.launch_yaml.specs.declared.document.YamlFault.{YamlFault}
 use Rattle.launch_yaml.specs.declared.document.YamlFault.TheVariants.{At, NoMemory}

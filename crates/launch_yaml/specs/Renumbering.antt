@@ -1,8 +1,8 @@
 -- Documents and faults whose lines have other numbers.
 use Rattle.std.specs.Prelude.{ℕ, suc, if◌then◌else◌, nat_le, Result, Ok, Err}
-use Rattle.yaml_values.specs.Shape.{Shape, Content, Shapes, Pairs, node, null, boolean, integer, text, binary, mapping, sequence, no_items, item, no_pairs, pair}
-use Rattle.launch_rows.specs.declared.fault.Fault.{Fault}
-use Rattle.launch_rows.specs.Rows.{Row}
+use Rattle.launch_values.specs.Shape.{Shape, Content, Shapes, Pairs, node, null, boolean, integer, text, binary, mapping, sequence, no_items, item, no_pairs, pair}
+use Rattle.launch_lines.specs.declared.fault.Fault.{Fault}
+use Rattle.launch_lines.specs.Rows.{Row}
 
 -- a node, with f of the number of each line
 abbrev mutual

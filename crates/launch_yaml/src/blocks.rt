@@ -1,9 +1,9 @@
 //! Values that stand on lines.
 ghost use Rattle.std.specs.Prelude.{◌≡◌, ◌∷◌, true, map};
-ghost use Rattle.yaml_values.specs.Shape.{node as shape_node};
-ghost use Rattle.yaml_values.specs.Views.{shape_of, content_of_value, pair_of as pair_view};
+ghost use Rattle.launch_values.specs.Shape.{node as shape_node};
+ghost use Rattle.launch_values.specs.Views.{shape_of, content_of_value, pair_of as pair_view};
 ghost use Rattle.lists.specs.Results.{Gives};
-ghost use Rattle.launch_rows.specs.Views.{row, rows, IsWithin, AllWithin};
+ghost use Rattle.launch_lines.specs.Views.{row, rows, IsWithin, AllWithin};
 ghost use Rattle.launch_yaml.specs.Entries.{Entry};
 ghost use Rattle.launch_yaml.specs.Blocks.{begins_block, value_in, value_below, value_with, value_of_entry, item_of, items_at, pairs_at, block_at, root_at};
 ghost use Rattle.launch_yaml.specs.TaggingViews.{tagging_view};
@@ -12,14 +12,14 @@ use crate::entries;
 use crate::keys::{deepest, key_at};
 use crate::single::{alone, kind_of_end, tagging_at, wrong_in};
 use crate::tagging::Tagging;
-use launch_rows::fault::Fault;
-use launch_rows::line::{Line, at_line, content, from};
-use launch_rows::rows;
-use lists::Refusal;
+use launch_lines::fault::Fault;
+use launch_lines::line::{Line, at_line, content, from};
+use launch_lines::rows;
+use launch_scalars::{YamlKind, spaces};
+use launch_values::keys::KeySet;
+use launch_values::{Node, NodeList, NodePairs, NodeValue};
+use lists::Stop;
 use std::alloc::Global;
-use yaml_scalars::{YamlKind, spaces};
-use yaml_values::keys::KeySet;
-use yaml_values::{Node, NodeList, NodePairs, NodeValue};
 
 // A map or a sequence begins here.
 fn begins_block(bytes: &[u8]) -> bool
@@ -46,7 +46,7 @@ pub fn root(
     depth: usize,
     line: Line,
     others: &[Line],
-) -> Result<Node, Refusal<Fault>>
+) -> Result<Node, Stop<Fault>>
     requires { AllWithin text.now (line ∷ others.now) }
     ensures { Gives shape_of result (root_at depth (row text.now line) (rows text.now others.now)) }
 {
@@ -76,7 +76,7 @@ fn value(
     line: Line,
     others: &[Line],
     bytes: &[u8],
-) -> Result<Node, Refusal<Fault>>
+) -> Result<Node, Stop<Fault>>
     requires { AllWithin text.now (line ∷ others.now) }
     ensures { Gives shape_of result (value_with (block_at depth) depth is_root (tagging_view tagging) fresh (row text.now line) (rows text.now others.now) bytes.now) }
 {
@@ -84,7 +84,7 @@ fn value(
         [b'!', rest @ ..] if tagging.is_untagged() => {
             let (tagging, behind) = tagging_at(alloc, text, line, rest)?;
             if rows::behind_key(behind).is_some() {
-                return Err(Refusal::At(wrong_in(text, line, YamlKind::Character, behind)));
+                return Err(Stop::At(wrong_in(text, line, YamlKind::Character, behind)));
             }
             untagged_value(
                 alloc, text, depth, is_root, tagging, false, line, others, behind,
@@ -108,25 +108,25 @@ fn untagged_value(
     line: Line,
     others: &[Line],
     bytes: &[u8],
-) -> Result<Node, Refusal<Fault>>
+) -> Result<Node, Stop<Fault>>
     requires { AllWithin text.now (line ∷ others.now) }
     ensures { Gives shape_of result (value_in (block_at depth) depth is_root (value_below (block_at depth) depth is_root line.number (rows text.now others.now)) (tagging_view tagging) fresh (row text.now line) (rows text.now others.now) bytes.now) }
 {
     match bytes {
         [] => below(alloc, text, depth, is_root, tagging, line.number, others),
         bytes if fresh && begins_block(bytes) => match tagging.binary_place() {
-            Some(place) => Err(Refusal::At(place)),
+            Some(place) => Err(Stop::At(place)),
             None => {
                 let value = block(alloc, text, depth, is_root, line, others)?;
                 Ok(tagging.into_node(line.number, value))
             }
         },
         [b'!', ..] => match tagging.binary_place() {
-            Some(place) => Err(Refusal::At(place)),
-            None => Err(Refusal::At(wrong_in(text, line, YamlKind::Tag, bytes))),
+            Some(place) => Err(Stop::At(place)),
+            None => Err(Stop::At(wrong_in(text, line, YamlKind::Tag, bytes))),
         },
         [b'[' | b'{', ..] => match tagging.binary_place() {
-            Some(place) => Err(Refusal::At(place)),
+            Some(place) => Err(Stop::At(place)),
             None => alone(alloc, text, depth, is_root, tagging, line, others, bytes),
         },
         _ => alone(alloc, text, depth, is_root, tagging, line, others, bytes),
@@ -143,7 +143,7 @@ fn below(
     tagging: Tagging,
     number: u32,
     others: &[Line],
-) -> Result<Node, Refusal<Fault>>
+) -> Result<Node, Stop<Fault>>
     requires { AllWithin text.now others.now }
     ensures { Gives shape_of result (value_below (block_at depth) depth is_root number (rows text.now others.now) (tagging_view tagging)) }
 {
@@ -168,7 +168,7 @@ fn block(
     is_root: bool,
     line: Line,
     others: &[Line],
-) -> Result<NodeValue, Refusal<Fault>>
+) -> Result<NodeValue, Stop<Fault>>
     requires { AllWithin text.now (line ∷ others.now) }
     ensures { Gives content_of_value result (block_at depth is_root (row text.now line) (rows text.now others.now)) }
 {
@@ -191,7 +191,7 @@ fn items(
     is_root: bool,
     line: Line,
     others: &[Line],
-) -> Result<Vec<Node>, Refusal<Fault>>
+) -> Result<Vec<Node>, Stop<Fault>>
     requires { AllWithin text.now (line ∷ others.now) }
     ensures { Gives (λ v. map shape_of v.items) result (items_at (block_at depth) depth is_root (row text.now line) (rows text.now others.now)) }
 {
@@ -216,7 +216,7 @@ fn item(
     is_root: bool,
     line: Line,
     others: &[Line],
-) -> Result<Node, Refusal<Fault>>
+) -> Result<Node, Stop<Fault>>
     requires { AllWithin text.now (line ∷ others.now) }
     ensures { Gives shape_of result (item_of (block_at depth) depth column is_root (record { first = row text.now line; others = rows text.now others.now })) }
 {
@@ -236,7 +236,7 @@ fn item(
                 content(text, behind),
             )
         }
-        _ => Err(Refusal::At(at_line(line, kind_of_end(is_root)))),
+        _ => Err(Stop::At(at_line(line, kind_of_end(is_root)))),
     }
 }
 
@@ -249,7 +249,7 @@ fn pairs(
     is_root: bool,
     line: Line,
     others: &[Line],
-) -> Result<Vec<(Node, Node)>, Refusal<Fault>>
+) -> Result<Vec<(Node, Node)>, Stop<Fault>>
     requires { AllWithin text.now (line ∷ others.now) }
     ensures { Gives (λ v. map pair_view v.items) result (pairs_at (block_at depth) depth is_root (row text.now line) (rows text.now others.now)) }
 {
@@ -276,7 +276,7 @@ fn entry_value(
     depth: usize,
     line: Line,
     others: &[Line],
-) -> Result<Node, Refusal<Fault>>
+) -> Result<Node, Stop<Fault>>
     requires { AllWithin text.now (line ∷ others.now) }
     ensures { Gives shape_of result (value_of_entry (block_at depth) depth (record { first = row text.now line; others = rows text.now others.now })) }
 {

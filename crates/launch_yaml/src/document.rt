@@ -1,31 +1,31 @@
 //! Documents.
 ghost use Rattle.std.specs.Prelude.{◌≡◌, ◌≤◌, ◌==◌, ◌&&◌, ℕ, nat_eq, nat_le, length, drop, List, Ok, None, Result, IfOk};
 ghost use Rattle.std.specs.List.{starts_with, take_while, prefix_len};
-ghost use Rattle.yaml_values.specs.Documents.{IsDocument};
-ghost use Rattle.yaml_values.specs.Shape.{Shape, node, null};
-ghost use Rattle.yaml_scalars.specs.Spaces.{after_gap};
-ghost use Rattle.yaml_values.specs.Views.{shape_of};
-ghost use Rattle.launch_rows.specs.declared.fault.Fault.{Fault};
-ghost use Rattle.launch_rows.specs.Faults.{unless, beside};
-ghost use Rattle.launch_rows.specs.Rows.{is_alone, is_start, is_stop, is_before_space, is_marker, is_directive};
+ghost use Rattle.launch_values.specs.Documents.{IsDocument};
+ghost use Rattle.launch_values.specs.Shape.{Shape, node, null};
+ghost use Rattle.launch_scalars.specs.Spaces.{after_gap};
+ghost use Rattle.launch_values.specs.Views.{shape_of};
+ghost use Rattle.launch_lines.specs.declared.fault.Fault.{Fault};
+ghost use Rattle.launch_lines.specs.Faults.{unless, beside};
+ghost use Rattle.launch_lines.specs.Rows.{is_alone, is_start, is_stop, is_before_space, is_marker, is_directive};
 ghost use Rattle.launch_yaml.specs.Entries.{after_while};
 ghost use Rattle.lists.specs.Results.{Gives};
-ghost use Rattle.launch_rows.specs.Views.{row, rows, IsWithin, AllWithin};
+ghost use Rattle.launch_lines.specs.Views.{row, rows, IsWithin, AllWithin};
 ghost use Rattle.launch_yaml.specs.Document.{is_inside, first_column, end_at, after_document, root_of, body_of, after_directive, after_head, document_of, parse_at};
 ghost use Rattle.launch_yaml.specs.Parsing.{Parses};
 
 use crate::blocks;
-use launch_rows::fault::Fault;
-use launch_rows::faults::first_of;
-use launch_rows::line::{Line, at_line, content};
-use launch_rows::lines;
-use lists::Refusal;
+use launch_lines::fault::Fault;
+use launch_lines::faults::first_of;
+use launch_lines::line::{Line, at_line, content};
+use launch_lines::lines;
+use launch_scalars::YamlKind;
+use launch_scalars::plain::is_space_or_end;
+use launch_scalars::spaces::after_gap;
+use launch_values::{Node, NodeValue};
+use lists::Stop;
 use std::alloc::Global;
 use thiserror::Error;
-use yaml_scalars::YamlKind;
-use yaml_scalars::plain::is_space_or_end;
-use yaml_scalars::spaces::after_gap;
-use yaml_values::{Node, NodeValue};
 
 /// A launch file as a document.
 #[derive(Drop)]
@@ -154,12 +154,12 @@ fn after_document(text: &[u8], lines: &[Line]) -> Option<Fault>
 }
 
 // A node, unless there is a fault.
-fn unless(fault: Option<Fault>, node: Node) -> Result<Node, Refusal<Fault>>
+fn unless(fault: Option<Fault>, node: Node) -> Result<Node, Stop<Fault>>
     ensures { Gives shape_of result (unless fault (Ok (shape_of node))) }
 {
     match fault {
         None => Ok(node),
-        Some(fault) => Err(Refusal::At(fault)),
+        Some(fault) => Err(Stop::At(fault)),
     }
 }
 
@@ -175,7 +175,7 @@ fn nothing() -> Node
 }
 
 // The value of the lines of a document.
-fn root(alloc: Global, text: &[u8], lines: &[Line]) -> Result<Node, Refusal<Fault>>
+fn root(alloc: Global, text: &[u8], lines: &[Line]) -> Result<Node, Stop<Fault>>
     requires { AllWithin text.now lines.now }
     ensures { Gives shape_of result (root_of (rows text.now lines.now)) }
 {
@@ -195,7 +195,7 @@ fn first_column(lines: &[Line]) -> usize
 }
 
 // The document whose head was read.
-fn body(alloc: Global, text: &[u8], lines: &[Line]) -> Result<Node, Refusal<Fault>>
+fn body(alloc: Global, text: &[u8], lines: &[Line]) -> Result<Node, Stop<Fault>>
     requires { AllWithin text.now lines.now }
     ensures { Gives shape_of result (body_of (rows text.now lines.now)) }
 {
@@ -209,19 +209,19 @@ fn after_directive<'a>(
     text: &[u8],
     directive: Line,
     lines: &'a [Line],
-) -> Result<&'a [Line], Refusal<Fault>>
+) -> Result<&'a [Line], Stop<Fault>>
     requires { AllWithin text.now lines.now }
     ensures value { Gives (λ ls. rows text.now ls.now) result (after_directive (row text.now directive) (rows text.now lines.now)) }
     ensures within { IfOk result (λ ls. AllWithin text.now ls.now) }
 {
     match lines {
         [line, others @ ..] if is_start(text, *line) => Ok(others),
-        _ => Err(Refusal::At(at_line(directive, YamlKind::Character))),
+        _ => Err(Stop::At(at_line(directive, YamlKind::Character))),
     }
 }
 
 // The lines behind a directive and a `---`. No value stands in the line of a marker.
-fn after_head<'a>(text: &[u8], lines: &'a [Line]) -> Result<&'a [Line], Refusal<Fault>>
+fn after_head<'a>(text: &[u8], lines: &'a [Line]) -> Result<&'a [Line], Stop<Fault>>
     requires { AllWithin text.now lines.now }
     ensures value { Gives (λ ls. rows text.now ls.now) result (after_head (rows text.now lines.now)) }
     ensures within { IfOk result (λ ls. AllWithin text.now ls.now) }
@@ -234,7 +234,7 @@ fn after_head<'a>(text: &[u8], lines: &'a [Line]) -> Result<&'a [Line], Refusal<
             } else if is_start(text, *first) {
                 Ok(others)
             } else if is_marker(text, *first) && !is_stop(text, *first) {
-                Err(Refusal::At(at_line(*first, YamlKind::Character)))
+                Err(Stop::At(at_line(*first, YamlKind::Character)))
             } else {
                 Ok(lines)
             }
@@ -243,7 +243,7 @@ fn after_head<'a>(text: &[u8], lines: &'a [Line]) -> Result<&'a [Line], Refusal<
 }
 
 // The document that these lines are, its head among them.
-fn document(alloc: Global, text: &[u8], lines: &[Line]) -> Result<Node, Refusal<Fault>>
+fn document(alloc: Global, text: &[u8], lines: &[Line]) -> Result<Node, Stop<Fault>>
     requires { AllWithin text.now lines.now }
     ensures { Gives shape_of result (document_of (rows text.now lines.now)) }
 {
@@ -251,7 +251,7 @@ fn document(alloc: Global, text: &[u8], lines: &[Line]) -> Result<Node, Refusal<
 }
 
 // What was read, unless there is a fault beside it: then the first one.
-fn beside(fault: Option<Fault>, read: Result<Node, Refusal<Fault>>) -> Result<Doc, YamlFault>
+fn beside(fault: Option<Fault>, read: Result<Node, Stop<Fault>>) -> Result<Doc, YamlFault>
     ensures { (y : Result Shape Fault) → Gives shape_of read y → Parses result (beside fault y) }
 {
     let first = match read {
@@ -259,8 +259,8 @@ fn beside(fault: Option<Fault>, read: Result<Node, Refusal<Fault>>) -> Result<Do
             None => return Ok(Doc { root }),
             Some(fault) => fault,
         },
-        Err(Refusal::Memory) => return Err(YamlFault::NoMemory),
-        Err(Refusal::At(other)) => match fault {
+        Err(Stop::Memory) => return Err(YamlFault::NoMemory),
+        Err(Stop::At(other)) => match fault {
             None => other,
             Some(fault) => first_of(fault, other),
         },
@@ -271,7 +271,7 @@ fn beside(fault: Option<Fault>, read: Result<Node, Refusal<Fault>>) -> Result<Do
     })
 }
 
-#[tactic(auto, unfolding(crate::specs::Document::parse_at, launch_rows::specs::Lines::lines))]
+#[tactic(auto, unfolding(crate::specs::Document::parse_at, launch_lines::specs::Lines::lines))]
 fn read(alloc: Global, text: &[u8]) -> Result<Doc, YamlFault>
     ensures { Parses result (parse_at text.now) }
 {

@@ -1,12 +1,12 @@
 //! The lines that belong to an entry of a map or a sequence.
 ghost use Rattle.std.specs.Prelude.{◌≡◌, ◌≤◌, ◌&&◌, length};
 ghost use Rattle.std.specs.List.{take_while, prefix_len};
-ghost use Rattle.launch_rows.specs.Views.{row, rows, IsWithin, AllWithin, lines_from};
-ghost use Rattle.launch_rows.specs.Rows.{is_open};
+ghost use Rattle.launch_lines.specs.Views.{row, rows, IsWithin, AllWithin, lines_from};
+ghost use Rattle.launch_lines.specs.Rows.{is_open};
 ghost use Rattle.launch_yaml.specs.Entries.{is_deeper, is_item_at, begins_with_item_at, belongs_there, belongs, after_while};
 
-use launch_rows::line::{Line, content};
-use launch_rows::rows;
+use launch_lines::line::{Line, content};
+use launch_lines::rows;
 
 fn is_item_at(text: &[u8], column: usize, line: Line) -> bool
     requires { IsWithin text.now line }

@@ -1,9 +1,9 @@
-//! Launch files: the YAML in which they are written, read as a document. Their lines are of the crate `launch_rows`.
+//! Launch files: the YAML in which they are written, read as a document. Their lines are of the crate `launch_lines`.
 #![tactic(auto)]
 
 pub use document::{Doc, YamlFault, parse};
-pub use yaml_scalars::YamlKind;
-pub use yaml_values::{Node, NodeList, NodePairs, NodeValue};
+pub use launch_scalars::YamlKind;
+pub use launch_values::{Node, NodeList, NodePairs, NodeValue};
 
 mod blocks;
 mod document;

@@ -1,23 +1,23 @@
 //! Values that stand in one line.
 ghost use Rattle.std.specs.Prelude.{◌≡◌, ◌∷◌};
-ghost use Rattle.yaml_values.specs.Views.{shape_of, content_of_value};
-ghost use Rattle.yaml_values.specs.Flow.{value_at};
-ghost use Rattle.yaml_values.specs.TagViews.{tag_view};
-ghost use Rattle.launch_rows.specs.Rows.{in_row};
+ghost use Rattle.launch_values.specs.Views.{shape_of, content_of_value};
+ghost use Rattle.launch_values.specs.Flow.{value_at};
+ghost use Rattle.launch_values.specs.TagViews.{tag_view};
+ghost use Rattle.launch_lines.specs.Rows.{in_row};
 ghost use Rattle.launch_yaml.specs.Blocks.{kind_of_end, wrong_in, text_behind, rows_behind, alone, tagging_of, tagging_at};
 ghost use Rattle.lists.specs.Results.{Gives};
-ghost use Rattle.launch_rows.specs.Views.{row, rows, IsWithin, refusal_in};
+ghost use Rattle.launch_lines.specs.Views.{row, rows, IsWithin, stop_in};
 ghost use Rattle.launch_yaml.specs.TaggingViews.{tagging_view};
 
 use crate::tagging::Tagging;
-use launch_rows::fault::Fault;
-use launch_rows::line::{Line, at_line, place_in};
-use launch_rows::rows;
-use lists::Refusal;
+use launch_lines::fault::Fault;
+use launch_lines::line::{Line, at_line, place_in};
+use launch_lines::rows;
+use launch_scalars::{LineFault, YamlKind, spaces};
+use launch_values::tags::Tag;
+use launch_values::{Mode, Node, NodeValue, flow, tags};
+use lists::Stop;
 use std::alloc::Global;
-use yaml_scalars::{LineFault, YamlKind, spaces};
-use yaml_values::tags::Tag;
-use yaml_values::{Mode, Node, NodeValue, flow, tags};
 
 /// What is wrong with a line that doesn't go on with what stands before it: the root has ended.
 pub fn kind_of_end(is_root: bool) -> YamlKind
@@ -30,14 +30,14 @@ pub fn kind_of_end(is_root: bool) -> YamlKind
     }
 }
 
-/// A refusal of what was read in a line.
-pub fn refusal_in(text: &[u8], line: Line, refusal: Refusal<LineFault>) -> Refusal<Fault>
+/// Why reading stopped in a line.
+pub fn stop_in(text: &[u8], line: Line, stop: Stop<LineFault>) -> Stop<Fault>
     requires { IsWithin text.now line }
-    ensures { result ≡ refusal_in (row text.now line) refusal }
+    ensures { result ≡ stop_in (row text.now line) stop }
 {
-    match refusal {
-        Refusal::At(fault) => Refusal::At(place_in(text, line, fault)),
-        Refusal::Memory => Refusal::Memory,
+    match stop {
+        Stop::At(fault) => Stop::At(place_in(text, line, fault)),
+        Stop::Memory => Stop::Memory,
     }
 }
 
@@ -83,13 +83,13 @@ fn value_in<'a>(
     line: Line,
     mode: Mode,
     bytes: &'a [u8],
-) -> Result<(NodeValue, &'a [u8]), Refusal<Fault>>
+) -> Result<(NodeValue, &'a [u8]), Stop<Fault>>
     requires { IsWithin text.now line }
     ensures { Gives (λ v. (content_of_value v.0, v.1.now)) result (in_row (row text.now line) (value_at depth line.number mode bytes.now)) }
 {
     match flow::value_at(alloc, depth, line.number, mode, bytes) {
         Ok(read) => Ok(read),
-        Err(refusal) => Err(refusal_in(text, line, refusal)),
+        Err(stop) => Err(stop_in(text, line, stop)),
     }
 }
 
@@ -103,14 +103,14 @@ pub fn alone(
     line: Line,
     others: &[Line],
     bytes: &[u8],
-) -> Result<Node, Refusal<Fault>>
+) -> Result<Node, Stop<Fault>>
     requires { IsWithin text.now line }
     ensures { Gives shape_of result (alone depth is_root (tagging_view tagging) (row text.now line) (rows text.now others.now) bytes.now) }
 {
     let (value, rest) = value_in(alloc, text, depth, line, tagging.mode(), bytes)?;
     let behind = text_behind(text, line, spaces::after_gap(rest));
     match behind.or(lines_behind(text, is_root, line, others)) {
-        Some(fault) => Err(Refusal::At(fault)),
+        Some(fault) => Err(Stop::At(fault)),
         None => Ok(tagging.into_node(line.number, value)),
     }
 }
@@ -121,7 +121,7 @@ pub fn tagging_at<'a>(
     text: &[u8],
     line: Line,
     rest: &'a [u8],
-) -> Result<(Tagging, &'a [u8]), Refusal<Fault>>
+) -> Result<(Tagging, &'a [u8]), Stop<Fault>>
     requires { IsWithin text.now line }
     ensures { Gives (λ t. (tagging_view t.0, t.1.now)) result (tagging_at (row text.now line) (33 ∷ rest.now)) }
 {
@@ -132,7 +132,7 @@ pub fn tagging_at<'a>(
             let place = place_in(text, line, LineFault { left, kind });
             Ok((tagging_of(place, tag), spaces::after_gap(behind)))
         }
-        Err(refusal) => Err(refusal_in(text, line, refusal)),
+        Err(stop) => Err(stop_in(text, line, stop)),
     }
 }
 

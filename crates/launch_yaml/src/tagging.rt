@@ -1,13 +1,13 @@
 //! What stands before a value: nothing, or a tag.
 ghost use Rattle.std.specs.Prelude.{◌≡◌};
-ghost use Rattle.yaml_values.specs.Views.{shape_of, content_of_value};
+ghost use Rattle.launch_values.specs.Views.{shape_of, content_of_value};
 ghost use Rattle.launch_yaml.specs.Blocks.{is_untagged, mode_of, node_of, absent, binary_place};
 ghost use Rattle.lists.specs.Results.{Gives};
 ghost use Rattle.launch_yaml.specs.TaggingViews.{tagging_view};
 
-use launch_rows::fault::Fault;
-use lists::{Refusal, Text};
-use yaml_values::{Mode, Node, NodeValue};
+use launch_lines::fault::Fault;
+use launch_values::{Mode, Node, NodeValue};
+use lists::{Stop, Text};
 
 /// What stands before a value.
 #[derive(Drop)]
@@ -78,11 +78,11 @@ impl Tagging {
     }
 
     /// A node where no value stands.
-    pub fn absent(self, line: u32) -> Result<Node, Refusal<Fault>>
+    pub fn absent(self, line: u32) -> Result<Node, Stop<Fault>>
         ensures { Gives shape_of result (absent (tagging_view self) line) }
     {
         match self {
-            Tagging::Base64(place) => Err(Refusal::At(place)),
+            Tagging::Base64(place) => Err(Stop::At(place)),
             other => Ok(other.into_node(line, NodeValue::Null)),
         }
     }

@@ -1,8 +1,8 @@
 -- One step of reading after another, where faults aren't told.
 use Rattle.std.proofs.Common.{◌≡◌, Option, Some, None, refl}
-use Rattle.lists.specs.declared.refusal.Refusal.{Refusal}
-use Rattle.lists.specs.declared.refusal.Refusal.TheVariants.{At, Memory}
-use Rattle.lists.specs.Options.{◌>>=◌, Refuses}
+use Rattle.lists.specs.declared.stop.Stop.{Stop}
+use Rattle.lists.specs.declared.stop.Stop.TheVariants.{At, Memory}
+use Rattle.lists.specs.Options.{◌>>=◌, IsStopOf}
 
 -- a step that did not fail
 pub bind_some : {A B : Type 0} (r : Option A) (f : A → Option B) (y : B) → (r >>= f) ≡ Some y → (x : A) × (r ≡ Some x) × (f x ≡ Some y)
@@ -14,7 +14,7 @@ pub bind_alike : {A B : Type 0} (r : Option A) (f g : A → Option B) → ((x : 
 bind_alike None f g h = refl
 bind_alike (Some x) f g h = h x refl
 
--- what is refused of a part is refused of the whole
-pub refused : {F X Y : Type 0} (e : Refusal F) (read : Option X) (all : Option Y) → (read ≡ None → all ≡ None) → Refuses e read → Refuses e all
-refused Memory read all h r = tt
-refused (At f) read all h r = h r
+-- what stops a part stops the whole
+pub stopped : {F X Y : Type 0} (e : Stop F) (read : Option X) (all : Option Y) → (read ≡ None → all ≡ None) → IsStopOf e read → IsStopOf e all
+stopped Memory read all h r = tt
+stopped (At f) read all h r = h r

@@ -2,9 +2,9 @@
 use Rattle.std.proofs.Common.{◌≡◌, Bool, true, false, if◌then◌else◌, List, [], ◌∷◌, ◌++◌, map, Result, Ok, Err, refl, ap, ◌∙◌}
 use Rattle.std.proofs.lemmas.List.{map-append}
 use Rattle.std.specs.Prelude.{IfOk}
-use Rattle.lists.specs.declared.refusal.Refusal.{Refusal}
-use Rattle.lists.specs.declared.refusal.Refusal.TheVariants.{At, Memory}
-use Rattle.lists.specs.Results.{◌>>=◌, Refuses}
+use Rattle.lists.specs.declared.stop.Stop.{Stop}
+use Rattle.lists.specs.declared.stop.Stop.TheVariants.{At, Memory}
+use Rattle.lists.specs.Results.{◌>>=◌, IsStopOf}
 
 -- a step that did not fail
 pub bind_ok : {F A B : Type 0} (r : Result A F) (f : A → Result B F) (y : B) → (r >>= f) ≡ Ok y → (x : A) × (r ≡ Ok x) × (f x ≡ Ok y)
@@ -16,10 +16,10 @@ pub bind_alike : {F A B : Type 0} (r : Result A F) (f g : A → Result B F) → 
 bind_alike (Err e) f g h = refl
 bind_alike (Ok x) f g h = h x
 
--- what is refused of a part is refused of the whole
-pub refused : {F X Y : Type 0} (e : Refusal F) (read : Result X F) (all : Result Y F) → ((f : F) → read ≡ Err f → all ≡ Err f) → Refuses e read → Refuses e all
-refused Memory read all h r = tt
-refused (At f) read all h r = h f r
+-- what stops a part stops the whole
+pub stopped : {F X Y : Type 0} (e : Stop F) (read : Result X F) (all : Result Y F) → ((f : F) → read ≡ Err f → all ≡ Err f) → IsStopOf e read → IsStopOf e all
+stopped Memory read all h r = tt
+stopped (At f) read all h r = h f r
 
 -- ---- what holds of a value that is read
 

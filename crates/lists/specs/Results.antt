@@ -1,7 +1,7 @@
 -- Readings that say what is wrong, and what a program answers of them.
 use Rattle.std.specs.Prelude.{◌≡◌, Result, Ok, Err}
-use Rattle.lists.specs.declared.refusal.Refusal.{Refusal}
-use Rattle.lists.specs.declared.refusal.Refusal.TheVariants.{At, Memory}
+use Rattle.lists.specs.declared.stop.Stop.{Stop}
+use Rattle.lists.specs.declared.stop.Stop.TheVariants.{At, Memory}
 
 infixl 10 ◌>>=◌
 abbrev pub ◌>>=◌ : {F A B : Type 0} → Result A F → (A → Result B F) → Result B F
@@ -9,10 +9,10 @@ abbrev pub ◌>>=◌ : {F A B : Type 0} → Result A F → (A → Result B F) �
 (Err e) >>= f = Err e
 
 -- What a function returned, seen by view, is what reading gives, unless memory ran out.
-abbrev pub Refuses : {F Y : Type 0} → Refusal F → Result Y F → Type 0
-Refuses (At e) read = read ≡ Err e
-Refuses Memory read = Unit {0}
+abbrev pub IsStopOf : {F Y : Type 0} → Stop F → Result Y F → Type 0
+IsStopOf (At e) read = read ≡ Err e
+IsStopOf Memory read = Unit {0}
 
-abbrev pub Gives : {F X Y : Type 0} → (X → Y) → Result X (Refusal F) → Result Y F → Type 0
+abbrev pub Gives : {F X Y : Type 0} → (X → Y) → Result X (Stop F) → Result Y F → Type 0
 Gives view (Ok x) read = read ≡ Ok (view x)
-Gives view (Err e) read = Refuses e read
+Gives view (Err e) read = IsStopOf e read

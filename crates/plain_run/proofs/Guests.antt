@@ -10,8 +10,8 @@ use Rattle.abi_types.specs.declared.reply.Answer.{Answer}
 use Rattle.abi_types.specs.declared.reply.Answer.TheVariants as answer
 use Rattle.abi_types.specs.declared.reply.Payload.{Payload}
 use Rattle.abi_types.specs.declared.reply.Payload.TheVariants as payload
-use Rattle.argument_reading.specs.Arguments.{argument}
-use Rattle.argument_reading.specs.Ranges.{ranges_at}
+use Rattle.codec_arguments.specs.Arguments.{argument}
+use Rattle.codec_arguments.specs.Ranges.{ranges_at}
 use Rattle.call_codec.specs.MemoryCalls.{on_success}
 use Rattle.call_codec.specs.Output.{into_ranges, or_unwritten, scattered, with_bytes, with_content, with_payload, fdstat_bytes, filestat_bytes}
 use Rattle.call_codec.specs.Put.{answered_memory, memory_after}

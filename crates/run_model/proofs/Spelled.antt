@@ -24,7 +24,7 @@ use Rattle.abi_types.specs.declared.node.NodeKind.TheVariants as kind
 use Rattle.guest_memory.specs.Changes.{all_there, lowest_gap}
 use Rattle.guest_memory.specs.Mapping.{page_limit}
 use Rattle.guest_memory.specs.Page.{Pages}
-use Rattle.argument_reading.specs.Arguments.{argument, low}
+use Rattle.codec_arguments.specs.Arguments.{argument, low}
 use Rattle.call_codec.specs.Args.{args_of}
 use Rattle.call_codec.specs.MemoryCalls.{is_aligned, is_guests, is_range, is_sync, has_bits, has_one, writes_and_executes, pages_in, if_mapped, map_refusal, protect_refusal, unless_refused, place_at, place_in, place_in_gap, place_of, mem_advise_of, mem_map_of, mem_protect_of, mem_sync_of, mem_unmap_of}
 use Rattle.call_codec.proofs.Calls.{either_call, args_hold}

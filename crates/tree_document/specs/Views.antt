@@ -1,8 +1,8 @@
 -- What the program holds, as contracts speak of it.
 use Rattle.std.specs.Prelude.{◌≡◌, ℕ, List, [], ◌∷◌, Result, Ok, Err}
 use Rattle.abi_types.specs.declared.node.Times.{Times}
-use Rattle.lists.specs.declared.refusal.Refusal.{Refusal}
-use Rattle.lists.specs.declared.refusal.Refusal.TheVariants.{At, Memory}
+use Rattle.lists.specs.declared.stop.Stop.{Stop}
+use Rattle.lists.specs.declared.stop.Stop.TheVariants.{At, Memory}
 use Rattle.tree_model.specs.Tree.{Tree}
 use Rattle.tree_records.specs.Paths.{Path}
 use Rattle.tree_records.specs.Reading.{names_in}
@@ -15,8 +15,8 @@ use Rattle.tree_document.specs.Building.{Making}
 abbrev pub making : Building → Making
 making b = record { tree = b.tree; times = b.times; next = b.next; files = b.files }
 
--- a refusal that isn't for want of memory
-abbrev pub IsAt : {F : Type 0} → Refusal F → Type 0
+-- a stop that isn't for want of memory
+abbrev pub IsAt : {F : Type 0} → Stop F → Type 0
 IsAt (At f) = Unit {0}
 IsAt Memory = ⊥
 

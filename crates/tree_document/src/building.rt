@@ -10,7 +10,7 @@ ghost use Rattle.tree_document.specs.Views.{making, IsAt};
 use crate::walking::{node_of, parent_of};
 use abi_types::{Bytes, Node, NodeKind, ObjId, Times};
 use file_tree::Tree;
-use lists::Refusal;
+use lists::Stop;
 use maps::NameMap;
 use std::alloc::{AllocError, Global};
 use tree_model::{ROOT, TreeFault};
@@ -26,12 +26,12 @@ pub struct Building {
 }
 
 // Why a change isn't made, for a reader.
-fn refusal(fault: TreeFault) -> Refusal<Malformed>
+fn stop(fault: TreeFault) -> Stop<Malformed>
     ensures { IsAt result → fault ≡ NoMemory → ⊥ }
 {
     match fault {
-        TreeFault::NoMemory => Refusal::Memory,
-        _ => Refusal::At(Malformed),
+        TreeFault::NoMemory => Stop::Memory,
+        _ => Stop::At(Malformed),
     }
 }
 
@@ -54,10 +54,10 @@ impl Building {
         requires room { self.old.next + 1 < 2 ^ 64 }
         ensures place { OnOk result (IsPlace self.old.tree path.now) }
         ensures ok { OnOk result (making self.new ≡ with_node (making self.old) path.now kind) }
-        ensures err { IfErr result (λ refusal. IsAt refusal → IsPlace self.old.tree path.now → ⊥) }
+        ensures err { IfErr result (λ stop. IsAt stop → IsPlace self.old.tree path.now → ⊥) }
     {
         let Some(dir) = parent_of(&self.tree, path) else {
-            return Err(Refusal::At(Malformed));
+            return Err(Stop::At(Malformed));
         };
         let node = Node {
             kind,
@@ -69,7 +69,7 @@ impl Building {
                 self.next += 1;
                 Ok(())
             }
-            Err(fault) => Err(refusal(fault)),
+            Err(fault) => Err(stop(fault)),
         }
     }
 
@@ -78,20 +78,20 @@ impl Building {
         ensures file { OnOk result (HasFile (making self.old) target.now) }
         ensures place { OnOk result (IsLinkPlace self.old.tree path.now target.now) }
         ensures ok { OnOk result (making self.new ≡ with_name (making self.old) path.now target.now) }
-        ensures err { IfErr result (λ refusal. IsAt refusal → HasFile (making self.old) target.now → IsLinkPlace self.old.tree path.now target.now → ⊥) }
+        ensures err { IfErr result (λ stop. IsAt stop → HasFile (making self.old) target.now → IsLinkPlace self.old.tree path.now target.now → ⊥) }
     {
         if !self.files.contains(target.as_bytes()) {
-            return Err(Refusal::At(Malformed));
+            return Err(Stop::At(Malformed));
         }
         let Some(dir) = parent_of(&self.tree, path) else {
-            return Err(Refusal::At(Malformed));
+            return Err(Stop::At(Malformed));
         };
         let Some(node) = node_of(&self.tree, target) else {
-            return Err(Refusal::At(Malformed));
+            return Err(Stop::At(Malformed));
         };
         match self.tree.link(dir, path.name(), node) {
             Ok(()) => Ok(()),
-            Err(fault) => Err(refusal(fault)),
+            Err(fault) => Err(stop(fault)),
         }
     }
 
@@ -101,7 +101,7 @@ impl Building {
         requires room { self.old.next + 1 < 2 ^ 64 }
         ensures place { OnOk result (IsPlace self.old.tree path.now) }
         ensures ok { OnOk result (making self.new ≡ with_file (with_node (making self.old) path.now (File bytes.now)) path.now) }
-        ensures err { IfErr result (λ refusal. IsAt refusal → IsPlace self.old.tree path.now → ⊥) }
+        ensures err { IfErr result (λ stop. IsAt stop → IsPlace self.old.tree path.now → ⊥) }
     {
         self.make(path, NodeKind::File(Bytes::of(alloc, bytes)?))?;
         Ok(self.files.insert(path.as_bytes(), ())?)
@@ -110,13 +110,13 @@ impl Building {
     /// Adds what a record says.
     ///
     /// # Errors
-    /// [`Refusal::At`] exactly where the record may not stand here. After an error nothing is said of what was built.
+    /// [`Stop::At`] exactly where the record may not stand here. After an error nothing is said of what was built.
     pub fn add(&mut self, alloc: Global, added: &Record) -> Read<()>
         requires fresh { IsFresh (making self.old) }
         requires room { self.old.next + 1 < 2 ^ 64 }
         ensures allowed { OnOk result (IsAllowed (making self.old) (record_seen added.now)) }
         ensures ok { OnOk result (making self.new ≡ with_record (making self.old) (record_seen added.now)) }
-        ensures err { IfErr result (λ refusal. IsAt refusal → IsAllowed (making self.old) (record_seen added.now) → ⊥) }
+        ensures err { IfErr result (λ stop. IsAt stop → IsAllowed (making self.old) (record_seen added.now) → ⊥) }
     {
         match added {
             Record::Dir { path } => self.make(path, NodeKind::Directory),

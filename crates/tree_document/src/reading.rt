@@ -11,7 +11,7 @@ use crate::building::Building;
 use crate::fault::TreeDocFault;
 use abi_types::Times;
 use file_tree::Tree;
-use lists::Refusal;
+use lists::Stop;
 use std::alloc::{AllocError, Global};
 use tree_records::{Read, read_record};
 
@@ -21,7 +21,7 @@ fn add_next<'a>(alloc: Global, building: &mut Building, text: &'a [u8]) -> Read<
     requires room { building.old.next + 1 < 2 ^ 64 }
     ensures ok { IfOk result (λ rest. (r : Record) × IsRecord r × IsAllowed (making building.old) r × (text.now ≡ spelled r ++ rest.now)
         × (making building.new ≡ with_record (making building.old) r)) }
-    ensures err { IfErr result (λ refusal. IsAt refusal → IsNoRecord (making building.old) text.now) }
+    ensures err { IfErr result (λ stop. IsAt stop → IsNoRecord (making building.old) text.now) }
     ensures shorter { IfOk result (λ rest. length rest.now < length text.now) }
 {
     let (record, rest) = read_record(alloc, text)?;
@@ -50,12 +50,12 @@ pub fn read_tree(alloc: Global, bytes: &[u8], times: Times) -> Result<Tree, Tree
     while !rest.is_empty() {
         match add_next(alloc, &mut building, rest) {
             Ok(behind) => rest = behind,
-            Err(Refusal::At(_)) => {
+            Err(Stop::At(_)) => {
                 return Err(TreeDocFault::At {
                     byte: (bytes.len() - rest.len()) as u64,
                 });
             }
-            Err(Refusal::Memory) => return Err(TreeDocFault::NoMemory),
+            Err(Stop::Memory) => return Err(TreeDocFault::NoMemory),
         }
     }
     Ok(building.tree)

@@ -8,7 +8,7 @@ use Rattle.std.specs.List.{list_all}
 use Rattle.std.specs.Option.{option_map}
 use Rattle.std.specs.Prelude.{codes, if◌then◌else◌, nat_lt, IfOk}
 use Rattle.std.specs.Str.{is_utf8}
-use Rattle.lists.specs.declared.refusal.Refusal.{Refusal}
+use Rattle.lists.specs.declared.stop.Stop.{Stop}
 use Rattle.lists.specs.Options.{◌>>=◌, Reads}
 use Rattle.lists.proofs.Chosen.{chosen, none_some, some_is}
 use Rattle.lists.proofs.OptionSteps.{bind_some}
@@ -242,16 +242,16 @@ spelled_some r rest = let some = word_some r in omega (arith, length-append (spe
     word_some (hard p target) = omega arith
 
 module _ {X F : Type 0} (seen : X → Record × List ℕ) (bytes : List ℕ) where
-  pub found_told : (r : Result X (Refusal F)) → Reads seen r (record_at bytes)
+  pub found_told : (r : Result X (Stop F)) → Reads seen r (record_at bytes)
       → IfOk r (λ x. IsRecord (seen x).0 × (bytes ≡ spelled (seen x).0 ++ (seen x).1))
   found_told (Ok x) h = record_found bytes (seen x).0 (seen x).1 h
   found_told (Err e) h = tt
 
-  pub only_told : (r : Result X (Refusal F)) → Reads seen r (record_at bytes)
+  pub only_told : (r : Result X (Stop F)) → Reads seen r (record_at bytes)
       → (s : Record) (rest : List ℕ) → IsRecord s → bytes ≡ spelled s ++ rest → Reads seen r (Some (s, rest))
   only_told r h s rest fits same = subst (Reads seen r) (ap record_at same ∙ record_again s rest fits) h
 
-  pub shorter_told : (r : Result X (Refusal F)) → Reads seen r (record_at bytes) → IfOk r (λ x. length (seen x).1 < length bytes)
+  pub shorter_told : (r : Result X (Stop F)) → Reads seen r (record_at bytes) → IfOk r (λ x. length (seen x).1 < length bytes)
   shorter_told (Ok x) h =
       subst (λ (bs : List ℕ). length (seen x).1 < length bs) (sym (record_found bytes (seen x).0 (seen x).1 h).1) (spelled_some (seen x).0 (seen x).1)
   shorter_told (Err e) h = tt

@@ -6,7 +6,7 @@ ghost use Rattle.tree_records.specs.Escapes.{is_escaped, escape, escaped};
 ghost use Rattle.tree_records.specs.Reading.{digit_of, escape_at, byte_at, unescaped};
 
 use crate::fault::{Malformed, Read};
-use lists::Refusal;
+use lists::Stop;
 use std::alloc::{AllocError, Global};
 
 // Whether a byte of a path is written as an escape.
@@ -24,7 +24,7 @@ fn digit(byte: u8) -> Read<u8>
     match byte {
         b'0'..=b'9' => Ok(byte - b'0'),
         b'A'..=b'F' => Ok(byte - 55),
-        _ => Err(Refusal::At(Malformed)),
+        _ => Err(Stop::At(Malformed)),
     }
 }
 
@@ -39,10 +39,10 @@ fn escape(bytes: &[u8]) -> Read<(u8, &[u8])>
             if is_escaped(byte) {
                 Ok((byte, rest))
             } else {
-                Err(Refusal::At(Malformed))
+                Err(Stop::At(Malformed))
             }
         }
-        _ => Err(Refusal::At(Malformed)),
+        _ => Err(Stop::At(Malformed)),
     }
 }
 
@@ -54,7 +54,7 @@ fn written_byte(text: &[u8]) -> Read<(u8, &[u8])>
     match text {
         [b'%', rest @ ..] => escape(rest),
         [byte, rest @ ..] if !is_escaped(*byte) => Ok((*byte, rest)),
-        _ => Err(Refusal::At(Malformed)),
+        _ => Err(Stop::At(Malformed)),
     }
 }
 

@@ -5,7 +5,7 @@ ghost use Rattle.tree_model.specs.declared.limits.TheConstants.{MOST_FILE_BYTES}
 ghost use Rattle.tree_records.specs.Reading.{split_once, is_digit, number_behind, number_at, content_at};
 
 use crate::fault::{Malformed, Read};
-use lists::Refusal;
+use lists::Stop;
 use tree_model::MOST_FILE_BYTES;
 
 /// What stands before the first such byte, and what stands behind it.
@@ -17,7 +17,7 @@ pub fn split_once(byte: u8, bytes: &[u8]) -> Read<(&[u8], &[u8])>
             return Ok((&bytes[..i], &bytes[i + 1..]));
         }
     }
-    Err(Refusal::At(Malformed))
+    Err(Stop::At(Malformed))
 }
 
 // The number that a digit makes behind a number.
@@ -27,13 +27,13 @@ fn with_digit(number: u64, byte: u8) -> Read<u64>
     ensures small { IfOk result (λ n. n ≤ MOST_FILE_BYTES) }
 {
     if !byte.is_ascii_digit() {
-        return Err(Refusal::At(Malformed));
+        return Err(Stop::At(Malformed));
     }
     let more = 10 * number + u64::from(byte - b'0');
     if more <= MOST_FILE_BYTES {
         Ok(more)
     } else {
-        Err(Refusal::At(Malformed))
+        Err(Stop::At(Malformed))
     }
 }
 
@@ -43,7 +43,7 @@ pub fn number(digits: &[u8]) -> Read<u64>
     ensures small { IfOk result (λ n. n ≤ MOST_FILE_BYTES) }
 {
     if digits.is_empty() || digits[0] == b'0' && digits.len() > 1 {
-        return Err(Refusal::At(Malformed));
+        return Err(Stop::At(Malformed));
     }
     let mut number = 0;
     for byte in digits {
@@ -61,6 +61,6 @@ pub fn content(count: u64, bytes: &[u8]) -> Read<(&[u8], &[u8])>
     if count < bytes.len() && bytes[count] == b'\n' {
         Ok((&bytes[..count], &bytes[count + 1..]))
     } else {
-        Err(Refusal::At(Malformed))
+        Err(Stop::At(Malformed))
     }
 }

@@ -13,7 +13,7 @@ use crate::limits::{MOST_NAME_BYTES, MOST_PATH_BYTES, MOST_TEXT_BYTES};
 use crate::path::Path;
 use crate::pieces::{content, number, split_once};
 use crate::record::Record;
-use lists::Refusal;
+use lists::Stop;
 use std::alloc::Global;
 use std::str;
 
@@ -69,7 +69,7 @@ fn path(alloc: Global, text: &[u8]) -> Read<Path>
     if are_path(&bytes) {
         Ok(Path { bytes })
     } else {
-        Err(Refusal::At(Malformed))
+        Err(Stop::At(Malformed))
     }
 }
 
@@ -96,7 +96,7 @@ fn record_of<'a>(alloc: Global, word: &[u8], path: Path, content: &'a [u8]) -> R
             let target = self::path(alloc, content)?;
             Ok(Record::Hard { path, target })
         }
-        _ => Err(Refusal::At(Malformed)),
+        _ => Err(Stop::At(Malformed)),
     }
 }
 
@@ -146,7 +146,7 @@ fn record(alloc: Global, bytes: &[u8]) -> Read<(Record<'_>, &[u8])>
 /// The record at the front of a text, and what stands behind it. The record's bytes are those of the text.
 ///
 /// # Errors
-/// [`Refusal::At`] exactly where no record's text stands at the front, and [`Refusal::Memory`] where there is no memory for
+/// [`Stop::At`] exactly where no record's text stands at the front, and [`Stop::Memory`] where there is no memory for
 /// the record's paths. It takes time by the length of the record's first line.
 pub fn read_record(alloc: Global, bytes: &[u8]) -> Read<(Record<'_>, &[u8])>
     // What is read may be a record, and its text stands at the front.

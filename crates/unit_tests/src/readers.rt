@@ -3,5 +3,5 @@
 mod argdata;
 mod elf;
 mod events;
+mod settings;
 mod structures;
-mod words;

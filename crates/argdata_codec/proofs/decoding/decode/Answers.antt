@@ -1,7 +1,7 @@
 -- What is read is spelled so, and what is spelled so is read.
 use Rattle.std.proofs.Common.{arith, sym, subst, ◌∙◌}
-use Rattle.lists.specs.declared.refusal.Refusal.{Refusal}
-use Rattle.lists.specs.Options.{Refuses}
+use Rattle.lists.specs.declared.stop.Stop.{Stop}
+use Rattle.lists.specs.Options.{IsStopOf}
 use Rattle.argdata_codec.specs.declared.fault.Malformed.{Malformed}
 use Rattle.argdata_codec.specs.Reading.{value_at}
 use Rattle.argdata_codec.specs.Views.{shape_of}
@@ -22,5 +22,5 @@ returns-in-Ok-clause-only c x h = some_is (shape_of c.in-Ok.value) x (sym c.in-O
 
 pub returns-in-Err-At-clause-only : goal.returns-in-Err-At-clause-only
 returns-in-Err-At-clause-only c x h =
-    let none = subst (λ (e : Refusal Malformed). Refuses e (value_at 64 c.args.bytes.now)) c.in-Err-At.field-0-is c.in-Err-At.ensures in
+    let none = subst (λ (e : Stop Malformed). IsStopOf e (value_at 64 c.args.bytes.now)) c.in-Err-At.field-0-is c.in-Err-At.ensures in
     absurd (none_some x (sym none ∙ value_again 64 x h.0 c.args.bytes.now h.1))

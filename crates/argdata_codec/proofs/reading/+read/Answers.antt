@@ -4,7 +4,7 @@ use Rattle.std.proofs.lemmas.Result.{err_from_is_err_and}
 use Rattle.argdata_codec.specs.Shape.{Shape}
 use Rattle.argdata_codec.specs.Views.{shape_of, pair_of}
 use Rattle.argdata_codec.specs.Reading.{value_at, items_of, pairs_of}
-use Rattle.lists.proofs.OptionSteps.{refused}
+use Rattle.lists.proofs.OptionSteps.{stopped}
 use Rattle.lists.proofs.Steps.{map_push}
 use Rattle.argdata_codec.proofs.Loops.{with_front, items_go_on, items_fail, items_done, pairs_go_on, pairs_fail, pairs_fail_later, pairs_done, nonempty, empty}
 use Rattle.argdata_codec.proofs.reading.+read.Goals as goal
@@ -13,7 +13,7 @@ pub items-returns-in_err-item : goal.items-returns-in_err-item
 items-returns-in_err-item t c =
     let p = err_from_is_err_and c.from_residual.result c.from_residual.ensures.1 in
     let some = nonempty c.loop-rest.rest.now c.is_empty.result c.is_empty.ensures c.loop-rest-test.true in
-    rw (p.1, p.2) (refused c.in_err-item.field-0.0 _ _
+    rw (p.1, p.2) (stopped c.in_err-item.field-0.0 _ _
     (λ none. items_fail (value_at c.args.depth) _ c.loop-rest.rest.now _ some none c.loop-rest.invariant) c.in_err-item.ensures.reads)
 
 pub items-loop-rest-preserved : goal.items-loop-rest-preserved
@@ -30,14 +30,14 @@ pub pairs-returns-in_err-key : goal.pairs-returns-in_err-key
 pairs-returns-in_err-key t c =
     let p = err_from_is_err_and c.from_residual.result c.from_residual.ensures.1 in
     let some = nonempty c.loop-rest.rest.now c.is_empty.result c.is_empty.ensures c.loop-rest-test.true in
-    rw (p.1, p.2) (refused c.in_err-key.field-0.0 _ _
+    rw (p.1, p.2) (stopped c.in_err-key.field-0.0 _ _
     (λ none. pairs_fail (value_at c.args.depth) _ c.loop-rest.rest.now _ some none c.loop-rest.invariant) c.in_err-key.ensures.reads)
 
 pub pairs-returns-in_err-value : goal.pairs-returns-in_err-value
 pairs-returns-in_err-value t c =
     let p = err_from_is_err_and c.from_residual-in_err-value.result c.from_residual-in_err-value.ensures.1 in
     let some = nonempty c.loop-rest.rest.now c.is_empty.result c.is_empty.ensures c.loop-rest-test.true in
-    rw (p.1, p.2) (refused c.in_err-value.field-0.0 _ _
+    rw (p.1, p.2) (stopped c.in_err-value.field-0.0 _ _
     (λ none. pairs_fail_later (value_at c.args.depth) _ c.loop-rest.rest.now c.in_ok-key.after_key.now (shape_of c.in_ok-key.key) _ some c.in_ok-key.ensures.reads none c.loop-rest.invariant) c.in_err-value.ensures.reads)
 
 pub pairs-loop-rest-preserved : goal.pairs-loop-rest-preserved

@@ -3,9 +3,9 @@ use Rattle.std.proofs.Common.{map, ap, sym, ◌∙◌, arith}
 use Rattle.std.proofs.lemmas.List.{map-append}
 use Rattle.argdata_codec.specs.Shape.{of_list as arguments_of_list, of_pairs as arguments_of_pairs}
 use Rattle.argdata_codec.specs.Views.{shape_of as argument_of, pair_of as argument_pair_of}
-use Rattle.yaml_values.specs.declared.node.Node.{Node}
-use Rattle.yaml_values.specs.Shape.{depth_of}
-use Rattle.yaml_values.specs.Views.{shape_of}
+use Rattle.launch_values.specs.declared.node.Node.{Node}
+use Rattle.launch_values.specs.Shape.{depth_of}
+use Rattle.launch_values.specs.Views.{shape_of}
 use Rattle.launch_plan.proofs.Depths.{item_depth, pair_depth}
 use Rattle.launch_plan.proofs.ArgumentLists.{items_count, pairs_count, item_more, pair_more, no_items_from, no_pairs_from, all_items, all_pairs, before_items, before_pairs}
 use Rattle.launch_plan.proofs.arguments.+arguments.Goals as goal

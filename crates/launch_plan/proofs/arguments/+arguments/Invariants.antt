@@ -2,8 +2,8 @@
 -- it is given.
 use Rattle.std.proofs.Common.{◌≡◌, ◌+◌, ◌*◌, map, length}
 use Rattle.argdata_codec.specs.Views.{shape_of as argument_of, pair_of as argument_pair_of}
-use Rattle.yaml_values.specs.Shape.{of_list, of_pairs, depth_of, depth_of_content, depth_of_items, depth_of_pairs}
-use Rattle.yaml_values.specs.Views.{shape_of, pair_of, content_of_value}
+use Rattle.launch_values.specs.Shape.{of_list, of_pairs, depth_of, depth_of_content, depth_of_items, depth_of_pairs}
+use Rattle.launch_values.specs.Views.{shape_of, pair_of, content_of_value}
 use Rattle.launch_plan.proofs.Grants.{left_of, pairs_left_of}
 use Rattle.launch_plan.proofs.ArgumentLists.{items_from, pairs_from, before_items, before_pairs}
 use Rattle.launch_plan.proofs.arguments.+arguments.Given as goal

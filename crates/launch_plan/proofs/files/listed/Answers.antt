@@ -1,6 +1,6 @@
 -- The steps of the loop, and its end.
 use Rattle.std.proofs.Common.{sym, arith}
-use Rattle.yaml_values.specs.Views.{shape_of}
+use Rattle.launch_values.specs.Views.{shape_of}
 use Rattle.launch_plan.specs.Files.{as_rights, listed, right_of}
 use Rattle.launch_plan.proofs.FileParts.{items_at, rights_ok, listed_goes_on, listed_ends}
 use Rattle.launch_plan.proofs.files.listed.Goals as goal

@@ -5,7 +5,7 @@ use Rattle.argdata_codec.specs.Spelling.{Spells, CanBeSpelled}
 use Rattle.argdata_codec.specs.Writing.{spelling}
 use Rattle.argdata_codec.proofs.Spelled.{is_spelled}
 use Rattle.argdata_codec.proofs.Only.{one_spelling}
-use Rattle.yaml_values.specs.Views.{shape_of}
+use Rattle.launch_values.specs.Views.{shape_of}
 use Rattle.launch_plan.specs.Values.{value_of}
 use Rattle.launch_plan.proofs.Soundness.{can_be_spelled}
 use Rattle.launch_plan.proofs.planning.argdata.Goals as goal

@@ -3,8 +3,8 @@ use Rattle.std.proofs.Common.{◌≡◌, List, [], Ok, ap, sym, ◌∙◌, arith
 use Rattle.std.proofs.lemmas.Result.{err_from_is_err_and}
 use Rattle.abi_base.specs.declared.grant.Grant.{Grant}
 use Rattle.tree_model.specs.Tree.{Tree}
-use Rattle.yaml_values.specs.Shape.{Shape}
-use Rattle.yaml_values.specs.Views.{shape_of}
+use Rattle.launch_values.specs.Shape.{Shape}
+use Rattle.launch_values.specs.Views.{shape_of}
 use Rattle.launch_plan.specs.Tagged.{tagged, grants_of, grants_behind}
 use Rattle.launch_plan.proofs.Grants.{behind_none, all_there, refused}
 use Rattle.launch_plan.proofs.Plans.{faulty, too_many, too_large, planned}

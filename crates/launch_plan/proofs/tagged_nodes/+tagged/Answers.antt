@@ -1,9 +1,9 @@
 -- What stands in a list is no deeper than the list; and the steps of the two loops.
 use Rattle.std.proofs.Common.{◌+◌, ◌++◌, ap, refl, arith}
 use Rattle.std.proofs.lemmas.Result.{err_from_is_err_and}
-use Rattle.yaml_values.specs.declared.node.Node.{Node}
-use Rattle.yaml_values.specs.Shape.{depth_of}
-use Rattle.yaml_values.specs.Views.{shape_of}
+use Rattle.launch_values.specs.declared.node.Node.{Node}
+use Rattle.launch_values.specs.Shape.{depth_of}
+use Rattle.launch_values.specs.Views.{shape_of}
 use Rattle.launch_plan.specs.Tagged.{tagged}
 use Rattle.launch_plan.proofs.Depths.{item_depth, pair_depth}
 use Rattle.launch_plan.proofs.Grants.{goes_on, fails, refused, left_of, pairs_left_of, item_here, pair_here}

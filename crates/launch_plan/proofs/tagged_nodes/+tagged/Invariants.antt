@@ -1,7 +1,7 @@
 -- The descriptors so far and those of what is left are all. What is called goes by the depth of what it is given.
 use Rattle.std.proofs.Common.{◌≡◌, ◌+◌, ◌*◌, map, drop}
-use Rattle.yaml_values.specs.Shape.{of_list, of_pairs, depth_of, depth_of_content, depth_of_items, depth_of_pairs}
-use Rattle.yaml_values.specs.Views.{shape_of, pair_of, content_of_value}
+use Rattle.launch_values.specs.Shape.{of_list, of_pairs, depth_of, depth_of_content, depth_of_items, depth_of_pairs}
+use Rattle.launch_values.specs.Views.{shape_of, pair_of, content_of_value}
 use Rattle.launch_plan.specs.Tagged.{grants_behind, tagged_in_items, tagged_in_pairs}
 use Rattle.launch_plan.proofs.tagged_nodes.+tagged.Given as goal
 

@@ -3,7 +3,7 @@ use Rattle.std.specs.Prelude.{Some}
 use Rattle.std.proofs.lemmas.List.Elements.{All-weaker}
 use Rattle.std.proofs.lemmas.Result.{err_from_is_err_and}
 use Rattle.input_output.proofs.OutsideLaws.{rose_since}
-use Rattle.launch_words.specs.Settings.{view}
+use Rattle.command_line.specs.Settings.{view}
 use Rattle.launch_reading.specs.Launch.{standard_input}
 use Rattle.launch_reading.proofs.Asked.{each_may_read}
 use Rattle.launch_reading.proofs.LaunchParts.{optional_unread_told, read_as_told, text_unread, tree_unread, stdin_unread}

@@ -1,5 +1,5 @@
 use Rattle.input_output.specs.Source.{Rose}
-use Rattle.launch_words.specs.Settings.{view}
+use Rattle.command_line.specs.Settings.{view}
 use Rattle.launch_reading.specs.Launch.{inputs_spell, settings_inputs}
 use Rattle.launch_reading.proofs.Bounds.{all_begin, all_bounded}
 use Rattle.launch_reading.proofs.LaunchParts.{answers, built, launch_told, read_short, refusal_told}

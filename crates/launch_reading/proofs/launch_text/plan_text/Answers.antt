@@ -1,7 +1,7 @@
 -- What the file gives is what its document gives.
 use Rattle.std.proofs.Common.{◌≡◌, sym, subst}
 use Rattle.std.specs.Prelude.{IfOk, IfErr, Ok}
-use Rattle.yaml_values.specs.Views.{shape_of}
+use Rattle.launch_values.specs.Views.{shape_of}
 use Rattle.launch_plan.specs.declared.planning.Planned.{Planned}
 use Rattle.launch_reading.specs.LaunchText.{TextPlan, planned_text, IsTextFault}
 use Rattle.launch_reading.proofs.TextPlans.{file_read, file_fault}

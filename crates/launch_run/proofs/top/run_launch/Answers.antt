@@ -3,7 +3,7 @@ use Rattle.std.specs.Prelude.{IfSome, map, string_bytes}
 use Rattle.launch_run.specs.declared.top.Finished.{Finished}
 use Rattle.launch_reading.specs.Launch.{launch_of}
 use Rattle.launch_run.specs.TopCall.{IsKept}
-use Rattle.launch_words.specs.Words.{words_of}
+use Rattle.command_line.specs.Reading.{words_of}
 use Rattle.launch_run.proofs.TopClauses.{top_complete, top_ended, top_input, top_kept, top_memory, top_program, top_text, top_tree, top_unwritten, top_words, top_words_refused}
 use Rattle.launch_run.proofs.top.run_launch.Goals as goal
 

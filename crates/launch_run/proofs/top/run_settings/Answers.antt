@@ -1,4 +1,4 @@
-use Rattle.launch_words.specs.Settings.{view}
+use Rattle.command_line.specs.Settings.{view}
 use Rattle.launch_run.proofs.Refusals.{settings_refused}
 use Rattle.launch_run.proofs.top.run_settings.Goals as goal
 

@@ -1,18 +1,18 @@
 -- The steps of the two loops, and what a block of a depth is.
 use Rattle.std.proofs.Common.{ℕ, List, ◌++◌, map, drop, Result, Ok, ap, sym, subst, ◌∙◌}
 use Rattle.std.proofs.lemmas.Result.{err_from_is_err_and}
-use Rattle.yaml_values.specs.Shape.{Shape, Content, content_of}
-use Rattle.yaml_values.specs.Views.{shape_of, content_of_value, pair_of as pair_view}
-use Rattle.launch_rows.specs.declared.fault.Fault.{Fault}
-use Rattle.launch_rows.specs.declared.line.Line.{Line}
+use Rattle.launch_values.specs.Shape.{Shape, Content, content_of}
+use Rattle.launch_values.specs.Views.{shape_of, content_of_value, pair_of as pair_view}
+use Rattle.launch_lines.specs.declared.fault.Fault.{Fault}
+use Rattle.launch_lines.specs.declared.line.Line.{Line}
 use Rattle.launch_yaml.specs.Entries.{Entry, sequence_entries, map_entries}
-use Rattle.yaml_scalars.specs.Spaces.{after_gap}
-use Rattle.launch_rows.specs.Rows.{is_dash, behind_key, awaits_value, from}
-use Rattle.launch_rows.specs.Views.{row, rows, AllWithin}
+use Rattle.launch_scalars.specs.Spaces.{after_gap}
+use Rattle.launch_lines.specs.Rows.{is_dash, behind_key, awaits_value, from}
+use Rattle.launch_lines.specs.Views.{row, rows, AllWithin}
 use Rattle.launch_yaml.specs.Blocks.{item_of, items_of, pair_of, pairs_of, block_at}
-use Rattle.launch_rows.proofs.Ends.{dash_end}
+use Rattle.launch_lines.proofs.Ends.{dash_end}
 use Rattle.launch_yaml.proofs.Depths.{sequence_is, mapping_is}
-use Rattle.lists.proofs.Steps.{refused, map_push}
+use Rattle.lists.proofs.Steps.{stopped, map_push}
 use Rattle.launch_yaml.proofs.Loops.{behind_first, item_is, fewer_lines, OneMore, with_front, items_go_on, items_fail, items_done, pairs_go_on, pairs_fail, pairs_done, pair_goes_by_keys, pair_is, key_fails, value_fails}
 use Rattle.launch_yaml.proofs.blocks.+blocks.Goals as goal
 
@@ -44,7 +44,7 @@ pub items-returns-in_err-item : goal.items-returns-in_err-item
 items-returns-in_err-item t c =
     let p = err_from_is_err_and c.from_residual.result c.from_residual.ensures.1 in
     rw (p.1, p.2)
-    (refused c.in_err-item.field-0.0 _ _
+    (stopped c.in_err-item.field-0.0 _ _
     (λ f read. items_fail (item_of (block_at c.args.depth) c.args.depth c.args.line.column c.args.is_root) c.args.text.now c.args.line.column c.loop-next.next c.in-Some.first c.loop-next.rest.now c.split.result.0.now c.split.result.1.now _ f _
     c.in-Some.is c.split.ensures.mine c.split.ensures.after read c.loop-next.invariant.all)
     c.in_err-item.ensures)
@@ -76,7 +76,7 @@ pairs-returns-in_err-key t c =
     let waits = c.awaits_value-awaits.ensures ∙ ap (λ (bytes : List ℕ). awaits_value (behind_key bytes)) c.content.ensures in
     let p = err_from_is_err_and c.from_residual.result c.from_residual.ensures.1 in
     rw (p.1, p.2)
-    (refused c.in_err-key.field-0.0 _ _
+    (stopped c.in_err-key.field-0.0 _ _
     (λ f read. pairs_fail (pair_of block c.args.depth column c.args.is_root) c.args.text.now column c.awaits_value-awaits.result c.loop-next.next c.in-Some.first c.loop-next.rest.now c.split.result.0.now c.split.result.1.now c.loop-next.keys _ f _
     c.in-Some.is waits c.split.ensures.mine c.split.ensures.after (key_fails block c.args.depth column c.args.is_root c.loop-next.keys e f read) c.loop-next.invariant.all)
     c.in_err-key.ensures.reads)
@@ -89,7 +89,7 @@ pairs-returns-in_err-value t c =
     let waits = c.awaits_value-awaits.ensures ∙ ap (λ (bytes : List ℕ). awaits_value (behind_key bytes)) c.content.ensures in
     let p = err_from_is_err_and c.from_residual-in_err-value.result c.from_residual-in_err-value.ensures.1 in
     rw (p.1, p.2)
-    (refused c.in_err-value.field-0.0 _ _
+    (stopped c.in_err-value.field-0.0 _ _
     (λ f read. pairs_fail (pair_of block c.args.depth column c.args.is_root) c.args.text.now column c.awaits_value-awaits.result c.loop-next.next c.in-Some.first c.loop-next.rest.now c.split.result.0.now c.split.result.1.now c.loop-next.keys _ f _
     c.in-Some.is waits c.split.ensures.mine c.split.ensures.after (value_fails block c.args.depth column c.args.is_root c.loop-next.keys e (content_of_value c.in_ok-key.key) f c.in_ok-key.ensures.reads read) c.loop-next.invariant.all)
     c.in_err-value.ensures)

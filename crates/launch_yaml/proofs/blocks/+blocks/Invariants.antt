@@ -1,7 +1,7 @@
 -- What is in a list so far, and what the lines from here on give, are all. What is called goes by the depth and the lines.
 use Rattle.std.proofs.Common.{◌≡◌, ◌≤◌, ◌+◌, ◌*◌, suc, length, map}
-use Rattle.yaml_values.specs.Views.{shape_of, pair_of as pair_view}
-use Rattle.launch_rows.specs.Views.{row, rows, AllWithin, lines_from}
+use Rattle.launch_values.specs.Views.{shape_of, pair_of as pair_view}
+use Rattle.launch_lines.specs.Views.{row, rows, AllWithin, lines_from}
 use Rattle.launch_yaml.specs.Entries.{sequence_entries, map_entries}
 use Rattle.launch_yaml.specs.Blocks.{item_of, items_of, pair_of, pairs_of, items_at, pairs_at, block_at}
 use Rattle.launch_yaml.proofs.Loops.{with_front}

@@ -1,7 +1,7 @@
 use Rattle.std.proofs.Common.{◌≡◌, length, ◌+◌}
 use Rattle.std.specs.List.{prefix_len}
 use Rattle.launch_yaml.specs.Document.{is_inside}
-use Rattle.launch_rows.specs.Views.{rows, AllWithin}
+use Rattle.launch_lines.specs.Views.{rows, AllWithin}
 use Rattle.launch_yaml.proofs.document.count_inside.Given as goal
 
 abbrev pub invariant-loop-rest : goal.invariant-loop-rest

@@ -1,5 +1,5 @@
 use Rattle.std.proofs.Common.{◌≡◌, length}
-use Rattle.launch_rows.specs.Views.{rows, AllWithin}
+use Rattle.launch_lines.specs.Views.{rows, AllWithin}
 use Rattle.launch_yaml.specs.Entries.{begins_with_item_at}
 use Rattle.launch_yaml.proofs.entries.begins_with_item_at.Given as goal
 

@@ -1,6 +1,6 @@
 use Rattle.std.proofs.Common.{◌≡◌, ◌+◌, length}
 use Rattle.std.specs.List.{prefix_len}
-use Rattle.launch_rows.specs.Views.{rows, AllWithin}
+use Rattle.launch_lines.specs.Views.{rows, AllWithin}
 use Rattle.launch_yaml.specs.Entries.{belongs_there}
 use Rattle.launch_yaml.proofs.entries.count.Given as goal
 

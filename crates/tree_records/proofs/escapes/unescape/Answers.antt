@@ -1,6 +1,6 @@
 use Rattle.std.proofs.Common.{List, ℕ, ap, ◌∙◌}
 use Rattle.std.proofs.lemmas.Result.{err_from_is_err_and}
-use Rattle.lists.proofs.OptionSteps.{refused}
+use Rattle.lists.proofs.OptionSteps.{stopped}
 use Rattle.tree_records.specs.Reading.{unescaped}
 use Rattle.tree_records.proofs.Unescaping.{with_front, go_on, fail, done, nonempty, empty}
 use Rattle.tree_records.proofs.escapes.unescape.Goals as goal
@@ -9,7 +9,7 @@ pub returns-in_err-byte : goal.returns-in_err-byte
 returns-in_err-byte c =
     let p = err_from_is_err_and c.from_residual.result c.from_residual.ensures.1 in
     let some = nonempty c.loop-rest.rest.now c.is_empty.result c.is_empty.ensures c.loop-rest-test.true in
-    rw (p.1, p.2) (refused c.in_err-byte.field-0.0 _ _ (λ none. fail _ c.loop-rest.rest.now _ some none c.loop-rest.invariant) c.in_err-byte.ensures.value)
+    rw (p.1, p.2) (stopped c.in_err-byte.field-0.0 _ _ (λ none. fail _ c.loop-rest.rest.now _ some none c.loop-rest.invariant) c.in_err-byte.ensures.value)
 
 pub loop-rest-preserved : goal.loop-rest-preserved
 loop-rest-preserved c =

@@ -1,0 +1,107 @@
+-- What is read so far, and what is left to read.
+use Rattle.std.proofs.Common.{◌≡◌, ℕ, zero, suc, ◌+◌, ◌-◌, ◌%◌, ◌^◌, ◌<◌, List, [], ◌∷◌, ◌++◌, Option, None, Some, option_map, Result, Ok, Err, refl, sym, ap, ◌∙◌, append_assoc, append-nil, arith}
+use Rattle.std.specs.Result.{result_ok}
+use Rattle.std.specs.Prelude.{IsOk}
+use Rattle.guest_memory.specs.declared.fault.MemFault.{MemFault}
+use Rattle.codec_arguments.specs.Ranges.{counted}
+use Rattle.codec_arguments.specs.Arrays.{array_at, in_front}
+
+-- the values that were read, before those that are left, if they can be read
+abbrev pub after_front : {X : Type 0} → List X → Option (List X) → Option (List X)
+after_front front rest = option_map (λ xs. front ++ xs) rest
+
+-- one value more is read
+in_front_one : {X E : Type 0} (front : List X) (x : X) (first : Result X E) (rest : Result (List X) E) → Some x ≡ result_ok first
+    → after_front front (result_ok (in_front first rest)) ≡ after_front (front ++ x ∷ []) (result_ok rest)
+in_front_one front x (Ok y) (Ok ys) e =
+    let same : x ≡ y = cc in
+    ap Some (ap (λ z. front ++ z ∷ ys) (sym same) ∙ sym (append_assoc front (x ∷ []) ys))
+in_front_one front x (Ok y) (Err fault) e = refl
+in_front_one front x (Err fault) rest e = cc
+
+-- nothing can be read behind what can't
+in_front_none : {X E : Type 0} (first : Result X E) (rest : Result (List X) E) → None ≡ result_ok first → result_ok (in_front first rest) ≡ None
+in_front_none (Ok x) rest e = cc
+in_front_none (Err fault) rest e = refl
+
+-- no element is left
+pub elements_none : {X E : Type 0} (element : ℕ → Result X E) (width a n : ℕ) → n ≡ 0 → result_ok (array_at element width a n) ≡ Some []
+unfolding array_at
+elements_none element width a zero e = refl
+elements_none element width a (suc n) e = absurd (omega arith)
+
+-- the next element can't be read
+pub elements_fault : {X E : Type 0} (element : ℕ → Result X E) (width a n : ℕ) → 0 < n → None ≡ result_ok (element a) → result_ok (array_at element width a n) ≡ None
+unfolding array_at
+elements_fault element width a zero some e = absurd (omega arith)
+elements_fault element width a (suc n) some e = in_front_none _ _ e
+
+next_element : {X E : Type 0} (element : ℕ → Result X E) (width : ℕ) (front : List X) (x : X) (a n k : ℕ) → n ≡ suc k → Some x ≡ result_ok (element a)
+    → after_front front (result_ok (array_at element width a n)) ≡ after_front (front ++ x ∷ []) (result_ok (array_at element width ((a + width) % 2 ^ 64) k))
+unfolding array_at
+next_element element width front x a zero k same e = absurd (omega arith)
+next_element element width front x a (suc n) k same e =
+    let last : n ≡ k = omega arith in
+    in_front_one front x _ _ e ∙ ap (λ j. after_front (front ++ x ∷ []) (result_ok (array_at element width ((a + width) % 2 ^ 64) j))) last
+
+-- the next element is read
+pub elements_next : {X E : Type 0} (element : ℕ → Result X E) (width : ℕ) (front : List X) (x : X) (a count i : ℕ) → i < count → Some x ≡ result_ok (element a)
+    → after_front front (result_ok (array_at element width a (count - i))) ≡ after_front (front ++ x ∷ []) (result_ok (array_at element width ((a + width) % 2 ^ 64) (count - (i + 1))))
+elements_next element width front x a count i below e = next_element element width front x a (count - i) (count - (i + 1)) (omega arith) e
+
+-- the values that were read, before those that are left, or the error of those
+abbrev pub after_read : {X E : Type 0} → List X → Result (List X) E → Result (List X) E
+after_read front (Ok rest) = Ok (front ++ rest)
+after_read front (Err e) = Err e
+
+-- nothing was read before
+pub after_none : {X E : Type 0} (rest : Result (List X) E) → after_read [] rest ≡ rest
+after_none (Ok xs) = refl
+after_none (Err e) = refl
+
+-- no element is left
+pub none_left : {X E : Type 0} (element : ℕ → Result X E) (width : ℕ) (front : List X) (a n : ℕ) → n ≡ 0 → after_read front (array_at element width a n) ≡ Ok front
+unfolding array_at
+none_left element width front a zero e = ap Ok (append-nil front)
+none_left element width front a (suc n) e = absurd (omega arith)
+
+-- the next element can't be read
+pub fault_left : {X E : Type 0} (element : ℕ → Result X E) (width : ℕ) (front : List X) (a n : ℕ) (e : E) → 0 < n → element a ≡ Err e → after_read front (array_at element width a n) ≡ Err e
+unfolding array_at
+fault_left element width front a zero e some h = absurd (omega arith)
+fault_left element width front a (suc n) e some h = rw h refl
+
+in_front_of : {X E : Type 0} (front : List X) (x : X) (rest : Result (List X) E) → after_read front (in_front (Ok x) rest) ≡ after_read (front ++ x ∷ []) rest
+in_front_of front x (Ok xs) = ap Ok (sym (append_assoc front (x ∷ []) xs))
+in_front_of front x (Err e) = refl
+
+one_left : {X E : Type 0} (element : ℕ → Result X E) (width : ℕ) (front : List X) (x : X) (a n k : ℕ) → n ≡ suc k → element a ≡ Ok x
+    → after_read front (array_at element width a n) ≡ after_read (front ++ x ∷ []) (array_at element width ((a + width) % 2 ^ 64) k)
+unfolding array_at
+one_left element width front x a zero k same h = absurd (omega arith)
+one_left element width front x a (suc n) k same h =
+    let last : n ≡ k = omega arith in
+    rw h (in_front_of front x _ ∙ ap (λ j. after_read (front ++ x ∷ []) (array_at element width ((a + width) % 2 ^ 64) j)) last)
+
+-- the next element is read
+pub next_left : {X E : Type 0} (element : ℕ → Result X E) (width : ℕ) (front : List X) (x : X) (a count i : ℕ) → i < count → element a ≡ Ok x
+    → after_read front (array_at element width a (count - i)) ≡ after_read (front ++ x ∷ []) (array_at element width ((a + width) % 2 ^ 64) (count - (i + 1)))
+next_left element width front x a count i below h = one_left element width front x a (count - i) (count - (i + 1)) (omega arith) h
+
+-- so many bytes and those that are left, if they may be written
+abbrev pub after_count : ℕ → Option ℕ → Option ℕ
+after_count done rest = option_map (λ n. done + n) rest
+
+-- the bytes of one range more may be written
+pub count_next : (done n all : ℕ) (before : Result (List ℕ) MemFault) (rest : Result ℕ MemFault) → IsOk before → done + n ≡ all
+    → after_count done (result_ok (counted n before rest)) ≡ after_count all (result_ok rest)
+count_next done n all (Ok bytes) (Ok others) h e =
+    let same : done + (n + others) ≡ all + others = omega arith in
+    ap Some same
+count_next done n all (Ok bytes) (Err fault) h e = refl
+count_next done n all (Err fault) rest h e = absurd cc
+
+-- none may be counted behind what can't be written
+pub count_fault : (n : ℕ) (before : Result (List ℕ) MemFault) (rest : Result ℕ MemFault) (fault : MemFault) → before ≡ Err fault → result_ok (counted n before rest) ≡ None
+count_fault n (Ok bytes) rest fault e = absurd cc
+count_fault n (Err other) rest fault e = refl

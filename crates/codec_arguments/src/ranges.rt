@@ -1,0 +1,128 @@
+//! Arrays of iovecs, and the bytes of the ranges that they name, of which [`MOST_TRANSFERRED`] count.
+ghost use Rattle.std.specs.Prelude.{◌≡◌, ◌≤◌, ◌+◌, IfOk, option_map};
+ghost use Rattle.std.specs.Result.{result_ok};
+ghost use Rattle.codec_arguments.specs.Ranges.{gathered, range_in, ranges_at, room_in, room_of, written_in};
+ghost use Rattle.codec_arguments.specs.Reading.{Reads};
+ghost use Rattle.guest_memory.specs.Bytes.{bytes_at};
+
+use crate::fault::ArgumentFault;
+use abi_base::Errno;
+use abi_layout::read_iovec;
+use abi_structures::Iovec;
+use guest_memory::{Access, GuestMemory};
+use lists::Bytes;
+use std::alloc::{AllocError, Global};
+
+/// The most iovecs of a call.
+pub const MOST_IOVECS: u64 = 1024;
+
+/// The most bytes of a transfer.
+pub const MOST_TRANSFERRED: u64 = 65536;
+
+// The range that an iovec names. `None` exactly where it can't be read.
+fn read_range(memory: &GuestMemory, at: u64) -> Option<Iovec>
+    ensures { result ≡ result_ok (range_in (bytes_at memory.now at 16)) }
+{
+    let mut iovec = [0u8; 16];
+    memory.read_bytes(at, &mut iovec).ok()?;
+    Some(read_iovec(&iovec))
+}
+
+/// The ranges that an array of iovecs names. `None` exactly where some of the array can't be read.
+pub fn read_ranges(
+    alloc: Global,
+    memory: &GuestMemory,
+    at: u64,
+    count: u64,
+) -> Result<Option<Vec<Iovec>>, AllocError>
+    requires { count ≤ MOST_IOVECS }
+    ensures { IfOk result (λ found. option_map (λ v. v.items) found ≡ result_ok (ranges_at memory.now at count)) }
+{
+    let mut ranges = Vec::with_capacity(alloc, count as usize)?;
+    let mut next = at;
+    for _ in 0..count {
+        let Some(range) = read_range(memory, next) else {
+            return Ok(None);
+        };
+        ranges.push(range)?;
+        next = next.wrapping_add(16);
+    }
+    Ok(Some(ranges))
+}
+
+/// The bytes of the ranges, one after another, of which `MOST_TRANSFERRED` count. `None` exactly where some can't be read.
+pub fn gather(
+    alloc: Global,
+    memory: &GuestMemory,
+    ranges: &[Iovec],
+) -> Result<Option<Bytes>, AllocError>
+    ensures { IfOk result (λ bytes. bytes ≡ result_ok (gathered memory.now MOST_TRANSFERRED ranges.now)) }
+{
+    let mut bytes = Bytes::new(alloc);
+    let mut room = MOST_TRANSFERRED;
+    for range in ranges {
+        let length = range.length.min(room);
+        let mut piece = vec![in alloc; 0u8; length as usize]?;
+        if memory.read_bytes(range.address, &mut piece).is_err() {
+            return Ok(None);
+        }
+        bytes.append(&piece)?;
+        room -= length;
+    }
+    Ok(Some(bytes))
+}
+
+// How many bytes the ranges have, of which `MOST_TRANSFERRED` count. `None` exactly where some may not be written.
+fn count_room(memory: &GuestMemory, ranges: &[Iovec]) -> Option<u64>
+    ensures { result ≡ result_ok (room_of memory.now MOST_TRANSFERRED ranges.now) }
+{
+    let mut room = MOST_TRANSFERRED;
+    for range in ranges {
+        let length = range.length.min(room);
+        memory
+            .check(Access::Write, range.address, length as usize)
+            .ok()?;
+        room -= length;
+    }
+    Some(MOST_TRANSFERRED - room)
+}
+
+/// The bytes that an array of iovecs names, of which `MOST_TRANSFERRED` count. FAULT exactly where some of the array or of
+/// these bytes can't be read.
+pub fn read_written(
+    alloc: Global,
+    memory: &GuestMemory,
+    at: u64,
+    count: u64,
+) -> Result<Bytes, ArgumentFault>
+    requires { count ≤ MOST_IOVECS }
+    ensures { Reads result (written_in memory.now at count) }
+{
+    let Some(ranges) = read_ranges(alloc, memory, at, count)? else {
+        return Err(ArgumentFault::Errno(Errno::Fault));
+    };
+    match gather(alloc, memory, ranges.as_slice())? {
+        Some(bytes) => Ok(bytes),
+        None => Err(ArgumentFault::Errno(Errno::Fault)),
+    }
+}
+
+/// How many bytes the ranges have that an array of iovecs names, of which `MOST_TRANSFERRED` count. FAULT exactly where some
+/// of the array can't be read, or some of these bytes may not be written.
+pub fn read_room(
+    alloc: Global,
+    memory: &GuestMemory,
+    at: u64,
+    count: u64,
+) -> Result<u64, ArgumentFault>
+    requires { count ≤ MOST_IOVECS }
+    ensures { Reads result (room_in memory.now at count) }
+{
+    let Some(ranges) = read_ranges(alloc, memory, at, count)? else {
+        return Err(ArgumentFault::Errno(Errno::Fault));
+    };
+    match count_room(memory, ranges.as_slice()) {
+        Some(room) => Ok(room),
+        None => Err(ArgumentFault::Errno(Errno::Fault)),
+    }
+}

@@ -1,0 +1,4 @@
+pub mod Lookups
+pub mod ByPath
+pub mod ByNode
+pub mod Numbers

@@ -1,0 +1,7 @@
+pub mod Command
+pub mod Found
+pub mod Laws
+pub mod Pieces
+pub mod Reading
+pub mod Settings
+pub mod Values

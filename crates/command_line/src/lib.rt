@@ -1,0 +1,12 @@
+//! The words that a run is called with, and the settings that they spell.
+#![tactic(auto)]
+
+pub use laws::{forms_agree, help_is_refused, separator_ends_options};
+pub use reading::{CommandLineFault, read_words};
+pub use settings::LaunchSettings;
+
+mod command;
+mod laws;
+mod reading;
+mod settings;
+mod values;

@@ -1,9 +1,0 @@
-use Rattle.std.proofs.Common.{◌≡◌, ◌≤◌, length}
-use Rattle.yaml_scalars.specs.Quoted.{quoted}
-use Rattle.yaml_scalars.proofs.quoted.after_quoted.Given as goal
-
-abbrev pub invariant-loop-rest : goal.invariant-loop-rest
-invariant-loop-rest l = ((quoted l.quote l.rest).rest ≡ (quoted l.quote l.fn.bytes).rest) × (length l.rest ≤ length l.fn.bytes)
-
-abbrev pub decreases-loop-rest : goal.decreases-loop-rest
-decreases-loop-rest l = length l.rest

@@ -1,8 +1,0 @@
--- A tag of the program as the tag that contracts speak of.
-use Rattle.yaml_values.specs.declared.tags.Tag.{Tag}
-use Rattle.yaml_values.specs.declared.tags.Tag.TheVariants as tags
-use Rattle.yaml_values.specs.Tags as spelled
-
-abbrev pub tag_view : Tag → spelled.Tag
-tag_view (tags.Named name) = spelled.named name
-tag_view tags.Base64 = spelled.bytes_in_base64
