@@ -1,4 +1,4 @@
-//! The machine: memory, instructions, turns, the assembler, ELF files, and the guests of guest_kit.
+//! The machine: memory, instructions, turns, the assembler and ELF files.
 
 mod assembler;
 mod elf_files;
