@@ -16,17 +16,17 @@ use Rattle.abi_types.specs.declared.who.Who.{Who}
 use Rattle.run_types.specs.declared.history.Entry.{Entry}
 use Rattle.run_types.specs.declared.launch.Launch.{Launch}
 use Rattle.tree_model.specs.Grants.{MayBegin}
-use Rattle.kernel_model.specs.ClockCalls.{real_time}
-use Rattle.kernel_model.specs.DescriptorCalls.{lowest_free}
-use Rattle.kernel_model.specs.FileMeaning.{open_of}
-use Rattle.kernel_model.specs.FilePaths.{walked}
-use Rattle.kernel_model.specs.Numbers.{can_number, next_object, process_updates}
-use Rattle.kernel_model.specs.Opening.{Opened, NotOpened, OpenedOutside, Opens, open_at, open_mode, open_walked, opened_descriptor, opened_outcome}
+use Rattle.kernel_model.specs.Families.ClockCalls.{real_time}
+use Rattle.kernel_model.specs.Families.DescriptorCalls.{lowest_free}
+use Rattle.kernel_model.specs.Families.FileMeaning.{open_of}
+use Rattle.kernel_model.specs.Families.FilePaths.{walked}
+use Rattle.kernel_model.specs.Families.Numbers.{can_number, next_object, process_updates}
+use Rattle.kernel_model.specs.Families.Opening.{Opened, NotOpened, OpenedOutside, Opens, open_at, open_mode, open_walked, opened_descriptor, opened_outcome}
 use Rattle.kernel_model.specs.Outcome.{Outcome, OnReply, replies}
 use Rattle.kernel_model.specs.Reply.{refused, success}
 use Rattle.kernel_model.specs.State.{State, ProcessState, Table, put_all, set_open, set_table}
 use Rattle.kernel_model.specs.Step.{tick, outcome, step_answer, unreleased, IsStep}
-use Rattle.kernel_model.specs.TreeUpdates.{change_updates}
+use Rattle.kernel_model.specs.Families.TreeUpdates.{change_updates}
 use Rattle.kernel_model.specs.Valid.{fits, fits_inheriting}
 use Rattle.kernel_model.specs.View.{View, whole}
 use Rattle.kernel_model.proofs.FilePaths.{walked_plainly}

@@ -21,22 +21,22 @@ use Rattle.abi_types.specs.declared.place.Place.{Place}
 use Rattle.abi_types.specs.declared.who.Who.{Who}
 use Rattle.maps.specs.Maps.{get-insert-same}
 use Rattle.kernel_model.specs.Calls.{meaning_of, refusal_of}
-use Rattle.kernel_model.specs.DescriptorCalls.{with_table, lowest_free, dup_at, dup_of, replaced_by, stat_open, stat_get, with_flags, lowered_to, stat_set, stat_put}
-use Rattle.kernel_model.specs.ClockCalls.{real_time}
-use Rattle.kernel_model.specs.FileCalls.{file_meaning, file_fd}
-use Rattle.kernel_model.specs.FileMeaning.{on_open, open_of}
-use Rattle.kernel_model.specs.FilePaths.{walked}
+use Rattle.kernel_model.specs.Families.DescriptorCalls.{with_table, lowest_free, dup_at, dup_of, replaced_by, stat_open, stat_get, with_flags, lowered_to, stat_set, stat_put}
+use Rattle.kernel_model.specs.Families.ClockCalls.{real_time}
+use Rattle.kernel_model.specs.Families.FileCalls.{file_meaning, file_fd}
+use Rattle.kernel_model.specs.Families.FileMeaning.{on_open, open_of}
+use Rattle.kernel_model.specs.Families.FilePaths.{walked}
 use Rattle.kernel_model.specs.Meaning.{Meaning}
-use Rattle.kernel_model.specs.NameMaking.{making, making_unless, text_error}
-use Rattle.kernel_model.specs.NameMeaning.{NameOutcome, outcome_of}
-use Rattle.kernel_model.specs.Numbers.{next_object}
-use Rattle.kernel_model.specs.Opening.{open_mode, open_walked}
+use Rattle.kernel_model.specs.Families.NameMaking.{making, making_unless, text_error}
+use Rattle.kernel_model.specs.Families.NameMeaning.{NameOutcome, outcome_of}
+use Rattle.kernel_model.specs.Families.Numbers.{next_object}
+use Rattle.kernel_model.specs.Families.Opening.{open_mode, open_walked}
 use Rattle.kernel_model.specs.Outcome.{Outcome, replies}
 use Rattle.kernel_model.specs.Reply.{refused, success}
 use Rattle.kernel_model.specs.State.{State, ProcessState, Table, put_all, put_one, set_open, set_table}
-use Rattle.kernel_model.specs.StreamCalls.{reading, seeking, writing}
-use Rattle.kernel_model.specs.MemoryCalls.{is_anonymous, map_row, map_zeros, mapping}
-use Rattle.kernel_model.specs.OpenMeaning.{OpenMeaning, by_open}
+use Rattle.kernel_model.specs.Families.StreamCalls.{reading, seeking, writing}
+use Rattle.kernel_model.specs.Families.MemoryCalls.{is_anonymous, map_row, map_zeros, mapping}
+use Rattle.kernel_model.specs.Families.OpenMeaning.{OpenMeaning, by_open}
 use Rattle.kernel_model.specs.View.{View}
 use Rattle.kernel_model.proofs.FileCalls.{on_open_of}
 use Rattle.kernel_model.proofs.FileMeanings.{tree_tables}

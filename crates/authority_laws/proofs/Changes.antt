@@ -14,8 +14,8 @@ use Rattle.abi_types.specs.declared.descriptor.Descriptor.{Descriptor}
 use Rattle.run_types.specs.declared.history.Act.{Act}
 use Rattle.run_types.specs.declared.history.Act.TheVariants as act
 use Rattle.abi_types.specs.declared.open_kind.OpenKind.{OpenKind}
-use Rattle.kernel_model.specs.DescriptorCalls.{lowered_to}
-use Rattle.kernel_model.specs.Opening.{opened_descriptor}
+use Rattle.kernel_model.specs.Families.DescriptorCalls.{lowered_to}
+use Rattle.kernel_model.specs.Families.Opening.{opened_descriptor}
 use Rattle.authority_laws.specs.Ledger.{Row, Made, with_held, lowered_row, granted_row, by_success, answered_row}
 use Rattle.authority_laws.specs.Origins.{IsNoMoreThan, Change, stays, ends, closes, copies, lowers, opens}
 use Rattle.authority_laws.specs.Recorded.{acted_row}

@@ -16,7 +16,7 @@ use Rattle.abi_types.specs.declared.who.Who.{Who}
 use Rattle.run_types.specs.declared.history.Entry.{Entry}
 use Rattle.run_types.specs.declared.launch.Launch.{Launch}
 use Rattle.kernel_model.specs.Calls.{named}
-use Rattle.kernel_model.specs.DescriptorCalls.{free_from, lowest_free, dup_at, dup_of, lowered_to}
+use Rattle.kernel_model.specs.Families.DescriptorCalls.{free_from, lowest_free, dup_at, dup_of, lowered_to}
 use Rattle.kernel_model.specs.Outcome.{Outcome, OnReply}
 use Rattle.kernel_model.specs.Proper.{IsIn}
 use Rattle.kernel_model.specs.State.{State, Table}

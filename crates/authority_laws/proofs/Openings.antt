@@ -13,14 +13,14 @@ use Rattle.abi_types.specs.declared.descriptor.Descriptor.{Descriptor}
 use Rattle.abi_types.specs.declared.open_kind.OpenKind.{OpenKind}
 use Rattle.abi_types.specs.declared.reply.Answer.TheVariants as answer
 use Rattle.maps.specs.Maps.{get-insert-same}
-use Rattle.kernel_model.specs.FilePaths.{Walked, Ends, Fails, LeadsOutside}
-use Rattle.kernel_model.specs.Numbers.{can_number, made_more, next_object, object_of, process_updates}
-use Rattle.kernel_model.specs.Opening.{Opened, NotOpened, OpenedOutside, Opens, open_at, open_end, open_walked, opened_descriptor, opened_outcome}
+use Rattle.kernel_model.specs.Families.FilePaths.{Walked, Ends, Fails, LeadsOutside}
+use Rattle.kernel_model.specs.Families.Numbers.{can_number, made_more, next_object, object_of, process_updates}
+use Rattle.kernel_model.specs.Families.Opening.{Opened, NotOpened, OpenedOutside, Opens, open_at, open_end, open_walked, opened_descriptor, opened_outcome}
 use Rattle.kernel_model.specs.Outcome.{replies}
 use Rattle.kernel_model.specs.Proper.{IsIn}
 use Rattle.kernel_model.specs.Reply.{refused, success}
 use Rattle.kernel_model.specs.State.{State, ProcessState, Table, Tree, tree_of, counts_in, put_all, put_one, set_open, set_table}
-use Rattle.kernel_model.specs.TreeUpdates.{Change, change_updates}
+use Rattle.kernel_model.specs.Families.TreeUpdates.{Change, change_updates}
 use Rattle.kernel_model.proofs.FilePaths.{FailsPlainly}
 use Rattle.kernel_model.proofs.Lists.{in_all}
 use Rattle.kernel_model.proofs.Opened.{OpensPlainly, open_errors, opens_plainly, path_among}

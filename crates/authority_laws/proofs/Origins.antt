@@ -16,8 +16,8 @@ use Rattle.abi_types.specs.declared.reply.Reply.{Reply}
 use Rattle.run_types.specs.declared.history.Act.{Act}
 use Rattle.run_types.specs.declared.history.Act.TheVariants as act
 use Rattle.run_types.specs.declared.history.Entry.{Entry}
-use Rattle.kernel_model.specs.DescriptorCalls.{lowered_to}
-use Rattle.kernel_model.specs.Opening.{opened_descriptor}
+use Rattle.kernel_model.specs.Families.DescriptorCalls.{lowered_to}
+use Rattle.kernel_model.specs.Families.Opening.{opened_descriptor}
 use Rattle.kernel_model.specs.Start.{granted_descriptor}
 use Rattle.kernel_model.specs.State.{Tree}
 use Rattle.kernel_model.proofs.Tests.{none_is_no, same_some}

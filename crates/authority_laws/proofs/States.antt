@@ -22,7 +22,7 @@ use Rattle.abi_types.specs.declared.status.Status.{Status}
 use Rattle.abi_types.specs.declared.status.Status.TheVariants.{Live, Exit, Killed}
 use Rattle.abi_types.specs.declared.who.Who.{Who}
 use Rattle.maps.specs.Maps.{get-insert-same, get-insert-other}
-use Rattle.kernel_model.specs.Opening.{opened_descriptor}
+use Rattle.kernel_model.specs.Families.Opening.{opened_descriptor}
 use Rattle.kernel_model.specs.Release.{is_ending, release}
 use Rattle.kernel_model.specs.Start.{granted_descriptor, granted_table}
 use Rattle.kernel_model.specs.State.{State, Table, Tree}

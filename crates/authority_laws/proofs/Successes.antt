@@ -32,7 +32,7 @@ use Rattle.run_types.specs.declared.history.Act.TheVariants as act
 use Rattle.kernel_model.specs.Calls.{need, refusal}
 use Rattle.kernel_model.specs.Laws.{IsMet}
 use Rattle.kernel_model.specs.Need.{has_needed, lack_base, lack_inheriting}
-use Rattle.kernel_model.specs.Opening.{open_row, opened_descriptor}
+use Rattle.kernel_model.specs.Families.Opening.{open_row, opened_descriptor}
 use Rattle.kernel_model.specs.Outcome.{Outcome}
 use Rattle.kernel_model.specs.Reply.{refused}
 use Rattle.kernel_model.specs.State.{State, Table}

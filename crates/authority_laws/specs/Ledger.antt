@@ -12,9 +12,9 @@ use Rattle.abi_types.specs.declared.call.Call.TheVariants.{FdClose, FdDup, FdRep
 use Rattle.abi_types.specs.declared.reply.Reply.{Reply}
 use Rattle.abi_types.specs.declared.descriptor.Descriptor.{Descriptor}
 use Rattle.abi_types.specs.declared.open_kind.OpenKind.{OpenKind}
-use Rattle.kernel_model.specs.DescriptorCalls.{lowered_to}
-use Rattle.kernel_model.specs.Numbers.{object_of}
-use Rattle.kernel_model.specs.Opening.{opened_descriptor}
+use Rattle.kernel_model.specs.Families.DescriptorCalls.{lowered_to}
+use Rattle.kernel_model.specs.Families.Numbers.{object_of}
+use Rattle.kernel_model.specs.Families.Opening.{opened_descriptor}
 use Rattle.kernel_model.specs.Start.{granted_descriptor}
 use Rattle.kernel_model.specs.State.{State, Tree, counts_in}
 

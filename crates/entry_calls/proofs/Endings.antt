@@ -9,10 +9,10 @@ use Rattle.abi_base.specs.declared.errno.Errno.{Errno}
 use Rattle.file_calls.specs.Walks.{node_at, node_or_refusal}
 use Rattle.file_calls.specs.declared.path_fault.PathFault.{PathFault}
 use Rattle.file_calls.specs.declared.path_fault.PathFault.TheVariants as path_fault
-use Rattle.kernel_model.specs.FilePaths.{Walked, Ends, Fails, LeadsOutside}
-use Rattle.kernel_model.specs.LastNames.{LastName, name_at}
-use Rattle.kernel_model.specs.NameMeaning.{NameOutcome, Refuses, LeadsOut, at_name, unless_fault}
-use Rattle.kernel_model.specs.NameMoving.{at_found, at_found_end}
+use Rattle.kernel_model.specs.Families.FilePaths.{Walked, Ends, Fails, LeadsOutside}
+use Rattle.kernel_model.specs.Families.LastNames.{LastName, name_at}
+use Rattle.kernel_model.specs.Families.NameMeaning.{NameOutcome, Refuses, LeadsOut, at_name, unless_fault}
+use Rattle.kernel_model.specs.Families.NameMoving.{at_found, at_found_end}
 use Rattle.entry_calls.specs.Done.{FailsAs, IsDone, failure_of}
 use Rattle.entry_calls.specs.Places.{last_of_place}
 use Rattle.entry_calls.specs.declared.failure.Failure.{Failure}

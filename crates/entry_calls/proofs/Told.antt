@@ -1,10 +1,10 @@
 -- What is told of a call that makes a node: it makes one where its path has a last name and the tree has no fault for that.
 use Rattle.std.proofs.Common.{◌≡◌, ℕ, List, None, Ok, sym, ap, ◌∙◌}
 use Rattle.abi_types.specs.declared.node.NodeKind.{NodeKind}
-use Rattle.kernel_model.specs.LastNames.{LastName, name_at}
-use Rattle.kernel_model.specs.NameMaking.{errno_of, make_in, with_node}
-use Rattle.kernel_model.specs.NameMeaning.{Changes, at_name, unless_fault}
-use Rattle.kernel_model.specs.TreeUpdates.{Change}
+use Rattle.kernel_model.specs.Families.LastNames.{LastName, name_at}
+use Rattle.kernel_model.specs.Families.NameMaking.{errno_of, make_in, with_node}
+use Rattle.kernel_model.specs.Families.NameMeaning.{Changes, at_name, unless_fault}
+use Rattle.kernel_model.specs.Families.TreeUpdates.{Change}
 use Rattle.tree_model.specs.Changes.{first_fault, make_faults}
 use Rattle.tree_model.specs.Tree.{Tree}
 use Rattle.entry_calls.specs.Places.{last_of_place}

@@ -2,8 +2,8 @@
 use Rattle.std.specs.Prelude.{◌≡◌, Result, Ok, Err}
 use Rattle.file_calls.specs.declared.path_fault.PathFault.{PathFault}
 use Rattle.file_calls.specs.declared.path_fault.PathFault.TheVariants as path_fault
-use Rattle.kernel_model.specs.NameMeaning.{NameOutcome, Refuses, LeadsOut, Changes}
-use Rattle.kernel_model.specs.TreeUpdates.{Change}
+use Rattle.kernel_model.specs.Families.NameMeaning.{NameOutcome, Refuses, LeadsOut, Changes}
+use Rattle.kernel_model.specs.Families.TreeUpdates.{Change}
 
 -- it changes the tree, or is refused so
 abbrev pub IsTold : {A : Type 0} → NameOutcome → Result A PathFault → Type 0

@@ -2,8 +2,8 @@
 use Rattle.std.specs.Prelude.{◌≡◌, ⊤, ℕ, zero, suc, true, Result, Ok, Err}
 use Rattle.abi_base.specs.declared.errno.Errno.{Errno}
 use Rattle.file_calls.specs.declared.path_fault.PathFault.TheVariants as path_fault
-use Rattle.kernel_model.specs.NameMeaning.{NameOutcome, Refuses, LeadsOut, Changes}
-use Rattle.kernel_model.specs.TreeUpdates.{Change}
+use Rattle.kernel_model.specs.Families.NameMeaning.{NameOutcome, Refuses, LeadsOut, Changes}
+use Rattle.kernel_model.specs.Families.TreeUpdates.{Change}
 use Rattle.entry_calls.specs.declared.failure.Failure.{Failure}
 use Rattle.entry_calls.specs.declared.failure.Failure.TheVariants.{Refused, NoMemory}
 use Rattle.tree_model.specs.Changes.{is_absent}

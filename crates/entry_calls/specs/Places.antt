@@ -2,7 +2,7 @@
 use Rattle.std.specs.Prelude.{ℕ, List, Result, Ok, Err}
 use Rattle.file_calls.specs.declared.path_fault.PathFault.{PathFault}
 use Rattle.file_calls.specs.declared.path_fault.PathFault.TheVariants as path_fault
-use Rattle.kernel_model.specs.LastNames.{LastName, StandsIn, IsNone, IsOutside, name_at}
+use Rattle.kernel_model.specs.Families.LastNames.{LastName, StandsIn, IsNone, IsOutside, name_at}
 use Rattle.entry_calls.specs.declared.places.NamePlace.{NamePlace}
 
 abbrev pub last_of_place : List ℕ → Result NamePlace PathFault → LastName

@@ -5,11 +5,11 @@ use Rattle.abi_types.specs.declared.open_kind.OpenKind.{OpenKind}
 use Rattle.abi_types.specs.declared.open_kind.OpenKind.TheVariants as open_kind
 use Rattle.file_calls.specs.declared.path_fault.PathFault.{PathFault}
 use Rattle.file_calls.specs.declared.path_fault.PathFault.TheVariants as path_fault
-use Rattle.kernel_model.specs.FileChanges.{sized}
-use Rattle.kernel_model.specs.LastNames.{name_at}
-use Rattle.kernel_model.specs.NameMaking.{with_node}
-use Rattle.kernel_model.specs.Opening.{Opened, NotOpened, OpenedOutside, Opens}
-use Rattle.kernel_model.specs.TreeUpdates.{Change, no_change}
+use Rattle.kernel_model.specs.Families.FileChanges.{sized}
+use Rattle.kernel_model.specs.Families.LastNames.{name_at}
+use Rattle.kernel_model.specs.Families.NameMaking.{with_node}
+use Rattle.kernel_model.specs.Families.Opening.{Opened, NotOpened, OpenedOutside, Opens}
+use Rattle.kernel_model.specs.Families.TreeUpdates.{Change, no_change}
 use Rattle.entry_calls.specs.declared.plans.OpenPlan.{OpenPlan}
 use Rattle.entry_calls.specs.declared.plans.OpenPlan.TheVariants.{File, Directory, New}
 use Rattle.tree_model.specs.Tree.{Tree}

@@ -2,8 +2,8 @@
 ghost use Rattle.std.specs.Prelude.{◌≡◌, ℕ, Option, Some};
 ghost use Rattle.abi_types.specs.declared.node.NodeKind.{NodeKind};
 ghost use Rattle.abi_types.specs.declared.open_kind.OpenKind.{OpenKind};
-ghost use Rattle.kernel_model.specs.EntryCalls as model;
-ghost use Rattle.kernel_model.specs.NameMaking.{making};
+ghost use Rattle.kernel_model.specs.Families.EntryCalls as model;
+ghost use Rattle.kernel_model.specs.Families.NameMaking.{making};
 ghost use Rattle.entry_calls.specs.Checks.{IsTold};
 
 use crate::failure::errno_of;

@@ -1,7 +1,7 @@
 //! The descriptor of what is opened.
 ghost use Rattle.std.specs.Prelude.{◌≡◌, ℕ};
 ghost use Rattle.abi_base.specs.Rights.{meet_of};
-ghost use Rattle.kernel_model.specs.Opening.{opened_descriptor};
+ghost use Rattle.kernel_model.specs.Families.Opening.{opened_descriptor};
 ghost use Rattle.entry_calls.specs.Plans.{kind_of};
 
 use crate::plans::OpenPlan;

@@ -1,6 +1,6 @@
 //! Which calls work on names, and what they do there.
 ghost use Rattle.std.specs.Prelude.{◌≡◌, Some, option_copied};
-ghost use Rattle.kernel_model.specs.EntryCalls as model;
+ghost use Rattle.kernel_model.specs.Families.EntryCalls as model;
 ghost use Rattle.entry_calls.specs.Done.{IsDone, IsNew};
 
 use crate::failure::{Failure, refused_with};

@@ -1,8 +1,8 @@
 //! Names in directories.
 ghost use Rattle.std.specs.Prelude.{◌≡◌, ℕ, List};
 ghost use Rattle.tree_model.specs.Tree.{entry_of};
-ghost use Rattle.kernel_model.specs.NameMeaning.{NameOutcome};
-ghost use Rattle.kernel_model.specs.NameRemoving.{unless_lost};
+ghost use Rattle.kernel_model.specs.Families.NameMeaning.{NameOutcome};
+ghost use Rattle.kernel_model.specs.Families.NameRemoving.{unless_lost};
 
 use abi_types::ObjId;
 use file_tree::Tree;

@@ -2,7 +2,7 @@
 ghost use Rattle.std.specs.Prelude.{◌≡◌, None, Some, true};
 ghost use Rattle.abi_types.specs.declared.node.NodeKind.TheVariants as kind;
 ghost use Rattle.tree_model.specs.Changes.{is_absent};
-ghost use Rattle.kernel_model.specs.NameMaking as model;
+ghost use Rattle.kernel_model.specs.Families.NameMaking as model;
 ghost use Rattle.entry_calls.specs.Done.{IsDone};
 
 use crate::failure::{Failure, failed, refused_with};

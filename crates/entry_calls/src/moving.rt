@@ -1,9 +1,9 @@
 //! The calls that give a file one more name, and that move a name.
 ghost use Rattle.std.specs.Prelude.{◌≡◌, ℕ, Some, option_copied};
 ghost use Rattle.tree_model.specs.Changes.{is_same};
-ghost use Rattle.kernel_model.specs.FilePaths.{lookup_mode};
-ghost use Rattle.kernel_model.specs.NameMaking.{with_new_names};
-ghost use Rattle.kernel_model.specs.NameMoving as model;
+ghost use Rattle.kernel_model.specs.Families.FilePaths.{lookup_mode};
+ghost use Rattle.kernel_model.specs.Families.NameMaking.{with_new_names};
+ghost use Rattle.kernel_model.specs.Families.NameMoving as model;
 ghost use Rattle.entry_calls.specs.Done.{IsDone, failure_of};
 
 use crate::entries::names_lead;

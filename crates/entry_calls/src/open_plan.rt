@@ -1,9 +1,9 @@
 //! What an open of a path comes to.
 ghost use Rattle.std.specs.Prelude.{◌≡◌, ℕ, List, Some, option_copied};
 ghost use Rattle.tree_model.specs.Tree.{Tree};
-ghost use Rattle.kernel_model.specs.FilePaths as paths;
-ghost use Rattle.kernel_model.specs.LastNames as names;
-ghost use Rattle.kernel_model.specs.Opening as model;
+ghost use Rattle.kernel_model.specs.Families.FilePaths as paths;
+ghost use Rattle.kernel_model.specs.Families.LastNames as names;
+ghost use Rattle.kernel_model.specs.Families.Opening as model;
 ghost use Rattle.entry_calls.specs.Plans.{Plans};
 
 use crate::failure::errno_of;

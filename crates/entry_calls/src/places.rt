@@ -1,6 +1,6 @@
 //! The last name of a path, and where it stands.
 ghost use Rattle.std.specs.Prelude.{◌≡◌, Some, option_copied};
-ghost use Rattle.kernel_model.specs.LastNames as model;
+ghost use Rattle.kernel_model.specs.Families.LastNames as model;
 ghost use Rattle.entry_calls.specs.Places.{last_of_place};
 
 use abi_types::{Errno, ObjId, OpenKind};

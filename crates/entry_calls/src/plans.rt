@@ -2,9 +2,9 @@
 ghost use Rattle.std.specs.Prelude.{◌≡◌, [], true, OnOk, OnErr};
 ghost use Rattle.abi_types.specs.declared.node.NodeKind.TheVariants as kind;
 ghost use Rattle.tree_model.specs.Changes.{is_absent};
-ghost use Rattle.kernel_model.specs.FileChanges.{sized};
-ghost use Rattle.kernel_model.specs.LastNames.{name_at};
-ghost use Rattle.kernel_model.specs.NameMaking.{with_node};
+ghost use Rattle.kernel_model.specs.Families.FileChanges.{sized};
+ghost use Rattle.kernel_model.specs.Families.LastNames.{name_at};
+ghost use Rattle.kernel_model.specs.Families.NameMaking.{with_node};
 ghost use Rattle.entry_calls.specs.Done.{IsNew};
 ghost use Rattle.entry_calls.specs.Plans.{change_of, kind_of, makes_of};
 

@@ -2,8 +2,8 @@
 ghost use Rattle.std.specs.Prelude.{◌≡◌, ℕ, None, Some};
 ghost use Rattle.tree_model.specs.Changes.{first_fault, unlink_faults};
 ghost use Rattle.tree_model.specs.Tree.{is_directory};
-ghost use Rattle.kernel_model.specs.NameMeaning.{Changes};
-ghost use Rattle.kernel_model.specs.NameRemoving as model;
+ghost use Rattle.kernel_model.specs.Families.NameMeaning.{Changes};
+ghost use Rattle.kernel_model.specs.Families.NameRemoving as model;
 ghost use Rattle.entry_calls.specs.Done.{IsDone, failure_of};
 
 use crate::entries::names_lead;

@@ -1,7 +1,7 @@
 //! The times of a node that is new, or has other names.
 ghost use Rattle.std.specs.Prelude.{◌≡◌};
-ghost use Rattle.kernel_model.specs.NameMaking.{node_of};
-ghost use Rattle.kernel_model.specs.NameRemoving.{with_new_count};
+ghost use Rattle.kernel_model.specs.Families.NameMaking.{node_of};
+ghost use Rattle.kernel_model.specs.Families.NameRemoving.{with_new_count};
 
 use abi_types::{Node, NodeKind, ObjId, Times};
 use file_tree::Tree;

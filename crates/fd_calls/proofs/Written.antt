@@ -7,8 +7,8 @@ use Rattle.abi_types.specs.declared.reply.Reply.{Reply}
 use Rattle.tree_model.specs.Changes.{is_file}
 use Rattle.tree_model.specs.Tree.{Tree}
 use Rattle.tree_model.specs.declared.limits.TheConstants.{MOST_FILE_BYTES}
-use Rattle.kernel_model.specs.FileBytes.{overwritten, overwrites, written_count}
-use Rattle.kernel_model.specs.FileOffsets.{OffsetOutcome, stays, write_from, write_on, write_place}
+use Rattle.kernel_model.specs.Families.FileBytes.{overwritten, overwrites, written_count}
+use Rattle.kernel_model.specs.Families.FileOffsets.{OffsetOutcome, stays, write_from, write_on, write_place}
 use Rattle.kernel_model.specs.Reply.{refused, success}
 use Rattle.kernel_model.proofs.Tests.{not_true}
 use Rattle.file_calls.proofs.Reworked.{below_limit, overwrites_is}

@@ -3,7 +3,7 @@ use Rattle.std.specs.Prelude.{◌≡◌, Option, None, Some}
 use Rattle.abi_types.specs.declared.open_kind.OpenKind.{OpenKind}
 use Rattle.abi_types.specs.declared.reply.Reply.{Reply}
 use Rattle.tree_model.specs.Tree.{Tree}
-use Rattle.kernel_model.specs.FileOffsets.{OffsetOutcome}
+use Rattle.kernel_model.specs.Families.FileOffsets.{OffsetOutcome}
 use Rattle.file_calls.specs.Done.{IsDone}
 
 -- the open after it

@@ -4,12 +4,12 @@ use Rattle.abi_base.specs.declared.errno.Errno.TheVariants.{Nosys}
 use Rattle.abi_types.specs.declared.call.Call.{Call}
 use Rattle.abi_types.specs.declared.call.Call.TheVariants as call
 use Rattle.abi_types.specs.declared.open_kind.OpenKind.{OpenKind}
-use Rattle.kernel_model.specs.FileOffsets.{OffsetOutcome, read_open_file, seek_open_file, stays, write_open_file}
-use Rattle.kernel_model.specs.OpenMeaning.{OpenMeaning}
+use Rattle.kernel_model.specs.Families.FileOffsets.{OffsetOutcome, read_open_file, seek_open_file, stays, write_open_file}
+use Rattle.kernel_model.specs.Families.OpenMeaning.{OpenMeaning}
 use Rattle.kernel_model.specs.Outcome.{replies}
 use Rattle.kernel_model.specs.Reply.{refused}
 use Rattle.kernel_model.specs.State.{Tree}
-use Rattle.kernel_model.specs.StreamCalls.{reading, seeking, writing}
+use Rattle.kernel_model.specs.Families.StreamCalls.{reading, seeking, writing}
 
 -- the number of the descriptor of that open, where the call is such a one
 abbrev pub offset_fd : Call → Option ℕ

@@ -1,6 +1,6 @@
 //! Setting an open's offset.
 ghost use Rattle.std.specs.Prelude.{◌≡◌, true};
-ghost use Rattle.kernel_model.specs.FileOffsets as model;
+ghost use Rattle.kernel_model.specs.Families.FileOffsets as model;
 ghost use Rattle.fd_calls.specs.AtOffset.{IsAtOffset};
 
 use abi_types::{Errno, ObjId, OpenKind, Reply};
@@ -18,7 +18,7 @@ const END: u32 = 2;
 const SET: u32 = 3;
 
 // The number, where it is an offset.
-#[tactic(auto, unfolding(kernel_model::specs::FileOffsets::as_offset))]
+#[tactic(auto, unfolding(kernel_model::specs::Families::FileOffsets::as_offset))]
 fn as_offset(number: u64) -> Option<u64>
     ensures { result ≡ model.as_offset number }
 {
@@ -30,7 +30,7 @@ fn as_offset(number: u64) -> Option<u64>
 }
 
 // The sum of a place and of the signed number with these bits, where it is an offset.
-#[tactic(auto, unfolding(kernel_model::specs::FileOffsets::offset_from, kernel_model::specs::FileOffsets::as_offset))]
+#[tactic(auto, unfolding(kernel_model::specs::Families::FileOffsets::offset_from, kernel_model::specs::Families::FileOffsets::as_offset))]
 fn offset_from(place: u64, bits: u64) -> Option<u64>
     ensures { result ≡ model.offset_from place bits }
 {

@@ -1,6 +1,6 @@
 //! Reading and writing at an open's offset.
 ghost use Rattle.std.specs.Prelude.{◌≡◌, true, IfOk, OnErr};
-ghost use Rattle.kernel_model.specs.FileOffsets as model;
+ghost use Rattle.kernel_model.specs.Families.FileOffsets as model;
 ghost use Rattle.fd_calls.specs.AtOffset.{IsAtOffset};
 ghost use Rattle.file_calls.specs.Done.{HasSameNodes};
 ghost use Rattle.file_calls.specs.Opens.{IsThere};

@@ -7,7 +7,7 @@ use Rattle.abi_layout.specs.Laws.{AreBytes}
 use Rattle.abi_layout.specs.Layout.{Field, Fit, IsLaidOut, number_from, numbers, with_number}
 use Rattle.abi_layout.specs.Structures.{dirent_layout, dirent_values}
 use Rattle.abi_structures.specs.declared.structures.Dirent.{Dirent}
-use Rattle.kernel_model.specs.FileLooks.{dirent_bytes}
+use Rattle.kernel_model.specs.Families.FileLooks.{dirent_bytes}
 use Rattle.file_calls.specs.Heads.{low_head}
 use Rattle.kernel_model.proofs.Dirents.{laid_out_is_dirent}
 

@@ -4,7 +4,7 @@ use Rattle.std.proofs.Common.{◌≡◌, ◌≤◌, ◌<◌, ℕ, ◌+◌, ◌-�
 use Rattle.std.proofs.lemmas.Bool.Decides.{leb_tells}
 use Rattle.std.proofs.lemmas.List.{length-drop, take_all}
 use Rattle.tree_model.specs.Files.{read_bytes}
-use Rattle.kernel_model.specs.FileBytes.{page_bytes}
+use Rattle.kernel_model.specs.Families.FileBytes.{page_bytes}
 
 -- so many bytes, or as many as there are
 bytes_bounded : (bytes : List ℕ) (at n : ℕ) → read_bytes bytes at (min n (length bytes)) ≡ read_bytes bytes at n

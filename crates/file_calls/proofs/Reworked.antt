@@ -24,12 +24,12 @@ use Rattle.tree_model.specs.Entries.{here_or_other, with_bytes-changes, with_tim
 use Rattle.tree_model.specs.Files.{after_write, is_beyond, resized}
 use Rattle.tree_model.specs.Tree.{Tree}
 use Rattle.tree_model.specs.declared.limits.TheConstants.{MOST_FILE_BYTES}
-use Rattle.kernel_model.specs.FileBytes.{overwritten, overwrites, write_bytes, written_count}
-use Rattle.kernel_model.specs.FileChanges.{allocated, becomes, becomes_in, has_size, modified, put_size, put_stat, put_times, retimed, retimed_in, sized, times_put}
+use Rattle.kernel_model.specs.Families.FileBytes.{overwritten, overwrites, write_bytes, written_count}
+use Rattle.kernel_model.specs.Families.FileChanges.{allocated, becomes, becomes_in, has_size, modified, put_size, put_stat, put_times, retimed, retimed_in, sized, times_put}
 use Rattle.kernel_model.specs.Outcome.{Outcome, replies}
 use Rattle.kernel_model.specs.Reply.{refused, success}
 use Rattle.kernel_model.specs.State.{State}
-use Rattle.kernel_model.specs.TreeUpdates.{node_update}
+use Rattle.kernel_model.specs.Families.TreeUpdates.{node_update}
 use Rattle.kernel_model.proofs.FileBytes.{overwritten_reworks}
 use Rattle.kernel_model.proofs.Reworks.{Reworks, put_tree}
 use Rattle.kernel_model.proofs.Tests.{not_true}

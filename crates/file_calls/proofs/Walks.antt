@@ -7,7 +7,7 @@ use Rattle.path_lookup.specs.Walk.{WalkEnd}
 use Rattle.path_lookup.specs.declared.ends.End.{End}
 use Rattle.path_lookup.specs.declared.ends.End.TheVariants as end
 use Rattle.path_lookup.specs.declared.ends.WalkFault.TheVariants as fault
-use Rattle.kernel_model.specs.FilePaths.{Walked, Ends, Fails, LeadsOutside, at_end, at_walked, longest_path, path_error}
+use Rattle.kernel_model.specs.Families.FilePaths.{Walked, Ends, Fails, LeadsOutside, at_end, at_walked, longest_path, path_error}
 use Rattle.kernel_model.specs.Outcome.{Outcome, replies}
 use Rattle.file_calls.specs.Walks.{going_on, node_at, node_or_refusal, reply_of}
 use Rattle.file_calls.specs.declared.path_fault.PathFault.{PathFault}

@@ -5,7 +5,7 @@ use Rattle.abi_types.specs.declared.descriptor.Denial.TheVariants as denial
 use Rattle.abi_types.specs.declared.reply.Reply.{Reply}
 use Rattle.path_lookup.specs.declared.ends.End.{End}
 use Rattle.path_lookup.specs.declared.ends.End.TheVariants as end
-use Rattle.kernel_model.specs.FilePaths.{Walked, Ends, Fails, LeadsOutside}
+use Rattle.kernel_model.specs.Families.FilePaths.{Walked, Ends, Fails, LeadsOutside}
 use Rattle.kernel_model.specs.Outcome.{Outcome, replies}
 use Rattle.kernel_model.specs.Reply.{denied, refused}
 use Rattle.file_calls.specs.declared.path_fault.PathFault.{PathFault}

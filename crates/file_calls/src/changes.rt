@@ -4,8 +4,8 @@ ghost use Rattle.abi_types.specs.declared.node.Times.{Times};
 ghost use Rattle.abi_types.specs.declared.reply.Answer.TheVariants as answer;
 ghost use Rattle.tree_model.specs.Changes.{is_file};
 ghost use Rattle.tree_model.specs.declared.limits.TheConstants.{MOST_FILE_BYTES};
-ghost use Rattle.kernel_model.specs.FileChanges as model;
-ghost use Rattle.kernel_model.specs.FilePaths as paths;
+ghost use Rattle.kernel_model.specs.Families.FileChanges as model;
+ghost use Rattle.kernel_model.specs.Families.FilePaths as paths;
 ghost use Rattle.file_calls.specs.Done.{HasSameNodes, IsDone};
 ghost use Rattle.file_calls.specs.Opens.{IsThere};
 

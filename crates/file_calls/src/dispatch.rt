@@ -1,6 +1,6 @@
 //! Which calls work on an open, and what they do there.
 ghost use Rattle.std.specs.Prelude.{◌≡◌, true, IfOk, OnErr, Some};
-ghost use Rattle.kernel_model.specs.FileCalls as model;
+ghost use Rattle.kernel_model.specs.Families.FileCalls as model;
 ghost use Rattle.file_calls.specs.Done.{HasSameNodes, IsDone};
 ghost use Rattle.file_calls.specs.Opens.{IsThere};
 

@@ -2,7 +2,7 @@
 ghost use Rattle.std.specs.Prelude.{◌≡◌, ◌+◌, ◌++◌, ◌<◌, ◌^◌, ◌≢◌, [], take, length, IfOk, OnOk, Some, option_copied};
 ghost use Rattle.std.specs.FinMap as map;
 ghost use Rattle.abi_layout.specs.Laws.{AreBytes};
-ghost use Rattle.kernel_model.specs.FileLooks as looks;
+ghost use Rattle.kernel_model.specs.Families.FileLooks as looks;
 ghost use Rattle.kernel_model.specs.Outcome.{replies};
 ghost use Rattle.kernel_model.specs.Reply as reply;
 ghost use Rattle.file_calls.specs.Heads.{low_head};

@@ -2,7 +2,7 @@
 ghost use Rattle.std.specs.Prelude.{◌≡◌, ◌<◌, ◌^◌, Some, Err};
 ghost use Rattle.std.specs.Str.{is_utf8};
 ghost use Rattle.path_lookup.proofs.Outside.{LeavesBy};
-ghost use Rattle.kernel_model.specs.FilePaths as paths;
+ghost use Rattle.kernel_model.specs.Families.FilePaths as paths;
 ghost use Rattle.file_calls.specs.Walks.{end_or_refusal, node_at, node_or_refusal};
 
 use crate::path_fault::PathFault;

@@ -1,8 +1,8 @@
 //! Bytes of a file that are read at a place of the call's own, or mapped.
 ghost use Rattle.std.specs.Prelude.{◌≡◌, ◌+◌, ◌<◌, ◌^◌, length, true, IfOk, OnErr, Some};
 ghost use Rattle.tree_model.specs.Files.{read_bytes};
-ghost use Rattle.kernel_model.specs.FileBytes as model;
-ghost use Rattle.kernel_model.specs.MemoryCalls as maps;
+ghost use Rattle.kernel_model.specs.Families.FileBytes as model;
+ghost use Rattle.kernel_model.specs.Families.MemoryCalls as maps;
 ghost use Rattle.kernel_model.specs.Outcome.{replies};
 
 use crate::listings::content;

@@ -1,8 +1,8 @@
 //! What a file is, and what else an open stands for.
 ghost use Rattle.std.specs.Prelude.{◌≡◌, ◌+◌, ◌<◌, Some};
-ghost use Rattle.kernel_model.specs.DescriptorCalls as descriptors;
-ghost use Rattle.kernel_model.specs.FileLooks as looks;
-ghost use Rattle.kernel_model.specs.FilePaths as model;
+ghost use Rattle.kernel_model.specs.Families.DescriptorCalls as descriptors;
+ghost use Rattle.kernel_model.specs.Families.FileLooks as looks;
+ghost use Rattle.kernel_model.specs.Families.FilePaths as model;
 ghost use Rattle.kernel_model.specs.Outcome.{replies};
 ghost use Rattle.kernel_model.specs.Start.{launch_object};
 ghost use Rattle.file_calls.specs.Opens.{IsThere};

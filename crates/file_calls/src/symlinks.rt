@@ -1,8 +1,8 @@
 //! The text of a symlink.
 ghost use Rattle.std.specs.Prelude.{◌≡◌, IfOk, Some};
 ghost use Rattle.path_lookup.specs.declared.ends.WalkMode.TheVariants.{NoFollow};
-ghost use Rattle.kernel_model.specs.FileLooks as looks;
-ghost use Rattle.kernel_model.specs.FilePaths as model;
+ghost use Rattle.kernel_model.specs.Families.FileLooks as looks;
+ghost use Rattle.kernel_model.specs.Families.FilePaths as model;
 ghost use Rattle.kernel_model.specs.Outcome.{replies};
 
 use crate::listings::{content, room_of};

@@ -2,7 +2,7 @@
 ghost use Rattle.std.specs.Prelude.{◌≡◌, ◌<◌, ◌≢◌, [], true, IfOk, OnOk, OnErr, Some};
 ghost use Rattle.tree_model.specs.Changes.{is_file};
 ghost use Rattle.tree_model.specs.declared.limits.TheConstants.{MOST_FILE_BYTES};
-ghost use Rattle.kernel_model.specs.FileBytes as model;
+ghost use Rattle.kernel_model.specs.Families.FileBytes as model;
 ghost use Rattle.file_calls.specs.Done.{HasSameNodes, IsDone};
 ghost use Rattle.file_calls.specs.Opens.{IsThere};
 

@@ -13,7 +13,7 @@ use Rattle.kernel_model.specs.Outcome.{Outcome, replies}
 use Rattle.kernel_model.specs.Release.{release}
 use Rattle.kernel_model.specs.State.{State, Table, put_all}
 use Rattle.kernel_model.specs.Step.{IsStep, act, act_on, outcome, tick, unless}
-use Rattle.kernel_model.specs.DescriptorCalls.{stat_get, stat_open}
+use Rattle.kernel_model.specs.Families.DescriptorCalls.{stat_get, stat_open}
 use Rattle.kernel_model.specs.View.{View, whole}
 use Rattle.kernel_model.proofs.Outcomes.{outcome_reads}
 

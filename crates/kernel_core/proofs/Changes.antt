@@ -10,7 +10,7 @@ use Rattle.abi_types.specs.declared.open_kind.OpenKind.{OpenKind}
 use Rattle.maps.specs.Maps.{number, weight, total, insert-again, insert_self, get-insert-same, total-insert}
 use Rattle.fd_table.specs.Sizes.{below-insert, below-insert_again, below-remove}
 use Rattle.fd_table.specs.Table.{IsTable}
-use Rattle.kernel_model.specs.DescriptorCalls.{dup_at, dup_of, free_from, lowest_free, lowered_to, replaced_by, stat_put, stat_set, with_flags}
+use Rattle.kernel_model.specs.Families.DescriptorCalls.{dup_at, dup_of, free_from, lowest_free, lowered_to, replaced_by, stat_put, stat_set, with_flags}
 use Rattle.kernel_model.specs.Outcome.{Outcome}
 use Rattle.kernel_model.specs.Release.{count_in}
 use Rattle.kernel_model.specs.State.{State, Table, Update, set_table, set_process, set_status, set_open, set_node, set_names, set_term, put_all}

@@ -26,19 +26,19 @@ use Rattle.tree_model.specs.Opens.{is_used}
 use Rattle.tree_model.specs.Retained.{retained}
 use Rattle.tree_model.specs.Tree.{IsTree}
 use Rattle.kernel_model.specs.Calls.{meaning_of, named, takes_memory}
-use Rattle.kernel_model.specs.ClockCalls.{real_time}
-use Rattle.kernel_model.specs.FileMeaning.{open_of}
-use Rattle.kernel_model.specs.FilePaths.{lookup_mode}
+use Rattle.kernel_model.specs.Families.ClockCalls.{real_time}
+use Rattle.kernel_model.specs.Families.FileMeaning.{open_of}
+use Rattle.kernel_model.specs.Families.FilePaths.{lookup_mode}
 use Rattle.kernel_model.specs.Laws.{HasAll}
-use Rattle.kernel_model.specs.EntryCalls.{name_meaning, entry_fds}
-use Rattle.kernel_model.specs.NameMaking.{making, making_unless, text_error}
-use Rattle.kernel_model.specs.NameMeaning.{NameOutcome, Refuses, LeadsOut, Changes, NameMeaning, outcome_of}
-use Rattle.kernel_model.specs.Numbers.{can_number, made_more, next_object, process_updates}
+use Rattle.kernel_model.specs.Families.EntryCalls.{name_meaning, entry_fds}
+use Rattle.kernel_model.specs.Families.NameMaking.{making, making_unless, text_error}
+use Rattle.kernel_model.specs.Families.NameMeaning.{NameOutcome, Refuses, LeadsOut, Changes, NameMeaning, outcome_of}
+use Rattle.kernel_model.specs.Families.Numbers.{can_number, made_more, next_object, process_updates}
 use Rattle.kernel_model.specs.Outcome.{Outcome, replies}
 use Rattle.kernel_model.specs.Release.{release}
 use Rattle.kernel_model.specs.Reply.{refused, success}
 use Rattle.kernel_model.specs.State.{State, ProcessState, Table, Tree, put_all, tree_of}
-use Rattle.kernel_model.specs.TreeUpdates.{Change, change_updates}
+use Rattle.kernel_model.specs.Families.TreeUpdates.{Change, change_updates}
 use Rattle.kernel_model.specs.Valid.{IsNamed, IsNearlyValid, IsValid}
 use Rattle.kernel_model.specs.View.{whole}
 use Rattle.kernel_model.proofs.Calls.{proper}

@@ -26,9 +26,9 @@ use Rattle.tree_model.specs.Opens.{opens_of_node}
 use Rattle.tree_model.specs.Tree.{links_in, links_of}
 use Rattle.tree_model.specs.declared.limits.TheConstants.{ROOT}
 use Rattle.kernel_model.specs.Calls.{meaning_of}
-use Rattle.kernel_model.specs.ClockCalls.{real_time}
-use Rattle.kernel_model.specs.FileCalls.{file_meaning, file_fd}
-use Rattle.kernel_model.specs.FileMeaning.{open_of}
+use Rattle.kernel_model.specs.Families.ClockCalls.{real_time}
+use Rattle.kernel_model.specs.Families.FileCalls.{file_meaning, file_fd}
+use Rattle.kernel_model.specs.Families.FileMeaning.{open_of}
 use Rattle.kernel_model.specs.Meaning.{Meaning}
 use Rattle.kernel_model.specs.Outcome.{Outcome, replies}
 use Rattle.kernel_model.specs.Release.{release}

@@ -12,13 +12,13 @@ use Rattle.abi_types.specs.declared.reply.Answer.TheVariants as answer
 use Rattle.maps.specs.Maps.{insert_self, total_none, weight}
 use Rattle.tree_model.specs.Opens.{is_used}
 use Rattle.tree_model.specs.Retained.{retained}
-use Rattle.kernel_model.specs.NameMeaning.{NameOutcome, Refuses, LeadsOut, Changes, outcome_of}
-use Rattle.kernel_model.specs.Numbers.{can_number, made_more, next_object, process_updates}
+use Rattle.kernel_model.specs.Families.NameMeaning.{NameOutcome, Refuses, LeadsOut, Changes, outcome_of}
+use Rattle.kernel_model.specs.Families.Numbers.{can_number, made_more, next_object, process_updates}
 use Rattle.kernel_model.specs.Outcome.{replies}
 use Rattle.kernel_model.specs.Reply.{refused, success}
 use Rattle.kernel_model.specs.Release.{count_in, holders, names_open, release, without_nodes}
 use Rattle.kernel_model.specs.State.{State, ProcessState, Table, Tree, tree_of, put_all}
-use Rattle.kernel_model.specs.TreeUpdates.{Change, change_updates}
+use Rattle.kernel_model.specs.Families.TreeUpdates.{Change, change_updates}
 use Rattle.kernel_model.specs.Valid.{IsNamed, IsNearlyValid}
 use Rattle.kernel_model.proofs.NameMeanings.{IsChangeOf, IsGood}
 use Rattle.kernel_model.proofs.TreeUpdates.{counted, put_counted, with_tree}

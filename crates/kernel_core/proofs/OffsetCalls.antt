@@ -30,16 +30,16 @@ use Rattle.fd_calls.specs.Calls.{offset_fd, offset_outcome_of, offset_meaning}
 use Rattle.fd_calls.specs.AtOffset.{IsAtOffset, open_after}
 use Rattle.file_calls.specs.Done.{HasSameNodes, tree_after}
 use Rattle.kernel_model.specs.Calls.{meaning_of, takes_memory}
-use Rattle.kernel_model.specs.ClockCalls.{real_time}
-use Rattle.kernel_model.specs.FileBytes.{overwritten, overwrites, written_count}
-use Rattle.kernel_model.specs.FileOffsets.{OffsetOutcome, with_offset, open_update, seek_to, sought, stays, write_from, write_place}
-use Rattle.kernel_model.specs.OpenMeaning.{at_descriptor}
+use Rattle.kernel_model.specs.Families.ClockCalls.{real_time}
+use Rattle.kernel_model.specs.Families.FileBytes.{overwritten, overwrites, written_count}
+use Rattle.kernel_model.specs.Families.FileOffsets.{OffsetOutcome, with_offset, open_update, seek_to, sought, stays, write_from, write_place}
+use Rattle.kernel_model.specs.Families.OpenMeaning.{at_descriptor}
 use Rattle.kernel_model.specs.Outcome.{Outcome, replies}
 use Rattle.kernel_model.specs.Release.{holders, release}
 use Rattle.kernel_model.specs.Reply.{refused, success}
 use Rattle.kernel_model.specs.Rows.{base_row, either_row}
 use Rattle.kernel_model.specs.State.{State, Table, Tree, tree_of, Update, put_all, put_one, set_node, set_names, set_open}
-use Rattle.kernel_model.specs.TreeUpdates.{node_update}
+use Rattle.kernel_model.specs.Families.TreeUpdates.{node_update}
 use Rattle.kernel_model.specs.Valid.{IsNearlyValid, IsValid}
 use Rattle.kernel_model.specs.View.{whole}
 use Rattle.kernel_model.proofs.FileMeanings.{IsOfTree}

@@ -26,16 +26,16 @@ use Rattle.file_calls.specs.declared.path_fault.PathFault.TheVariants as path_fa
 use Rattle.maps.specs.Maps.{get-insert-other, total, total-insert, total-insert_new, weight}
 use Rattle.tree_model.specs.Opens.{is_used}
 use Rattle.tree_model.specs.Retained.{retained}
-use Rattle.kernel_model.specs.ClockCalls.{real_time}
-use Rattle.kernel_model.specs.DescriptorCalls.{lowest_free}
-use Rattle.kernel_model.specs.FilePaths.{walked}
-use Rattle.kernel_model.specs.Numbers.{can_number, made_more, next_object, process_updates}
-use Rattle.kernel_model.specs.Opening.{Opened, file_open, open_at, open_mode, open_walked, opened_descriptor, opened_outcome}
+use Rattle.kernel_model.specs.Families.ClockCalls.{real_time}
+use Rattle.kernel_model.specs.Families.DescriptorCalls.{lowest_free}
+use Rattle.kernel_model.specs.Families.FilePaths.{walked}
+use Rattle.kernel_model.specs.Families.Numbers.{can_number, made_more, next_object, process_updates}
+use Rattle.kernel_model.specs.Families.Opening.{Opened, file_open, open_at, open_mode, open_walked, opened_descriptor, opened_outcome}
 use Rattle.kernel_model.specs.Outcome.{Outcome, replies}
 use Rattle.kernel_model.specs.Release.{count_in, holders, names_open, release}
 use Rattle.kernel_model.specs.Reply.{refused, success}
 use Rattle.kernel_model.specs.State.{State, ProcessState, Table, Tree, Update, counts_in, put_all, put_one, set_open, set_table, tree_of}
-use Rattle.kernel_model.specs.TreeUpdates.{Change, change_updates}
+use Rattle.kernel_model.specs.Families.TreeUpdates.{Change, change_updates}
 use Rattle.kernel_model.specs.Valid.{IsNearlyValid, IsValid}
 use Rattle.kernel_model.specs.View.{whole}
 use Rattle.kernel_model.proofs.NameMeanings.{IsChangeOf}

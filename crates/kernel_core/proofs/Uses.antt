@@ -10,7 +10,7 @@ use Rattle.abi_types.specs.declared.open_kind.OpenKind.TheVariants.{File, Direct
 use Rattle.tree_model.specs.Opens.{is_used, one_of_node}
 use Rattle.tree_model.specs.Releasing.{used-set}
 use Rattle.tree_model.specs.Tree.{Tree}
-use Rattle.kernel_model.specs.DescriptorCalls.{dup_at, dup_of, lowered_to, lowest_free, replaced_by, stat_set, with_flags}
+use Rattle.kernel_model.specs.Families.DescriptorCalls.{dup_at, dup_of, lowered_to, lowest_free, replaced_by, stat_set, with_flags}
 use Rattle.kernel_model.specs.State.{Table, Update, set_open, set_table}
 use Rattle.kernel_model.proofs.DescriptorCalls.{either_set}
 use Rattle.kernel_parts.specs.Changes.{change_outcome, opens_after, stat_put_at}

@@ -3,10 +3,10 @@ use Rattle.std.specs.Prelude.{ℕ, Option}
 use Rattle.std.specs.FinMap.{get}
 use Rattle.abi_types.specs.declared.call.Call.{Call}
 use Rattle.abi_types.specs.declared.constants.Constants.{Constants}
-use Rattle.kernel_model.specs.ClockCalls.{real_time}
-use Rattle.kernel_model.specs.EntryCalls.{name_meaning}
-use Rattle.kernel_model.specs.NameMeaning.{NameOutcome, outcome_of}
-use Rattle.kernel_model.specs.Numbers.{next_object}
+use Rattle.kernel_model.specs.Families.ClockCalls.{real_time}
+use Rattle.kernel_model.specs.Families.EntryCalls.{name_meaning}
+use Rattle.kernel_model.specs.Families.NameMeaning.{NameOutcome, outcome_of}
+use Rattle.kernel_model.specs.Families.Numbers.{next_object}
 use Rattle.kernel_model.specs.Outcome.{Outcome}
 use Rattle.kernel_model.specs.State.{State, Table, tree_of}
 use Rattle.kernel_parts.specs.Entries.{open_at, open_in}

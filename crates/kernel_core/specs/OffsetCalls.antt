@@ -4,8 +4,8 @@ use Rattle.std.specs.FinMap.{get}
 use Rattle.abi_types.specs.declared.call.Call.{Call}
 use Rattle.abi_types.specs.declared.constants.Constants.{Constants}
 use Rattle.fd_calls.specs.Calls.{offset_meaning}
-use Rattle.kernel_model.specs.ClockCalls.{real_time}
-use Rattle.kernel_model.specs.OpenMeaning.{at_descriptor}
+use Rattle.kernel_model.specs.Families.ClockCalls.{real_time}
+use Rattle.kernel_model.specs.Families.OpenMeaning.{at_descriptor}
 use Rattle.kernel_model.specs.Outcome.{Outcome}
 use Rattle.kernel_model.specs.State.{State, Table}
 use Rattle.kernel_model.specs.View.{whole}

@@ -4,10 +4,10 @@ use Rattle.std.specs.FinMap.{get}
 use Rattle.abi_structures.specs.declared.structures.FdStat.{FdStat}
 use Rattle.abi_types.specs.declared.call.Lookup.{Lookup}
 use Rattle.fd_table.specs.Table.{IsLowestFree}
-use Rattle.kernel_model.specs.DescriptorCalls.{lowest_free}
-use Rattle.kernel_model.specs.FilePaths.{walked}
-use Rattle.kernel_model.specs.Numbers.{can_number, next_object}
-use Rattle.kernel_model.specs.Opening.{Opened, open_at, open_mode, open_walked, opened_descriptor}
+use Rattle.kernel_model.specs.Families.DescriptorCalls.{lowest_free}
+use Rattle.kernel_model.specs.Families.FilePaths.{walked}
+use Rattle.kernel_model.specs.Families.Numbers.{can_number, next_object}
+use Rattle.kernel_model.specs.Families.Opening.{Opened, open_at, open_mode, open_walked, opened_descriptor}
 use Rattle.kernel_model.specs.Outcome.{Outcome}
 use Rattle.kernel_model.specs.State.{State, Table, tree_of}
 use Rattle.entry_calls.specs.Plans.{kind_of, makes_of, opened_by}

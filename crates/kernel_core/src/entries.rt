@@ -3,7 +3,7 @@ ghost use Rattle.std.specs.Prelude.{◌≡◌, ◌+◌, ◌<◌, ◌^◌, true, 
 ghost use Rattle.std.specs.FinMap as map;
 ghost use Rattle.kernel_core.specs.Entries.{entry_outcome};
 ghost use Rattle.kernel_model.specs.Calls.{takes_memory};
-ghost use Rattle.kernel_model.specs.EntryCalls as model;
+ghost use Rattle.kernel_model.specs.Families.EntryCalls as model;
 ghost use Rattle.kernel_model.specs.Release.{release};
 ghost use Rattle.kernel_model.specs.State.{put_all, Table};
 

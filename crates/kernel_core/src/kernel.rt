@@ -7,10 +7,10 @@ ghost use Rattle.kernel_parts.specs.Changes.{change_outcome, HasReplaced, IsDup}
 ghost use Rattle.kernel_core.specs.Files.{file_outcome};
 ghost use Rattle.kernel_core.specs.Kernel.{is_live, any_live};
 ghost use Rattle.kernel_model.specs.Calls.{named, need, takes_memory};
-ghost use Rattle.kernel_model.specs.FileCalls as files;
+ghost use Rattle.kernel_model.specs.Families.FileCalls as files;
 ghost use Rattle.kernel_model.specs.Laws.{HasAll, IsFirstLack, IsOfFirstLack, IsOfPath};
 ghost use Rattle.kernel_model.specs.Need.{missing};
-ghost use Rattle.kernel_model.specs.ProcessCalls.{end_updates};
+ghost use Rattle.kernel_model.specs.Families.ProcessCalls.{end_updates};
 ghost use Rattle.kernel_model.specs.Release.{release, is_released};
 ghost use Rattle.kernel_model.specs.Reply as lacks;
 ghost use Rattle.kernel_model.specs.Reply.{denied};
@@ -19,7 +19,7 @@ ghost use Rattle.kernel_model.specs.Sight.{process_parts};
 ghost use Rattle.kernel_model.specs.Start.{start_state};
 ghost use Rattle.kernel_model.specs.State.{put_all, Table, Part, has_part, Agree, thread_of, tree_of, written_to};
 ghost use Rattle.kernel_model.specs.Step.{act, failed, outside, MayLackMemory, IsStep, IsUntouched, end_unreleased, end_state};
-ghost use Rattle.kernel_model.specs.DescriptorCalls.{stat_get, stat_of, flags_of};
+ghost use Rattle.kernel_model.specs.Families.DescriptorCalls.{stat_get, stat_of, flags_of};
 ghost use Rattle.kernel_model.specs.Valid.{IsValid};
 ghost use Rattle.kernel_model.specs.View.{whole};
 

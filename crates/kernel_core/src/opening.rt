@@ -2,7 +2,7 @@
 ghost use Rattle.std.specs.Prelude.{◌≡◌, ◌+◌, ◌<◌, ◌^◌, ℕ, Some, IsSome, IfOk, IfErr, OnErr};
 ghost use Rattle.std.specs.FinMap as map;
 ghost use Rattle.kernel_core.specs.Opening.{IsOpening, open_outcome};
-ghost use Rattle.kernel_model.specs.ClockCalls.{real_time};
+ghost use Rattle.kernel_model.specs.Families.ClockCalls.{real_time};
 ghost use Rattle.kernel_model.specs.Outcome.{replies};
 ghost use Rattle.kernel_model.specs.Release.{release};
 ghost use Rattle.kernel_model.specs.State.{put_all, Table};

@@ -7,11 +7,11 @@ use Rattle.abi_types.specs.declared.needed.Needed.{Needed}
 use Rattle.abi_types.specs.declared.reply.Reply.{Reply}
 use Rattle.kernel_model.specs.Meaning.{answering, unbuilt, unbuilt_listing, unbuilt_naming, unbuilt_row}
 use Rattle.kernel_model.specs.Proper.{IsIn, IsProper, NeedsOf}
-use Rattle.kernel_model.specs.DescriptorCalls.{needing}
+use Rattle.kernel_model.specs.Families.DescriptorCalls.{needing}
 use Rattle.kernel_model.specs.Rows.{base_row}
 use Rattle.abi_base.specs.declared.rights.Rights.{Rights}
 use Rattle.kernel_model.specs.Reply.{refused, success}
-use Rattle.kernel_model.specs.WaitCalls.{fds_of}
+use Rattle.kernel_model.specs.Families.WaitCalls.{fds_of}
 use Rattle.kernel_model.proofs.Lists.{all_weaker, in_more}
 use Rattle.kernel_model.proofs.Tests.{not_true}
 

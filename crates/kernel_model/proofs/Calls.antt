@@ -4,7 +4,7 @@ use Rattle.abi_types.specs.declared.call.Call.{Call}
 use Rattle.abi_types.specs.declared.call.Call.TheVariants as call
 use Rattle.kernel_model.specs.Calls.{meaning_of}
 use Rattle.kernel_model.specs.Proper.{IsProper}
-use Rattle.kernel_model.specs.WaitCalls.{wait_rows}
+use Rattle.kernel_model.specs.Families.WaitCalls.{wait_rows}
 use Rattle.kernel_model.proofs.Answering.{each_row_is_proper, listing_is_proper, naming_is_proper, needing_is_proper, row_is_proper}
 use Rattle.kernel_model.proofs.MemoryCalls.{decided_is_proper, mem_map_is_proper}
 use Rattle.kernel_model.proofs.ProcessCalls.{proc_exit_is_proper}

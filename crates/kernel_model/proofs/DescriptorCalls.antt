@@ -15,7 +15,7 @@ use Rattle.abi_types.specs.declared.descriptor.Descriptor.{Descriptor}
 use Rattle.abi_types.specs.declared.open_kind.OpenKind.{OpenKind}
 use Rattle.abi_types.specs.declared.open_kind.OpenKind.TheVariants.{File, Directory, End, Terminal, Process}
 use Rattle.maps.specs.Maps.{get-insert-same, get-insert-other, get-remove-same, get-remove-other}
-use Rattle.kernel_model.specs.DescriptorCalls.{with_table, fd_close, lowest_free, dup_at, dup_of, fd_dup, replaced_by, fd_replace, stat_open, stat_get, fd_stat_get, stat_put_row, with_flags, lowered_to, stat_set, stat_put, open_part, fd_stat_put}
+use Rattle.kernel_model.specs.Families.DescriptorCalls.{with_table, fd_close, lowest_free, dup_at, dup_of, fd_dup, replaced_by, fd_replace, stat_open, stat_get, fd_stat_get, stat_put_row, with_flags, lowered_to, stat_set, stat_put, open_part, fd_stat_put}
 use Rattle.kernel_model.specs.Outcome.{Outcome, replies}
 use Rattle.kernel_model.specs.Proper.{IsIn, IsUnset, IsPlain, IsProper}
 use Rattle.kernel_model.specs.Reply.{refused}

@@ -9,7 +9,7 @@ use Rattle.abi_layout.proofs.Unique.{bytes_are_unique}
 use Rattle.abi_layout.specs.Laws.{AreBytes}
 use Rattle.abi_layout.specs.Layout.{Field, Fit, IsLaidOut, with_number, written}
 use Rattle.abi_layout.specs.Structures.{dirent_layout, dirent_values}
-use Rattle.kernel_model.specs.FileLooks.{dirent_bytes}
+use Rattle.kernel_model.specs.Families.FileLooks.{dirent_bytes}
 use Rattle.kernel_model.proofs.Listings.{all_dropped}
 
 -- ---- each number is a byte

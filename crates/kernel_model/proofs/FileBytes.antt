@@ -10,14 +10,14 @@ use Rattle.abi_types.specs.declared.open_kind.OpenKind.TheVariants.{File, Direct
 use Rattle.abi_types.specs.declared.reply.Answer.TheVariants as answer
 use Rattle.tree_model.specs.Changes.{bytes_in, bytes_of, is_file, with_bytes}
 use Rattle.tree_model.specs.Files.{after_write, is_beyond, read_bytes}
-use Rattle.kernel_model.specs.FileBytes.{fd_pread, fd_pwrite, overwritten, read_at, write_at, write_bytes, written_count}
-use Rattle.kernel_model.specs.FileChanges.{changing, modified, retimed}
-use Rattle.kernel_model.specs.FileLooks.{looking}
+use Rattle.kernel_model.specs.Families.FileBytes.{fd_pread, fd_pwrite, overwritten, read_at, write_at, write_bytes, written_count}
+use Rattle.kernel_model.specs.Families.FileChanges.{changing, modified, retimed}
+use Rattle.kernel_model.specs.Families.FileLooks.{looking}
 use Rattle.kernel_model.specs.Outcome.{Outcome, replies}
 use Rattle.kernel_model.specs.Proper.{IsProper}
 use Rattle.kernel_model.specs.Reply.{content, refused, success}
 use Rattle.kernel_model.specs.State.{Tree}
-use Rattle.kernel_model.specs.TreeUpdates.{node_update}
+use Rattle.kernel_model.specs.Families.TreeUpdates.{node_update}
 use Rattle.kernel_model.proofs.Branches.{IsSeen}
 use Rattle.kernel_model.proofs.FileChanges.{IsChange, badf_among_changes, changing_keeps_well, either_change, fbig_among_changes, makes, refuses, succeeds}
 use Rattle.kernel_model.proofs.FileLooks.{Answers, answers_refused, answers_done, looking_keeps_well}

@@ -17,14 +17,14 @@ use Rattle.tree_model.specs.Changes.{bytes_in, bytes_of, is_file, with_bytes}
 use Rattle.tree_model.specs.Files.{resized}
 use Rattle.tree_model.specs.Tree.{below}
 use Rattle.tree_model.specs.declared.limits.TheConstants.{MOST_FILE_BYTES}
-use Rattle.kernel_model.specs.FileChanges.{retimed, modified, sized, allocated, times_put, put_times, has_size, put_size, put_stat, becomes, becomes_in, unless_large, node_part, changing, allocate, file_allocate, asked_size, put_open, file_stat_fput, put_found, put_by_path, file_stat_put}
-use Rattle.kernel_model.specs.FilePaths.{lookup_mode, outside_of, path_errors, walked}
+use Rattle.kernel_model.specs.Families.FileChanges.{retimed, modified, sized, allocated, times_put, put_times, has_size, put_size, put_stat, becomes, becomes_in, unless_large, node_part, changing, allocate, file_allocate, asked_size, put_open, file_stat_fput, put_found, put_by_path, file_stat_put}
+use Rattle.kernel_model.specs.Families.FilePaths.{lookup_mode, outside_of, path_errors, walked}
 use Rattle.kernel_model.specs.Outcome.{Outcome, replies}
 use Rattle.kernel_model.specs.Proper.{IsIn, IsPlain, IsProper}
 use Rattle.kernel_model.specs.Reply.{refused, success}
 use Rattle.kernel_model.specs.Sight.{behind, node_parts}
 use Rattle.kernel_model.specs.State.{State, Tree, tree_of, Part, Update, at_node, same_part, has_part, part_of, put_all}
-use Rattle.kernel_model.specs.TreeUpdates.{node_update}
+use Rattle.kernel_model.specs.Families.TreeUpdates.{node_update}
 use Rattle.kernel_model.specs.Valid.{HasBehind, IsNearlyValid}
 use Rattle.kernel_model.proofs.Branches.{IsSeen, node_is_part}
 use Rattle.kernel_model.proofs.FileMeanings.{IsOfTree, KeepsWell, SetsTree, file_is_proper}

@@ -17,8 +17,8 @@ use Rattle.path_lookup.specs.declared.ends.WalkMode.TheVariants.{NoFollow}
 use Rattle.tree_model.specs.Below.{below_self}
 use Rattle.tree_model.specs.Finds.{HasSameBelow, named_alike}
 use Rattle.tree_model.specs.Tree.{names_in}
-use Rattle.kernel_model.specs.FileLooks.{tell_node, tell_in, tell_open, looking, file_advise, file_stat_fget, file_stat_get, read_link, read_node, read_link_in, file_readlink, room_of, entry_bytes, entries_bytes, list_names, list_open, file_readdir}
-use Rattle.kernel_model.specs.FilePaths.{by_path, lookup_mode, outside_of, path_errors, walked}
+use Rattle.kernel_model.specs.Families.FileLooks.{tell_node, tell_in, tell_open, looking, file_advise, file_stat_fget, file_stat_get, read_link, read_node, read_link_in, file_readlink, room_of, entry_bytes, entries_bytes, list_names, list_open, file_readdir}
+use Rattle.kernel_model.specs.Families.FilePaths.{by_path, lookup_mode, outside_of, path_errors, walked}
 use Rattle.kernel_model.specs.Outcome.{Outcome, replies}
 use Rattle.kernel_model.specs.Proper.{IsIn, IsPlain, IsProper, IsUnset}
 use Rattle.kernel_model.specs.Reply.{content, refused}

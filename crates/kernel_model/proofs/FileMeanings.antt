@@ -11,8 +11,8 @@ use Rattle.abi_base.specs.declared.errno.Errno.TheVariants.{Nomem}
 use Rattle.abi_types.specs.declared.descriptor.Descriptor.{Descriptor}
 use Rattle.abi_types.specs.declared.needed.Needed.{Needed}
 use Rattle.abi_types.specs.declared.open_kind.OpenKind.{OpenKind}
-use Rattle.kernel_model.specs.ClockCalls.{real_time}
-use Rattle.kernel_model.specs.FileMeaning.{FileMeaning, open_of, on_open}
+use Rattle.kernel_model.specs.Families.ClockCalls.{real_time}
+use Rattle.kernel_model.specs.Families.FileMeaning.{FileMeaning, open_of, on_open}
 use Rattle.kernel_model.specs.Outcome.{Outcome}
 use Rattle.kernel_model.specs.Proper.{IsDeniedOutside, IsProper, IsUnset}
 use Rattle.kernel_model.specs.Sight.{process_parts, behind, reached_by}

@@ -28,7 +28,7 @@ use Rattle.path_lookup.specs.declared.ends.WalkMode.{WalkMode}
 use Rattle.tree_model.specs.Below.{below_self}
 use Rattle.tree_model.specs.Finds.{HasSameBelow, finds, finds_agree, finds_closed}
 use Rattle.tree_model.specs.Tree.{below}
-use Rattle.kernel_model.specs.FilePaths.{Walked, Ends, Fails, LeadsOutside, longest_path, path_error, path_errors, walk_failed, walked_unless, walked_in, walked, outside_of, at_end, at_walked, end_part, found_part}
+use Rattle.kernel_model.specs.Families.FilePaths.{Walked, Ends, Fails, LeadsOutside, longest_path, path_error, path_errors, walk_failed, walked_unless, walked_in, walked, outside_of, at_end, at_walked, end_part, found_part}
 use Rattle.kernel_model.specs.Outcome.{Outcome, replies}
 use Rattle.kernel_model.specs.Proper.{IsDeniedOutside, IsIn as IsAmong, IsPlain, IsUnset}
 use Rattle.kernel_model.specs.Sight.{behind, node_parts}

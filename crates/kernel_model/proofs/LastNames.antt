@@ -24,9 +24,9 @@ use Rattle.path_lookup.specs.declared.ends.WalkMode.TheVariants.{Parent}
 use Rattle.tree_model.specs.Below.{below_closed}
 use Rattle.tree_model.specs.Finds.{named_alike}
 use Rattle.tree_model.specs.Tree.{HasName, below}
-use Rattle.kernel_model.specs.FilePaths.{Walked, Ends, Fails, LeadsOutside, path_errors, walked}
-use Rattle.kernel_model.specs.LastNames.{LastName, StandsIn, IsNone, IsOutside, directory_parts, is_dots, last_name, last_of, last_outside, name_at}
-use Rattle.kernel_model.specs.NameMeaning.{NameOutcome, Refuses, LeadsOut, at_name}
+use Rattle.kernel_model.specs.Families.FilePaths.{Walked, Ends, Fails, LeadsOutside, path_errors, walked}
+use Rattle.kernel_model.specs.Families.LastNames.{LastName, StandsIn, IsNone, IsOutside, directory_parts, is_dots, last_name, last_of, last_outside, name_at}
+use Rattle.kernel_model.specs.Families.NameMeaning.{NameOutcome, Refuses, LeadsOut, at_name}
 use Rattle.kernel_model.specs.Proper.{IsIn}
 use Rattle.kernel_model.specs.Sight.{behind}
 use Rattle.kernel_model.specs.State.{State, Tree, tree_of, Part, at_node, at_names, same_part, has_part}

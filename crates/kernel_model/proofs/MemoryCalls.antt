@@ -11,9 +11,9 @@ use Rattle.abi_types.specs.declared.place.Place.TheVariants as place
 use Rattle.abi_types.specs.declared.place.Place.TheVariants.{At}
 use Rattle.tree_model.specs.Changes.{bytes_in}
 use Rattle.tree_model.specs.Files.{read_bytes}
-use Rattle.kernel_model.specs.FileBytes.{bytes_at, page_bytes}
-use Rattle.kernel_model.specs.FileMeaning.{on_open}
-use Rattle.kernel_model.specs.MemoryCalls.{decided, has_place, is_anonymous, map_open, map_row, map_zeros, mapping, mem_map, place_errors, placed_with}
+use Rattle.kernel_model.specs.Families.FileBytes.{bytes_at, page_bytes}
+use Rattle.kernel_model.specs.Families.FileMeaning.{on_open}
+use Rattle.kernel_model.specs.Families.MemoryCalls.{decided, has_place, is_anonymous, map_open, map_row, map_zeros, mapping, mem_map, place_errors, placed_with}
 use Rattle.kernel_model.specs.Outcome.{replies}
 use Rattle.kernel_model.specs.Proper.{IsProper}
 use Rattle.kernel_model.specs.Reply.{success, refused}

@@ -16,12 +16,12 @@ use Rattle.tree_model.specs.Keeps.{linked-tree}
 use Rattle.tree_model.specs.Outcomes.{linked-other_nodes}
 use Rattle.tree_model.specs.Renames.{KeepsNodes-renamed, can_rename, renamed-other_nodes, renamed-replaced, renamed-tree}
 use Rattle.tree_model.specs.Tree.{HasName, IsTree, entry_of}
-use Rattle.kernel_model.specs.FileChanges.{modified}
-use Rattle.kernel_model.specs.NameMaking.{with_new_names}
-use Rattle.kernel_model.specs.NameMoving.{move_or_stay, node_of_name, with_link, with_move, with_new_count_of}
-use Rattle.kernel_model.specs.NameRemoving.{recounted}
+use Rattle.kernel_model.specs.Families.FileChanges.{modified}
+use Rattle.kernel_model.specs.Families.NameMaking.{with_new_names}
+use Rattle.kernel_model.specs.Families.NameMoving.{move_or_stay, node_of_name, with_link, with_move, with_new_count_of}
+use Rattle.kernel_model.specs.Families.NameRemoving.{recounted}
 use Rattle.kernel_model.specs.State.{Tree}
-use Rattle.kernel_model.specs.TreeUpdates.{Change, no_change}
+use Rattle.kernel_model.specs.Families.TreeUpdates.{Change, no_change}
 use Rattle.kernel_model.proofs.NameMeanings.{IsChangeOf}
 use Rattle.kernel_model.proofs.Tests.{none_is_no, not_true, same_some}
 use Rattle.kernel_model.proofs.TreeChanges.{FilesStay, files-changed, files-one_more, first_is_member, kept_change, later_is_member, not_member_apart, retimed_change}

@@ -18,13 +18,13 @@ use Rattle.tree_model.specs.Entries.{one_more-changes}
 use Rattle.tree_model.specs.Tree.{IsTree, is_directory_node, links_in, names_in}
 use Rattle.tree_model.specs.declared.fault.TreeFault.TheVariants.{Absent, Taken, NotDirectory, IsDirectory, Links}
 use Rattle.tree_model.specs.declared.limits.TheConstants.{ROOT, MOST_LINKS}
-use Rattle.kernel_model.specs.FileChanges.{modified}
-use Rattle.kernel_model.specs.FilePaths.{Walked, Ends, Fails, LeadsOutside, found_part, lookup_mode, path_errors, walked}
-use Rattle.kernel_model.specs.LastNames.{directory_parts, last_name, last_outside}
-use Rattle.kernel_model.specs.NameMaking.{with_new_names}
-use Rattle.kernel_model.specs.NameMeaning.{NameOutcome, Refuses, LeadsOut, Changes, at_name}
-use Rattle.kernel_model.specs.NameMoving.{at_found, at_found_end, found_outside, found_outside_end, file_link, link_errno, link_in, linking, with_link}
-use Rattle.kernel_model.specs.NameRemoving.{recounted}
+use Rattle.kernel_model.specs.Families.FileChanges.{modified}
+use Rattle.kernel_model.specs.Families.FilePaths.{Walked, Ends, Fails, LeadsOutside, found_part, lookup_mode, path_errors, walked}
+use Rattle.kernel_model.specs.Families.LastNames.{directory_parts, last_name, last_outside}
+use Rattle.kernel_model.specs.Families.NameMaking.{with_new_names}
+use Rattle.kernel_model.specs.Families.NameMeaning.{NameOutcome, Refuses, LeadsOut, Changes, at_name}
+use Rattle.kernel_model.specs.Families.NameMoving.{at_found, at_found_end, found_outside, found_outside_end, file_link, link_errno, link_in, linking, with_link}
+use Rattle.kernel_model.specs.Families.NameRemoving.{recounted}
 use Rattle.kernel_model.specs.Proper.{IsIn, IsProper}
 use Rattle.kernel_model.specs.Sight.{behind}
 use Rattle.kernel_model.specs.State.{Names, Part, State, Tree, at_names, at_node, has_part, same_part, tree_of}

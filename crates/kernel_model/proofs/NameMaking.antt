@@ -23,14 +23,14 @@ use Rattle.tree_model.specs.Tree.{IsTree, is_directory_node, links_in, names_in}
 use Rattle.tree_model.specs.declared.fault.TreeFault.{TreeFault}
 use Rattle.tree_model.specs.declared.fault.TreeFault.TheVariants.{Absent, NotDirectory, Taken}
 use Rattle.tree_model.specs.declared.limits.TheConstants.{ROOT}
-use Rattle.kernel_model.specs.FileChanges.{modified}
-use Rattle.kernel_model.specs.FilePaths.{longest_path, path_error, path_errors}
-use Rattle.kernel_model.specs.LastNames.{directory_parts, last_name, last_outside}
-use Rattle.kernel_model.specs.NameMaking.{empty_error, errno_of, file_create, file_symlink, make_in, making, making_unless, new_directories, node_of, or_else, text_error, with_node}
-use Rattle.kernel_model.specs.NameMeaning.{NameOutcome, Refuses, Changes, NameMeaning, unless_fault}
+use Rattle.kernel_model.specs.Families.FileChanges.{modified}
+use Rattle.kernel_model.specs.Families.FilePaths.{longest_path, path_error, path_errors}
+use Rattle.kernel_model.specs.Families.LastNames.{directory_parts, last_name, last_outside}
+use Rattle.kernel_model.specs.Families.NameMaking.{empty_error, errno_of, file_create, file_symlink, make_in, making, making_unless, new_directories, node_of, or_else, text_error, with_node}
+use Rattle.kernel_model.specs.Families.NameMeaning.{NameOutcome, Refuses, Changes, NameMeaning, unless_fault}
 use Rattle.kernel_model.specs.Proper.{IsIn, IsProper}
 use Rattle.kernel_model.specs.State.{Part, Tree, at_names, at_node, at_open, has_part, part_of, same_part, tree_of}
-use Rattle.kernel_model.specs.TreeUpdates.{change_updates}
+use Rattle.kernel_model.specs.Families.TreeUpdates.{change_updates}
 use Rattle.kernel_model.proofs.FilePaths.{ilseq_among, inval_among, name_too_long_among, noent_among, notdir_among, path_errors_lack}
 use Rattle.kernel_model.proofs.LastNames.{all_both, at_name_holds, at_name_plain, at_name_reads, below_alike, directory_is_seen, directory_unset, in_front, last_name_reads}
 use Rattle.kernel_model.proofs.Lists.{all_weaker}

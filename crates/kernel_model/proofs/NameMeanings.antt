@@ -13,12 +13,12 @@ use Rattle.abi_types.specs.declared.open_kind.OpenKind.{OpenKind}
 use Rattle.maps.specs.Closure.{member}
 use Rattle.tree_model.specs.Changes.{is_file}
 use Rattle.tree_model.specs.Tree.{IsTree, is_directory}
-use Rattle.kernel_model.specs.NameMeaning.{NameOutcome, Refuses, LeadsOut, Changes, NameMeaning}
-use Rattle.kernel_model.specs.Numbers.{object_parts}
+use Rattle.kernel_model.specs.Families.NameMeaning.{NameOutcome, Refuses, LeadsOut, Changes, NameMeaning}
+use Rattle.kernel_model.specs.Families.Numbers.{object_parts}
 use Rattle.kernel_model.specs.Proper.{IsIn}
 use Rattle.kernel_model.specs.Sight.{behind}
 use Rattle.kernel_model.specs.State.{State, Tree, tree_of, Part, has_part, part_of}
-use Rattle.kernel_model.specs.TreeUpdates.{Change, change_updates}
+use Rattle.kernel_model.specs.Families.TreeUpdates.{Change, change_updates}
 use Rattle.kernel_model.specs.Valid.{HasBehind}
 use Rattle.kernel_model.proofs.Branches.{IsSeen}
 

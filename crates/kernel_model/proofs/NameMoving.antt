@@ -20,17 +20,17 @@ use Rattle.tree_model.specs.Finds.{below_alike as below_in_both}
 use Rattle.tree_model.specs.Tree.{IsTree, below, entry_of, is_directory_node, links_in, names_in}
 use Rattle.tree_model.specs.declared.fault.TreeFault.TheVariants.{Absent, NotDirectory, IsDirectory, NotEmpty, Below}
 use Rattle.tree_model.specs.declared.limits.TheConstants.{ROOT}
-use Rattle.kernel_model.specs.FileChanges.{modified}
-use Rattle.kernel_model.specs.FilePaths.{path_errors}
-use Rattle.kernel_model.specs.LastNames.{LastName, StandsIn, IsNone, IsOutside, directory_parts, last_name, last_outside}
-use Rattle.kernel_model.specs.NameMaking.{errno_of, with_new_names}
-use Rattle.kernel_model.specs.NameMeaning.{NameOutcome, Refuses, Changes, at_name, unless_fault}
-use Rattle.kernel_model.specs.NameMoving.{file_rename, move_or_stay, node_of_name, rename_in, renaming, second_outside, with_move, with_new_count_of}
-use Rattle.kernel_model.specs.NameRemoving.{named_parts, node_parts_of, recounted, unless_lost}
+use Rattle.kernel_model.specs.Families.FileChanges.{modified}
+use Rattle.kernel_model.specs.Families.FilePaths.{path_errors}
+use Rattle.kernel_model.specs.Families.LastNames.{LastName, StandsIn, IsNone, IsOutside, directory_parts, last_name, last_outside}
+use Rattle.kernel_model.specs.Families.NameMaking.{errno_of, with_new_names}
+use Rattle.kernel_model.specs.Families.NameMeaning.{NameOutcome, Refuses, Changes, at_name, unless_fault}
+use Rattle.kernel_model.specs.Families.NameMoving.{file_rename, move_or_stay, node_of_name, rename_in, renaming, second_outside, with_move, with_new_count_of}
+use Rattle.kernel_model.specs.Families.NameRemoving.{named_parts, node_parts_of, recounted, unless_lost}
 use Rattle.kernel_model.specs.Proper.{IsIn, IsProper}
 use Rattle.kernel_model.specs.Sight.{behind}
 use Rattle.kernel_model.specs.State.{Part, State, Tree, at_names, at_node, has_part, same_part, tree_of}
-use Rattle.kernel_model.specs.TreeUpdates.{Change, change_updates, no_change}
+use Rattle.kernel_model.specs.Families.TreeUpdates.{Change, change_updates, no_change}
 use Rattle.kernel_model.proofs.Branches.{IsSeen}
 use Rattle.kernel_model.proofs.FilePaths.{inval_among, noent_among, notdir_among, path_errors_lack}
 use Rattle.kernel_model.proofs.LastNames.{HasBelow, LastPlainly, all_both, at_name_holds, at_name_plain, at_name_reads, below_alike, directory_is_seen, directory_unset, entry_alike, entry_below, in_front, last_name_reads, last_plainly}

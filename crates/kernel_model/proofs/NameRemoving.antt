@@ -17,16 +17,16 @@ use Rattle.tree_model.specs.Changes.{Faults, first_fault, is_absent, is_full, on
 use Rattle.tree_model.specs.Entries.{here_or_other, names-without_old, one_less-changes}
 use Rattle.tree_model.specs.Tree.{HasName, IsTree, entry_of, is_directory, is_directory_node, names_in}
 use Rattle.tree_model.specs.declared.fault.TreeFault.TheVariants.{Absent, NotDirectory, NotEmpty}
-use Rattle.kernel_model.specs.FileChanges.{modified}
-use Rattle.kernel_model.specs.FilePaths.{path_errors}
-use Rattle.kernel_model.specs.LastNames.{LastName, StandsIn, IsNone, IsOutside, directory_parts, last_name, last_outside}
-use Rattle.kernel_model.specs.NameMaking.{with_new_names}
-use Rattle.kernel_model.specs.NameMeaning.{NameOutcome, Refuses, Changes, unless_fault}
-use Rattle.kernel_model.specs.NameRemoving.{file_unlink, named_parts, node_parts_of, recounted, removes_directory, unless_lost, unlink_errno, unlink_in, unlink_node, unlinking, without_name}
+use Rattle.kernel_model.specs.Families.FileChanges.{modified}
+use Rattle.kernel_model.specs.Families.FilePaths.{path_errors}
+use Rattle.kernel_model.specs.Families.LastNames.{LastName, StandsIn, IsNone, IsOutside, directory_parts, last_name, last_outside}
+use Rattle.kernel_model.specs.Families.NameMaking.{with_new_names}
+use Rattle.kernel_model.specs.Families.NameMeaning.{NameOutcome, Refuses, Changes, unless_fault}
+use Rattle.kernel_model.specs.Families.NameRemoving.{file_unlink, named_parts, node_parts_of, recounted, removes_directory, unless_lost, unlink_errno, unlink_in, unlink_node, unlinking, without_name}
 use Rattle.kernel_model.specs.Proper.{IsIn, IsProper}
 use Rattle.kernel_model.specs.Sight.{behind}
 use Rattle.kernel_model.specs.State.{Part, State, Tree, at_names, at_node, has_part, part_of, same_part, tree_of}
-use Rattle.kernel_model.specs.TreeUpdates.{change_updates}
+use Rattle.kernel_model.specs.Families.TreeUpdates.{change_updates}
 use Rattle.kernel_model.proofs.Branches.{IsSeen}
 use Rattle.kernel_model.proofs.FilePaths.{noent_among, notdir_among, path_errors_lack}
 use Rattle.kernel_model.proofs.LastNames.{HasBelow, StandsBelow, all_both, at_name_holds, at_name_plain, at_name_reads, below_alike, below_is_seen, directory_is_seen, directory_unset, entry_alike, entry_below, in_front, last_name_below, last_name_reads}

@@ -12,7 +12,7 @@ use Rattle.abi_types.specs.declared.open_kind.OpenKind.{OpenKind}
 use Rattle.abi_types.specs.declared.status.Status.{Status}
 use Rattle.abi_types.specs.declared.status.Status.TheVariants.{Live}
 use Rattle.maps.specs.Maps.{get-insert-same, get-insert-other}
-use Rattle.kernel_model.specs.Numbers.{object_of}
+use Rattle.kernel_model.specs.Families.Numbers.{object_of}
 use Rattle.kernel_model.specs.State.{State, Table, Update, counts_in, put_all, put_one, set_names, set_node, set_open, set_process, set_table}
 use Rattle.kernel_model.specs.Valid.{HasBehind, IsNamed, IsNearlyValid}
 use Rattle.kernel_model.proofs.Tests.{none_is_no}

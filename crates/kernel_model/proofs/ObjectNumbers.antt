@@ -9,7 +9,7 @@ use Rattle.std.specs.Prelude.{nat_lt, ◌&&◌}
 use Rattle.std.specs.FinMap.{get}
 use Rattle.tree_model.specs.Tree.{is_directory_node}
 use Rattle.kernel_model.specs.Laws.{IsNotThere}
-use Rattle.kernel_model.specs.Numbers.{can_number, next_object, new_parts, object_parts}
+use Rattle.kernel_model.specs.Families.Numbers.{can_number, next_object, new_parts, object_parts}
 use Rattle.kernel_model.specs.State.{State, ProcessState, Part, at_open, at_node, at_names, same_part, counts_in, has_part}
 use Rattle.kernel_model.specs.Valid.{IsNearlyValid}
 use Rattle.kernel_model.proofs.Parts.{has_of_both, same_part_is}

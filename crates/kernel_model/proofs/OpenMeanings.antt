@@ -11,10 +11,10 @@ use Rattle.abi_base.specs.declared.errno.Errno.TheVariants.{Badf, Nomem}
 use Rattle.abi_types.specs.declared.descriptor.Descriptor.{Descriptor}
 use Rattle.abi_types.specs.declared.needed.Needed.{Needed}
 use Rattle.abi_types.specs.declared.open_kind.OpenKind.{OpenKind}
-use Rattle.kernel_model.specs.ClockCalls.{real_time}
-use Rattle.kernel_model.specs.DescriptorCalls.{open_part}
-use Rattle.kernel_model.specs.FileMeaning.{open_of}
-use Rattle.kernel_model.specs.OpenMeaning.{OpenMeaning, at_descriptor, by_open}
+use Rattle.kernel_model.specs.Families.ClockCalls.{real_time}
+use Rattle.kernel_model.specs.Families.DescriptorCalls.{open_part}
+use Rattle.kernel_model.specs.Families.FileMeaning.{open_of}
+use Rattle.kernel_model.specs.Families.OpenMeaning.{OpenMeaning, at_descriptor, by_open}
 use Rattle.kernel_model.specs.Proper.{IsIn, IsPlain, IsProper, IsUnset}
 use Rattle.kernel_model.specs.Sight.{process_parts, behind, reached_by}
 use Rattle.kernel_model.specs.State.{State, Part, Update, at_proc, at_status, at_open, same_part, has_part, part_of, put_all, put_one, set_node, set_names, set_open, set_term, threads_of}

@@ -27,15 +27,15 @@ use Rattle.tree_model.specs.Faults.{can_make}
 use Rattle.tree_model.specs.Finds.{HasSameBelow}
 use Rattle.tree_model.specs.Tree.{IsTree, below, is_directory, is_directory_kind, is_directory_node}
 use Rattle.tree_model.specs.declared.fault.TreeFault.{TreeFault}
-use Rattle.kernel_model.specs.FileChanges.{modified, sized}
-use Rattle.kernel_model.specs.FilePaths.{Walked, Ends, Fails, LeadsOutside, end_part, path_errors, walked, walked_in}
-use Rattle.kernel_model.specs.LastNames.{name_at}
-use Rattle.kernel_model.specs.NameMaking.{errno_of, node_of, with_node}
-use Rattle.kernel_model.specs.Numbers.{object_parts}
-use Rattle.kernel_model.specs.Opening.{Opened, NotOpened, OpenedOutside, Opens, absent_end_parts, creates, parts_where, makes_new, truncates, truncated, wants_directory, open_kind, open_node, make_file, open_absent, open_end, open_walked}
+use Rattle.kernel_model.specs.Families.FileChanges.{modified, sized}
+use Rattle.kernel_model.specs.Families.FilePaths.{Walked, Ends, Fails, LeadsOutside, end_part, path_errors, walked, walked_in}
+use Rattle.kernel_model.specs.Families.LastNames.{name_at}
+use Rattle.kernel_model.specs.Families.NameMaking.{errno_of, node_of, with_node}
+use Rattle.kernel_model.specs.Families.Numbers.{object_parts}
+use Rattle.kernel_model.specs.Families.Opening.{Opened, NotOpened, OpenedOutside, Opens, absent_end_parts, creates, parts_where, makes_new, truncates, truncated, wants_directory, open_kind, open_node, make_file, open_absent, open_end, open_walked}
 use Rattle.kernel_model.specs.Proper.{IsIn as IsAmong}
 use Rattle.kernel_model.specs.State.{Part, Tree, Update, at_names, at_node, has_part, part_of, same_part}
-use Rattle.kernel_model.specs.TreeUpdates.{Change, change_updates, node_update, no_change}
+use Rattle.kernel_model.specs.Families.TreeUpdates.{Change, change_updates, node_update, no_change}
 use Rattle.kernel_model.proofs.Branches.{IsSeen}
 use Rattle.kernel_model.proofs.FileChanges.{sized_alike, sized_reworks}
 use Rattle.kernel_model.proofs.FilePaths.{LeadsIn, badf_among, leads_below, loop_among, noent_among, notdir_among, walk_reads}

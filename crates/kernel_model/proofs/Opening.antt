@@ -21,20 +21,20 @@ use Rattle.path_lookup.specs.declared.ends.End.{End as PathEnd}
 use Rattle.path_lookup.specs.declared.ends.End.TheVariants as end
 use Rattle.path_lookup.specs.declared.ends.WalkMode.{WalkMode}
 use Rattle.tree_model.specs.Tree.{IsTree}
-use Rattle.kernel_model.specs.ClockCalls.{real_time}
-use Rattle.kernel_model.specs.DescriptorCalls.{lowest_free}
-use Rattle.kernel_model.specs.FileMeaning.{open_of}
-use Rattle.kernel_model.specs.FilePaths.{Walked, Ends, Fails, LeadsOutside, found_part, outside_of, path_errors, walked}
-use Rattle.kernel_model.specs.LastNames.{StandsIn}
-use Rattle.kernel_model.specs.Numbers.{can_number, next_object, new_parts, object_of, object_parts, process_updates}
-use Rattle.kernel_model.specs.Opening.{Opened, NotOpened, OpenedOutside, Opens, absent_end_parts, absent_parts, creates, file_open, open_at, open_mode, open_row, open_walked, opened_descriptor, opened_outcome, parts_where, truncates, where_free}
+use Rattle.kernel_model.specs.Families.ClockCalls.{real_time}
+use Rattle.kernel_model.specs.Families.DescriptorCalls.{lowest_free}
+use Rattle.kernel_model.specs.Families.FileMeaning.{open_of}
+use Rattle.kernel_model.specs.Families.FilePaths.{Walked, Ends, Fails, LeadsOutside, found_part, outside_of, path_errors, walked}
+use Rattle.kernel_model.specs.Families.LastNames.{StandsIn}
+use Rattle.kernel_model.specs.Families.Numbers.{can_number, next_object, new_parts, object_of, object_parts, process_updates}
+use Rattle.kernel_model.specs.Families.Opening.{Opened, NotOpened, OpenedOutside, Opens, absent_end_parts, absent_parts, creates, file_open, open_at, open_mode, open_row, open_walked, opened_descriptor, opened_outcome, parts_where, truncates, where_free}
 use Rattle.kernel_model.specs.Outcome.{Outcome, replies}
 use Rattle.kernel_model.specs.Proper.{IsDeniedOutside, IsPlain, IsProper, IsUnset}
 use Rattle.kernel_model.specs.Reply.{refused, success}
 use Rattle.kernel_model.specs.Sight.{process_parts, behind, reached_by}
 use Rattle.kernel_model.specs.State.{State, ProcessState, Part, Table, Tree, Update, at_clock, at_node, at_names, at_open, at_proc, at_status, counts_in, has_part, part_of, put_all, put_one, same_part, set_names, set_node, set_open, set_table, threads_of, tree_of}
 use Rattle.kernel_model.specs.Step.{tick}
-use Rattle.kernel_model.specs.TreeUpdates.{Change, change_updates}
+use Rattle.kernel_model.specs.Families.TreeUpdates.{Change, change_updates}
 use Rattle.kernel_model.specs.Valid.{HasBehind, IsNamed, IsNearlyValid, fits, fits_inheriting}
 use Rattle.kernel_model.specs.View.{View, restrict, whole}
 use Rattle.kernel_model.proofs.Branches.{IsSeen}

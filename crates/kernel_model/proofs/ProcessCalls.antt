@@ -4,7 +4,7 @@ use Rattle.std.specs.FinMap.{get}
 use Rattle.abi_types.specs.declared.status.Status.{Status}
 use Rattle.abi_types.specs.declared.status.Status.TheVariants.{Live, Exit}
 use Rattle.maps.specs.Maps.{get-insert-same}
-use Rattle.kernel_model.specs.ProcessCalls.{end_updates, exit_of, proc_exit}
+use Rattle.kernel_model.specs.Families.ProcessCalls.{end_updates, exit_of, proc_exit}
 use Rattle.kernel_model.specs.Proper.{IsProper}
 use Rattle.kernel_model.specs.Sight.{process_parts}
 use Rattle.kernel_model.specs.State.{ProcessState, Part, at_clock, at_proc, at_status, same_part, has_part, part_of}

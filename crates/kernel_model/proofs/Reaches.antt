@@ -13,7 +13,7 @@ use Rattle.abi_types.specs.declared.who.Who.{Who}
 use Rattle.kernel_model.specs.Calls.{meaning_of, named, need, seen, refusal}
 use Rattle.kernel_model.specs.Laws.{IsMet, IsNotThere, IsReached, IsReachedBy, IsReachedByName}
 use Rattle.kernel_model.specs.Need.{has_needed, missing, some_absent, lack_at, either_lack, first_lack, denied_by}
-use Rattle.kernel_model.specs.Numbers.{can_number, new_parts}
+use Rattle.kernel_model.specs.Families.Numbers.{can_number, new_parts}
 use Rattle.kernel_model.specs.Proper.{IsIn, MaySee, NeedsOf}
 use Rattle.kernel_model.specs.Reply.{refused, denied}
 use Rattle.kernel_model.specs.Sight.{process_parts, reached_by, reached}

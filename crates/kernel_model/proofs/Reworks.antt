@@ -18,8 +18,8 @@ use Rattle.tree_model.specs.Changes.{is_file, is_file_kind, is_file_node, with_b
 use Rattle.tree_model.specs.Entries.{here_or_other, with_bytes-changes, with_times-changes}
 use Rattle.tree_model.specs.Keeps.{with_bytes-tree, with_times-tree}
 use Rattle.tree_model.specs.Tree.{IsTree, is_directory, is_directory_kind, is_directory_node}
-use Rattle.kernel_model.specs.FileChanges.{retimed_in, retimed}
-use Rattle.kernel_model.specs.Numbers.{object_of}
+use Rattle.kernel_model.specs.Families.FileChanges.{retimed_in, retimed}
+use Rattle.kernel_model.specs.Families.Numbers.{object_of}
 use Rattle.kernel_model.specs.State.{State, Tree, tree_of, put_one, set_node}
 use Rattle.kernel_model.specs.Valid.{HasBehind, IsNearlyValid}
 use Rattle.kernel_model.proofs.Tests.{not_true}

@@ -10,7 +10,7 @@ use Rattle.abi_types.specs.declared.who.Who.{Who}
 use Rattle.maps.specs.Maps.{get-insert-same}
 use Rattle.kernel_model.specs.Laws.{HasSameProcess, MovesOnly, EndsOnly}
 use Rattle.kernel_model.specs.Outcome.{Outcome}
-use Rattle.kernel_model.specs.ProcessCalls.{end_updates}
+use Rattle.kernel_model.specs.Families.ProcessCalls.{end_updates}
 use Rattle.kernel_model.specs.Proper.{IsUnset}
 use Rattle.kernel_model.specs.State.{State, Update, set_table, set_process, set_status, set_open, set_node, set_names, set_term, at_proc, at_status, has_part, part_of, put_one, put_all, threads_of}
 use Rattle.kernel_model.specs.Step.{tick, outcome, unreleased, step_state, IsStep, end_unreleased, end_state}

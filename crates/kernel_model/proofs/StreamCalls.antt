@@ -13,16 +13,16 @@ use Rattle.abi_types.specs.declared.reply.Reply.{Reply}
 use Rattle.abi_types.specs.declared.stream.Stream.{Stream}
 use Rattle.tree_model.specs.Changes.{bytes_in, is_file}
 use Rattle.tree_model.specs.Files.{is_beyond, read_bytes}
-use Rattle.kernel_model.specs.FileBytes.{overwritten, written_count}
-use Rattle.kernel_model.specs.FileOffsets.{OffsetOutcome, as_offset, with_offset, offset_from, seek_to, sought, stays, write_from, write_on, write_place}
-use Rattle.kernel_model.specs.OpenMeaning.{OpenMeaning}
+use Rattle.kernel_model.specs.Families.FileBytes.{overwritten, written_count}
+use Rattle.kernel_model.specs.Families.FileOffsets.{OffsetOutcome, as_offset, with_offset, offset_from, seek_to, sought, stays, write_from, write_on, write_place}
+use Rattle.kernel_model.specs.Families.OpenMeaning.{OpenMeaning}
 use Rattle.kernel_model.specs.Outcome.{Outcome, replies}
 use Rattle.kernel_model.specs.Proper.{IsIn, IsPlain, IsProper, IsUnset}
 use Rattle.kernel_model.specs.Reply.{content, refused, success}
 use Rattle.kernel_model.specs.Sight.{behind}
 use Rattle.kernel_model.specs.State.{State, Tree, tree_of, Part, Update, at_node, at_open, at_term, same_part, has_part, part_of, put_all, put_one, set_node, set_open, set_term}
-use Rattle.kernel_model.specs.StreamCalls.{fd_read, fd_seek, fd_write, read_open, read_term, reading, seek_open, seeking, stream_part, write_open, write_term, writing, written_part}
-use Rattle.kernel_model.specs.TreeUpdates.{node_update}
+use Rattle.kernel_model.specs.Families.StreamCalls.{fd_read, fd_seek, fd_write, read_open, read_term, reading, seek_open, seeking, stream_part, write_open, write_term, writing, written_part}
+use Rattle.kernel_model.specs.Families.TreeUpdates.{node_update}
 use Rattle.kernel_model.specs.Valid.{IsNearlyValid}
 use Rattle.kernel_model.specs.View.{View, restrict, whole}
 use Rattle.kernel_model.proofs.Branches.{behind_is_seen, seen_parts}

@@ -22,9 +22,9 @@ use Rattle.tree_model.specs.Facts.{table_of_directory}
 use Rattle.tree_model.specs.Faults.{can_unlink, none_of, some_there}
 use Rattle.tree_model.specs.Keeps.{made-tree, unlinked-tree}
 use Rattle.tree_model.specs.Tree.{IsTree, entry_of, is_directory, is_directory_node}
-use Rattle.kernel_model.specs.FileChanges.{retimed_in, retimed}
+use Rattle.kernel_model.specs.Families.FileChanges.{retimed_in, retimed}
 use Rattle.kernel_model.specs.State.{Names, Part, Tree, Update, at_names, at_node, has_part, part_of, same_part}
-use Rattle.kernel_model.specs.TreeUpdates.{Change, change_updates, names_update, names_updates, node_update, nodes_updates}
+use Rattle.kernel_model.specs.Families.TreeUpdates.{Change, change_updates, names_update, names_updates, node_update, nodes_updates}
 use Rattle.kernel_model.proofs.NameMeanings.{IsChangeOf}
 use Rattle.kernel_model.proofs.Parts.{outside_cons}
 use Rattle.kernel_model.proofs.Reworks.{retimed_alike, retimed_reworks}

@@ -19,9 +19,9 @@ use Rattle.maps.specs.Maps.{get-insert-same, get-insert-other, same_numbers}
 use Rattle.tree_model.specs.Changes.{is_file}
 use Rattle.tree_model.specs.Entries.{here_or_other}
 use Rattle.tree_model.specs.Tree.{IsTree, is_directory}
-use Rattle.kernel_model.specs.Numbers.{can_number, next_object, object_of, made_more, process_updates}
+use Rattle.kernel_model.specs.Families.Numbers.{can_number, next_object, object_of, made_more, process_updates}
 use Rattle.kernel_model.specs.State.{State, Names, ProcessState, Tree, tree_of, Part, Update, counts_in, has_part, part_of, put_all, put_one, set_node, set_names, set_process, thread_in, threads_of}
-use Rattle.kernel_model.specs.TreeUpdates.{Change, change_updates, names_update, names_updates, node_update, nodes_updates}
+use Rattle.kernel_model.specs.Families.TreeUpdates.{Change, change_updates, names_update, names_updates, node_update, nodes_updates}
 use Rattle.kernel_model.specs.Valid.{HasBehind, IsNearlyValid}
 use Rattle.kernel_model.proofs.FileMeanings.{IsOfTree}
 use Rattle.kernel_model.proofs.NameMeanings.{IsChangeOf}

@@ -12,7 +12,7 @@ use Rattle.maps.specs.Maps.{get-insert-same, get-insert-other}
 use Rattle.tree_model.specs.Changes.{drop_name, put_name}
 use Rattle.tree_model.specs.Entries.{ChangesNode, here_or_other, with_times-changes}
 use Rattle.tree_model.specs.Tree.{names_in, names_of}
-use Rattle.kernel_model.specs.FileChanges.{retimed_in, retimed}
+use Rattle.kernel_model.specs.Families.FileChanges.{retimed_in, retimed}
 use Rattle.kernel_model.specs.State.{Names, Tree}
 
 -- ---- nodes

@@ -17,7 +17,7 @@ use Rattle.abi_types.specs.declared.status.Status.TheVariants.{Live}
 use Rattle.abi_types.specs.declared.stream.Stream.{Stream}
 use Rattle.maps.specs.Closure.{member}
 use Rattle.maps.specs.Maps.{get-insert-same, get-insert-other, get-retain, same_numbers, total, weight, total-empty, total-insert, total_at_least}
-use Rattle.kernel_model.specs.ProcessCalls.{ended_process, end_updates}
+use Rattle.kernel_model.specs.Families.ProcessCalls.{ended_process, end_updates}
 use Rattle.tree_model.specs.declared.limits.TheConstants.{ROOT}
 use Rattle.tree_model.specs.Changes.{is_file_node}
 use Rattle.tree_model.specs.Counts.{one_for-same}
@@ -28,7 +28,7 @@ use Rattle.tree_model.specs.Tree.{IsTree, is_directory_node, links_in, links_of}
 use Rattle.kernel_model.specs.Release.{names_open, count_in, holders, ends, release, is_ending, is_node_kept, without_ended, without_nodes}
 use Rattle.kernel_model.specs.State.{State, Table, ProcessState, tree_of, put_one, put_all, set_open, set_table, set_term, threads_of, thread_in, thread_of, counts_in}
 use Rattle.kernel_model.specs.Step.{tick}
-use Rattle.kernel_model.specs.Numbers.{object_of}
+use Rattle.kernel_model.specs.Families.Numbers.{object_of}
 use Rattle.kernel_model.specs.Valid.{fits, fits_inheriting, IsNamed, HasBehind, IsNearlyValid, IsValid}
 use Rattle.kernel_model.proofs.Ends.{ends_closed, ends_unheld}
 use Rattle.kernel_model.proofs.Tests.{not_true, none_is_no, same_some}

@@ -6,20 +6,20 @@ use Rattle.abi_types.specs.declared.call.Call.{Call}
 use Rattle.abi_types.specs.declared.call.Call.TheVariants as call
 use Rattle.abi_types.specs.declared.reply.Reply.{Reply}
 use Rattle.abi_types.specs.declared.needed.Needed.{Needed}
-use Rattle.kernel_model.specs.ClockCalls.{clock_res_get, clock_time_get, random_get}
-use Rattle.kernel_model.specs.DescriptorCalls.{fd_close, fd_datasync, fd_dup, fd_replace, fd_stat_get, fd_stat_put, fd_sync}
-use Rattle.kernel_model.specs.FileBytes.{fd_pread, fd_pwrite}
-use Rattle.kernel_model.specs.FileChanges.{file_allocate, file_stat_fput, file_stat_put}
-use Rattle.kernel_model.specs.FileLooks.{file_advise, file_readdir, file_readlink, file_stat_fget, file_stat_get}
-use Rattle.kernel_model.specs.NameMaking.{file_create, file_symlink}
-use Rattle.kernel_model.specs.NameMoving.{file_link, file_rename}
-use Rattle.kernel_model.specs.NameRemoving.{file_unlink}
-use Rattle.kernel_model.specs.Opening.{file_open}
-use Rattle.kernel_model.specs.MemoryCalls.{decided, mem_map}
-use Rattle.kernel_model.specs.ProcessCalls.{proc_exec, proc_exit, proc_fork, proc_raise, thread_create, thread_exit, thread_yield}
-use Rattle.kernel_model.specs.SocketCalls.{fd_create1, fd_create2, sock_recv, sock_send, sock_shutdown}
-use Rattle.kernel_model.specs.StreamCalls.{fd_read, fd_seek, fd_write}
-use Rattle.kernel_model.specs.WaitCalls.{condvar_signal, lock_unlock, poll}
+use Rattle.kernel_model.specs.Families.ClockCalls.{clock_res_get, clock_time_get, random_get}
+use Rattle.kernel_model.specs.Families.DescriptorCalls.{fd_close, fd_datasync, fd_dup, fd_replace, fd_stat_get, fd_stat_put, fd_sync}
+use Rattle.kernel_model.specs.Families.FileBytes.{fd_pread, fd_pwrite}
+use Rattle.kernel_model.specs.Families.FileChanges.{file_allocate, file_stat_fput, file_stat_put}
+use Rattle.kernel_model.specs.Families.FileLooks.{file_advise, file_readdir, file_readlink, file_stat_fget, file_stat_get}
+use Rattle.kernel_model.specs.Families.NameMaking.{file_create, file_symlink}
+use Rattle.kernel_model.specs.Families.NameMoving.{file_link, file_rename}
+use Rattle.kernel_model.specs.Families.NameRemoving.{file_unlink}
+use Rattle.kernel_model.specs.Families.Opening.{file_open}
+use Rattle.kernel_model.specs.Families.MemoryCalls.{decided, mem_map}
+use Rattle.kernel_model.specs.Families.ProcessCalls.{proc_exec, proc_exit, proc_fork, proc_raise, thread_create, thread_exit, thread_yield}
+use Rattle.kernel_model.specs.Families.SocketCalls.{fd_create1, fd_create2, sock_recv, sock_send, sock_shutdown}
+use Rattle.kernel_model.specs.Families.StreamCalls.{fd_read, fd_seek, fd_write}
+use Rattle.kernel_model.specs.Families.WaitCalls.{condvar_signal, lock_unlock, poll}
 use Rattle.kernel_model.specs.Meaning.{Meaning}
 use Rattle.kernel_model.specs.Need as needs
 use Rattle.kernel_model.specs.Reply.{refused}

@@ -18,7 +18,7 @@ use Rattle.abi_types.specs.declared.status.Status.TheVariants.{Live}
 use Rattle.abi_types.specs.declared.who.Who.{Who}
 use Rattle.kernel_model.specs.Calls.{meaning_of, named, need, errors_of, takes_memory, refusal_of}
 use Rattle.kernel_model.specs.Need.{has_needed, missing}
-use Rattle.kernel_model.specs.Numbers.{can_number}
+use Rattle.kernel_model.specs.Families.Numbers.{can_number}
 use Rattle.kernel_model.specs.Proper.{IsIn, IsProper}
 use Rattle.kernel_model.specs.Release.{ends, is_released, IsEnd}
 use Rattle.kernel_model.specs.Reply.{refused, denied}

@@ -12,7 +12,7 @@ use Rattle.abi_types.specs.declared.needed.Needed.{Needed}
 use Rattle.abi_types.specs.declared.status.Status.TheVariants.{Live}
 use Rattle.abi_types.specs.declared.who.Who.{Who}
 use Rattle.kernel_model.specs.Meaning.{Meaning}
-use Rattle.kernel_model.specs.Numbers.{new_parts}
+use Rattle.kernel_model.specs.Families.Numbers.{new_parts}
 use Rattle.kernel_model.specs.Outcome.{Outcome, OnReply, replies}
 use Rattle.kernel_model.specs.Reply.{denied}
 use Rattle.kernel_model.specs.Sight.{process_parts, reached}

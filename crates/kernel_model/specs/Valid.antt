@@ -13,7 +13,7 @@ use Rattle.abi_base.specs.Grants.{stream_rights}
 use Rattle.abi_base.specs.Rights.{has_all}
 use Rattle.tree_model.specs.Changes.{is_file}
 use Rattle.tree_model.specs.Tree.{IsTree, is_directory}
-use Rattle.kernel_model.specs.Numbers.{object_of}
+use Rattle.kernel_model.specs.Families.Numbers.{object_of}
 use Rattle.kernel_model.specs.Release.{holders, is_node_kept}
 use Rattle.kernel_model.specs.State.{State, Table, tree_of, threads_of, thread_of, counts_in}
 

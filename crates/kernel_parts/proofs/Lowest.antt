@@ -7,7 +7,7 @@ use Rattle.fd_table.specs.Sizes.{taken_if_full}
 use Rattle.fd_table.specs.Table.{IsFull, IsLowestFree, IsTable}
 use Rattle.abi_base.specs.declared.errno.Errno.TheVariants.{Mfile}
 use Rattle.abi_types.specs.declared.descriptor.Descriptor.{Descriptor}
-use Rattle.kernel_model.specs.DescriptorCalls.{dup_at, dup_of, free_from, lowest_free, with_table}
+use Rattle.kernel_model.specs.Families.DescriptorCalls.{dup_at, dup_of, free_from, lowest_free, with_table}
 use Rattle.kernel_model.specs.Outcome.{replies}
 use Rattle.kernel_model.specs.Reply.{refused}
 use Rattle.kernel_model.specs.State.{Table}

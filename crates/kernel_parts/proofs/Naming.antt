@@ -15,14 +15,14 @@ use Rattle.abi_types.specs.declared.reply.Reply.{Reply}
 use Rattle.file_calls.specs.Walks.{reply_of}
 use Rattle.file_calls.specs.declared.path_fault.PathFault.{PathFault}
 use Rattle.file_calls.specs.declared.path_fault.PathFault.TheVariants as path_fault
-use Rattle.kernel_model.specs.EntryCalls.{name_meaning, entry_fds}
-use Rattle.kernel_model.specs.NameMaking.{making, making_unless, text_error}
-use Rattle.kernel_model.specs.NameMeaning.{NameOutcome, Refuses, LeadsOut, Changes, NameMeaning, outcome_of}
-use Rattle.kernel_model.specs.Numbers.{can_number, made_more, next_object, process_updates}
+use Rattle.kernel_model.specs.Families.EntryCalls.{name_meaning, entry_fds}
+use Rattle.kernel_model.specs.Families.NameMaking.{making, making_unless, text_error}
+use Rattle.kernel_model.specs.Families.NameMeaning.{NameOutcome, Refuses, LeadsOut, Changes, NameMeaning, outcome_of}
+use Rattle.kernel_model.specs.Families.Numbers.{can_number, made_more, next_object, process_updates}
 use Rattle.kernel_model.specs.Outcome.{Outcome, replies}
 use Rattle.kernel_model.specs.Reply.{refused, success}
 use Rattle.kernel_model.specs.State.{ProcessState, Tree}
-use Rattle.kernel_model.specs.TreeUpdates.{Change, change_updates}
+use Rattle.kernel_model.specs.Families.TreeUpdates.{Change, change_updates}
 use Rattle.kernel_model.proofs.Tests.{none_is_no, not_true, same_some}
 use Rattle.entry_calls.specs.Checks.{IsTold}
 use Rattle.entry_calls.specs.Done.{FailsAs}

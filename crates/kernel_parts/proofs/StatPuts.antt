@@ -10,7 +10,7 @@ use Rattle.abi_structures.specs.declared.structures.FdStat.{FdStat}
 use Rattle.abi_types.specs.declared.descriptor.Descriptor.{Descriptor}
 use Rattle.abi_types.specs.declared.open_kind.OpenKind.{OpenKind}
 use Rattle.fd_table.specs.Table.{holds_all, lowered, lowered_at}
-use Rattle.kernel_model.specs.DescriptorCalls.{lowered_to, stat_set, with_flags}
+use Rattle.kernel_model.specs.Families.DescriptorCalls.{lowered_to, stat_set, with_flags}
 use Rattle.kernel_model.specs.Outcome.{Outcome}
 use Rattle.kernel_model.specs.State.{Table, set_open, set_table}
 use Rattle.kernel_model.proofs.DescriptorCalls.{lowered_within}

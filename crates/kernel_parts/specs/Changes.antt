@@ -7,7 +7,7 @@ use Rattle.abi_structures.specs.declared.structures.FdStat.{FdStat}
 use Rattle.abi_types.specs.declared.descriptor.Descriptor.{Descriptor}
 use Rattle.abi_types.specs.declared.open_kind.OpenKind.{OpenKind}
 use Rattle.maps.specs.Maps.{number}
-use Rattle.kernel_model.specs.DescriptorCalls.{dup_of, replaced_by, stat_set, with_table}
+use Rattle.kernel_model.specs.Families.DescriptorCalls.{dup_of, replaced_by, stat_set, with_table}
 use Rattle.kernel_model.specs.Outcome.{Outcome, replies}
 use Rattle.kernel_model.specs.Release.{count_in}
 use Rattle.kernel_model.specs.Reply.{refused}

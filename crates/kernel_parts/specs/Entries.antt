@@ -6,8 +6,8 @@ use Rattle.abi_types.specs.declared.descriptor.Descriptor.{Descriptor}
 use Rattle.abi_types.specs.declared.open_kind.OpenKind.{OpenKind}
 use Rattle.abi_types.specs.declared.reply.Answer.TheVariants as answer
 use Rattle.abi_types.specs.declared.reply.Reply.{Reply}
-use Rattle.kernel_model.specs.NameMeaning.{NameOutcome, Refuses, LeadsOut, Changes, outcome_of}
-use Rattle.kernel_model.specs.Numbers.{can_number, made_more, next_object}
+use Rattle.kernel_model.specs.Families.NameMeaning.{NameOutcome, Refuses, LeadsOut, Changes, outcome_of}
+use Rattle.kernel_model.specs.Families.Numbers.{can_number, made_more, next_object}
 use Rattle.kernel_model.specs.State.{ProcessState, Table, Tree}
 
 -- the number of the last of so many objects that a process makes next, where it can make so many

@@ -9,7 +9,7 @@ use Rattle.abi_types.specs.declared.stream.Stream.{Stream}
 use Rattle.kernel_model.specs.Outcome.{Outcome, replies}
 use Rattle.kernel_model.specs.Reply.{refused}
 use Rattle.kernel_model.specs.State.{Update, set_table, set_process, set_status, set_open, set_node, set_names, set_term}
-use Rattle.kernel_model.specs.StreamCalls.{read_term, write_term}
+use Rattle.kernel_model.specs.Families.StreamCalls.{read_term, write_term}
 
 -- the standard streams after these updates
 abbrev pub terms_after : List Update → FinMap nat_cmp Stream → FinMap nat_cmp Stream

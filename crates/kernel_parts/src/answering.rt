@@ -4,7 +4,7 @@ ghost use Rattle.abi_types.specs.declared.constants.Constants as constants;
 ghost use Rattle.abi_types.specs.declared.who.Who as who;
 ghost use Rattle.kernel_parts.specs.Answering.{DoesMore};
 ghost use Rattle.kernel_model.specs.Calls.{meaning_of};
-ghost use Rattle.kernel_model.specs.MemoryCalls.{placed};
+ghost use Rattle.kernel_model.specs.Families.MemoryCalls.{placed};
 ghost use Rattle.kernel_model.specs.Outcome.{replies};
 ghost use Rattle.kernel_model.specs.State.{Table};
 ghost use Rattle.kernel_model.specs.View.{View};

@@ -2,8 +2,8 @@
 //! its own.
 ghost use Rattle.std.specs.Prelude.{◌≡◌, true, Some, IsSome, IfOk, OnErr, option_copied};
 ghost use Rattle.kernel_parts.specs.Entries.{IsLeftBy, open_at};
-ghost use Rattle.kernel_model.specs.EntryCalls as model;
-ghost use Rattle.kernel_model.specs.Numbers.{can_number, next_object};
+ghost use Rattle.kernel_model.specs.Families.EntryCalls as model;
+ghost use Rattle.kernel_model.specs.Families.Numbers.{can_number, next_object};
 ghost use Rattle.entry_calls.specs.Done.{IsNew};
 
 use crate::process::ProcessState;

@@ -2,8 +2,8 @@
 ghost use Rattle.std.specs.Prelude.{◌≡◌, ◌+◌, ◌<◌, ◌^◌, IfOk, IfSome, Some};
 ghost use Rattle.std.specs.FinMap as map;
 ghost use Rattle.kernel_parts.specs.Entries.{number_of};
-ghost use Rattle.kernel_model.specs.Numbers.{made_more};
-ghost use Rattle.kernel_model.specs.ProcessCalls.{ended_process};
+ghost use Rattle.kernel_model.specs.Families.Numbers.{made_more};
+ghost use Rattle.kernel_model.specs.Families.ProcessCalls.{ended_process};
 ghost use Rattle.kernel_model.specs.Start.{first_process};
 
 use crate::start::{LAUNCH_PROCESS, single};

@@ -3,7 +3,7 @@ ghost use Rattle.std.specs.Prelude.{◌≡◌, ℕ, IsSome, IfOk, OnErr, true};
 ghost use Rattle.std.specs.FinMap as map;
 ghost use Rattle.fd_calls.specs.Calls as model;
 ghost use Rattle.kernel_parts.specs.StreamCalls.{stream_outcome, terms_after};
-ghost use Rattle.kernel_model.specs.StreamCalls.{read_term, write_term};
+ghost use Rattle.kernel_model.specs.Families.StreamCalls.{read_term, write_term};
 
 use crate::terminal::Terminal;
 use abi_types::{Answer, Bytes, Call, Errno, Payload};

@@ -4,7 +4,7 @@ ghost use Rattle.std.specs.FinMap as map;
 ghost use Rattle.abi_types.specs.declared.reply.Answer.TheVariants as answer;
 ghost use Rattle.maps.specs.Maps.{number};
 ghost use Rattle.kernel_parts.specs.Changes.{change_outcome, opens_after, stat_put_at, table_after, HasReplaced, IsDup, IsMoved};
-ghost use Rattle.kernel_model.specs.DescriptorCalls.{dup_of, replaced_by, with_flags};
+ghost use Rattle.kernel_model.specs.Families.DescriptorCalls.{dup_of, replaced_by, with_flags};
 ghost use Rattle.kernel_model.specs.Release.{count_in};
 
 use abi_base::MOST_DESCRIPTORS;

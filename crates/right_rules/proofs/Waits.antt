@@ -7,7 +7,7 @@ use Rattle.abi_types.specs.declared.descriptor.Denial.{Denial}
 use Rattle.abi_types.specs.declared.needed.Needed.{Needed}
 use Rattle.kernel_model.specs.Need.{either_lack, first_lack, lack_at, some_absent}
 use Rattle.kernel_model.specs.State.{Table}
-use Rattle.kernel_model.specs.WaitCalls.{fds_of, wait_row, wait_rows}
+use Rattle.kernel_model.specs.Families.WaitCalls.{fds_of, wait_row, wait_rows}
 use Rattle.right_rules.specs.Lists.{of_option}
 
 -- this is the row of the subscription at a place, if it has one

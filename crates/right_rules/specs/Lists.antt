@@ -1,7 +1,7 @@
 -- The lists that `named` and `need` give views of.
 use Rattle.std.specs.Prelude.{ℕ, List, [], ◌∷◌, ◌++◌, Option, None, Some}
 use Rattle.abi_types.specs.declared.needed.Needed.{Needed}
-use Rattle.kernel_model.specs.WaitCalls.{fds_of, wait_rows}
+use Rattle.kernel_model.specs.Families.WaitCalls.{fds_of, wait_rows}
 use Rattle.right_rules.specs.declared.descriptors_named.NamedList.{NamedList}
 use Rattle.right_rules.specs.declared.descriptors_named.NamedList.TheVariants as named
 use Rattle.right_rules.specs.declared.rights_needed.Needs.{Needs}

@@ -3,7 +3,7 @@ ghost use Rattle.std.specs.Prelude.{◌≡◌, Some};
 ghost use Rattle.std.specs.FinMap as map;
 ghost use Rattle.kernel_model.specs.Calls.{refusal};
 ghost use Rattle.kernel_model.specs.Need.{some_absent, first_lack, lack_at, has_instead, lack_base};
-ghost use Rattle.kernel_model.specs.WaitCalls.{fds_of, wait_rows};
+ghost use Rattle.kernel_model.specs.Families.WaitCalls.{fds_of, wait_rows};
 ghost use Rattle.right_rules.specs.Lists.{named_in, of_option, rows_in};
 
 use crate::descriptors_named::{NamedList, named};

@@ -2,7 +2,7 @@
 ghost use Rattle.std.specs.Prelude.{◌≡◌, ◌∷◌, []};
 ghost use Rattle.abi_structures.specs.declared.structures.FdStat as stat;
 ghost use Rattle.kernel_model.specs.Calls.{need};
-ghost use Rattle.kernel_model.specs.StreamCalls.{seek_row};
+ghost use Rattle.kernel_model.specs.Families.StreamCalls.{seek_row};
 ghost use Rattle.kernel_model.specs.Rows.{asking_row, base_row, both, where_set};
 ghost use Rattle.right_rules.specs.Lists.{rows_in};
 

@@ -13,11 +13,11 @@ use Rattle.abi_types.specs.declared.place.Place.TheVariants as place
 use Rattle.abi_types.specs.declared.place.Place.TheVariants.{At}
 use Rattle.abi_base.specs.Registers.{Registers}
 use Rattle.kernel_model.specs.Calls.{errors_of}
-use Rattle.kernel_model.specs.FilePaths.{path_errors}
+use Rattle.kernel_model.specs.Families.FilePaths.{path_errors}
 use Rattle.kernel_model.specs.Laws.{IsNotDeniedEarly}
-use Rattle.kernel_model.specs.FileMeaning.{on_open}
-use Rattle.kernel_model.specs.MemoryCalls.{is_anonymous, map_row, map_zeros, mapping, place_errors}
-use Rattle.kernel_model.specs.NameMaking.{making, making_unless, text_error}
+use Rattle.kernel_model.specs.Families.FileMeaning.{on_open}
+use Rattle.kernel_model.specs.Families.MemoryCalls.{is_anonymous, map_row, map_zeros, mapping, place_errors}
+use Rattle.kernel_model.specs.Families.NameMaking.{making, making_unless, text_error}
 use Rattle.kernel_model.proofs.Lists.{all_weaker}
 use Rattle.kernel_model.proofs.Refusals.{IsNoLackOf}
 use Rattle.abi_types.specs.declared.node.NodeKind.TheVariants as kind

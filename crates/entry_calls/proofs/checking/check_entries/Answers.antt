@@ -1,8 +1,8 @@
 use Rattle.std.proofs.Common.{◌≡◌, ℕ, None, Some, ap, sym, subst, ◌∙◌}
 use Rattle.abi_types.specs.declared.node.NodeKind.TheVariants as kind
-use Rattle.kernel_model.specs.EntryCalls.{name_meaning}
-use Rattle.kernel_model.specs.NameMaking.{making, making_unless, text_error}
-use Rattle.kernel_model.specs.NameMeaning.{NameMeaning}
+use Rattle.kernel_model.specs.Families.EntryCalls.{name_meaning}
+use Rattle.kernel_model.specs.Families.NameMaking.{making, making_unless, text_error}
+use Rattle.kernel_model.specs.Families.NameMeaning.{NameMeaning}
 use Rattle.entry_calls.specs.Checks.{IsTold}
 use Rattle.entry_calls.proofs.checking.check_entries.Goals as goal
 

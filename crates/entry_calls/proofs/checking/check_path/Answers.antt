@@ -1,5 +1,5 @@
 use Rattle.std.proofs.Common.{Some}
-use Rattle.kernel_model.specs.LastNames.{last_name}
+use Rattle.kernel_model.specs.Families.LastNames.{last_name}
 use Rattle.entry_calls.proofs.Told.{made_told}
 use Rattle.entry_calls.proofs.checking.check_path.Goals as goal
 

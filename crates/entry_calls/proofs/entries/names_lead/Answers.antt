@@ -4,8 +4,8 @@ use Rattle.std.specs.Prelude.{if◌then◌else◌}
 use Rattle.abi_base.specs.declared.errno.Errno.TheVariants.{Noent}
 use Rattle.abi_types.specs.declared.node.Node.{Node}
 use Rattle.tree_model.specs.Tree.{IsTree, Tree, entry_of}
-use Rattle.kernel_model.specs.NameMeaning.{NameOutcome, Refuses}
-use Rattle.kernel_model.specs.NameRemoving.{unless_lost}
+use Rattle.kernel_model.specs.Families.NameMeaning.{NameOutcome, Refuses}
+use Rattle.kernel_model.specs.Families.NameRemoving.{unless_lost}
 use Rattle.entry_calls.proofs.entries.names_lead.Goals as goal
 
 some_is_there : (o : Option Node) → IsSome o → is_none o ≡ false

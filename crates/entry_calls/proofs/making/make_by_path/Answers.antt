@@ -1,6 +1,6 @@
 use Rattle.std.proofs.Common.{Some}
-use Rattle.kernel_model.specs.LastNames.{last_name}
-use Rattle.kernel_model.specs.NameMaking.{make_in}
+use Rattle.kernel_model.specs.Families.LastNames.{last_name}
+use Rattle.kernel_model.specs.Families.NameMaking.{make_in}
 use Rattle.entry_calls.proofs.Endings.{place_done}
 use Rattle.entry_calls.proofs.making.make_by_path.Goals as goal
 

@@ -1,7 +1,7 @@
 use Rattle.std.proofs.Common.{◌∙◌, ap}
 use Rattle.tree_model.specs.Changes.{first_fault, made, make_faults}
-use Rattle.kernel_model.specs.NameMaking.{errno_of, with_new_names, with_node}
-use Rattle.kernel_model.specs.NameMeaning.{Changes}
+use Rattle.kernel_model.specs.Families.NameMaking.{errno_of, with_new_names, with_node}
+use Rattle.kernel_model.specs.Families.NameMeaning.{Changes}
 use Rattle.entry_calls.proofs.Endings.{failed_as, unless_none}
 use Rattle.entry_calls.proofs.making.make_in.Goals as goal
 

@@ -1,8 +1,8 @@
 use Rattle.std.proofs.Common.{ℕ, Some, option_copied, ap, ◌∙◌}
-use Rattle.kernel_model.specs.FilePaths.{lookup_mode, walked}
-use Rattle.kernel_model.specs.LastNames.{last_name}
-use Rattle.kernel_model.specs.NameMeaning.{NameOutcome, at_name}
-use Rattle.kernel_model.specs.NameMoving.{at_found, link_in}
+use Rattle.kernel_model.specs.Families.FilePaths.{lookup_mode, walked}
+use Rattle.kernel_model.specs.Families.LastNames.{last_name}
+use Rattle.kernel_model.specs.Families.NameMeaning.{NameOutcome, at_name}
+use Rattle.kernel_model.specs.Families.NameMoving.{at_found, link_in}
 use Rattle.file_calls.specs.Walks.{node_or_refusal}
 use Rattle.entry_calls.proofs.Endings.{done_as, found_comes, place_done}
 use Rattle.entry_calls.proofs.moving.file_link.Goals as goal

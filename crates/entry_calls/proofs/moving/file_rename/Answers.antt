@@ -1,7 +1,7 @@
 use Rattle.std.proofs.Common.{Some, option_copied}
-use Rattle.kernel_model.specs.LastNames.{last_name}
-use Rattle.kernel_model.specs.NameMeaning.{at_name}
-use Rattle.kernel_model.specs.NameMoving.{rename_in}
+use Rattle.kernel_model.specs.Families.LastNames.{last_name}
+use Rattle.kernel_model.specs.Families.NameMeaning.{at_name}
+use Rattle.kernel_model.specs.Families.NameMoving.{rename_in}
 use Rattle.entry_calls.proofs.Endings.{place_done}
 use Rattle.entry_calls.proofs.moving.file_rename.Goals as goal
 

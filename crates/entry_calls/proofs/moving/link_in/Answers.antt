@@ -1,9 +1,9 @@
 use Rattle.std.proofs.Common.{◌∙◌, ap}
 use Rattle.tree_model.specs.Changes.{first_fault, link_faults}
-use Rattle.kernel_model.specs.NameMaking.{with_new_names}
-use Rattle.kernel_model.specs.NameMeaning.{Changes}
-use Rattle.kernel_model.specs.NameMoving.{link_errno, with_link}
-use Rattle.kernel_model.specs.NameRemoving.{with_new_count}
+use Rattle.kernel_model.specs.Families.NameMaking.{with_new_names}
+use Rattle.kernel_model.specs.Families.NameMeaning.{Changes}
+use Rattle.kernel_model.specs.Families.NameMoving.{link_errno, with_link}
+use Rattle.kernel_model.specs.Families.NameRemoving.{with_new_count}
 use Rattle.entry_calls.proofs.Endings.{unless_none}
 use Rattle.entry_calls.proofs.moving.link_in.Goals as goal
 

@@ -2,10 +2,10 @@ use Rattle.std.proofs.Common.{◌≡◌, Bool, true, false, Option, sym, ◌∙�
 use Rattle.std.specs.Prelude.{ℕ, if◌then◌else◌}
 use Rattle.tree_model.specs.Changes.{first_fault, is_same, moved_to, rename_faults, replaced}
 use Rattle.tree_model.specs.Tree.{Tree, entry_of}
-use Rattle.kernel_model.specs.NameMaking.{errno_of, with_new_names}
-use Rattle.kernel_model.specs.NameMeaning.{NameOutcome, Changes}
-use Rattle.kernel_model.specs.NameMoving.{move_or_stay, with_move, with_new_count_of}
-use Rattle.kernel_model.specs.TreeUpdates.{no_change}
+use Rattle.kernel_model.specs.Families.NameMaking.{errno_of, with_new_names}
+use Rattle.kernel_model.specs.Families.NameMeaning.{NameOutcome, Changes}
+use Rattle.kernel_model.specs.Families.NameMoving.{move_or_stay, with_move, with_new_count_of}
+use Rattle.kernel_model.specs.Families.TreeUpdates.{no_change}
 use Rattle.entry_calls.specs.Done.{FailsAs}
 use Rattle.entry_calls.proofs.Endings.{failed_as, unless_none}
 use Rattle.entry_calls.proofs.moving.rename_in.Goals as goal

@@ -1,6 +1,6 @@
 use Rattle.std.proofs.Common.{refl, ◌∙◌, ap}
-use Rattle.kernel_model.specs.NameMaking.{with_new_names}
-use Rattle.kernel_model.specs.NameRemoving.{with_new_count, without_name}
+use Rattle.kernel_model.specs.Families.NameMaking.{with_new_names}
+use Rattle.kernel_model.specs.Families.NameRemoving.{with_new_count, without_name}
 use Rattle.entry_calls.proofs.removing.remove_name.Goals as goal
 
 pub returns : goal.returns

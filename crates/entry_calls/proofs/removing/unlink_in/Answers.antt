@@ -1,8 +1,8 @@
 use Rattle.std.proofs.Common.{refl, sym, ap, subst, ◌∙◌}
 use Rattle.tree_model.specs.Changes.{IsRefusal, first_fault, unlink_faults}
 use Rattle.tree_model.specs.Tree.{entry_of}
-use Rattle.kernel_model.specs.NameMeaning.{NameOutcome}
-use Rattle.kernel_model.specs.NameRemoving.{unlink_errno, unlink_node}
+use Rattle.kernel_model.specs.Families.NameMeaning.{NameOutcome}
+use Rattle.kernel_model.specs.Families.NameRemoving.{unlink_errno, unlink_node}
 use Rattle.entry_calls.specs.Done.{FailsAs}
 use Rattle.entry_calls.proofs.Endings.{done_as, failed_as, unless_none}
 use Rattle.entry_calls.proofs.removing.unlink_in.Goals as goal

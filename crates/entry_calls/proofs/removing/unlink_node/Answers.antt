@@ -3,8 +3,8 @@ use Rattle.std.specs.Bool.{beq}
 use Rattle.std.specs.Prelude.{if◌then◌else◌}
 use Rattle.abi_base.specs.declared.errno.Errno.TheVariants.{Notdir, Perm}
 use Rattle.tree_model.specs.Tree.{is_directory}
-use Rattle.kernel_model.specs.NameMeaning.{NameOutcome, Changes, Refuses}
-use Rattle.kernel_model.specs.NameRemoving.{removes_directory, without_name}
+use Rattle.kernel_model.specs.Families.NameMeaning.{NameOutcome, Changes, Refuses}
+use Rattle.kernel_model.specs.Families.NameRemoving.{removes_directory, without_name}
 use Rattle.entry_calls.proofs.Endings.{done_as}
 use Rattle.entry_calls.proofs.removing.unlink_node.Goals as goal
 

@@ -1,8 +1,8 @@
 use Rattle.std.proofs.Common.{◌+◌, sym, subst, ◌∙◌, arith}
 use Rattle.abi_types.specs.declared.open_kind.OpenKind.{OpenKind}
 use Rattle.abi_types.specs.declared.open_kind.OpenKind.TheVariants.{File}
-use Rattle.kernel_model.specs.FileBytes.{overwritten}
-use Rattle.kernel_model.specs.FileOffsets.{write_open_file}
+use Rattle.kernel_model.specs.Families.FileBytes.{overwritten}
+use Rattle.kernel_model.specs.Families.FileOffsets.{write_open_file}
 use Rattle.kernel_model.proofs.FileBytes.{overwritten_reworks}
 use Rattle.file_calls.specs.Opens.{IsThere}
 use Rattle.file_calls.proofs.Reworked.{nodes_stay, overwritten_still}

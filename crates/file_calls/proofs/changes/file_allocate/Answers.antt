@@ -1,6 +1,6 @@
 use Rattle.std.proofs.Common.{◌≡◌, ◌+◌, Some, ap, sym, subst, ◌∙◌, arith}
 use Rattle.abi_types.specs.declared.open_kind.OpenKind.{OpenKind}
-use Rattle.kernel_model.specs.FileChanges.{allocate, allocated}
+use Rattle.kernel_model.specs.Families.FileChanges.{allocate, allocated}
 use Rattle.kernel_model.proofs.FileChanges.{allocated_reworks}
 use Rattle.file_calls.specs.Done.{IsDone}
 use Rattle.file_calls.specs.Opens.{IsThere}

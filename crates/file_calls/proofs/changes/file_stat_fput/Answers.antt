@@ -1,6 +1,6 @@
 use Rattle.std.proofs.Common.{Some, sym, subst, ◌∙◌, arith}
 use Rattle.abi_types.specs.declared.open_kind.OpenKind.{OpenKind}
-use Rattle.kernel_model.specs.FileChanges.{asked_size, put_open, put_stat, put_times}
+use Rattle.kernel_model.specs.Families.FileChanges.{asked_size, put_open, put_stat, put_times}
 use Rattle.kernel_model.proofs.FileChanges.{put_stat_reworks, put_times_reworks}
 use Rattle.file_calls.specs.Done.{IsDone}
 use Rattle.file_calls.specs.Opens.{IsThere}

@@ -1,7 +1,7 @@
 use Rattle.std.proofs.Common.{Some, refl, ap, subst, ◌∙◌}
 use Rattle.abi_types.specs.declared.reply.Answer.TheVariants as answer
-use Rattle.kernel_model.specs.FileChanges.{put_found, put_times}
-use Rattle.kernel_model.specs.FilePaths.{walked}
+use Rattle.kernel_model.specs.Families.FileChanges.{put_found, put_times}
+use Rattle.kernel_model.specs.Families.FilePaths.{walked}
 use Rattle.kernel_model.specs.Outcome.{Outcome}
 use Rattle.kernel_model.proofs.FileChanges.{put_times_reworks}
 use Rattle.file_calls.specs.Done.{IsDone}

@@ -3,7 +3,7 @@ use Rattle.std.specs.FinMap.{get}
 use Rattle.abi_layout.specs.Layout.{IsLaidOut}
 use Rattle.abi_layout.specs.Structures.{dirent_layout, dirent_values}
 use Rattle.abi_structures.specs.declared.structures.Dirent.{Dirent}
-use Rattle.kernel_model.specs.FileLooks.{dirent, dirent_bytes}
+use Rattle.kernel_model.specs.Families.FileLooks.{dirent, dirent_bytes}
 use Rattle.file_calls.proofs.Heads.{laid_out_is_head}
 use Rattle.file_calls.proofs.listings.append_entry.Goals as goal
 

@@ -4,7 +4,7 @@ use Rattle.std.proofs.Math.Seq.{take-nil}
 use Rattle.std.specs.FinMap.{entries, get, len, len-entries}
 use Rattle.std.specs.Option.{option_map}
 use Rattle.tree_model.specs.Tree.{Names, Tree, names_in}
-use Rattle.kernel_model.specs.FileLooks.{entries_bytes, list_names, room_of}
+use Rattle.kernel_model.specs.Families.FileLooks.{entries_bytes, list_names, room_of}
 use Rattle.kernel_model.specs.Outcome.{replies}
 use Rattle.kernel_model.specs.Reply.{content}
 use Rattle.file_calls.proofs.listings.list_names.Goals as goal

@@ -1,5 +1,5 @@
 use Rattle.std.proofs.Common.{◌≡◌, ◌+◌, ◌++◌, length}
-use Rattle.kernel_model.specs.FileLooks.{entries_bytes}
+use Rattle.kernel_model.specs.Families.FileLooks.{entries_bytes}
 use Rattle.file_calls.proofs.listings.some_bytes.Given as goal
 
 -- the bytes so far and those of the entries that are left are all the bytes; and each position so far was an entry's

@@ -1,6 +1,6 @@
 use Rattle.std.proofs.Common.{Some, ap, ◌∙◌}
-use Rattle.kernel_model.specs.FileLooks.{tell_in}
-use Rattle.kernel_model.specs.FilePaths.{walked}
+use Rattle.kernel_model.specs.Families.FileLooks.{tell_in}
+use Rattle.kernel_model.specs.Families.FilePaths.{walked}
 use Rattle.kernel_model.specs.Outcome.{replies}
 use Rattle.file_calls.specs.Walks.{node_or_refusal}
 use Rattle.file_calls.proofs.Walks.{found_goes_on, lost_replies}

@@ -1,6 +1,6 @@
 use Rattle.std.proofs.Common.{Some, sym, subst, ◌∙◌, arith}
 use Rattle.abi_types.specs.declared.open_kind.OpenKind.{OpenKind}
-use Rattle.kernel_model.specs.FileBytes.{overwritten, write_at}
+use Rattle.kernel_model.specs.Families.FileBytes.{overwritten, write_at}
 use Rattle.kernel_model.specs.Outcome.{Outcome}
 use Rattle.kernel_model.proofs.FileBytes.{overwritten_reworks}
 use Rattle.file_calls.specs.Done.{IsDone}

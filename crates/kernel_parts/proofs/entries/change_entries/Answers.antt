@@ -1,9 +1,9 @@
 use Rattle.std.proofs.Common.{◌≡◌, ℕ, Some, option_copied, refl, sym, ap, subst, ◌∙◌}
 use Rattle.entry_calls.specs.Done.{FailsAs}
 use Rattle.entry_calls.specs.declared.failure.Failure.TheVariants.{Refused}
-use Rattle.kernel_model.specs.EntryCalls as model
-use Rattle.kernel_model.specs.NameMeaning.{NameOutcome}
-use Rattle.kernel_model.specs.Numbers.{next_object}
+use Rattle.kernel_model.specs.Families.EntryCalls as model
+use Rattle.kernel_model.specs.Families.NameMeaning.{NameOutcome}
+use Rattle.kernel_model.specs.Families.Numbers.{next_object}
 use Rattle.kernel_parts.specs.Entries.{number_of}
 use Rattle.kernel_parts.proofs.Naming.{counted_out, failed_is, new_again, numbered_is, refused_left, told_is, unnumbered}
 use Rattle.kernel_parts.proofs.entries.change_entries.Goals as goal

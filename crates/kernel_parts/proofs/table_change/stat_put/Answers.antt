@@ -2,7 +2,7 @@ use Rattle.std.proofs.Common.{◌≡◌, ℕ, ◌+◌, cond, Some, sym, ap, ◌�
 use Rattle.std.specs.FinMap.{get, insert}
 use Rattle.maps.specs.Maps.{number}
 use Rattle.object_store.specs.Objects.{Held}
-use Rattle.kernel_model.specs.DescriptorCalls.{lowered_to}
+use Rattle.kernel_model.specs.Families.DescriptorCalls.{lowered_to}
 use Rattle.kernel_model.specs.Release.{count_in}
 use Rattle.kernel_parts.proofs.Counts.{same_counted}
 use Rattle.kernel_parts.proofs.StatPuts.{is_zero, lowered_is, not_zero, stat_table}

@@ -1,6 +1,6 @@
 use Rattle.std.proofs.Common.{sym, ◌∙◌}
 use Rattle.kernel_model.specs.Need.{some_absent}
-use Rattle.kernel_model.specs.WaitCalls.{fds_of}
+use Rattle.kernel_model.specs.Families.WaitCalls.{fds_of}
 use Rattle.right_rules.proofs.Waits.{none_here, some_here, passed_over}
 use Rattle.right_rules.proofs.refusing.is_waited_absent.Goals as goal
 use Rattle.right_rules.proofs.refusing.is_waited_absent.Goals.{in-Some+else-not-contains, in_default}

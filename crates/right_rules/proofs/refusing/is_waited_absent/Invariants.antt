@@ -1,6 +1,6 @@
 use Rattle.std.proofs.Common.{◌≡◌, drop}
 use Rattle.kernel_model.specs.Need.{some_absent}
-use Rattle.kernel_model.specs.WaitCalls.{fds_of, wait_rows}
+use Rattle.kernel_model.specs.Families.WaitCalls.{fds_of, wait_rows}
 use Rattle.right_rules.proofs.refusing.is_waited_absent.Given as goal
 
 -- whether one is absent is decided by those that are left

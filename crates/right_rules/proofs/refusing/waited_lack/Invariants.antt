@@ -1,6 +1,6 @@
 use Rattle.std.proofs.Common.{◌≡◌, drop}
 use Rattle.kernel_model.specs.Need.{first_lack}
-use Rattle.kernel_model.specs.WaitCalls.{wait_rows}
+use Rattle.kernel_model.specs.Families.WaitCalls.{wait_rows}
 use Rattle.right_rules.proofs.refusing.waited_lack.Given as goal
 
 -- the first lack is the first of the rows that are left

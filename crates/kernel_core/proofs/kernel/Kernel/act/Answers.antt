@@ -10,7 +10,7 @@ use Rattle.kernel_model.specs.Outcome.{replies}
 use Rattle.kernel_model.specs.Release.{release}
 use Rattle.kernel_model.specs.State.{State, put_all}
 use Rattle.kernel_model.specs.Step.{act}
-use Rattle.kernel_model.specs.DescriptorCalls.{stat_get}
+use Rattle.kernel_model.specs.Families.DescriptorCalls.{stat_get}
 use Rattle.kernel_model.specs.Valid.{IsValid}
 use Rattle.kernel_model.specs.View.{whole}
 use Rattle.kernel_model.proofs.Valids.{release_valid}

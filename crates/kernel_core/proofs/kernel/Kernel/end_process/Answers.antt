@@ -4,7 +4,7 @@ use Rattle.std.specs.FinMap.{FinMap, get, insert, empty, retain_keys}
 use Rattle.abi_types.specs.declared.open_kind.OpenKind.{OpenKind}
 use Rattle.maps.specs.Maps.{number, total}
 use Rattle.object_store.specs.Objects.{Held, is_held}
-use Rattle.kernel_model.specs.ProcessCalls.{ended_process, end_updates}
+use Rattle.kernel_model.specs.Families.ProcessCalls.{ended_process, end_updates}
 use Rattle.tree_model.specs.Opens.{is_used}
 use Rattle.tree_model.specs.Retained.{retained}
 use Rattle.kernel_model.specs.Release.{count_in, holders, release, without_nodes}

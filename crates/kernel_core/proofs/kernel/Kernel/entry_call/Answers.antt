@@ -3,9 +3,9 @@ use Rattle.std.specs.FinMap.{get, insert}
 use Rattle.maps.specs.Maps.{insert_self}
 use Rattle.tree_model.specs.Opens.{is_used}
 use Rattle.tree_model.specs.Retained.{retained}
-use Rattle.kernel_model.specs.EntryCalls.{name_meaning}
-use Rattle.kernel_model.specs.NameMeaning.{NameOutcome}
-use Rattle.kernel_model.specs.Numbers.{next_object}
+use Rattle.kernel_model.specs.Families.EntryCalls.{name_meaning}
+use Rattle.kernel_model.specs.Families.NameMeaning.{NameOutcome}
+use Rattle.kernel_model.specs.Families.Numbers.{next_object}
 use Rattle.kernel_model.specs.Outcome.{Outcome}
 use Rattle.kernel_model.specs.Release.{release}
 use Rattle.kernel_model.specs.State.{State, Table, Tree, put_all, tree_of}

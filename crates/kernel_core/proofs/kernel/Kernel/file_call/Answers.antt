@@ -2,7 +2,7 @@ use Rattle.std.proofs.Common.{◌≡◌, ◌+◌, Option, Some, None, refl, sym,
 use Rattle.std.specs.FinMap.{get}
 use Rattle.abi_types.specs.declared.descriptor.Descriptor.{Descriptor}
 use Rattle.abi_types.specs.declared.reply.Answer.TheVariants as answer
-use Rattle.kernel_model.specs.FileMeaning.{open_of}
+use Rattle.kernel_model.specs.Families.FileMeaning.{open_of}
 use Rattle.kernel_model.specs.State.{State, Table}
 use Rattle.kernel_model.specs.View.{whole}
 use Rattle.kernel_model.proofs.Valids.{same_value}

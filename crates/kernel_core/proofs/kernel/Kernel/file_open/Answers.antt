@@ -8,7 +8,7 @@ use Rattle.maps.specs.Maps.{insert_self}
 use Rattle.tree_model.specs.Opens.{is_used}
 use Rattle.tree_model.specs.Retained.{retained}
 use Rattle.tree_model.specs.Tree.{IsTree}
-use Rattle.kernel_model.specs.Numbers.{made_more, next_object}
+use Rattle.kernel_model.specs.Families.Numbers.{made_more, next_object}
 use Rattle.kernel_model.specs.Outcome.{Outcome}
 use Rattle.kernel_model.specs.Release.{holders, release}
 use Rattle.kernel_model.specs.Reply.{success}

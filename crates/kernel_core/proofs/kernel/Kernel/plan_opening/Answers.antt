@@ -2,8 +2,8 @@ use Rattle.std.proofs.Common.{◌≡◌, ℕ, ◌+◌, ◌-◌, None, Some, opti
 use Rattle.std.specs.FinMap.{get}
 use Rattle.abi_base.specs.declared.errno.Errno.TheVariants.{Badf}
 use Rattle.file_calls.specs.declared.path_fault.PathFault.TheVariants as path_fault
-use Rattle.kernel_model.specs.Numbers.{can_number, next_object}
-use Rattle.kernel_model.specs.Opening.{opened_descriptor}
+use Rattle.kernel_model.specs.Families.Numbers.{can_number, next_object}
+use Rattle.kernel_model.specs.Families.Opening.{opened_descriptor}
 use Rattle.kernel_model.specs.Outcome.{replies}
 use Rattle.kernel_model.specs.State.{State, Table, tree_of}
 use Rattle.kernel_model.proofs.Valids.{same_value}

@@ -9,14 +9,14 @@ use Rattle.abi_types.specs.declared.node.NodeKind.TheVariants as kind
 use Rattle.tree_model.specs.Changes.{first_fault, made, make_faults}
 use Rattle.tree_model.specs.declared.fault.TreeFault.{TreeFault}
 use Rattle.tree_model.specs.declared.fault.TreeFault.TheVariants.{Absent, Taken, NotDirectory, IsDirectory, NotEmpty, Below, Links, TooLarge, NoMemory}
-use Rattle.kernel_model.specs.FileChanges.{modified, retimed}
-use Rattle.kernel_model.specs.FilePaths.{path_error, path_errors}
-use Rattle.kernel_model.specs.LastNames.{directory_parts, last_name, last_outside}
+use Rattle.kernel_model.specs.Families.FileChanges.{modified, retimed}
+use Rattle.kernel_model.specs.Families.FilePaths.{path_error, path_errors}
+use Rattle.kernel_model.specs.Families.LastNames.{directory_parts, last_name, last_outside}
 use Rattle.kernel_model.specs.Meaning.{Meaning}
-use Rattle.kernel_model.specs.NameMeaning.{NameOutcome, Refuses, Changes, NameMeaning, at_name, by_name, unless_fault}
+use Rattle.kernel_model.specs.Families.NameMeaning.{NameOutcome, Refuses, Changes, NameMeaning, at_name, by_name, unless_fault}
 use Rattle.kernel_model.specs.Rows.{base_row}
 use Rattle.kernel_model.specs.State.{Tree}
-use Rattle.kernel_model.specs.TreeUpdates.{Change}
+use Rattle.kernel_model.specs.Families.TreeUpdates.{Change}
 
 -- The error for a fault of the tree. Want of memory is no fault of a tree's table.
 abbrev pub errno_of : TreeFault → Errno

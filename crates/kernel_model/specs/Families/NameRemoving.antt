@@ -8,15 +8,15 @@ use Rattle.tree_model.specs.Changes.{first_fault, is_absent, unlinked, unlink_fa
 use Rattle.tree_model.specs.Tree.{entry_of, is_directory}
 use Rattle.tree_model.specs.declared.fault.TreeFault.{TreeFault}
 use Rattle.tree_model.specs.declared.fault.TreeFault.TheVariants.{NotEmpty}
-use Rattle.kernel_model.specs.FileChanges.{retimed}
-use Rattle.kernel_model.specs.FilePaths.{path_errors}
-use Rattle.kernel_model.specs.LastNames.{LastName, StandsIn, IsNone, IsOutside, directory_parts, last_name, last_outside}
+use Rattle.kernel_model.specs.Families.FileChanges.{retimed}
+use Rattle.kernel_model.specs.Families.FilePaths.{path_errors}
+use Rattle.kernel_model.specs.Families.LastNames.{LastName, StandsIn, IsNone, IsOutside, directory_parts, last_name, last_outside}
 use Rattle.kernel_model.specs.Meaning.{Meaning}
-use Rattle.kernel_model.specs.NameMaking.{errno_of, with_new_names}
-use Rattle.kernel_model.specs.NameMeaning.{NameOutcome, Refuses, Changes, NameMeaning, at_name, by_name, unless_fault}
+use Rattle.kernel_model.specs.Families.NameMaking.{errno_of, with_new_names}
+use Rattle.kernel_model.specs.Families.NameMeaning.{NameOutcome, Refuses, Changes, NameMeaning, at_name, by_name, unless_fault}
 use Rattle.kernel_model.specs.Rows.{base_row}
 use Rattle.kernel_model.specs.State.{Part, Tree, at_node}
-use Rattle.kernel_model.specs.TreeUpdates.{Change}
+use Rattle.kernel_model.specs.Families.TreeUpdates.{Change}
 
 -- the times of a node that has other names now, or other times
 abbrev pub recounted : ℕ → Times → Times

@@ -7,9 +7,9 @@ use Rattle.abi_types.specs.declared.open_kind.OpenKind.{OpenKind}
 use Rattle.abi_types.specs.declared.open_kind.OpenKind.TheVariants.{File, Terminal}
 use Rattle.abi_types.specs.declared.reply.Answer.TheVariants as answer
 use Rattle.abi_types.specs.declared.stream.Stream.{Stream}
-use Rattle.kernel_model.specs.FileOffsets.{with_offset, read_on, seek_open_file, write_on}
+use Rattle.kernel_model.specs.Families.FileOffsets.{with_offset, read_on, seek_open_file, write_on}
 use Rattle.kernel_model.specs.Meaning.{Meaning}
-use Rattle.kernel_model.specs.OpenMeaning.{OpenMeaning, by_open}
+use Rattle.kernel_model.specs.Families.OpenMeaning.{OpenMeaning, by_open}
 use Rattle.kernel_model.specs.Outcome.{Outcome, replies}
 use Rattle.kernel_model.specs.Reply.{content, refused, success}
 use Rattle.kernel_model.specs.Rows.{base_row, either_row}

@@ -8,7 +8,7 @@ use Rattle.path_lookup.specs.Split.{dot}
 use Rattle.path_lookup.specs.declared.ends.End.{End}
 use Rattle.path_lookup.specs.declared.ends.End.TheVariants as end
 use Rattle.path_lookup.specs.declared.ends.WalkMode.TheVariants.{Parent}
-use Rattle.kernel_model.specs.FilePaths.{Walked, Ends, Fails, LeadsOutside, walked}
+use Rattle.kernel_model.specs.Families.FilePaths.{Walked, Ends, Fails, LeadsOutside, walked}
 use Rattle.kernel_model.specs.State.{Part, Tree, at_node, at_names}
 
 -- the name at this place of a path

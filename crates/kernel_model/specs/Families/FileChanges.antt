@@ -14,8 +14,8 @@ use Rattle.path_lookup.specs.declared.ends.WalkMode.{WalkMode}
 use Rattle.tree_model.specs.Changes.{bytes_of, with_bytes, with_times}
 use Rattle.tree_model.specs.Files.{resized}
 use Rattle.tree_model.specs.declared.limits.TheConstants.{MOST_FILE_BYTES}
-use Rattle.kernel_model.specs.FileMeaning.{FileMeaning, on_open}
-use Rattle.kernel_model.specs.FilePaths.{by_path, found_part, lookup_mode, walked}
+use Rattle.kernel_model.specs.Families.FileMeaning.{FileMeaning, on_open}
+use Rattle.kernel_model.specs.Families.FilePaths.{by_path, found_part, lookup_mode, walked}
 use Rattle.kernel_model.specs.Meaning.{Meaning}
 use Rattle.kernel_model.specs.Outcome.{Outcome, replies}
 use Rattle.kernel_model.specs.Reply.{refused, success}

@@ -15,10 +15,10 @@ use Rattle.abi_types.specs.declared.open_kind.OpenKind.{OpenKind}
 use Rattle.abi_types.specs.declared.open_kind.OpenKind.TheVariants.{File, Directory, End, Terminal, Process}
 use Rattle.abi_types.specs.declared.reply.Payload.TheVariants as payload
 use Rattle.path_lookup.specs.declared.ends.WalkMode.TheVariants.{NoFollow}
-use Rattle.kernel_model.specs.DescriptorCalls.{needing, type_number}
-use Rattle.kernel_model.specs.FileMeaning.{FileMeaning, on_open}
-use Rattle.kernel_model.specs.FilePaths.{by_path, lookup_mode}
-use Rattle.kernel_model.specs.FileTypes.{directory, regular_file, symbolic_link}
+use Rattle.kernel_model.specs.Families.DescriptorCalls.{needing, type_number}
+use Rattle.kernel_model.specs.Families.FileMeaning.{FileMeaning, on_open}
+use Rattle.kernel_model.specs.Families.FilePaths.{by_path, lookup_mode}
+use Rattle.kernel_model.specs.Families.FileTypes.{directory, regular_file, symbolic_link}
 use Rattle.kernel_model.specs.Meaning.{Meaning}
 use Rattle.kernel_model.specs.Outcome.{Outcome, replies}
 use Rattle.kernel_model.specs.Reply.{content, refused, success}

@@ -15,7 +15,7 @@ use Rattle.path_lookup.specs.declared.ends.WalkFault.TheVariants as fault
 use Rattle.path_lookup.specs.declared.ends.WalkMode.{WalkMode}
 use Rattle.path_lookup.specs.declared.ends.WalkMode.TheVariants.{Follow, NoFollow}
 use Rattle.tree_model.specs.Finds.{finds}
-use Rattle.kernel_model.specs.FileMeaning.{FileMeaning}
+use Rattle.kernel_model.specs.Families.FileMeaning.{FileMeaning}
 use Rattle.kernel_model.specs.Outcome.{Outcome, replies}
 use Rattle.kernel_model.specs.Reply.{refused, denied}
 use Rattle.kernel_model.specs.State.{Part, Tree, at_node}

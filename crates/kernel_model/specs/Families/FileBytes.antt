@@ -9,15 +9,15 @@ use Rattle.abi_types.specs.declared.open_kind.OpenKind.TheVariants.{File}
 use Rattle.abi_types.specs.declared.reply.Answer.TheVariants as answer
 use Rattle.tree_model.specs.Changes.{bytes_of, with_bytes}
 use Rattle.tree_model.specs.Files.{after_write, fitting, is_beyond, read_bytes}
-use Rattle.kernel_model.specs.FileChanges.{changing, modified, retimed}
-use Rattle.kernel_model.specs.FileLooks.{looking}
-use Rattle.kernel_model.specs.FileMeaning.{on_open}
+use Rattle.kernel_model.specs.Families.FileChanges.{changing, modified, retimed}
+use Rattle.kernel_model.specs.Families.FileLooks.{looking}
+use Rattle.kernel_model.specs.Families.FileMeaning.{on_open}
 use Rattle.kernel_model.specs.Meaning.{Meaning}
 use Rattle.kernel_model.specs.Outcome.{Outcome, replies}
 use Rattle.kernel_model.specs.Reply.{content, refused, success}
 use Rattle.kernel_model.specs.Rows.{base_row, both}
 use Rattle.kernel_model.specs.State.{Tree}
-use Rattle.kernel_model.specs.TreeUpdates.{node_update}
+use Rattle.kernel_model.specs.Families.TreeUpdates.{node_update}
 
 -- ---- reading
 

@@ -4,11 +4,11 @@ use Rattle.abi_base.specs.declared.errno.Errno.TheVariants.{Nosys}
 use Rattle.abi_types.specs.declared.call.Call.{Call}
 use Rattle.abi_types.specs.declared.call.Call.TheVariants as call
 use Rattle.abi_types.specs.declared.node.NodeKind.TheVariants as kind
-use Rattle.kernel_model.specs.FilePaths.{lookup_mode}
-use Rattle.kernel_model.specs.NameMaking.{making, making_unless, text_error}
-use Rattle.kernel_model.specs.NameMeaning.{NameMeaning, Refuses}
-use Rattle.kernel_model.specs.NameMoving.{linking, renaming}
-use Rattle.kernel_model.specs.NameRemoving.{unlinking}
+use Rattle.kernel_model.specs.Families.FilePaths.{lookup_mode}
+use Rattle.kernel_model.specs.Families.NameMaking.{making, making_unless, text_error}
+use Rattle.kernel_model.specs.Families.NameMeaning.{NameMeaning, Refuses}
+use Rattle.kernel_model.specs.Families.NameMoving.{linking, renaming}
+use Rattle.kernel_model.specs.Families.NameRemoving.{unlinking}
 
 -- the number of that descriptor, and of the second one where there are two, where the call is such a one
 abbrev pub entry_fds : Call → Option (ℕ × Option ℕ)

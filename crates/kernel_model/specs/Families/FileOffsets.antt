@@ -6,7 +6,7 @@ use Rattle.abi_types.specs.declared.open_kind.OpenKind.TheVariants.{File}
 use Rattle.abi_types.specs.declared.reply.Reply.{Reply}
 use Rattle.tree_model.specs.Changes.{bytes_of}
 use Rattle.tree_model.specs.Files.{is_beyond}
-use Rattle.kernel_model.specs.FileBytes.{bytes_at, overwrites, written_count}
+use Rattle.kernel_model.specs.Families.FileBytes.{bytes_at, overwrites, written_count}
 use Rattle.kernel_model.specs.Outcome.{Outcome, replies}
 use Rattle.kernel_model.specs.Reply.{content, refused, success}
 use Rattle.kernel_model.specs.State.{Tree, Update, set_open}

@@ -22,20 +22,20 @@ use Rattle.path_lookup.specs.declared.ends.WalkMode.{WalkMode}
 use Rattle.path_lookup.specs.declared.ends.WalkMode.TheVariants.{NoFollow}
 use Rattle.tree_model.specs.Changes.{first_fault, make_faults}
 use Rattle.tree_model.specs.declared.fault.TreeFault.{TreeFault}
-use Rattle.kernel_model.specs.ClockCalls.{real_time}
-use Rattle.kernel_model.specs.DescriptorCalls.{lowest_free}
-use Rattle.kernel_model.specs.FileChanges.{sized}
-use Rattle.kernel_model.specs.FileMeaning.{open_of}
-use Rattle.kernel_model.specs.FilePaths.{Walked, Ends, Fails, LeadsOutside, found_part, lookup_mode, outside_of, path_errors, walked}
-use Rattle.kernel_model.specs.LastNames.{name_at}
+use Rattle.kernel_model.specs.Families.ClockCalls.{real_time}
+use Rattle.kernel_model.specs.Families.DescriptorCalls.{lowest_free}
+use Rattle.kernel_model.specs.Families.FileChanges.{sized}
+use Rattle.kernel_model.specs.Families.FileMeaning.{open_of}
+use Rattle.kernel_model.specs.Families.FilePaths.{Walked, Ends, Fails, LeadsOutside, found_part, lookup_mode, outside_of, path_errors, walked}
+use Rattle.kernel_model.specs.Families.LastNames.{name_at}
 use Rattle.kernel_model.specs.Meaning.{Meaning}
-use Rattle.kernel_model.specs.NameMaking.{errno_of, with_node}
-use Rattle.kernel_model.specs.Numbers.{can_number, next_object, process_updates}
+use Rattle.kernel_model.specs.Families.NameMaking.{errno_of, with_node}
+use Rattle.kernel_model.specs.Families.Numbers.{can_number, next_object, process_updates}
 use Rattle.kernel_model.specs.Outcome.{Outcome, replies}
 use Rattle.kernel_model.specs.Reply.{denied, refused, success}
 use Rattle.kernel_model.specs.Rows.{asking_row, both, where_set}
 use Rattle.kernel_model.specs.State.{ProcessState, Part, Table, Tree, tree_of, at_node, at_names, set_open, set_table}
-use Rattle.kernel_model.specs.TreeUpdates.{Change, change_updates, no_change}
+use Rattle.kernel_model.specs.Families.TreeUpdates.{Change, change_updates, no_change}
 use Rattle.kernel_model.specs.Valid.{fits, fits_inheriting}
 use Rattle.kernel_model.specs.View.{whole}
 

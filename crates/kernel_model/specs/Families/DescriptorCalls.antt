@@ -13,7 +13,7 @@ use Rattle.abi_types.specs.declared.open_kind.OpenKind.{OpenKind}
 use Rattle.abi_types.specs.declared.open_kind.OpenKind.TheVariants.{File, Directory, End, Terminal, Process}
 use Rattle.abi_types.specs.declared.reply.Answer.TheVariants as answer
 use Rattle.abi_types.specs.declared.reply.Payload.TheVariants as payload
-use Rattle.kernel_model.specs.FileTypes.{character_device, directory, fifo, process, regular_file, stream_socket}
+use Rattle.kernel_model.specs.Families.FileTypes.{character_device, directory, fifo, process, regular_file, stream_socket}
 use Rattle.kernel_model.specs.Meaning.{Meaning, answering}
 use Rattle.kernel_model.specs.Outcome.{Outcome, replies}
 use Rattle.kernel_model.specs.Reply.{refused, success}

@@ -11,9 +11,9 @@ use Rattle.abi_types.specs.declared.place.Place.TheVariants as place
 use Rattle.abi_types.specs.declared.place.Place.TheVariants.{At}
 use Rattle.abi_types.specs.declared.reply.Payload.TheVariants.{Content}
 use Rattle.abi_types.specs.declared.reply.Reply.{Reply}
-use Rattle.kernel_model.specs.FileBytes.{bytes_at, page_bytes}
-use Rattle.kernel_model.specs.FileLooks.{looking}
-use Rattle.kernel_model.specs.FileMeaning.{FileMeaning, on_open}
+use Rattle.kernel_model.specs.Families.FileBytes.{bytes_at, page_bytes}
+use Rattle.kernel_model.specs.Families.FileLooks.{looking}
+use Rattle.kernel_model.specs.Families.FileMeaning.{FileMeaning, on_open}
 use Rattle.kernel_model.specs.Meaning.{Meaning, answering}
 use Rattle.kernel_model.specs.Outcome.{Outcome, replies}
 use Rattle.kernel_model.specs.Reply.{refused, success}

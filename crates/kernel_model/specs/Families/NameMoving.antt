@@ -11,15 +11,15 @@ use Rattle.tree_model.specs.Changes.{first_fault, is_same, link_faults, linked, 
 use Rattle.tree_model.specs.Tree.{entry_of}
 use Rattle.tree_model.specs.declared.fault.TreeFault.{TreeFault}
 use Rattle.tree_model.specs.declared.fault.TreeFault.TheVariants.{IsDirectory}
-use Rattle.kernel_model.specs.FilePaths.{Walked, Ends, Fails, LeadsOutside, found_part, lookup_mode, path_errors, walked}
-use Rattle.kernel_model.specs.LastNames.{LastName, StandsIn, IsNone, IsOutside, directory_parts, last_name, last_outside}
+use Rattle.kernel_model.specs.Families.FilePaths.{Walked, Ends, Fails, LeadsOutside, found_part, lookup_mode, path_errors, walked}
+use Rattle.kernel_model.specs.Families.LastNames.{LastName, StandsIn, IsNone, IsOutside, directory_parts, last_name, last_outside}
 use Rattle.kernel_model.specs.Meaning.{Meaning}
-use Rattle.kernel_model.specs.NameMaking.{errno_of, with_new_names}
-use Rattle.kernel_model.specs.NameMeaning.{NameOutcome, Refuses, LeadsOut, Changes, NameMeaning, at_name, by_names, unless_fault}
-use Rattle.kernel_model.specs.NameRemoving.{named_parts, unless_lost, with_new_count}
+use Rattle.kernel_model.specs.Families.NameMaking.{errno_of, with_new_names}
+use Rattle.kernel_model.specs.Families.NameMeaning.{NameOutcome, Refuses, LeadsOut, Changes, NameMeaning, at_name, by_names, unless_fault}
+use Rattle.kernel_model.specs.Families.NameRemoving.{named_parts, unless_lost, with_new_count}
 use Rattle.kernel_model.specs.Rows.{base_row}
 use Rattle.kernel_model.specs.State.{Tree}
-use Rattle.kernel_model.specs.TreeUpdates.{Change, no_change}
+use Rattle.kernel_model.specs.Families.TreeUpdates.{Change, no_change}
 
 -- ---- file_link: one more name of a node
 

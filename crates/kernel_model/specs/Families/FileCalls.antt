@@ -4,12 +4,12 @@ use Rattle.abi_base.specs.declared.errno.Errno.TheVariants.{Nosys}
 use Rattle.abi_types.specs.declared.call.Call.{Call}
 use Rattle.abi_types.specs.declared.call.Call.TheVariants as call
 use Rattle.path_lookup.specs.declared.ends.WalkMode.TheVariants.{NoFollow}
-use Rattle.kernel_model.specs.FileBytes.{read_at, write_at}
-use Rattle.kernel_model.specs.FileChanges.{allocate, changing, put_by_path, put_open}
-use Rattle.kernel_model.specs.FileLooks.{list_open, looking, read_link_in, tell_in, tell_open}
-use Rattle.kernel_model.specs.FileMeaning.{FileMeaning}
-use Rattle.kernel_model.specs.FilePaths.{by_path, lookup_mode}
-use Rattle.kernel_model.specs.MemoryCalls.{is_anonymous, mapping}
+use Rattle.kernel_model.specs.Families.FileBytes.{read_at, write_at}
+use Rattle.kernel_model.specs.Families.FileChanges.{allocate, changing, put_by_path, put_open}
+use Rattle.kernel_model.specs.Families.FileLooks.{list_open, looking, read_link_in, tell_in, tell_open}
+use Rattle.kernel_model.specs.Families.FileMeaning.{FileMeaning}
+use Rattle.kernel_model.specs.Families.FilePaths.{by_path, lookup_mode}
+use Rattle.kernel_model.specs.Families.MemoryCalls.{is_anonymous, mapping}
 use Rattle.kernel_model.specs.Outcome.{replies}
 use Rattle.kernel_model.specs.Reply.{refused}
 
