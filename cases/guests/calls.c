@@ -520,6 +520,21 @@ static void read_argument(char kind)
     }
 }
 
+/* An argument of a raw call: a number, or the address of bytes or of a structure. */
+static void read_raw_argument(void)
+{
+    want(" ", "a space or ` = ` is missing");
+    if (stands("\"")) {
+        begin_structure();
+        read_text(&arena);
+    } else if (stands("<")) {
+        begin_structure();
+        read_pieces(&arena);
+    } else {
+        fill(read_number());
+    }
+}
+
 /* Reads the call's name or number, which goes to a7, and its arguments. In a raw call a register that no argument fills is zero;
    in others it has bits that the call mustn't look at. */
 static const struct call *read_call(void)
@@ -548,7 +563,7 @@ static const struct call *read_call(void)
             read_argument(*kind);
     } else {
         while (at < end && !stands(" = "))
-            read_argument('n');
+            read_raw_argument();
     }
     return call;
 }

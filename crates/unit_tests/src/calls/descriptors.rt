@@ -1,4 +1,4 @@
-//! Descriptors.
+//! Descriptors. Which arguments are refused is shown by cases/calls/arguments-are-refused.calls.
 use crate::calls::showing::Want::{No, Yes};
 use crate::calls::showing::{
     ABC, ABSENT, DATA, DATA_END, READ_ONLY, Row, TOP, WRITE_ONLY, first_other,
@@ -11,9 +11,6 @@ const RANGES: &[u64] = &[DATA + 0x100, 5, DATA + 0x200, 3];
 
 // A range of 65,536 bytes, and one that can't be read or written.
 const LONG: &[u64] = &[DATA, 65_536, ABSENT, 9];
-
-// A range of a byte less.
-const SHORT: &[u64] = &[DATA, 65_535, ABSENT, 9];
 
 // A range without a byte where no page is, and one of 5 bytes.
 const EMPTY: &[u64] = &[ABSENT, 0, DATA + 0x100, 5];
@@ -31,12 +28,6 @@ const ROWS: &[Row] = &[
     (7, &[9], &[], Yes(&[9])),
     (11, &[3, 0x1_0000_0004], &[], Yes(&[3, 4])),
     (15, &[9], &[], Yes(&[9])),
-    // fd_create1
-    (4, &[17], &[], No(Errno::Notsup)),
-    (4, &[48], &[], No(Errno::Notsup)),
-    (4, &[112], &[], No(Errno::Notsup)),
-    (4, &[0], &[], No(Errno::Inval)),
-    (4, &[131], &[], No(Errno::Inval)),
     // fd_create2
     (5, &[48], &[], Yes(&[48])),
     (5, &[130], &[], Yes(&[130])),
@@ -46,37 +37,21 @@ const ROWS: &[Row] = &[
     // fd_pread
     (8, &[1, DATA, 2, 6], RANGES, Yes(&[1, 8, 6])),
     (8, &[1, DATA, 2, TOP - 1], LONG, Yes(&[1, 65_536, TOP - 1])),
-    (8, &[1, DATA, 2, 0], SHORT, No(Errno::Fault)),
     (8, &[1, DATA, 2, 0], EMPTY, Yes(&[1, 5, 0])),
     (8, &[1, ABSENT, 0, 0], &[], Yes(&[1, 0, 0])),
-    (8, &[1, ABSENT, 1025, 0], &[], No(Errno::Inval)),
-    (8, &[1, ABSENT, 1, TOP], &[], No(Errno::Inval)),
-    (8, &[1, ABSENT, 1024, 0], &[], No(Errno::Fault)),
-    (8, &[1, DATA, 1, 0], &[READ_ONLY, 1], No(Errno::Fault)),
     (8, &[1, DATA, 1, 0], &[WRITE_ONLY, 1], Yes(&[1, 1, 0])),
     // fd_pwrite
     (9, &[1, DATA, 1, 2], WRITTEN, Yes(&[1, 3, 0x61, 2])),
     (9, &[1, DATA, 2, 0], LONG, Yes(&[1, 65_536, 0, 0])),
-    (9, &[1, DATA, 2, 0], SHORT, No(Errno::Fault)),
-    (9, &[1, ABSENT, 1025, 0], &[], No(Errno::Inval)),
-    (9, &[1, DATA, 1, TOP], WRITTEN, No(Errno::Inval)),
-    (9, &[1, DATA, 1, 0], &[WRITE_ONLY, 1], No(Errno::Fault)),
     (9, &[1, DATA, 1, 0], &[READ_ONLY, 1], Yes(&[1, 1, 0, 0])),
     // fd_read
     (10, &[1, DATA, 2], RANGES, Yes(&[1, 8])),
-    (10, &[1, DATA, 1025], &[], No(Errno::Inval)),
-    (10, &[1, DATA, 1], &[READ_ONLY, 1], No(Errno::Fault)),
     // fd_seek
     (12, &[1, u64::MAX, 1], &[], Yes(&[1, u64::MAX, 1])),
     (12, &[1, u64::MAX, 2], &[], Yes(&[1, u64::MAX, 2])),
     (12, &[1, TOP - 1, 3], &[], Yes(&[1, TOP - 1, 3])),
-    (12, &[1, TOP, 3], &[], No(Errno::Inval)),
-    (12, &[1, 0, 0], &[], No(Errno::Inval)),
-    (12, &[1, 0, 4], &[], No(Errno::Inval)),
     // fd_stat_get
     (13, &[1, DATA_END - 24], &[], Yes(&[1])),
-    (13, &[1, DATA_END - 23], &[], No(Errno::Fault)),
-    (13, &[1, READ_ONLY], &[], No(Errno::Fault)),
     // fd_stat_put
     (14, &[1, DATA, 3], STAT, Yes(&[1, 0x11, 4, 0x40, 2, 3])),
     (
@@ -85,20 +60,8 @@ const ROWS: &[Row] = &[
         &[0x1f_0000, 0x81_5fff_f7ff, 0x81_5fff_f7ff],
         Yes(&[1, 0, 31, 0x81_5fff_f7ff, 0x81_5fff_f7ff, 1]),
     ),
-    (14, &[1, ABSENT, 0], STAT, No(Errno::Inval)),
-    (14, &[1, ABSENT, 4], STAT, No(Errno::Inval)),
-    (14, &[1, ABSENT, 3], STAT, No(Errno::Fault)),
-    (14, &[1, DATA, 2], &[0x20_0000, 0, 0], No(Errno::Inval)),
-    (14, &[1, DATA, 1], &[0, 0x800, 0], No(Errno::Inval)),
-    (14, &[1, DATA, 1], &[0, 0, 0x2000_0000], No(Errno::Inval)),
     // fd_write
     (16, &[1, DATA, 1], WRITTEN, Yes(&[1, 3, 0x61])),
-    (16, &[1, DATA, 1025], &[], No(Errno::Inval)),
-    (16, &[1, ABSENT, 1], &[], No(Errno::Fault)),
-    // no call
-    (49, &[], &[], No(Errno::Nosys)),
-    (u64::MAX, &[], &[], No(Errno::Nosys)),
-    (0x1_0000_0003, &[], &[], No(Errno::Nosys)),
 ];
 
 #[test]

@@ -1,9 +1,6 @@
-//! Files, and the memory that may be mapped of them.
-use crate::calls::showing::Want::{No, Yes};
-use crate::calls::showing::{
-    ABC, ABSENT, DATA, DATA_END, READ_ONLY, Row, TOP, WRITE_ONLY, first_other,
-};
-use abi_types::Errno;
+//! Files, and the memory that may be mapped of them. Which arguments are refused is shown by cases/calls/arguments-are-refused.calls.
+use crate::calls::showing::Want::Yes;
+use crate::calls::showing::{ABC, ABSENT, DATA, DATA_END, Row, TOP, WRITE_ONLY, first_other};
 use std::test::Fail;
 
 // The path `abc`, a state of a descriptor behind it, with flag 4 and the base right FD_READ, and a wrong one behind that.
@@ -18,13 +15,8 @@ const ROWS: &[Row] = &[
     // file_advise
     (17, &[1, 2, 3, 6], &[], Yes(&[1, 2, 3, 6])),
     (17, &[1, TOP - 2, 1, 1], &[], Yes(&[1, TOP - 2, 1, 1])),
-    (17, &[1, TOP - 1, 1, 1], &[], No(Errno::Inval)),
-    (17, &[1, u64::MAX, 1, 1], &[], No(Errno::Inval)),
-    (17, &[1, 2, 3, 0], &[], No(Errno::Inval)),
-    (17, &[1, 2, 3, 7], &[], No(Errno::Inval)),
     // file_allocate
     (18, &[1, 2, 3], &[], Yes(&[1, 2, 3])),
-    (18, &[1, 2, 0], &[], No(Errno::Inval)),
     // file_create
     (19, &[1, DATA, 3, 32], PATH, Yes(&[1, 0, 3, 0x61, 32])),
     (19, &[1, ABSENT, 1025, 32], &[], Yes(&[1, 0, 1025, 0, 32])),
@@ -35,8 +27,6 @@ const ROWS: &[Row] = &[
         Yes(&[1, 0, 1025, 0, 32]),
     ),
     (19, &[1, ABSENT, 0, 32], &[], Yes(&[1, 0, 0, 0, 32])),
-    (19, &[1, ABSENT, 1024, 32], &[], No(Errno::Fault)),
-    (19, &[1, ABSENT, 3, 96], &[], No(Errno::Inval)),
     // file_link
     (
         20,
@@ -44,13 +34,6 @@ const ROWS: &[Row] = &[
         PATH,
         Yes(&[5, 1, 3, 0x61, 7, 2, 0x62]),
     ),
-    (
-        20,
-        &[2 * FOLLOW, ABSENT, 3, 7, DATA, 1],
-        PATH,
-        No(Errno::Inval),
-    ),
-    (20, &[5, DATA, 3, 7, ABSENT, 1], PATH, No(Errno::Fault)),
     // file_open
     (
         21,
@@ -58,21 +41,9 @@ const ROWS: &[Row] = &[
         PATH,
         Yes(&[5, 0, 3, 0x61, 13, 4, 2]),
     ),
-    (21, &[5, ABSENT, 3, 3, DATA + 8], PATH, No(Errno::Inval)),
-    (21, &[5, ABSENT, 3, 16, DATA + 8], PATH, No(Errno::Inval)),
-    (
-        21,
-        &[2 * FOLLOW, ABSENT, 3, 0, DATA + 8],
-        PATH,
-        No(Errno::Inval),
-    ),
-    (21, &[5, ABSENT, 3, 0, DATA + 32], PATH, No(Errno::Fault)),
-    (21, &[5, DATA, 3, 0, ABSENT], PATH, No(Errno::Fault)),
-    (21, &[5, DATA, 3, 0, DATA + 32], PATH, No(Errno::Inval)),
     // file_readdir
     (22, &[1, DATA, 70_000, 9], &[], Yes(&[1, 70_000, 9])),
     (22, &[1, ABSENT, 0, 9], &[], Yes(&[1, 0, 9])),
-    (22, &[1, DATA_END - 8, 9, 0], &[], No(Errno::Fault)),
     // file_readlink
     (
         23,
@@ -86,8 +57,6 @@ const ROWS: &[Row] = &[
         PATH,
         Yes(&[1, 0, 3, 0x61, u64::MAX]),
     ),
-    (23, &[1, DATA, 3, READ_ONLY, 1], PATH, No(Errno::Fault)),
-    (23, &[1, ABSENT, 3, DATA, 1], PATH, No(Errno::Fault)),
     // file_rename
     (
         24,
@@ -95,18 +64,11 @@ const ROWS: &[Row] = &[
         PATH,
         Yes(&[1, 0, 3, 0x61, 7, 2, 0x62]),
     ),
-    (24, &[1, DATA, 3, 7, WRITE_ONLY, 1], PATH, No(Errno::Fault)),
     // file_stat_fget
     (25, &[1, DATA_END - 56], &[], Yes(&[1])),
-    (25, &[1, DATA_END - 55], &[], No(Errno::Fault)),
     // file_stat_fput
     (26, &[1, DATA, 21], STAT, Yes(&[1, 0x444, 0x555, 21])),
     (26, &[1, DATA, 10], STAT, Yes(&[1, 0x444, 0x555, 10])),
-    (26, &[1, ABSENT, 0], STAT, No(Errno::Inval)),
-    (26, &[1, ABSENT, 3], STAT, No(Errno::Inval)),
-    (26, &[1, ABSENT, 12], STAT, No(Errno::Inval)),
-    (26, &[1, ABSENT, 33], STAT, No(Errno::Inval)),
-    (26, &[1, WRITE_ONLY, 1], STAT, No(Errno::Fault)),
     // file_stat_get
     (
         27,
@@ -114,8 +76,6 @@ const ROWS: &[Row] = &[
         PATH,
         Yes(&[5, 1, 3, 0x61]),
     ),
-    (27, &[2 * FOLLOW, ABSENT, 3, DATA], PATH, No(Errno::Inval)),
-    (27, &[5, DATA, 3, READ_ONLY], PATH, No(Errno::Fault)),
     // file_stat_put
     (
         28,
@@ -123,15 +83,6 @@ const ROWS: &[Row] = &[
         STAT,
         Yes(&[5, 0, 3, 0x61, 0x444, 0x555, 5]),
     ),
-    (28, &[5, ABSENT, 3, DATA, 16], STAT, No(Errno::Inval)),
-    (28, &[5, ABSENT, 3, DATA, 0], STAT, No(Errno::Inval)),
-    (
-        28,
-        &[2 * FOLLOW, ABSENT, 3, DATA, 1],
-        STAT,
-        No(Errno::Inval),
-    ),
-    (28, &[5, DATA + 56, 3, ABSENT, 1], STAT, No(Errno::Fault)),
     // file_symlink
     (
         29,
@@ -145,21 +96,8 @@ const ROWS: &[Row] = &[
         PATH,
         Yes(&[0, 0, 3, 0x61, 7, 1025, 0]),
     ),
-    (29, &[ABSENT, 3, 7, DATA, 3], PATH, No(Errno::Fault)),
     // file_unlink
     (30, &[1, DATA, 3, 1], PATH, Yes(&[1, 0, 3, 0x61, 1])),
-    (30, &[1, ABSENT, 3, 2], PATH, No(Errno::Inval)),
-    (30, &[1, ABSENT, 3, 1], PATH, No(Errno::Fault)),
-    // mem_advise, mem_protect, mem_sync and mem_unmap
-    (32, &[DATA, 0x11000, 6], &[], Yes(&[32, 0])),
-    (32, &[DATA, 0x11001, 6], &[], Yes(&[32, 21])),
-    (32, &[DATA, 1, 7], &[], No(Errno::Inval)),
-    (34, &[DATA, 1, 3], &[], No(Errno::Notsup)),
-    (34, &[ABSENT, 1, 1], &[], Yes(&[34, 21])),
-    (35, &[DATA, 1, 5], &[], No(Errno::Inval)),
-    (35, &[DATA, 1, 4], &[], Yes(&[35, 0])),
-    (36, &[ABSENT, 1], &[], Yes(&[36, 0])),
-    (36, &[DATA, 0], &[], No(Errno::Inval)),
     // mem_map, of a file and without one
     (
         33,
@@ -168,12 +106,6 @@ const ROWS: &[Row] = &[
         Yes(&[0x20_0000_0000, 4097, 4, 4, 3, 4096]),
     ),
     (33, &[DATA, 1, 6, 7, 3, 0], &[], Yes(&[DATA, 1, 6, 7, 3, 0])),
-    (33, &[0, 1, 4, 0, 3, 0], &[], No(Errno::Inval)),
-    (33, &[0, 1, 4, 12, 3, 0], &[], No(Errno::Inval)),
-    (33, &[0, 1, 4, 8, 3, 0], &[], No(Errno::Notsup)),
-    (33, &[0, 1, 3, 4, 3, 0], &[], No(Errno::Notsup)),
-    (33, &[0, 1, 4, 4, 3, 1], &[], No(Errno::Inval)),
-    (33, &[1, 1, 4, 6, 3, 0], &[], No(Errno::Inval)),
 ];
 
 #[test]
