@@ -1,2 +1,4 @@
+pub mod CallNumbers
 pub mod Numbers
+pub mod Families
 pub mod OpenTypes

@@ -1,7 +1,8 @@
 //! Calls of the kernel.
 ghost use Rattle.std.specs.Prelude.{◌≡◌};
-ghost use Rattle.abi_types.specs.Numbers.{number_of};
+ghost use Rattle.abi_types.specs.Numbers.{number_of_call};
 
+use crate::call_number::CallNumber;
 use crate::copied::{FdList, SubscriptionList};
 use crate::place::Place;
 use abi_base::Errno;
@@ -206,9 +207,9 @@ pub enum Call {
         fd: u32,
         offset: u64,
     },
-    /// mem_advise, mem_protect, mem_sync or mem_unmap, by its number, and what it answers by the caller's memory.
+    /// mem_advise, mem_protect, mem_sync or mem_unmap, and what it answers by the caller's memory.
     Memory {
-        number: u32,
+        number: CallNumber,
         errno: Errno,
     },
     /// Waits until one of the things comes about. At most 256.
@@ -269,66 +270,70 @@ pub enum Call {
     },
     /// Ends the thread's turn.
     ThreadYield,
-    /// A call of this number that is refused before the kernel looks at it.
+    /// A call that is refused before the kernel looks at it.
     Refused {
-        number: u64,
+        number: CallNumber,
         errno: Errno,
+    },
+    /// A number, from 49 on, that no call has.
+    Unknown {
+        number: u64,
     },
 }
 
 impl Call {
-    /// The call's number, 0 to 48; for `Refused` any number that a7 may have.
-    pub fn number(&self) -> u64
-        ensures { result ≡ number_of self.now }
+    /// Which of the 49 calls it is, or the number that none of them has.
+    pub fn number(&self) -> Result<CallNumber, u64>
+        ensures { result ≡ number_of_call self.now }
     {
         match self {
-            Call::ClockResGet { .. } => 0,
-            Call::ClockTimeGet { .. } => 1,
-            Call::CondvarSignal { .. } => 2,
-            Call::FdClose { .. } => 3,
-            Call::FdCreate1 { .. } => 4,
-            Call::FdCreate2 { .. } => 5,
-            Call::FdDatasync { .. } => 6,
-            Call::FdDup { .. } => 7,
-            Call::FdPread { .. } => 8,
-            Call::FdPwrite { .. } => 9,
-            Call::FdRead { .. } => 10,
-            Call::FdReplace { .. } => 11,
-            Call::FdSeek { .. } => 12,
-            Call::FdStatGet { .. } => 13,
-            Call::FdStatPut { .. } => 14,
-            Call::FdSync { .. } => 15,
-            Call::FdWrite { .. } => 16,
-            Call::FileAdvise { .. } => 17,
-            Call::FileAllocate { .. } => 18,
-            Call::FileCreate { .. } => 19,
-            Call::FileLink { .. } => 20,
-            Call::FileOpen { .. } => 21,
-            Call::FileReaddir { .. } => 22,
-            Call::FileReadlink { .. } => 23,
-            Call::FileRename { .. } => 24,
-            Call::FileStatFget { .. } => 25,
-            Call::FileStatFput { .. } => 26,
-            Call::FileStatGet { .. } => 27,
-            Call::FileStatPut { .. } => 28,
-            Call::FileSymlink { .. } => 29,
-            Call::FileUnlink { .. } => 30,
-            Call::LockUnlock { .. } => 31,
-            Call::MemMap { .. } => 33,
-            Call::Memory { number, .. } => u64::from(*number),
-            Call::Poll { .. } => 37,
-            Call::ProcExec { .. } => 38,
-            Call::ProcExit { .. } => 39,
-            Call::ProcFork { .. } => 40,
-            Call::ProcRaise { .. } => 41,
-            Call::RandomGet { .. } => 42,
-            Call::SockRecv { .. } => 43,
-            Call::SockSend { .. } => 44,
-            Call::SockShutdown { .. } => 45,
-            Call::ThreadCreate { .. } => 46,
-            Call::ThreadExit { .. } => 47,
-            Call::ThreadYield => 48,
-            Call::Refused { number, .. } => *number,
+            Call::ClockResGet { .. } => Ok(CallNumber::ClockResGet),
+            Call::ClockTimeGet { .. } => Ok(CallNumber::ClockTimeGet),
+            Call::CondvarSignal { .. } => Ok(CallNumber::CondvarSignal),
+            Call::FdClose { .. } => Ok(CallNumber::FdClose),
+            Call::FdCreate1 { .. } => Ok(CallNumber::FdCreate1),
+            Call::FdCreate2 { .. } => Ok(CallNumber::FdCreate2),
+            Call::FdDatasync { .. } => Ok(CallNumber::FdDatasync),
+            Call::FdDup { .. } => Ok(CallNumber::FdDup),
+            Call::FdPread { .. } => Ok(CallNumber::FdPread),
+            Call::FdPwrite { .. } => Ok(CallNumber::FdPwrite),
+            Call::FdRead { .. } => Ok(CallNumber::FdRead),
+            Call::FdReplace { .. } => Ok(CallNumber::FdReplace),
+            Call::FdSeek { .. } => Ok(CallNumber::FdSeek),
+            Call::FdStatGet { .. } => Ok(CallNumber::FdStatGet),
+            Call::FdStatPut { .. } => Ok(CallNumber::FdStatPut),
+            Call::FdSync { .. } => Ok(CallNumber::FdSync),
+            Call::FdWrite { .. } => Ok(CallNumber::FdWrite),
+            Call::FileAdvise { .. } => Ok(CallNumber::FileAdvise),
+            Call::FileAllocate { .. } => Ok(CallNumber::FileAllocate),
+            Call::FileCreate { .. } => Ok(CallNumber::FileCreate),
+            Call::FileLink { .. } => Ok(CallNumber::FileLink),
+            Call::FileOpen { .. } => Ok(CallNumber::FileOpen),
+            Call::FileReaddir { .. } => Ok(CallNumber::FileReaddir),
+            Call::FileReadlink { .. } => Ok(CallNumber::FileReadlink),
+            Call::FileRename { .. } => Ok(CallNumber::FileRename),
+            Call::FileStatFget { .. } => Ok(CallNumber::FileStatFget),
+            Call::FileStatFput { .. } => Ok(CallNumber::FileStatFput),
+            Call::FileStatGet { .. } => Ok(CallNumber::FileStatGet),
+            Call::FileStatPut { .. } => Ok(CallNumber::FileStatPut),
+            Call::FileSymlink { .. } => Ok(CallNumber::FileSymlink),
+            Call::FileUnlink { .. } => Ok(CallNumber::FileUnlink),
+            Call::LockUnlock { .. } => Ok(CallNumber::LockUnlock),
+            Call::MemMap { .. } => Ok(CallNumber::MemMap),
+            Call::Poll { .. } => Ok(CallNumber::Poll),
+            Call::ProcExec { .. } => Ok(CallNumber::ProcExec),
+            Call::ProcExit { .. } => Ok(CallNumber::ProcExit),
+            Call::ProcFork { .. } => Ok(CallNumber::ProcFork),
+            Call::ProcRaise { .. } => Ok(CallNumber::ProcRaise),
+            Call::RandomGet { .. } => Ok(CallNumber::RandomGet),
+            Call::SockRecv { .. } => Ok(CallNumber::SockRecv),
+            Call::SockSend { .. } => Ok(CallNumber::SockSend),
+            Call::SockShutdown { .. } => Ok(CallNumber::SockShutdown),
+            Call::ThreadCreate { .. } => Ok(CallNumber::ThreadCreate),
+            Call::ThreadExit { .. } => Ok(CallNumber::ThreadExit),
+            Call::ThreadYield => Ok(CallNumber::ThreadYield),
+            Call::Memory { number, .. } | Call::Refused { number, .. } => Ok(*number),
+            Call::Unknown { number } => Err(*number),
         }
     }
 }

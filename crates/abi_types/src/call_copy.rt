@@ -228,6 +228,7 @@ impl TryClone for Call {
                 errno: *errno,
             }),
             Call::ThreadYield => Ok(Call::ThreadYield),
+            Call::Unknown { number } => Ok(Call::Unknown { number: *number }),
         }
     }
 }

@@ -12,10 +12,12 @@ pub use abi_structures::{
     Subscription, ThreadAttr, What,
 };
 pub use call::{Call, Lookup};
+pub use call_number::CallNumber;
 pub use constants::Constants;
 pub use copied::{Copied, EventList, FdList, SubscriptionList};
 pub use counts::Counts;
 pub use descriptor::{Denial, Descriptor};
+pub use family::{DescriptorChange, EntryCall, Family, FileCall, OffsetCall, OpenCall};
 pub use input_output as outside;
 pub use lists::{Bytes, Items, Text, TryClone};
 pub use needed::Needed;
@@ -33,10 +35,12 @@ pub use who::Who;
 
 mod call;
 mod call_copy;
+mod call_number;
 mod constants;
 mod copied;
 mod counts;
 mod descriptor;
+mod family;
 mod needed;
 mod node;
 mod open_kind;

@@ -35,7 +35,8 @@ use Rattle.kernel_model.specs.Outcome.{Outcome, replies}
 use Rattle.kernel_model.specs.Reply.{refused, success}
 use Rattle.kernel_model.specs.State.{State, ProcessState, Table, put_all, put_one, set_open, set_table}
 use Rattle.kernel_model.specs.Families.StreamCalls.{reading, seeking, writing}
-use Rattle.kernel_model.specs.Families.MemoryCalls.{is_anonymous, map_row, map_zeros, mapping}
+use Rattle.abi_types.specs.Families.{is_anonymous}
+use Rattle.kernel_model.specs.Families.MemoryCalls.{map_row, map_zeros, mapping}
 use Rattle.kernel_model.specs.Families.OpenMeaning.{OpenMeaning, by_open}
 use Rattle.kernel_model.specs.View.{View}
 use Rattle.kernel_model.proofs.FileCalls.{on_open_of}

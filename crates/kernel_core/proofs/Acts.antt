@@ -12,22 +12,22 @@ use Rattle.kernel_model.specs.Calls.{meaning_of, refusal}
 use Rattle.kernel_model.specs.Outcome.{Outcome, replies}
 use Rattle.kernel_model.specs.Release.{release}
 use Rattle.kernel_model.specs.State.{State, Table, put_all}
-use Rattle.kernel_model.specs.Step.{IsStep, act, act_on, outcome, tick, unless}
+use Rattle.kernel_model.specs.Step.{IsStep, outcome_by, outcome_on, outcome, tick, unless}
 use Rattle.kernel_model.specs.Families.DescriptorCalls.{stat_get, stat_open}
 use Rattle.kernel_model.specs.View.{View, whole}
 use Rattle.kernel_model.proofs.Outcomes.{outcome_reads}
 
 -- a refused call answers the refusal alone
 pub act_refused : (constants : Constants) (S : State) (who : Who) (call : Call) (table : Table) (reply : Reply) → get S.tables who.pid ≡ Some table
-    → refusal table call ≡ Some reply → act constants (whole S) who call ≡ replies reply
+    → refusal table call ≡ Some reply → outcome_by constants (whole S) who call ≡ replies reply
 act_refused constants S who call table reply there is =
-    ap (act_on constants (whole S) who call) there ∙ ap (λ r. unless r ((meaning_of call).effect constants (whole S) who table)) is
+    ap (outcome_on constants (whole S) who call) there ∙ ap (λ r. unless r ((meaning_of call).effect constants (whole S) who table)) is
 
 -- a call that isn't refused does what it does
 pub act_allowed : (constants : Constants) (S : State) (who : Who) (call : Call) (table : Table) → get S.tables who.pid ≡ Some table
-    → refusal table call ≡ None → act constants (whole S) who call ≡ (meaning_of call).effect constants (whole S) who table
+    → refusal table call ≡ None → outcome_by constants (whole S) who call ≡ (meaning_of call).effect constants (whole S) who table
 act_allowed constants S who call table there is =
-    ap (act_on constants (whole S) who call) there ∙ ap (λ r. unless r ((meaning_of call).effect constants (whole S) who table)) is
+    ap (outcome_on constants (whole S) who call) there ∙ ap (λ r. unless r ((meaning_of call).effect constants (whole S) who table)) is
 
 -- fd_stat_get sets nothing
 stat_sets_nothing : (d : Descriptor) (o : Option OpenKind) → (stat_open d o).updates ≡ []
@@ -39,18 +39,18 @@ stat_get_sets_nothing v None = refl
 stat_get_sets_nothing v (Some d) = stat_sets_nothing d (v.opened d.id)
 
 -- an answer and a state that are those of an outcome are those of the call that has this outcome
-pub by_outcome : (constants : Constants) (S T : State) (who : Who) (call : Call) (given : Answer) (o : Outcome) → act constants (whole S) who call ≡ o
+pub by_outcome : (constants : Constants) (S T : State) (who : Who) (call : Call) (given : Answer) (o : Outcome) → outcome_by constants (whole S) who call ≡ o
     → (given ≡ o.answer) × (T ≡ release (put_all o.updates S))
-    → (given ≡ (act constants (whole S) who call).answer) × (T ≡ release (put_all (act constants (whole S) who call).updates S))
+    → (given ≡ (outcome_by constants (whole S) who call).answer) × (T ≡ release (put_all (outcome_by constants (whole S) who call).updates S))
 by_outcome constants S T who call given o e done =
     (done.0 ∙ sym (ap (λ (x : Outcome). x.answer) e), done.1 ∙ sym (ap (λ (x : Outcome). release (put_all x.updates S)) e))
 
 -- a call that was done is a step of the definition
 pub done_is_step : (constants : Constants) (S U : State) (who : Who) (call : Call) (given : Answer)
-    → given ≡ (act constants (whole (tick S)) who call).answer
-    → U ≡ release (put_all (act constants (whole (tick S)) who call).updates (tick S)) → IsStep constants S who call given U
+    → given ≡ (outcome_by constants (whole (tick S)) who call).answer
+    → U ≡ release (put_all (outcome_by constants (whole (tick S)) who call).updates (tick S)) → IsStep constants S who call given U
 done_is_step constants S U who call given answered left =
-    let same : outcome constants S who call ≡ act constants (whole (tick S)) who call = outcome_reads constants S who call in
+    let same : outcome constants S who call ≡ outcome_by constants (whole (tick S)) who call = outcome_reads constants S who call in
     inl (
       answered ∙ ap (λ (o : Outcome). o.answer) (sym same),
       left ∙ ap (λ (o : Outcome). release (put_all o.updates (tick S))) (sym same),

@@ -18,7 +18,7 @@ ghost use Rattle.tree_model.specs.Grants.{MayBegin};
 ghost use Rattle.kernel_model.specs.Sight.{process_parts};
 ghost use Rattle.kernel_model.specs.Start.{start_state};
 ghost use Rattle.kernel_model.specs.State.{put_all, Table, Part, has_part, Agree, thread_of, tree_of, written_to};
-ghost use Rattle.kernel_model.specs.Step.{act, failed, outside, MayLackMemory, IsStep, IsUntouched, end_unreleased, end_state};
+ghost use Rattle.kernel_model.specs.Step.{outcome_by, failed, outside, MayLackMemory, IsStep, IsUntouched, end_unreleased, end_state};
 ghost use Rattle.kernel_model.specs.Families.DescriptorCalls.{stat_get, stat_of, flags_of};
 ghost use Rattle.kernel_model.specs.Valid.{IsValid};
 ghost use Rattle.kernel_model.specs.View.{whole};
@@ -200,11 +200,11 @@ impl Kernel {
     }
 
     // Does a call, but for the clock. `Err` changes nothing.
-    fn act(&mut self, constants: &Constants, who: &Who, call: &Call) -> Result<Answer, AllocError>
+    fn dispatch(&mut self, constants: &Constants, who: &Who, call: &Call) -> Result<Answer, AllocError>
         requires there { IsSome (map.get self.old.statuses who.now.pid) }
         requires early { self.old.clock + constants.now.epoch < 2 ^ 64 }
-        ensures ok { IfOk result (λ given. (given ≡ (act constants.now (whole self.old) who.now call.now).answer)
-            × (self.new ≡ release (put_all (act constants.now (whole self.old) who.now call.now).updates self.old))) }
+        ensures ok { IfOk result (λ given. (given ≡ (outcome_by constants.now (whole self.old) who.now call.now).answer)
+            × (self.new ≡ release (put_all (outcome_by constants.now (whole self.old) who.now call.now).updates self.old))) }
         ensures err { OnErr result (MayLackMemory self.old who.now call.now × (self.new ≡ self.old)) }
     {
         let Some(table) = self.tables.get(u64::from(who.pid.0)) else {
@@ -264,7 +264,7 @@ impl Kernel {
         ensures valid { IsValid self.old }
     {
         self.clock += STEP_TIME;
-        match self.act(constants, who, call) {
+        match self.dispatch(constants, who, call) {
             Ok(answer) => answer,
             Err(_) => Answer::Reply(refused(Errno::Nomem)),
         }

@@ -1,5 +1,6 @@
 -- The meaning of each call is proper.
 use Rattle.std.proofs.Common.{[]}
+use Rattle.abi_base.specs.declared.errno.Errno.TheVariants.{Nosys}
 use Rattle.abi_types.specs.declared.call.Call.{Call}
 use Rattle.abi_types.specs.declared.call.Call.TheVariants as call
 use Rattle.kernel_model.specs.Calls.{meaning_of}
@@ -67,3 +68,4 @@ proper (call.ThreadCreate attributes) = naming_is_proper []
 proper (call.ThreadExit lock word scope) = naming_is_proper []
 proper call.ThreadYield = naming_is_proper []
 proper (call.Refused number errno) = decided_is_proper errno
+proper (call.Unknown number) = decided_is_proper Nosys

@@ -12,7 +12,7 @@ use Rattle.kernel_model.specs.Outcome.{Outcome}
 use Rattle.kernel_model.specs.Laws.{HasSameSight, EndsAlike}
 use Rattle.kernel_model.specs.Release.{is_node_kept, is_released, release, without_ended}
 use Rattle.kernel_model.specs.State.{State, Part, at_clock, at_proc, at_status, at_open, at_node, at_names, at_term, same_part, has_part, Agree, AgreeOn, put_all}
-use Rattle.kernel_model.specs.Step.{tick, sight, act, outcome, unreleased, step_answer, step_state}
+use Rattle.kernel_model.specs.Step.{tick, sight, outcome_by, outcome, unreleased, step_answer, step_state}
 use Rattle.kernel_model.specs.View.{only, restrict}
 use Rattle.kernel_model.proofs.Parts.{agree_at, put_same}
 use Rattle.kernel_model.proofs.Valids.{get_released}
@@ -52,8 +52,8 @@ pub sight_decides : (constants : Constants) (S T : State) (who : Who) (call : Ca
     → outcome constants S who call ≡ outcome constants T who call
 unfolding outcome
 sight_decides constants S T who call same =
-    ap (λ v. act constants v who call) (restrict_alike S T (sight S who call) (sees_clock S T who call same.1) same.1)
-    ∙ ap (λ parts. act constants (restrict (tick T) parts) who call) same.0
+    ap (λ v. outcome_by constants v who call) (restrict_alike S T (sight S who call) (sees_clock S T who call same.1) same.1)
+    ∙ ap (λ parts. outcome_by constants (restrict (tick T) parts) who call) same.0
 
 -- and it is refused alike
 sees_table : (S T : State) (who : Who) (call : Call) → AgreeOn S T (sight S who call) → get S.tables who.pid ≡ get T.tables who.pid

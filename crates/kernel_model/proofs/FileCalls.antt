@@ -9,7 +9,8 @@ use Rattle.kernel_model.specs.Calls.{meaning_of}
 use Rattle.kernel_model.specs.Families.FileCalls.{file_meaning, file_fd}
 use Rattle.kernel_model.specs.Families.FileMeaning.{on_open}
 use Rattle.kernel_model.specs.Families.FilePaths.{lookup_mode}
-use Rattle.kernel_model.specs.Families.MemoryCalls.{is_anonymous, map_row, map_zeros, mapping}
+use Rattle.abi_types.specs.Families.{is_anonymous}
+use Rattle.kernel_model.specs.Families.MemoryCalls.{map_row, map_zeros, mapping}
 use Rattle.kernel_model.proofs.FileBytes.{read_keeps_well, write_keeps_well}
 use Rattle.kernel_model.proofs.FileChanges.{allocate_keeps_well, put_open_keeps_well, put_by_path_keeps_well}
 use Rattle.kernel_model.proofs.FileLooks.{list_keeps_well, read_link_keeps_well, tell_in_keeps_well, tell_open_keeps_well}

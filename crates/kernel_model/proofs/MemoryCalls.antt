@@ -13,7 +13,8 @@ use Rattle.tree_model.specs.Changes.{bytes_in}
 use Rattle.tree_model.specs.Files.{read_bytes}
 use Rattle.kernel_model.specs.Families.FileBytes.{bytes_at, page_bytes}
 use Rattle.kernel_model.specs.Families.FileMeaning.{on_open}
-use Rattle.kernel_model.specs.Families.MemoryCalls.{decided, has_place, is_anonymous, map_open, map_row, map_zeros, mapping, mem_map, place_errors, placed_with}
+use Rattle.abi_types.specs.Families.{is_anonymous}
+use Rattle.kernel_model.specs.Families.MemoryCalls.{decided, has_place, map_open, map_row, map_zeros, mapping, mem_map, place_errors, placed_with}
 use Rattle.kernel_model.specs.Outcome.{replies}
 use Rattle.kernel_model.specs.Proper.{IsProper}
 use Rattle.kernel_model.specs.Reply.{success, refused}

@@ -13,7 +13,7 @@ use Rattle.kernel_model.specs.Calls.{meaning_of, seen, refusal, refusal_of}
 use Rattle.kernel_model.specs.Outcome.{Outcome, replies}
 use Rattle.kernel_model.specs.Sight.{process_parts, reached}
 use Rattle.kernel_model.specs.State.{State, Table, at_proc, has_part}
-use Rattle.kernel_model.specs.Step.{tick, unless_refused, reach, sight, unless, act_on, act, outcome, component_unless, outside_on, outside_by, outside}
+use Rattle.kernel_model.specs.Step.{tick, unless_refused, reach, sight, unless, outcome_on, outcome_by, outcome, component_unless, outside_on, outside_by, outside}
 use Rattle.kernel_model.specs.View.{View, restrict, whole}
 use Rattle.kernel_model.proofs.Calls.{proper}
 use Rattle.kernel_model.proofs.Sights.{first_seen, reached_ticked}
@@ -25,16 +25,16 @@ unless_reads constants S who table call None = (proper call).reads constants S w
 unless_reads constants S who table call (Some reply) = refl
 
 act_reads : (constants : Constants) (S : State) (who : Who) (call : Call) (t : Option Table)
-    → act_on constants (restrict S (process_parts who.pid ++ reach S call t)) who call t ≡ act_on constants (whole S) who call t
+    → outcome_on constants (restrict S (process_parts who.pid ++ reach S call t)) who call t ≡ outcome_on constants (whole S) who call t
 act_reads constants S who call None = refl
 act_reads constants S who call (Some table) = unless_reads constants S who table call (refusal table call)
 
 -- a call does the same by its sight as by the whole state
 pub reads_sight : (constants : Constants) (S : State) (who : Who) (call : Call)
-    → act constants (restrict S (sight S who call)) who call ≡ act constants (whole S) who call
+    → outcome_by constants (restrict S (sight S who call)) who call ≡ outcome_by constants (whole S) who call
 unfolding sight
 reads_sight constants S who call =
-    ap (act_on constants (restrict S (process_parts who.pid ++ reach S call (get S.tables who.pid))) who call)
+    ap (outcome_on constants (restrict S (process_parts who.pid ++ reach S call (get S.tables who.pid))) who call)
     (first_seen who.pid (has_part (reach S call (get S.tables who.pid)) (at_proc who.pid)) (get S.tables who.pid))
     ∙ act_reads constants S who call (get S.tables who.pid)
 
@@ -48,15 +48,15 @@ unfolding sight
 sight_ticked S who call = ap (λ parts. process_parts who.pid ++ parts) (reach_ticked S call (get S.tables who.pid))
 
 -- the outcome of a call, by the whole state at its moment
-pub outcome_reads : (constants : Constants) (S : State) (who : Who) (call : Call) → outcome constants S who call ≡ act constants (whole (tick S)) who call
+pub outcome_reads : (constants : Constants) (S : State) (who : Who) (call : Call) → outcome constants S who call ≡ outcome_by constants (whole (tick S)) who call
 unfolding outcome
 outcome_reads constants S who call =
-    ap (λ parts. act constants (restrict (tick S) parts) who call) (sym (sight_ticked S who call)) ∙ reads_sight constants (tick S) who call
+    ap (λ parts. outcome_by constants (restrict (tick S) parts) who call) (sym (sight_ticked S who call)) ∙ reads_sight constants (tick S) who call
 
 -- the outcome of a call of a process that has a table
 pub outcome_of_table : (constants : Constants) (S : State) (who : Who) (call : Call) (table : Table) → get S.tables who.pid ≡ Some table
     → outcome constants S who call ≡ unless (refusal table call) ((meaning_of call).effect constants (whole (tick S)) who table)
-outcome_of_table constants S who call table own = outcome_reads constants S who call ∙ ap (act_on constants (whole (tick S)) who call) own
+outcome_of_table constants S who call table own = outcome_reads constants S who call ∙ ap (outcome_on constants (whole (tick S)) who call) own
 
 -- ---- where a path leads outside
 
@@ -100,7 +100,7 @@ unless_holds P (Some reply) o refused done = refused reply refl
 
 act_holds : (P : Outcome → Type 0) (constants : Constants) (v : View) (who : Who) (call : Call) (t : Option Table)
     → ((reply : Reply) → refusal_of call t ≡ Some reply → P (replies reply))
-    → ((table : Table) → t ≡ Some table → refusal table call ≡ None → P ((meaning_of call).effect constants v who table)) → P (act_on constants v who call t)
+    → ((table : Table) → t ≡ Some table → refusal table call ≡ None → P ((meaning_of call).effect constants v who table)) → P (outcome_on constants v who call t)
 act_holds P constants v who call None refused done = refused _ refl
 act_holds P constants v who call (Some table) refused done =
     unless_holds P (refusal table call) ((meaning_of call).effect constants v who table) refused (done table refl)

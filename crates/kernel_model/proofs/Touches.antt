@@ -16,7 +16,7 @@ use Rattle.tree_model.specs.Retained.{retained-node, retained-table}
 use Rattle.kernel_model.specs.Release.{is_node_kept, is_released, release, without_ended}
 use Rattle.kernel_model.specs.Sight.{process_parts}
 use Rattle.kernel_model.specs.State.{State, Table, tree_of, Part, at_clock, at_proc, at_status, at_open, at_node, at_names, at_term, same_part, has_part, Agree, part_of}
-use Rattle.kernel_model.specs.Step.{tick, unless_refused, changed, made_by, made_on, touch, unless, act_on, outcome, unreleased, step_state, IsStep, IsUntouched, end_unreleased, end_state}
+use Rattle.kernel_model.specs.Step.{tick, unless_refused, changed, made_by, made_on, touch, unless, outcome_on, outcome, unreleased, step_state, IsStep, IsUntouched, end_unreleased, end_state}
 use Rattle.kernel_model.specs.View.{whole}
 use Rattle.kernel_model.proofs.Calls.{proper}
 use Rattle.kernel_model.proofs.Outcomes.{outcome_reads}
@@ -35,7 +35,7 @@ unless_unset constants S who table call (Some reply) q h = refl
 unless_unset constants S who table call None q h = (proper call).sets constants S who table q h
 
 act_unset : (constants : Constants) (S : State) (who : Who) (call : Call) (t : Option Table) (q : Part)
-    → has_part (process_parts who.pid ++ (made_on S who call t ++ changed S call t)) q ≡ false → IsUnset (act_on constants (whole (tick S)) who call t) q
+    → has_part (process_parts who.pid ++ (made_on S who call t ++ changed S call t)) q ≡ false → IsUnset (outcome_on constants (whole (tick S)) who call t) q
 act_unset constants S who call None q h = refl
 act_unset constants S who call (Some table) q h = unless_unset constants S who table call (refusal table call) q h
 

@@ -1,7 +1,7 @@
 -- What each call means: the one table of all calls.
 use Rattle.std.specs.Prelude.{ℕ, Bool, List, Option, None, Some}
 use Rattle.abi_base.specs.declared.errno.Errno.{Errno}
-use Rattle.abi_base.specs.declared.errno.Errno.TheVariants.{Badf}
+use Rattle.abi_base.specs.declared.errno.Errno.TheVariants.{Badf, Nosys}
 use Rattle.abi_types.specs.declared.call.Call.{Call}
 use Rattle.abi_types.specs.declared.call.Call.TheVariants as call
 use Rattle.abi_types.specs.declared.reply.Reply.{Reply}
@@ -73,6 +73,7 @@ meaning_of (call.ThreadCreate attributes) = thread_create
 meaning_of (call.ThreadExit lock word scope) = thread_exit
 meaning_of call.ThreadYield = thread_yield
 meaning_of (call.Refused number errno) = decided errno
+meaning_of (call.Unknown number) = decided Nosys
 
 -- the descriptors that the call names
 abbrev pub named : Call → List ℕ

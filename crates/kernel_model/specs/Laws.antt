@@ -26,7 +26,7 @@ use Rattle.kernel_model.specs.Sight.{process_parts, behind}
 use Rattle.tree_model.specs.Grants.{MayBegin}
 use Rattle.kernel_model.specs.Start.{start_state}
 use Rattle.kernel_model.specs.State.{State, Tree, Table, Part, at_open, at_node, at_names, has_part, Agree, AgreeOn, threads_of}
-use Rattle.kernel_model.specs.Step.{made_by, tick, sight, touch, act, outcome, outside, outside_by, unreleased, step_answer, step_state, failed, IsStep, IsUntouched, end_unreleased, end_state}
+use Rattle.kernel_model.specs.Step.{made_by, tick, sight, touch, outcome_by, outcome, outside, outside_by, unreleased, step_answer, step_state, failed, IsStep, IsUntouched, end_unreleased, end_state}
 use Rattle.kernel_model.specs.Valid.{IsValid}
 use Rattle.kernel_model.specs.View.{whole}
 
@@ -40,7 +40,7 @@ MeaningsAreProper = (call : Call) → IsProper (meaning_of call)
 
 -- A call's outcome, which sees only what is in its sight, is what it would be if it saw the whole state.
 abbrev pub ReadsSight : Type 0
-ReadsSight = (constants : Constants) (S : State) (who : Who) (call : Call) → outcome constants S who call ≡ act constants (whole (tick S)) who call
+ReadsSight = (constants : Constants) (S : State) (who : Who) (call : Call) → outcome constants S who call ≡ outcome_by constants (whole (tick S)) who call
 
 -- Where its path leads outside, by its sight, is where it does by the whole state.
 abbrev pub OutsideReadsSight : Type 0

@@ -63,17 +63,17 @@ abbrev pub unless : Option Reply → Outcome → Outcome
 unless None outcome = outcome
 unless (Some reply) outcome = replies reply
 
-abbrev pub act_on : Constants → View → Who → Call → Option Table → Outcome
-act_on constants v who call None = replies (refused Badf)
-act_on constants v who call (Some table) = unless (refusal table call) ((meaning_of call).effect constants v who table)
+abbrev pub outcome_on : Constants → View → Who → Call → Option Table → Outcome
+outcome_on constants v who call None = replies (refused Badf)
+outcome_on constants v who call (Some table) = unless (refusal table call) ((meaning_of call).effect constants v who table)
 
 -- a call of a process's thread, by a view of the state
-abbrev pub act : Constants → View → Who → Call → Outcome
-act constants v who call = act_on constants v who call (v.table who.pid)
+abbrev pub outcome_by : Constants → View → Who → Call → Outcome
+outcome_by constants v who call = outcome_on constants v who call (v.table who.pid)
 
 -- a call's outcome depends on what is in its sight alone
 unfoldable pub outcome : Constants → State → Who → Call → Outcome
-outcome constants S who call = act constants (restrict (tick S) (sight S who call)) who call
+outcome constants S who call = outcome_by constants (restrict (tick S) (sight S who call)) who call
 
 -- ---- where a path of a call leads outside
 

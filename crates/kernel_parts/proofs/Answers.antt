@@ -11,7 +11,8 @@ use Rattle.fd_calls.specs.Calls.{offset_fd}
 use Rattle.kernel_model.specs.Families.FileCalls.{file_fd}
 use Rattle.kernel_model.specs.Families.FileMeaning.{on_open}
 use Rattle.kernel_model.specs.Meaning.{Meaning}
-use Rattle.kernel_model.specs.Families.MemoryCalls.{is_anonymous, map_row, map_zeros, mapping, mem_map}
+use Rattle.abi_types.specs.Families.{is_anonymous}
+use Rattle.kernel_model.specs.Families.MemoryCalls.{map_row, map_zeros, mapping, mem_map}
 use Rattle.kernel_model.specs.Families.EntryCalls.{entry_fds}
 use Rattle.kernel_model.proofs.Tests.{none_is_no}
 use Rattle.kernel_parts.specs.Answering.{DoesMore}

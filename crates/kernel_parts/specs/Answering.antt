@@ -4,7 +4,7 @@ use Rattle.abi_types.specs.declared.call.Call.{Call}
 use Rattle.abi_types.specs.declared.call.Call.TheVariants.{FdClose, FdDup, FdPread, FdPwrite, FdRead, FdReplace, FdSeek, FdStatGet, FdStatPut, FdWrite, MemMap, ProcExit}
 use Rattle.abi_types.specs.declared.call.Call.TheVariants.{FileAllocate, FileReaddir, FileReadlink, FileStatFget, FileStatFput, FileStatGet, FileStatPut}
 use Rattle.abi_types.specs.declared.call.Call.TheVariants.{FileCreate, FileLink, FileOpen, FileRename, FileSymlink, FileUnlink}
-use Rattle.kernel_model.specs.Families.MemoryCalls.{is_anonymous}
+use Rattle.abi_types.specs.Families.{is_anonymous}
 
 -- the call's answer is not in the call alone, or it may change the kernel's state beside the clock
 abbrev pub DoesMore : Call → Type 0

@@ -16,7 +16,8 @@ use Rattle.kernel_model.specs.Calls.{errors_of}
 use Rattle.kernel_model.specs.Families.FilePaths.{path_errors}
 use Rattle.kernel_model.specs.Laws.{IsNotDeniedEarly}
 use Rattle.kernel_model.specs.Families.FileMeaning.{on_open}
-use Rattle.kernel_model.specs.Families.MemoryCalls.{is_anonymous, map_row, map_zeros, mapping, place_errors}
+use Rattle.abi_types.specs.Families.{is_anonymous}
+use Rattle.kernel_model.specs.Families.MemoryCalls.{map_row, map_zeros, mapping, place_errors}
 use Rattle.kernel_model.specs.Families.NameMaking.{making, making_unless, text_error}
 use Rattle.kernel_model.proofs.Lists.{all_weaker}
 use Rattle.kernel_model.proofs.Refusals.{IsNoLackOf}

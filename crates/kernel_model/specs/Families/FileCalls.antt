@@ -9,7 +9,8 @@ use Rattle.kernel_model.specs.Families.FileChanges.{allocate, changing, put_by_p
 use Rattle.kernel_model.specs.Families.FileLooks.{list_open, looking, read_link_in, tell_in, tell_open}
 use Rattle.kernel_model.specs.Families.FileMeaning.{FileMeaning}
 use Rattle.kernel_model.specs.Families.FilePaths.{by_path, lookup_mode}
-use Rattle.kernel_model.specs.Families.MemoryCalls.{is_anonymous, mapping}
+use Rattle.abi_types.specs.Families.{is_anonymous}
+use Rattle.kernel_model.specs.Families.MemoryCalls.{mapping}
 use Rattle.kernel_model.specs.Outcome.{replies}
 use Rattle.kernel_model.specs.Reply.{refused}
 

@@ -1,8 +1,9 @@
 -- Calls on the caller's memory. Where its pages go comes with the call.
-use Rattle.std.specs.Prelude.{ℕ, ◌==◌, bit_and, Bool, true, false, List, [], ◌∷◌, Option, Some, if◌then◌else◌}
+use Rattle.std.specs.Prelude.{ℕ, Bool, true, false, List, [], ◌∷◌, Option, Some, if◌then◌else◌}
 use Rattle.abi_base.specs.declared.errno.Errno.{Errno}
 use Rattle.abi_base.specs.declared.errno.Errno.TheVariants.{Badf}
 use Rattle.abi_base.specs.declared.rights.TheConstants.Rights.{FD_READ, MEM_MAP, MEM_MAP_EXEC}
+use Rattle.abi_types.specs.Families.{is_anonymous}
 use Rattle.abi_types.specs.declared.needed.Needed.{Needed}
 use Rattle.abi_types.specs.declared.open_kind.OpenKind.{OpenKind}
 use Rattle.abi_types.specs.declared.open_kind.OpenKind.TheVariants.{File}
@@ -58,10 +59,6 @@ mapping place length offset = record (looking (map_open place length offset)) {
 -- MEM_MAP and FD_READ, and with EXEC (1) MEM_MAP_EXEC
 abbrev pub map_row : ℕ → ℕ → Needed
 map_row fd prot = base_row fd (both (both MEM_MAP FD_READ) (where_set prot 1 MEM_MAP_EXEC))
-
--- whether the flags have ANON (1)
-abbrev pub is_anonymous : ℕ → Bool
-is_anonymous flags = bit_and flags 1 == 1
 
 -- with ANON the pages are zeros, and the descriptor isn't looked at
 abbrev pub mem_map : Place → ℕ → ℕ → ℕ → ℕ → ℕ → Meaning

@@ -9,7 +9,7 @@ use Rattle.kernel_model.specs.Calls.{meaning_of, refusal}
 use Rattle.kernel_model.specs.Outcome.{replies}
 use Rattle.kernel_model.specs.Release.{release}
 use Rattle.kernel_model.specs.State.{State, put_all}
-use Rattle.kernel_model.specs.Step.{act}
+use Rattle.kernel_model.specs.Step.{outcome_by}
 use Rattle.kernel_model.specs.Families.DescriptorCalls.{stat_get}
 use Rattle.kernel_model.specs.Valid.{IsValid}
 use Rattle.kernel_model.specs.View.{whole}
@@ -43,11 +43,11 @@ rows c =
 -- what is said of a call's answer, where the call changes nothing
 abbrev IsAnswered : After-refusal → Answer → Type 0
 IsAnswered c given =
-    let o = act c.args.constants.now (whole c.args.self.now) c.args.who.now c.args.call.now in
+    let o = outcome_by c.args.constants.now (whole c.args.self.now) c.args.who.now c.args.call.now in
     (given ≡ o.answer) × (c.args.self.now ≡ release (put_all o.updates c.args.self.now))
 
 -- a call whose outcome is a reply alone
-replied : (c : After-refusal) (reply : Reply) → act c.args.constants.now (whole c.args.self.now) c.args.who.now c.args.call.now ≡ replies reply
+replied : (c : After-refusal) (reply : Reply) → outcome_by c.args.constants.now (whole c.args.self.now) c.args.who.now c.args.call.now ≡ replies reply
     → IsAnswered c (answer.Reply reply)
 replied c reply is =
     let S = c.args.self.now in
@@ -77,7 +77,7 @@ returns-in-FdStatGet-clause-ok c =
     let who = c.args.who.now in
     let table = c.in-Some.table.now in
     let found = get table c.in-FdStatGet.fd in
-    let allowed : act constants (whole S) who c.args.call.now ≡ stat_get (whole S) found =
+    let allowed : outcome_by constants (whole S) who c.args.call.now ≡ stat_get (whole S) found =
     act_allowed constants S who c.args.call.now table (there a) (rows a ∙ c.in_default-refusal.is)
     ∙ ap (λ call. (meaning_of call).effect constants (whole S) who table) c.in-FdStatGet.is in
     by_outcome constants S S who c.args.call.now (answer.Reply c.fd_stat_get.result) (stat_get (whole S) found) allowed
@@ -113,7 +113,7 @@ returns-in-Some-entry_fds-clause-ok c =
     let table = c.in-Some.table.now in
     let fd = c.in-Some-entry_fds.fd in
     let other = c.in-Some-entry_fds.other in
-    let allowed : act constants (whole S) who call ≡ entry_outcome constants S who.pid table fd other call =
+    let allowed : outcome_by constants (whole S) who call ≡ entry_outcome constants S who.pid table fd other call =
     act_allowed constants S who call table (there a) (rows a ∙ c.in_default-refusal.is)
     ∙ entries_does constants S who table call fd other (sym c.entry_fds.ensures ∙ c.in-Some-entry_fds.is) in
     IfOk-weaker _ _ _ (λ given done. by_outcome constants S c.entry_call.new.self who call given _ allowed (done table (there a))) c.entry_call.ensures.ok
@@ -127,7 +127,7 @@ returns-in-Some-file_fd-clause-ok c =
     let call = c.args.call.now in
     let table = c.in-Some.table.now in
     let fd = c.in-Some-file_fd.fd in
-    let allowed : act constants (whole S) who call ≡ file_outcome constants S table fd call =
+    let allowed : outcome_by constants (whole S) who call ≡ file_outcome constants S table fd call =
     act_allowed constants S who call table (there a) (rows a ∙ c.in_default-refusal.is)
     ∙ file_does constants S who table call fd (sym c.file_fd.ensures ∙ c.in-Some-file_fd.is) in
     IfOk-weaker _ _ _ (λ given done. by_outcome constants S c.file_call.new.self who call given _ allowed (done table (there a))) c.file_call.ensures.ok
@@ -141,7 +141,7 @@ returns-in-Some-offset_fd-clause-ok c =
     let call = c.args.call.now in
     let table = c.in-Some.table.now in
     let fd = c.in-Some-offset_fd.fd in
-    let allowed : act constants (whole S) who call ≡ offset_outcome constants S table fd call =
+    let allowed : outcome_by constants (whole S) who call ≡ offset_outcome constants S table fd call =
     act_allowed constants S who call table (there a) (rows a ∙ c.in_default-refusal.is)
     ∙ offset_does constants S who table call fd (sym c.offset_fd.ensures ∙ c.in-Some-offset_fd.is) in
     IfOk-weaker _ _ _ (λ given done. by_outcome constants S c.offset_call.new.self who call given _ allowed (done table (there a))) c.offset_call.ensures.ok

@@ -1,7 +1,7 @@
 use Rattle.std.proofs.Common.{ap, ◌∙◌}
 use Rattle.kernel_model.specs.Release.{release}
 use Rattle.kernel_model.specs.State.{State, put_all}
-use Rattle.kernel_model.specs.Step.{act, tick}
+use Rattle.kernel_model.specs.Step.{outcome_by, tick}
 use Rattle.kernel_model.specs.View.{whole}
 use Rattle.kernel_core.proofs.Acts.{done_is_step}
 use Rattle.kernel_core.proofs.kernel.Kernel.run.Goals as goal
@@ -12,5 +12,5 @@ returns-in-Ok-clause-step c =
     let who = c.args.who.now in
     let call = c.args.call.now in
     done_is_step constants c.args.self.now c.act.new.self who call c.in-Ok.answer
-    ((c.in-Ok.ensures.ok.0) ∙ ap (λ (S : State). (act constants (whole (tick S)) who call).answer) c.self.view_is)
-    ((c.in-Ok.ensures.ok.1) ∙ ap (λ (S : State). release (put_all (act constants (whole (tick S)) who call).updates (tick S))) c.self.view_is)
+    ((c.in-Ok.ensures.ok.0) ∙ ap (λ (S : State). (outcome_by constants (whole (tick S)) who call).answer) c.self.view_is)
+    ((c.in-Ok.ensures.ok.1) ∙ ap (λ (S : State). release (put_all (outcome_by constants (whole (tick S)) who call).updates (tick S))) c.self.view_is)

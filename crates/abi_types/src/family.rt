@@ -1,0 +1,362 @@
+//! Which part of the kernel does a call.
+ghost use Rattle.std.specs.Prelude.{◌≡◌};
+ghost use Rattle.abi_types.specs.Families.{IsOf, fd_of_file, fd_of_offset};
+
+use crate::call::{Call, Lookup};
+use crate::place::Place;
+use abi_base::Errno;
+use abi_structures::{FdStat, FileStat};
+
+/// What a call does to its process's descriptors.
+#[derive(Clone, Copy)]
+pub enum DescriptorChange {
+    /// fd_close: takes a number away.
+    Close { fd: u32 },
+    /// fd_dup: gives what a number stands for one more number, the lowest that is free.
+    Dup { fd: u32 },
+    /// fd_replace: gives one number what another stands for.
+    Replace { from: u32, to: u32 },
+    /// fd_stat_put: sets the flags of a descriptor's open, or lowers the descriptor's rights.
+    StatPut { fd: u32, stat: FdStat, flags: u32 },
+}
+
+/// A call on the file or the directory that the open of one descriptor is of, which leaves the open as it is.
+#[derive(Clone, Copy)]
+pub enum FileCall<'a> {
+    FdPread {
+        fd: u32,
+        length: u64,
+        offset: u64,
+    },
+    FdPwrite {
+        fd: u32,
+        bytes: &'a [u8],
+        offset: u64,
+    },
+    FileAllocate {
+        fd: u32,
+        offset: u64,
+        length: u64,
+    },
+    FileReaddir {
+        fd: u32,
+        length: u64,
+        cookie: u64,
+    },
+    FileReadlink {
+        fd: u32,
+        path: &'a [u8],
+        length: u64,
+    },
+    FileStatFget {
+        fd: u32,
+    },
+    FileStatFput {
+        fd: u32,
+        stat: FileStat,
+        flags: u32,
+    },
+    FileStatGet {
+        lookup: Lookup,
+        path: &'a [u8],
+    },
+    FileStatPut {
+        lookup: Lookup,
+        path: &'a [u8],
+        stat: FileStat,
+        flags: u32,
+    },
+    /// mem_map of a file.
+    MemMap {
+        place: Place,
+        length: u64,
+        prot: u32,
+        flags: u32,
+        fd: u32,
+        offset: u64,
+    },
+}
+
+/// A call on the open of one descriptor that may move the open's offset.
+#[derive(Clone, Copy)]
+pub enum OffsetCall<'a> {
+    FdRead { fd: u32, length: u64 },
+    FdSeek { fd: u32, offset: u64, whence: u32 },
+    FdWrite { fd: u32, bytes: &'a [u8] },
+}
+
+/// A call that makes an entry of a directory, moves one or takes one away.
+#[derive(Clone, Copy)]
+pub enum EntryCall<'a> {
+    FileCreate {
+        fd: u32,
+        path: &'a [u8],
+        kind: u32,
+    },
+    FileLink {
+        lookup: Lookup,
+        path: &'a [u8],
+        new_fd: u32,
+        new_path: &'a [u8],
+    },
+    FileRename {
+        fd: u32,
+        path: &'a [u8],
+        new_fd: u32,
+        new_path: &'a [u8],
+    },
+    FileSymlink {
+        text: &'a [u8],
+        fd: u32,
+        path: &'a [u8],
+    },
+    FileUnlink {
+        fd: u32,
+        path: &'a [u8],
+        flags: u32,
+    },
+}
+
+/// file_open, with the flags and the rights that `stat` asks.
+#[derive(Clone, Copy)]
+pub struct OpenCall<'a> {
+    pub lookup: Lookup,
+    pub path: &'a [u8],
+    pub oflags: u32,
+    pub stat: FdStat,
+}
+
+/// A view of a call by the part of the kernel that does it.
+#[derive(Clone, Copy)]
+pub enum Family<'a> {
+    /// Changes the process's descriptors.
+    Descriptors(DescriptorChange),
+    /// fd_stat_get: what a descriptor is and may do.
+    DescriptorState { fd: u32 },
+    /// Works on a file or a directory by an open.
+    File(FileCall<'a>),
+    /// Works at the offset of an open.
+    Offset(OffsetCall<'a>),
+    /// Changes entries of directories.
+    Entries(EntryCall<'a>),
+    /// Opens what a path leads to.
+    Open(OpenCall<'a>),
+    /// proc_exit: ends the process.
+    Exit { code: u32 },
+    /// mem_map of zeros, which go there.
+    Zeros(Place),
+    /// Answers this, and changes nothing.
+    Answered(Errno),
+    /// One of the calls that aren't built yet.
+    NotBuilt,
+}
+
+// The flag of a mapping that has no file.
+const ANONYMOUS: u32 = 1;
+
+impl FileCall<'_> {
+    /// The descriptor.
+    pub fn fd(&self) -> u32
+        ensures { result ≡ fd_of_file self.now }
+    {
+        match self {
+            FileCall::FdPread { fd, .. }
+            | FileCall::FdPwrite { fd, .. }
+            | FileCall::FileAllocate { fd, .. }
+            | FileCall::FileReaddir { fd, .. }
+            | FileCall::FileReadlink { fd, .. }
+            | FileCall::FileStatFget { fd }
+            | FileCall::FileStatFput { fd, .. }
+            | FileCall::MemMap { fd, .. } => *fd,
+            FileCall::FileStatGet { lookup, .. } | FileCall::FileStatPut { lookup, .. } => {
+                lookup.fd
+            }
+        }
+    }
+}
+
+impl OffsetCall<'_> {
+    /// The descriptor.
+    pub fn fd(&self) -> u32
+        ensures { result ≡ fd_of_offset self.now }
+    {
+        match self {
+            OffsetCall::FdRead { fd, .. }
+            | OffsetCall::FdSeek { fd, .. }
+            | OffsetCall::FdWrite { fd, .. } => *fd,
+        }
+    }
+}
+
+impl Call {
+    /// Which part of the kernel does the call.
+    #[tactic(auto, unfolding(crate::specs::Families::IsOf))]
+    pub fn family(&self) -> Family<'_>
+        ensures { IsOf self.now result }
+    {
+        match self {
+            Call::FdClose { fd } => Family::Descriptors(DescriptorChange::Close { fd: *fd }),
+            Call::FdDup { fd } => Family::Descriptors(DescriptorChange::Dup { fd: *fd }),
+            Call::FdReplace { from, to } => Family::Descriptors(DescriptorChange::Replace {
+                from: *from,
+                to: *to,
+            }),
+            Call::FdStatPut { fd, stat, flags } => Family::Descriptors(DescriptorChange::StatPut {
+                fd: *fd,
+                stat: *stat,
+                flags: *flags,
+            }),
+            Call::FdStatGet { fd } => Family::DescriptorState { fd: *fd },
+            Call::FdPread { fd, length, offset } => Family::File(FileCall::FdPread {
+                fd: *fd,
+                length: *length,
+                offset: *offset,
+            }),
+            Call::FdPwrite { fd, bytes, offset } => Family::File(FileCall::FdPwrite {
+                fd: *fd,
+                bytes: bytes.as_slice(),
+                offset: *offset,
+            }),
+            Call::FileAllocate { fd, offset, length } => Family::File(FileCall::FileAllocate {
+                fd: *fd,
+                offset: *offset,
+                length: *length,
+            }),
+            Call::FileReaddir { fd, length, cookie } => Family::File(FileCall::FileReaddir {
+                fd: *fd,
+                length: *length,
+                cookie: *cookie,
+            }),
+            Call::FileReadlink { fd, path, length } => Family::File(FileCall::FileReadlink {
+                fd: *fd,
+                path: path.as_slice(),
+                length: *length,
+            }),
+            Call::FileStatFget { fd } => Family::File(FileCall::FileStatFget { fd: *fd }),
+            Call::FileStatFput { fd, stat, flags } => Family::File(FileCall::FileStatFput {
+                fd: *fd,
+                stat: *stat,
+                flags: *flags,
+            }),
+            Call::FileStatGet { lookup, path } => Family::File(FileCall::FileStatGet {
+                lookup: *lookup,
+                path: path.as_slice(),
+            }),
+            Call::FileStatPut {
+                lookup,
+                path,
+                stat,
+                flags,
+            } => Family::File(FileCall::FileStatPut {
+                lookup: *lookup,
+                path: path.as_slice(),
+                stat: *stat,
+                flags: *flags,
+            }),
+            Call::MemMap {
+                place,
+                length,
+                prot,
+                flags,
+                fd,
+                offset,
+            } => {
+                if *flags & ANONYMOUS == ANONYMOUS {
+                    return Family::Zeros(*place);
+                }
+                Family::File(FileCall::MemMap {
+                    place: *place,
+                    length: *length,
+                    prot: *prot,
+                    flags: *flags,
+                    fd: *fd,
+                    offset: *offset,
+                })
+            }
+            Call::FdRead { fd, length } => Family::Offset(OffsetCall::FdRead {
+                fd: *fd,
+                length: *length,
+            }),
+            Call::FdSeek { fd, offset, whence } => Family::Offset(OffsetCall::FdSeek {
+                fd: *fd,
+                offset: *offset,
+                whence: *whence,
+            }),
+            Call::FdWrite { fd, bytes } => Family::Offset(OffsetCall::FdWrite {
+                fd: *fd,
+                bytes: bytes.as_slice(),
+            }),
+            Call::FileCreate { fd, path, kind } => Family::Entries(EntryCall::FileCreate {
+                fd: *fd,
+                path: path.as_slice(),
+                kind: *kind,
+            }),
+            Call::FileLink {
+                lookup,
+                path,
+                new_fd,
+                new_path,
+            } => Family::Entries(EntryCall::FileLink {
+                lookup: *lookup,
+                path: path.as_slice(),
+                new_fd: *new_fd,
+                new_path: new_path.as_slice(),
+            }),
+            Call::FileRename {
+                fd,
+                path,
+                new_fd,
+                new_path,
+            } => Family::Entries(EntryCall::FileRename {
+                fd: *fd,
+                path: path.as_slice(),
+                new_fd: *new_fd,
+                new_path: new_path.as_slice(),
+            }),
+            Call::FileSymlink { text, fd, path } => Family::Entries(EntryCall::FileSymlink {
+                text: text.as_slice(),
+                fd: *fd,
+                path: path.as_slice(),
+            }),
+            Call::FileUnlink { fd, path, flags } => Family::Entries(EntryCall::FileUnlink {
+                fd: *fd,
+                path: path.as_slice(),
+                flags: *flags,
+            }),
+            Call::FileOpen {
+                lookup,
+                path,
+                oflags,
+                stat,
+            } => Family::Open(OpenCall {
+                lookup: *lookup,
+                path: path.as_slice(),
+                oflags: *oflags,
+                stat: *stat,
+            }),
+            Call::ProcExit { code } => Family::Exit { code: *code },
+            Call::FdDatasync { .. } | Call::FdSync { .. } | Call::FileAdvise { .. } => {
+                Family::Answered(Errno::Success)
+            }
+            Call::Memory { errno, .. } | Call::Refused { errno, .. } => Family::Answered(*errno),
+            Call::Unknown { .. } => Family::Answered(Errno::Nosys),
+            Call::ClockResGet { .. }
+            | Call::ClockTimeGet { .. }
+            | Call::CondvarSignal { .. }
+            | Call::FdCreate1 { .. }
+            | Call::FdCreate2 { .. }
+            | Call::LockUnlock { .. }
+            | Call::Poll { .. }
+            | Call::ProcExec { .. }
+            | Call::ProcFork { .. }
+            | Call::ProcRaise { .. }
+            | Call::RandomGet { .. }
+            | Call::SockRecv { .. }
+            | Call::SockSend { .. }
+            | Call::SockShutdown { .. }
+            | Call::ThreadCreate { .. }
+            | Call::ThreadExit { .. }
+            | Call::ThreadYield => Family::NotBuilt,
+        }
+    }
+}
