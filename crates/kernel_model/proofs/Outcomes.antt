@@ -2,7 +2,7 @@
 --     reads_sight, sight_ticked, outcome_reads      a call reads nothing outside its sight
 --     outcome_of_table      the outcome of a call of a process that has a table
 --     outside_reads, outside_of_table      the same of where a path leads outside
---     outcome_by, outcome_holds      what holds of each refusal and of what each call does holds of each outcome
+--     outcome_by_cases, outcome_holds      what holds of each refusal and of what each call does holds of each outcome
 use Rattle.std.proofs.Common.{◌≡◌, ◌++◌, Option, Some, None, refl, sym, ap, subst, ◌∙◌}
 use Rattle.std.specs.FinMap.{get}
 use Rattle.abi_types.specs.declared.call.Call.{Call}
@@ -106,15 +106,15 @@ act_holds P constants v who call (Some table) refused done =
     unless_holds P (refusal table call) ((meaning_of call).effect constants v who table) refused (done table refl)
 
 -- what holds of each refusal, and of what the call does where it isn't refused, holds of its outcome
-pub outcome_by : (P : Outcome → Type 0) (constants : Constants) (S : State) (who : Who) (call : Call)
+pub outcome_by_cases : (P : Outcome → Type 0) (constants : Constants) (S : State) (who : Who) (call : Call)
     → ((reply : Reply) → refusal_of call (get S.tables who.pid) ≡ Some reply → P (replies reply))
     → ((table : Table) → get S.tables who.pid ≡ Some table → refusal table call ≡ None → P ((meaning_of call).effect constants (whole (tick S)) who table))
     → P (outcome constants S who call)
-outcome_by P constants S who call refused done =
+outcome_by_cases P constants S who call refused done =
     subst P (sym (outcome_reads constants S who call)) (act_holds P constants (whole (tick S)) who call (get S.tables who.pid) refused done)
 
 -- and what holds of what it does in any case
 pub outcome_holds : (P : Outcome → Type 0) (constants : Constants) (S : State) (who : Who) (call : Call)
     → ((reply : Reply) → refusal_of call (get S.tables who.pid) ≡ Some reply → P (replies reply))
     → ((table : Table) → get S.tables who.pid ≡ Some table → P ((meaning_of call).effect constants (whole (tick S)) who table)) → P (outcome constants S who call)
-outcome_holds P constants S who call refused done = outcome_by P constants S who call refused (λ table there _. done table there)
+outcome_holds P constants S who call refused done = outcome_by_cases P constants S who call refused (λ table there _. done table there)

@@ -29,7 +29,7 @@ use Rattle.kernel_model.specs.View.{whole}
 use Rattle.kernel_model.proofs.Calls.{proper}
 use Rattle.kernel_model.proofs.Lacks.{present_all, all_present, absent_one, rows_there, first_lack_is, lack_is_first}
 use Rattle.kernel_model.proofs.Lists.{in_all}
-use Rattle.kernel_model.proofs.Outcomes.{outcome_of_table, outcome_by, outside_reads, outside_of_table}
+use Rattle.kernel_model.proofs.Outcomes.{outcome_of_table, outcome_by_cases, outside_reads, outside_of_table}
 use Rattle.kernel_model.proofs.Valids.{release_valid, tick_valid}
 use Rattle.kernel_model.proofs.Tests.{none_is_no, same_some}
 
@@ -91,7 +91,7 @@ own_from S who call o (Some component) leads denies =
 outcome_from : (constants : Constants) (S : State) (who : Who) (call : Call)
     → OnReply (IsFrom S who call (outcome constants S who call)) (step_answer constants S who call)
 outcome_from constants S who call =
-    outcome_by (λ (o : Outcome). OnReply (IsFrom S who call o) o.answer) constants S who call (λ reply refuses. inl (refuses, refl))
+    outcome_by_cases (λ (o : Outcome). OnReply (IsFrom S who call o) o.answer) constants S who call (λ reply refuses. inl (refuses, refl))
     (λ table own unrefused.
     own_from S who call ((meaning_of call).effect constants (whole (tick S)) who table) ((meaning_of call).outside (whole (tick S)) table)
     (outside_of_table S who call table own unrefused) ((proper call).plain constants (whole (tick S)) who table))
