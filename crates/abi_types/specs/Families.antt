@@ -72,6 +72,14 @@ fd_of_offset (offset.FdRead fd length) = fd
 fd_of_offset (offset.FdSeek fd offset whence) = fd
 fd_of_offset (offset.FdWrite fd bytes) = fd
 
+-- that of the path, and that of the second path where there are two
+abbrev pub fds_of_entry : EntryCall → ℕ × Option ℕ
+fds_of_entry (entry.FileCreate fd path kind) = (fd, None)
+fds_of_entry (entry.FileLink lookup path new_fd new_path) = (lookup.fd, Some new_fd)
+fds_of_entry (entry.FileRename fd path new_fd new_path) = (fd, Some new_fd)
+fds_of_entry (entry.FileSymlink text fd path) = (fd, None)
+fds_of_entry (entry.FileUnlink fd path flags) = (fd, None)
+
 -- ---- calls that need no view
 
 -- the flags of a mapping have 1, which is for one of zeros, with no file

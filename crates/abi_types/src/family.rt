@@ -1,6 +1,6 @@
 //! Which part of the kernel does a call.
 ghost use Rattle.std.specs.Prelude.{◌≡◌};
-ghost use Rattle.abi_types.specs.Families.{IsOf, fd_of_file, fd_of_offset};
+ghost use Rattle.abi_types.specs.Families.{IsOf, fd_of_file, fd_of_offset, fds_of_entry};
 
 use crate::call::{Call, Lookup};
 use crate::place::Place;
@@ -184,6 +184,21 @@ impl OffsetCall<'_> {
             OffsetCall::FdRead { fd, .. }
             | OffsetCall::FdSeek { fd, .. }
             | OffsetCall::FdWrite { fd, .. } => *fd,
+        }
+    }
+}
+
+impl EntryCall<'_> {
+    /// The descriptor from whose open the path begins, and that of the second path where there are two.
+    pub fn fds(&self) -> (u32, Option<u32>)
+        ensures { result ≡ fds_of_entry self.now }
+    {
+        match self {
+            EntryCall::FileCreate { fd, .. }
+            | EntryCall::FileSymlink { fd, .. }
+            | EntryCall::FileUnlink { fd, .. } => (*fd, None),
+            EntryCall::FileLink { lookup, new_fd, .. } => (lookup.fd, Some(*new_fd)),
+            EntryCall::FileRename { fd, new_fd, .. } => (*fd, Some(*new_fd)),
         }
     }
 }

@@ -1,5 +1,6 @@
 //! What a call that makes a node would be refused for, where its process can make no more.
 ghost use Rattle.std.specs.Prelude.{◌≡◌, ℕ, Option, Some};
+ghost use Rattle.abi_types.specs.Families.{call_of_entry};
 ghost use Rattle.abi_types.specs.declared.node.NodeKind.{NodeKind};
 ghost use Rattle.abi_types.specs.declared.open_kind.OpenKind.{OpenKind};
 ghost use Rattle.kernel_model.specs.Families.EntryCalls as model;
@@ -9,7 +10,7 @@ ghost use Rattle.entry_calls.specs.Checks.{IsTold};
 use crate::failure::errno_of;
 use crate::making::text_error;
 use crate::places::{last_name, name_at};
-use abi_types::{Call, OpenKind};
+use abi_types::{EntryCall, OpenKind};
 use file_calls::PathFault;
 use file_tree::Tree;
 
@@ -24,17 +25,20 @@ fn check_path(tree: &Tree, here: &OpenKind, path: &[u8]) -> Result<(), PathFault
     }
 }
 
-/// Why a call that makes a node is refused, whatever the number of the node: `Ok` where it would make one. Nothing changes.
-pub fn check_entries(tree: &Tree, here: &OpenKind, call: &Call) -> Result<(), PathFault>
-    requires { (model.name_meaning call.now).makes ≡ 1 }
-    ensures { (now new : ℕ) (there : Option OpenKind) → IsTold ((model.name_meaning call.now).effect now new tree.now (Some here.now) there) result }
+/// Why a call that makes a node is refused, whatever the number of the node: `Ok` where it would make one, and where the call
+/// makes none. Nothing changes.
+pub fn check_entries(tree: &Tree, here: &OpenKind, call: EntryCall<'_>) -> Result<(), PathFault>
+    ensures { (model.name_meaning (call_of_entry call.entry)).makes ≡ 1 → (now new : ℕ) (there : Option OpenKind)
+        → IsTold ((model.name_meaning (call_of_entry call.entry)).effect now new tree.now (Some here.now) there) result }
 {
     match call {
-        Call::FileCreate { path, .. } => check_path(tree, here, path.as_slice()),
-        Call::FileSymlink { text, path, .. } => match text_error(text.as_slice()) {
+        EntryCall::FileCreate { path, .. } => check_path(tree, here, path),
+        EntryCall::FileSymlink { text, path, .. } => match text_error(text) {
             Some(errno) => Err(PathFault::Errno(errno)),
-            None => check_path(tree, here, path.as_slice()),
+            None => check_path(tree, here, path),
         },
-        _ => unreachable!(),
+        EntryCall::FileLink { .. } | EntryCall::FileRename { .. } | EntryCall::FileUnlink { .. } => {
+            Ok(())
+        }
     }
 }

@@ -1,13 +1,12 @@
 //! What calls on files do that make names, move them or take them away, and what an open does to the file tree.
 //!
-//! [`on_entries`] does a call of the first kind on the tree and the opens that it is passed. Which calls these are, and of which
-//! descriptors' opens, [`entry_fds`] tells; why one is refused that would make a node, [`check_entries`] tells beforehand. An
-//! open has two parts, since memory for the descriptor is taken between them: [`plan_open`] says what is opened and changes
-//! nothing, and [`apply_plan`] does to the tree what the plan says.
+//! [`on_entries`] does a call of the first kind on the tree and the opens that it is passed; [`check_entries`] says beforehand
+//! why one is refused that would make a node. An open has two parts, since memory for the descriptor is taken between them:
+//! [`plan_open`] says what is opened and changes nothing, and [`apply_plan`] does to the tree what the plan says.
 #![tactic(auto)]
 
 pub use checking::check_entries;
-pub use dispatch::{entry_fds, makes, on_entries};
+pub use dispatch::{makes, on_entries};
 pub use failure::Failure;
 pub use open_plan::plan_open;
 pub use places::NamePlace;

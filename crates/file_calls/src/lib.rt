@@ -1,15 +1,15 @@
 //! What calls on files do that work on the open of one descriptor, a file's or a directory's: they look at the file tree, or
 //! change bytes, a size or times. They make no name and take none away, and leave the open as it is.
 //!
-//! [`on_open`] does such a call on the open and the tree that it is passed. Which calls these are, and of which descriptor's
-//! open, [`file_fd`] tells. [`read_file`] and [`overwrite`] are of use to calls that move the open too.
+//! [`on_open`] does such a call on the open and the tree that it is passed. [`read_file`] and [`overwrite`] are of use to calls
+//! at an open's offset too.
 //!
 //! What other calls share with them is here too: where a path leads, why it leads nowhere ([`PathFault`]), and changes of one
 //! node.
 #![tactic(auto)]
 
 pub use changes::{set_modified, set_size};
-pub use dispatch::{file_fd, on_open};
+pub use dispatch::on_open;
 pub use path_fault::{PathFault, reply_of};
 pub use paths::{found, lookup_mode, path_error, walked};
 pub use reading::read_file;

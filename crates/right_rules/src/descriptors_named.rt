@@ -109,6 +109,7 @@ pub fn named(call: &Call) -> NamedList<'_>
         | Call::ThreadCreate { .. }
         | Call::ThreadExit { .. }
         | Call::ThreadYield
-        | Call::Refused { .. } => none(),
+        | Call::Refused { .. }
+        | Call::Unknown { .. } => none(),
     }
 }

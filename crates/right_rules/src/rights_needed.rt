@@ -186,6 +186,7 @@ pub fn need(call: &Call) -> Needs<'_>
         | Call::ThreadCreate { .. }
         | Call::ThreadExit { .. }
         | Call::ThreadYield
-        | Call::Refused { .. } => none(),
+        | Call::Refused { .. }
+        | Call::Unknown { .. } => none(),
     }
 }

@@ -1,6 +1,7 @@
 use Rattle.std.proofs.Common.{◌≡◌, ℕ, List, Option, None, Some, option_copied, refl, sym, ap, ◌∙◌}
 use Rattle.abi_base.specs.declared.errno.Errno.{Errno}
-use Rattle.abi_types.specs.declared.call.Call.{Call}
+use Rattle.abi_types.specs.Families.{call_of_entry}
+use Rattle.abi_types.specs.declared.family.EntryCall.{EntryCall}
 use Rattle.abi_types.specs.declared.node.NodeKind.{NodeKind}
 use Rattle.abi_types.specs.declared.node.NodeKind.TheVariants as kind
 use Rattle.abi_types.specs.declared.open_kind.OpenKind.{OpenKind}
@@ -24,50 +25,40 @@ pub returns-in-FileCreate : goal.returns-in-FileCreate
 returns-in-FileCreate c =
     let t = c.args.tree.now in
     let effect : NameMeaning → NameOutcome = λ m. m.effect c.args.now c.args.new t (Some c.args.here.now) (option_copied c.args.there) in
-    done_as t c.file_create.new.tree c.file_create.result _ (effect (name_meaning c.args.call.now))
-    (ap (λ path. effect (making kind.Directory path)) c.as_slice.ensures ∙ ap (λ (call : Call). effect (name_meaning call)) (sym c.in-FileCreate.is))
+    done_as t c.file_create.new.tree c.file_create.result _ (effect (name_meaning (call_of_entry c.args.call)))
+    (ap (λ (call : EntryCall). effect (name_meaning (call_of_entry call))) (sym c.in-FileCreate.is))
     c.file_create.ensures
 
 pub returns-in-FileLink : goal.returns-in-FileLink
 returns-in-FileLink c =
     let t = c.args.tree.now in
     let effect : NameMeaning → NameOutcome = λ m. m.effect c.args.now c.args.new t (Some c.args.here.now) (option_copied c.args.there) in
-    let mode = lookup_mode c.in-FileLink.lookup.flags in
-    done_as t c.file_link.new.tree c.file_link.result _ (effect (name_meaning c.args.call.now))
-    (ap (λ path. effect (linking mode path c.as_slice-in-FileLink-2.result.now)) c.as_slice-in-FileLink.ensures
-    ∙ ap (λ path. effect (linking mode c.in-FileLink.path path)) c.as_slice-in-FileLink-2.ensures
-    ∙ ap (λ (call : Call). effect (name_meaning call)) (sym c.in-FileLink.is))
+    done_as t c.file_link.new.tree c.file_link.result _ (effect (name_meaning (call_of_entry c.args.call)))
+    (ap (λ (call : EntryCall). effect (name_meaning (call_of_entry call))) (sym c.in-FileLink.is))
     (c.file_link.ensures c.args.new)
 
 pub returns-in-FileRename : goal.returns-in-FileRename
 returns-in-FileRename c =
     let t = c.args.tree.now in
     let effect : NameMeaning → NameOutcome = λ m. m.effect c.args.now c.args.new t (Some c.args.here.now) (option_copied c.args.there) in
-    done_as t c.file_rename.new.tree c.file_rename.result _ (effect (name_meaning c.args.call.now))
-    (ap (λ path. effect (renaming path c.as_slice-in-FileRename-2.result.now)) c.as_slice-in-FileRename.ensures
-    ∙ ap (λ path. effect (renaming c.in-FileRename.path path)) c.as_slice-in-FileRename-2.ensures
-    ∙ ap (λ (call : Call). effect (name_meaning call)) (sym c.in-FileRename.is))
+    done_as t c.file_rename.new.tree c.file_rename.result _ (effect (name_meaning (call_of_entry c.args.call)))
+    (ap (λ (call : EntryCall). effect (name_meaning (call_of_entry call))) (sym c.in-FileRename.is))
     (c.file_rename.ensures c.args.new)
 
 pub returns-in-FileSymlink : goal.returns-in-FileSymlink
 returns-in-FileSymlink c =
     let t = c.args.tree.now in
     let effect : NameMeaning → NameOutcome = λ m. m.effect c.args.now c.args.new t (Some c.args.here.now) (option_copied c.args.there) in
-    done_as t c.file_symlink.new.tree c.file_symlink.result _ (effect (name_meaning c.args.call.now))
-    (second_unseen (text_error c.as_slice-in-FileSymlink.result.now) (kind.Link c.as_slice-in-FileSymlink.result.now)
-    c.as_slice-in-FileSymlink-2.result.now c.args.now c.args.new t (Some c.args.here.now) (option_copied c.args.there)
-    ∙ ap (λ text. effect (making_unless (text_error text) (making (kind.Link text) c.as_slice-in-FileSymlink-2.result.now)))
-    c.as_slice-in-FileSymlink.ensures
-    ∙ ap (λ path. effect (making_unless (text_error c.in-FileSymlink.text) (making (kind.Link c.in-FileSymlink.text) path)))
-    c.as_slice-in-FileSymlink-2.ensures
-    ∙ ap (λ (call : Call). effect (name_meaning call)) (sym c.in-FileSymlink.is))
+    done_as t c.file_symlink.new.tree c.file_symlink.result _ (effect (name_meaning (call_of_entry c.args.call)))
+    (second_unseen (text_error c.in-FileSymlink.text.now) (kind.Link c.in-FileSymlink.text.now)
+    c.in-FileSymlink.path.now c.args.now c.args.new t (Some c.args.here.now) (option_copied c.args.there)
+    ∙ ap (λ (call : EntryCall). effect (name_meaning (call_of_entry call))) (sym c.in-FileSymlink.is))
     c.file_symlink.ensures
 
 pub returns-in-FileUnlink : goal.returns-in-FileUnlink
 returns-in-FileUnlink c =
     let t = c.args.tree.now in
     let effect : NameMeaning → NameOutcome = λ m. m.effect c.args.now c.args.new t (Some c.args.here.now) (option_copied c.args.there) in
-    done_as t c.file_unlink.new.tree c.file_unlink.result _ (effect (name_meaning c.args.call.now))
-    (ap (λ path. effect (unlinking c.in-FileUnlink.flags path)) c.as_slice-in-FileUnlink.ensures
-    ∙ ap (λ (call : Call). effect (name_meaning call)) (sym c.in-FileUnlink.is))
+    done_as t c.file_unlink.new.tree c.file_unlink.result _ (effect (name_meaning (call_of_entry c.args.call)))
+    (ap (λ (call : EntryCall). effect (name_meaning (call_of_entry call))) (sym c.in-FileUnlink.is))
     (c.file_unlink.ensures c.args.new)
