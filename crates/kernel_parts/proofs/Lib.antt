@@ -2,7 +2,6 @@ pub mod Tests
 pub mod Lowest
 pub mod StatPuts
 pub mod Counts
-pub mod Answers
 pub mod Grants
 pub mod Releases
 pub mod Forgetting

@@ -1,5 +1,7 @@
 -- How calls on names are done: the node that they make, and what they leave.
+--     entries_have_fds      such a call has a descriptor
 --     one_new, new_again      such a call makes one node or none, and where none no number matters
+--     unnumbered_is_one      a call that can't number what it makes makes one node
 --     numbered_is, unnumbered      a number was found, or none
 --     refused_left, counted_out, changed_left      what a call leaves that is refused;  that can't number its node;  that changes the tree
 use Rattle.std.proofs.Common.{◌≡◌, ◌≢◌, ℕ, Bool, true, false, cond, ◌++◌, List, Option, None, Some, Err, IsSome, refl, sym, ap, subst, ◌∙◌}
@@ -7,6 +9,9 @@ use Rattle.abi_base.specs.declared.errno.Errno.{Errno}
 use Rattle.abi_base.specs.declared.errno.Errno.TheVariants.{Again}
 use Rattle.abi_types.specs.declared.call.Call.{Call}
 use Rattle.abi_types.specs.declared.call.Call.TheVariants as call
+use Rattle.abi_types.specs.Families.{call_of_entry}
+use Rattle.abi_types.specs.declared.family.EntryCall.{EntryCall}
+use Rattle.abi_types.specs.declared.family.EntryCall.TheVariants as entry
 use Rattle.abi_types.specs.declared.node.NodeKind.{NodeKind}
 use Rattle.abi_types.specs.declared.node.NodeKind.TheVariants as kind
 use Rattle.abi_types.specs.declared.open_kind.OpenKind.{OpenKind}
@@ -31,6 +36,14 @@ use Rattle.kernel_parts.specs.Entries.{IsLeftBy, number_of}
 
 -- ---- the node that a call makes
 
+-- such a call has a descriptor
+pub entries_have_fds : (call : EntryCall) → IsSome (entry_fds (call_of_entry call))
+entries_have_fds (entry.FileCreate fd path type) = refl
+entries_have_fds (entry.FileLink lookup path new_fd new_path) = refl
+entries_have_fds (entry.FileRename fd path new_fd new_path) = refl
+entries_have_fds (entry.FileSymlink text fd path) = refl
+entries_have_fds (entry.FileUnlink fd path flags) = refl
+
 text_makes_one : (o : Option Errno) (path : List ℕ) (node : NodeKind) → (making_unless o (making node path)).makes ≡ 1
 text_makes_one None path node = refl
 text_makes_one (Some errno) path node = refl
@@ -42,6 +55,12 @@ one_new (call.FileRename fd path new_fd new_path) some makes = absurd (makes ref
 one_new (call.FileSymlink text fd path) some makes = text_makes_one (text_error text) path (kind.Link text)
 one_new (call.FileUnlink fd path flags) some makes = absurd (makes refl)
 one_new unnamed some makes = absurd (not_true some)
+
+-- a call that can't number what it makes makes one node
+pub unnumbered_is_one : (called : Call) → IsSome (entry_fds called) → (p : ℕ) (own : Option ProcessState) → can_number p (name_meaning called).makes own ≡ false
+    → (name_meaning called).makes ≡ 1
+unnumbered_is_one called some p own cannot =
+    one_new called some (λ zero. let bad : true ≡ false = subst (λ k. can_number p k own ≡ false) zero cannot in absurd (cc))
 
 -- the number of the last node that it makes serves as well as that of the first
 pub new_again : (called : Call) → IsSome (entry_fds called) → (p now : ℕ) (own : Option ProcessState) (t : Tree) (here there : Option OpenKind)

@@ -5,6 +5,8 @@ use Rattle.std.specs.FinMap.{FinMap, get, insert, remove}
 use Rattle.abi_base.specs.declared.errno.Errno.TheVariants.{Badf}
 use Rattle.abi_structures.specs.declared.structures.FdStat.{FdStat}
 use Rattle.abi_types.specs.declared.descriptor.Descriptor.{Descriptor}
+use Rattle.abi_types.specs.declared.family.DescriptorChange.{DescriptorChange}
+use Rattle.abi_types.specs.declared.family.DescriptorChange.TheVariants.{Close, Dup, Replace, StatPut}
 use Rattle.abi_types.specs.declared.open_kind.OpenKind.{OpenKind}
 use Rattle.maps.specs.Maps.{number}
 use Rattle.kernel_model.specs.Families.DescriptorCalls.{dup_of, replaced_by, stat_set, with_table}
@@ -12,8 +14,6 @@ use Rattle.kernel_model.specs.Outcome.{Outcome, replies}
 use Rattle.kernel_model.specs.Release.{count_in}
 use Rattle.kernel_model.specs.Reply.{refused}
 use Rattle.kernel_model.specs.State.{Table, Update, set_table, set_open}
-use Rattle.kernel_parts.specs.declared.table_change.TableChange.{TableChange}
-use Rattle.kernel_parts.specs.declared.table_change.TableChange.TheVariants.{Close, Dup, Replace, StatPut}
 
 -- fd_stat_put by the opens
 abbrev pub stat_put_at : ℕ → FinMap nat_cmp OpenKind → Table → ℕ → FdStat → ℕ → Option Descriptor → Outcome
@@ -21,7 +21,7 @@ stat_put_at p opens table fd stat flags None = replies (refused Badf)
 stat_put_at p opens table fd stat flags (Some d) = stat_set p table fd stat flags d (get opens d.id)
 
 -- what the change comes to, for process p
-abbrev pub change_outcome : ℕ → FinMap nat_cmp OpenKind → Table → TableChange → Outcome
+abbrev pub change_outcome : ℕ → FinMap nat_cmp OpenKind → Table → DescriptorChange → Outcome
 change_outcome p opens table (Close fd) = with_table p 0 (remove table fd)
 change_outcome p opens table (Dup fd) = dup_of p table (get table fd)
 change_outcome p opens table (Replace from to) = replaced_by p table to (get table from)
@@ -44,11 +44,11 @@ abbrev pub IsMoved : Table → Table → FinMap nat_cmp ℕ → FinMap nat_cmp �
 IsMoved old new before after = (o : ℕ) → number (get after o) + count_in o old ≡ number (get before o) + count_in o new
 
 -- a number that is replaced is there
-abbrev pub HasReplaced : Table → TableChange → Type 0
+abbrev pub HasReplaced : Table → DescriptorChange → Type 0
 HasReplaced table (Replace from to) = IsSome (get table to)
 HasReplaced table _ = Unit {0}
 
 -- the change makes a number
-abbrev pub IsDup : TableChange → Type 0
+abbrev pub IsDup : DescriptorChange → Type 0
 IsDup (Dup fd) = Unit {0}
 IsDup _ = ⊥

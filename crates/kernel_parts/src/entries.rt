@@ -1,13 +1,14 @@
 //! The calls that make names of files, move them or take them away: what they leave of the tree and of what their process has of
 //! its own.
-ghost use Rattle.std.specs.Prelude.{◌≡◌, true, Some, IsSome, IfOk, OnErr, option_copied};
+ghost use Rattle.std.specs.Prelude.{◌≡◌, true, Some, IfOk, OnErr, option_copied};
+ghost use Rattle.abi_types.specs.Families.{call_of_entry};
 ghost use Rattle.kernel_parts.specs.Entries.{IsLeftBy, open_at};
 ghost use Rattle.kernel_model.specs.Families.EntryCalls as model;
 ghost use Rattle.kernel_model.specs.Families.Numbers.{can_number, next_object};
 ghost use Rattle.entry_calls.specs.Done.{IsNew};
 
 use crate::process::ProcessState;
-use abi_types::{Call, Errno, OpenKind, Pid, Reply};
+use abi_types::{EntryCall, Errno, OpenKind, Pid, Reply};
 use entry_calls::{Failure, check_entries, makes, on_entries};
 use fd_table::FdTable;
 use file_calls::reply_of;
@@ -42,13 +43,12 @@ pub fn change_entries(
     caller: &Caller,
     here: &OpenKind,
     there: Option<&OpenKind>,
-    call: &Call,
+    call: EntryCall<'_>,
 ) -> Result<Reply, AllocError>
-    requires names { IsSome (model.entry_fds call.now) }
-    requires new { can_number caller.now.pid (model.name_meaning call.now).makes (Some own.old) ≡ true
-        → IsNew (model.name_meaning call.now).makes tree.old (next_object caller.now.pid (Some own.old) (model.name_meaning call.now).makes) }
-    ensures done { IfOk result (IsLeftBy caller.now.pid (model.name_meaning call.now).makes own.old own.new tree.old tree.new
-        ((model.name_meaning call.now).effect caller.now.time (next_object caller.now.pid (Some own.old) 1) tree.old (Some here.now) (option_copied there.entry))) }
+    requires new { can_number caller.now.pid (model.name_meaning (call_of_entry call)).makes (Some own.old) ≡ true
+        → IsNew (model.name_meaning (call_of_entry call)).makes tree.old (next_object caller.now.pid (Some own.old) (model.name_meaning (call_of_entry call)).makes) }
+    ensures done { IfOk result (IsLeftBy caller.now.pid (model.name_meaning (call_of_entry call.entry)).makes own.old own.new tree.old tree.new
+        ((model.name_meaning (call_of_entry call.entry)).effect caller.now.time (next_object caller.now.pid (Some own.old) 1) tree.old (Some here.now) (option_copied there.entry))) }
     ensures same_process { OnErr result (own.new ≡ own.old) }
     ensures same_tree { OnErr result (tree.new ≡ tree.old) }
 {

@@ -2,20 +2,20 @@
 //! that it holds, what a process has of its own, the standard streams, and the nodes of the file tree that nothing holds any more.
 #![tactic(auto)]
 
-pub use answering::answer_of;
 pub use entries::{Caller, change_entries, open_of};
 pub use installing::{Opening, put_opening};
+pub use places::placed;
 pub use process::ProcessState;
 pub use releasing::{forget_nameless, release};
 pub use start::{granted, single, streams};
 pub use stream_calls::on_stream;
 pub use table::let_go_all;
-pub use table_change::TableChange;
+pub use table_change::change_table;
 pub use terminal::Terminal;
 
-mod answering;
 mod entries;
 mod installing;
+mod places;
 mod process;
 mod releasing;
 mod start;

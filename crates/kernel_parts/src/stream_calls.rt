@@ -1,18 +1,19 @@
 //! The calls that read from a standard stream or write to it.
 ghost use Rattle.std.specs.Prelude.{◌≡◌, ℕ, IsSome, IfOk, OnErr, true};
 ghost use Rattle.std.specs.FinMap as map;
+ghost use Rattle.abi_types.specs.Families.{call_of_offset};
 ghost use Rattle.fd_calls.specs.Calls as model;
 ghost use Rattle.kernel_parts.specs.StreamCalls.{stream_outcome, terms_after};
 ghost use Rattle.kernel_model.specs.Families.StreamCalls.{read_term, write_term};
 
 use crate::terminal::Terminal;
-use abi_types::{Answer, Bytes, Call, Errno, Payload};
+use abi_types::{Answer, Errno, OffsetCall, Payload};
 use maps::NumMap;
 use right_rules::{refused, success, success_with};
 use std::alloc::{AllocError, Global};
 
 // Writes the bytes to a standard stream. `Err` changes nothing.
-fn write_term(terms: &mut NumMap<Terminal>, which: u32, bytes: &Bytes) -> Result<Answer, AllocError>
+fn write_term(terms: &mut NumMap<Terminal>, which: u32, bytes: &[u8]) -> Result<Answer, AllocError>
     ensures ok { IfOk result (λ given. (given ≡ (write_term bytes.now which (map.get terms.old which)).answer)
         × (terms.new ≡ terms_after (write_term bytes.now which (map.get terms.old which)).updates terms.old)) }
     ensures err { OnErr result (terms.new ≡ terms.old) }
@@ -22,7 +23,7 @@ fn write_term(terms: &mut NumMap<Terminal>, which: u32, bytes: &Bytes) -> Result
         return Ok(Answer::Reply(refused(Errno::Badf)));
     }
     let stream = terms.get_mut(u64::from(which));
-    match stream.write(bytes.as_slice()) {
+    match stream.write(bytes) {
         Ok(()) => Ok(Answer::Reply(success(bytes.len() as u64, 0))),
         Err(error) => Err(error),
     }
@@ -58,17 +59,17 @@ pub fn on_stream(
     alloc: Global,
     terms: &mut NumMap<Terminal>,
     which: u32,
-    call: &Call,
+    call: OffsetCall<'_>,
 ) -> Result<Answer, AllocError>
-    ensures ok { IfOk result (λ given. (given ≡ (stream_outcome call.now which (map.get terms.old which)).answer)
-        × (terms.new ≡ terms_after (stream_outcome call.now which (map.get terms.old which)).updates terms.old)) }
-    ensures only { OnErr result ((model.offset_meaning call.now).takes_memory ≡ true) }
+    ensures ok { IfOk result (λ given. (given ≡ (stream_outcome (call_of_offset call.entry) which (map.get terms.old which)).answer)
+        × (terms.new ≡ terms_after (stream_outcome (call_of_offset call.entry) which (map.get terms.old which)).updates terms.old)) }
+    ensures only { OnErr result ((model.offset_meaning (call_of_offset call.entry)).takes_memory ≡ true) }
     ensures err { OnErr result (terms.new ≡ terms.old) }
     ensures there { (k : ℕ) → IsSome (map.get terms.old k) → IsSome (map.get terms.new k) }
 {
     match call {
-        Call::FdRead { length, .. } => read_term(alloc, terms, which, *length),
-        Call::FdWrite { bytes, .. } => write_term(terms, which, bytes),
-        _ => Ok(Answer::Reply(refused(Errno::Badf))),
+        OffsetCall::FdRead { length, .. } => read_term(alloc, terms, which, length),
+        OffsetCall::FdWrite { bytes, .. } => write_term(terms, which, bytes),
+        OffsetCall::FdSeek { .. } => Ok(Answer::Reply(refused(Errno::Badf))),
     }
 }

@@ -8,24 +8,11 @@ ghost use Rattle.kernel_model.specs.Families.DescriptorCalls.{dup_of, replaced_b
 ghost use Rattle.kernel_model.specs.Release.{count_in};
 
 use abi_base::MOST_DESCRIPTORS;
-use abi_types::{Errno, FdStat, OpenKind, Reply};
+use abi_types::{DescriptorChange, Errno, FdStat, OpenKind, Reply};
 use fd_table::FdTable;
 use object_store::Objects;
 use right_rules::{refused, success};
 use std::alloc::AllocError;
-
-/// What a call does to its process's descriptors.
-#[derive(Clone, Copy)]
-pub enum TableChange {
-    /// Takes a number away.
-    Close(u32),
-    /// Gives what a number stands for one more number, the lowest that is free.
-    Dup(u32),
-    /// Gives one number what another stands for.
-    Replace { from: u32, to: u32 },
-    /// Sets the flags of a descriptor's open, or lowers the descriptor's rights.
-    StatPut { fd: u32, stat: FdStat, flags: u32 },
-}
 
 // Takes a number away, and lets its open go.
 fn close(table: &mut FdTable, objects: &mut Objects, fd: u32)
@@ -134,31 +121,33 @@ fn stat_put(table: &mut FdTable, objects: &mut Objects, fd: u32, stat: &FdStat, 
     success(0, 0)
 }
 
-impl TableChange {
-    /// Makes the change. The counts of holders change with the table; an open that nothing holds any more stays. Want of
-    /// memory, which only `Dup` meets, changes nothing.
-    pub fn apply(&self, table: &mut FdTable, objects: &mut Objects) -> Result<Reply, AllocError>
-        requires covered { (o : ℕ) → count_in o table.old ≤ number (map.get objects.old.counts o) }
-        requires few { (o : ℕ) → number (map.get objects.old.counts o) < 2 ^ 63 }
-        requires replaced { HasReplaced table.old self.now }
-        ensures reply { IfOk result (λ reply. (p : ℕ) → answer.Reply reply ≡ (change_outcome p objects.old.kinds table.old self.now).answer) }
-        ensures table { OnOk result ((p : ℕ) → table.new ≡ table_after table.old (change_outcome p objects.old.kinds table.old self.now).updates) }
-        ensures kinds { OnOk result ((p : ℕ) → objects.new.kinds ≡ opens_after objects.old.kinds (change_outcome p objects.old.kinds table.old self.now).updates) }
-        ensures counts { OnOk result (IsMoved table.old table.new objects.old.counts objects.new.counts) }
-        ensures only { OnErr result (IsDup self.now) }
-        ensures same_table { OnErr result (table.new ≡ table.old) }
-        ensures same_objects { OnErr result (objects.new ≡ objects.old) }
-    {
-        match self {
-            TableChange::Close(fd) => {
-                close(table, objects, *fd);
-                Ok(success(0, 0))
-            }
-            TableChange::Dup(fd) => dup(table, objects, *fd),
-            TableChange::Replace { from, to } => Ok(replace(table, objects, *from, *to)),
-            TableChange::StatPut { fd, stat, flags } => {
-                Ok(stat_put(table, objects, *fd, stat, *flags))
-            }
+/// Makes the change. The counts of holders change with the table; an open that nothing holds any more stays. Want of
+/// memory, which only `Dup` meets, changes nothing.
+pub fn change_table(
+    table: &mut FdTable,
+    objects: &mut Objects,
+    change: DescriptorChange,
+) -> Result<Reply, AllocError>
+    requires covered { (o : ℕ) → count_in o table.old ≤ number (map.get objects.old.counts o) }
+    requires few { (o : ℕ) → number (map.get objects.old.counts o) < 2 ^ 63 }
+    requires replaced { HasReplaced table.old change }
+    ensures reply { IfOk result (λ reply. (p : ℕ) → answer.Reply reply ≡ (change_outcome p objects.old.kinds table.old change).answer) }
+    ensures table { OnOk result ((p : ℕ) → table.new ≡ table_after table.old (change_outcome p objects.old.kinds table.old change).updates) }
+    ensures kinds { OnOk result ((p : ℕ) → objects.new.kinds ≡ opens_after objects.old.kinds (change_outcome p objects.old.kinds table.old change).updates) }
+    ensures counts { OnOk result (IsMoved table.old table.new objects.old.counts objects.new.counts) }
+    ensures only { OnErr result (IsDup change) }
+    ensures same_table { OnErr result (table.new ≡ table.old) }
+    ensures same_objects { OnErr result (objects.new ≡ objects.old) }
+{
+    match change {
+        DescriptorChange::Close { fd } => {
+            close(table, objects, fd);
+            Ok(success(0, 0))
+        }
+        DescriptorChange::Dup { fd } => dup(table, objects, fd),
+        DescriptorChange::Replace { from, to } => Ok(replace(table, objects, from, to)),
+        DescriptorChange::StatPut { fd, stat, flags } => {
+            Ok(stat_put(table, objects, fd, &stat, flags))
         }
     }
 }

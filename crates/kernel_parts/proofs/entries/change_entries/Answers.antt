@@ -1,11 +1,12 @@
 use Rattle.std.proofs.Common.{◌≡◌, ℕ, Some, option_copied, refl, sym, ap, subst, ◌∙◌}
+use Rattle.abi_types.specs.Families.{call_of_entry}
 use Rattle.entry_calls.specs.Done.{FailsAs}
 use Rattle.entry_calls.specs.declared.failure.Failure.TheVariants.{Refused}
 use Rattle.kernel_model.specs.Families.EntryCalls as model
 use Rattle.kernel_model.specs.Families.NameMeaning.{NameOutcome}
 use Rattle.kernel_model.specs.Families.Numbers.{next_object}
 use Rattle.kernel_parts.specs.Entries.{number_of}
-use Rattle.kernel_parts.proofs.Naming.{counted_out, failed_is, new_again, numbered_is, refused_left, told_is, unnumbered}
+use Rattle.kernel_parts.proofs.Naming.{counted_out, entries_have_fds, failed_is, new_again, numbered_is, refused_left, told_is, unnumbered, unnumbered_is_one}
 use Rattle.kernel_parts.proofs.entries.change_entries.Goals as goal
 
 pub returns-in-Ok-clause-done : goal.returns-in-Ok-clause-done
@@ -13,10 +14,12 @@ returns-in-Ok-clause-done c =
     let p : ℕ = c.args.caller.now.pid in
     let own = c.args.own.now in
     let t = c.args.tree.now in
-    let makes : ℕ = (model.name_meaning c.args.call.now).makes in
-    let told = c.in-Ok.ensures c.args.caller.now.time (next_object p (Some own) 1) (option_copied c.args.there) in
+    let makes : ℕ = (model.name_meaning (call_of_entry c.args.call)).makes in
     let none = ap (λ k. number_of p k (Some own)) (sym c.makes-count.ensures) ∙ sym c.numbered.ensures.number ∙ c.in_default.is in
-    counted_out p makes own own t t _ c.refused.result told.0 told.1 (unnumbered p makes (Some own) none) refl refl c.refused.ensures
+    let cannot = unnumbered p makes (Some own) none in
+    let one = unnumbered_is_one (call_of_entry c.args.call) (entries_have_fds c.args.call) p (Some own) cannot in
+    let told = c.in-Ok.ensures one c.args.caller.now.time (next_object p (Some own) 1) (option_copied c.args.there) in
+    counted_out p makes own own t t _ c.refused.result told.0 told.1 cannot refl refl c.refused.ensures
 
 pub returns-in-Err-clause-done : goal.returns-in-Err-clause-done
 returns-in-Err-clause-done c =
@@ -24,9 +27,11 @@ returns-in-Err-clause-done c =
     let own = c.args.own.now in
     let t = c.args.tree.now in
     let new : ℕ = next_object p (Some own) 1 in
-    let m = model.name_meaning c.args.call.now in
+    let m = model.name_meaning (call_of_entry c.args.call) in
     let comes : NameOutcome = m.effect c.args.caller.now.time new t (Some c.args.here.now) (option_copied c.args.there) in
-    let told = c.in-Err.ensures c.args.caller.now.time new (option_copied c.args.there) in
+    let none = ap (λ k. number_of p k (Some own)) (sym c.makes-count.ensures) ∙ sym c.numbered.ensures.number ∙ c.in_default.is in
+    let one = unnumbered_is_one (call_of_entry c.args.call) (entries_have_fds c.args.call) p (Some own) (unnumbered p m.makes (Some own) none) in
+    let told = c.in-Err.ensures one c.args.caller.now.time new (option_copied c.args.there) in
     refused_left p m.makes own own t t comes c.reply_of.result c.in-Err.refusal (told_is (Unit {0}) comes c.in-Err.refusal told) refl refl c.reply_of.ensures
 
 pub returns-in-Err-Refused-clause-done : goal.returns-in-Err-Refused-clause-done
@@ -35,14 +40,14 @@ returns-in-Err-Refused-clause-done c =
     let now : ℕ = c.args.caller.now.time in
     let own = c.args.own.now in
     let t = c.args.tree.now in
-    let m = model.name_meaning c.args.call.now in
+    let m = model.name_meaning (call_of_entry c.args.call) in
     let comes : ℕ → NameOutcome = λ n. m.effect now n t (Some c.args.here.now) (option_copied c.args.there) in
     let why = c.in-Err-Refused.refusal in
     let is = sym c.numbered.ensures.number ∙ c.in-Some.is in
     let number : c.in-Some.new ≡ next_object p (Some own) m.makes =
     (numbered_is p c.makes-count.result c.in-Some.new (Some own) is).1 ∙ ap (next_object p (Some own)) c.makes-count.ensures in
     let same : comes c.in-Some.new ≡ comes (next_object p (Some own) 1) =
-    ap comes number ∙ new_again c.args.call.now c.requires.names p now (Some own) t (Some c.args.here.now) (option_copied c.args.there) in
+    ap comes number ∙ new_again (call_of_entry c.args.call) (entries_have_fds c.args.call) p now (Some own) t (Some c.args.here.now) (option_copied c.args.there) in
     let fails : FailsAs (comes c.in-Some.new) (Refused why) = subst (FailsAs (comes c.in-Some.new)) c.in-Err-Refused.field-0-is c.in-Err-Refused.ensures.0 in
     refused_left p m.makes own own t c.on_entries.new.tree (comes (next_object p (Some own) 1)) c.reply_of-in-Err-Refused.result why
     (sym same ∙ failed_is (comes c.in-Some.new) why fails) refl c.in-Err-Refused.ensures.1 c.reply_of-in-Err-Refused.ensures
