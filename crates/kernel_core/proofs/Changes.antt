@@ -18,8 +18,8 @@ use Rattle.kernel_model.specs.Valid.{IsNearlyValid}
 use Rattle.kernel_model.specs.View.{whole}
 use Rattle.kernel_model.proofs.DescriptorCalls.{close_is, dup_errors, dup_is, put_valid, replaced_is, setting_valid}
 use Rattle.abi_base.specs.declared.errno.Errno.TheVariants.{Badf}
-use Rattle.kernel_parts.specs.declared.table_change.TableChange.{TableChange}
-use Rattle.kernel_parts.specs.declared.table_change.TableChange.TheVariants.{Close, Dup, Replace, StatPut}
+use Rattle.abi_types.specs.declared.family.DescriptorChange.{DescriptorChange}
+use Rattle.abi_types.specs.declared.family.DescriptorChange.TheVariants.{Close, Dup, Replace, StatPut}
 use Rattle.kernel_parts.specs.Changes.{change_outcome, opens_after, stat_put_at, table_after, HasReplaced, IsMoved}
 use Rattle.kernel_model.proofs.Tests.{none_is_no, same_some}
 
@@ -59,7 +59,7 @@ put_of_own : (p : ℕ) (opens : FinMap nat_cmp OpenKind) (table : Table) (fd : �
 put_of_own p opens table fd stat flags None = tt
 put_of_own p opens table fd stat flags (Some d) = set_of_own p table fd stat flags d (get opens d.id)
 
-pub change_of_own : (p : ℕ) (opens : FinMap nat_cmp OpenKind) (table : Table) (change : TableChange) → AreOf p (change_outcome p opens table change).updates
+pub change_of_own : (p : ℕ) (opens : FinMap nat_cmp OpenKind) (table : Table) (change : DescriptorChange) → AreOf p (change_outcome p opens table change).updates
 change_of_own p opens table (Close fd) = (refl, tt)
 change_of_own p opens table (Dup fd) = dups_of_own p table (get table fd)
 change_of_own p opens table (Replace from to) = replaced_of_own p table to (get table from)
@@ -93,7 +93,7 @@ pub put_is : (S : State) (p : ℕ) (table : Table) (fd : ℕ) (stat : FdStat) (f
     → stat_put (whole S) p table fd stat flags (get table fd) ≡ change_outcome p S.opens table (StatPut fd stat flags)
 put_is S p table fd stat flags = put_same S p table fd stat flags (get table fd)
 
-pub change_valid : (S : State) (p : ℕ) (table : Table) (change : TableChange) → get S.tables p ≡ Some table → IsNearlyValid S
+pub change_valid : (S : State) (p : ℕ) (table : Table) (change : DescriptorChange) → get S.tables p ≡ Some table → IsNearlyValid S
     → IsNearlyValid (put_all (change_outcome p S.opens table change).updates S)
 change_valid S p table (Close fd) there nearly = setting_valid [] S p table _ (close_is p table fd) there nearly
 change_valid S p table (Dup fd) there nearly = setting_valid dup_errors S p table _ (dup_is p table fd (get table fd) refl) there nearly
@@ -148,7 +148,7 @@ put_small : (p : ℕ) (opens : FinMap nat_cmp OpenKind) (table : Table) (fd : �
 put_small p opens table fd stat flags None e small = small
 put_small p opens table fd stat flags (Some d) e small = set_small p table fd stat flags d (get opens d.id) (ap is_some e) small
 
-pub change_small : (p : ℕ) (opens : FinMap nat_cmp OpenKind) (table : Table) (change : TableChange) → HasReplaced table change → IsTable table
+pub change_small : (p : ℕ) (opens : FinMap nat_cmp OpenKind) (table : Table) (change : DescriptorChange) → HasReplaced table change → IsTable table
     → IsTable (table_after table (change_outcome p opens table change).updates)
 change_small p opens table (Close fd) has small = below-remove MOST_DESCRIPTORS table fd small
 change_small p opens table (Dup fd) has small = dups_small p table (get table fd) small

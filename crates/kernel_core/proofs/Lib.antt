@@ -12,3 +12,4 @@ pub mod FileCalls
 pub mod Leaving
 pub mod EntryCalls
 pub mod OpenCalls
+pub mod Families

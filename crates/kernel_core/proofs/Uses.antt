@@ -14,8 +14,8 @@ use Rattle.kernel_model.specs.Families.DescriptorCalls.{dup_at, dup_of, lowered_
 use Rattle.kernel_model.specs.State.{Table, Update, set_open, set_table}
 use Rattle.kernel_model.proofs.DescriptorCalls.{either_set}
 use Rattle.kernel_parts.specs.Changes.{change_outcome, opens_after, stat_put_at}
-use Rattle.kernel_parts.specs.declared.table_change.TableChange.{TableChange}
-use Rattle.kernel_parts.specs.declared.table_change.TableChange.TheVariants.{Close, Dup, Replace, StatPut}
+use Rattle.abi_types.specs.declared.family.DescriptorChange.{DescriptorChange}
+use Rattle.abi_types.specs.declared.family.DescriptorChange.TheVariants.{Close, Dup, Replace, StatPut}
 
 -- an open with other flags is of the same node
 pub same_node : (kind : OpenKind) (flags n : ℕ) → one_of_node n (with_flags kind flags) ≡ one_of_node n kind
@@ -54,7 +54,7 @@ module _ (p : ℕ) (opens : FinMap nat_cmp OpenKind) (table : Table) (t : Tree) 
   stat_put_use fd stat flags None = refl
   stat_put_use fd stat flags (Some d) = stat_set_use fd stat flags d (get opens d.id) refl
 
-  pub change_use : (change : TableChange) → KeepsUse (change_outcome p opens table change).updates
+  pub change_use : (change : DescriptorChange) → KeepsUse (change_outcome p opens table change).updates
   change_use (Close fd) = refl
   change_use (Dup fd) = dup_use (get table fd)
   change_use (Replace from to) = replaced_use to (get table from)

@@ -1,6 +1,7 @@
 //! The calls that make names of files, move them or take them away.
 ghost use Rattle.std.specs.Prelude.{◌≡◌, ◌+◌, ◌<◌, ◌^◌, true, Some, IsSome, IfOk, OnErr};
 ghost use Rattle.std.specs.FinMap as map;
+ghost use Rattle.abi_types.specs.Families.{call_of_entry};
 ghost use Rattle.kernel_core.specs.Entries.{entry_outcome};
 ghost use Rattle.kernel_model.specs.Calls.{takes_memory};
 ghost use Rattle.kernel_model.specs.Families.EntryCalls as model;
@@ -8,7 +9,7 @@ ghost use Rattle.kernel_model.specs.Release.{release};
 ghost use Rattle.kernel_model.specs.State.{put_all, Table};
 
 use crate::kernel::Kernel;
-use abi_types::{Answer, Call, Constants, Errno, Pid};
+use abi_types::{Answer, Constants, EntryCall, Errno, Pid};
 use kernel_parts::{Caller, change_entries, forget_nameless, open_of};
 use right_rules::refused;
 use std::alloc::AllocError;
@@ -21,16 +22,16 @@ impl Kernel {
         pid: Pid,
         fd: u32,
         other: Option<u32>,
-        call: &Call,
+        call: EntryCall<'_>,
     ) -> Result<Answer, AllocError>
         requires there { IsSome (map.get self.old.statuses pid) }
-        requires on { model.entry_fds call.now ≡ Some (fd, other) }
+        requires on { model.entry_fds (call_of_entry call) ≡ Some (fd, other) }
         requires named { (table : Table) → map.get self.old.tables pid ≡ Some table → IsSome (map.get table fd) }
         requires early { self.old.clock + constants.now.epoch < 2 ^ 64 }
         ensures ok { IfOk result (λ given. (table : Table) → map.get self.old.tables pid ≡ Some table →
-            (given ≡ (entry_outcome constants.now self.old pid table fd other call.now).answer)
-            × (self.new ≡ release (put_all (entry_outcome constants.now self.old pid table fd other call.now).updates self.old))) }
-        ensures only { OnErr result (takes_memory call.now ≡ true) }
+            (given ≡ (entry_outcome constants.now self.old pid table fd other (call_of_entry call.entry)).answer)
+            × (self.new ≡ release (put_all (entry_outcome constants.now self.old pid table fd other (call_of_entry call.entry)).updates self.old))) }
+        ensures only { OnErr result (takes_memory (call_of_entry call.entry) ≡ true) }
         ensures err { OnErr result (self.new ≡ self.old) }
     {
         let p = u64::from(pid.0);

@@ -2,12 +2,8 @@
 ghost use Rattle.std.specs.Prelude.{◌≡◌, ◌≢◌, ◌⊎◌, ◌∷◌, ◌+◌, ◌^◌, ◌<◌, ◌≤◌, ◌↔◌, ℕ, [], Some, None, IsSome, IfOk, OnErr, IsTrue, false, true, length, unwrap_or};
 ghost use Rattle.std.specs.FinMap as map;
 ghost use Rattle.abi_types.specs.declared.descriptor.Denial.TheVariants as denial;
-ghost use Rattle.abi_types.specs.declared.reply.Answer.TheVariants as answer;
-ghost use Rattle.kernel_parts.specs.Changes.{change_outcome, HasReplaced, IsDup};
-ghost use Rattle.kernel_core.specs.Files.{file_outcome};
 ghost use Rattle.kernel_core.specs.Kernel.{is_live, any_live};
-ghost use Rattle.kernel_model.specs.Calls.{named, need, takes_memory};
-ghost use Rattle.kernel_model.specs.Families.FileCalls as files;
+ghost use Rattle.kernel_model.specs.Calls.{named, need};
 ghost use Rattle.kernel_model.specs.Laws.{HasAll, IsFirstLack, IsOfFirstLack, IsOfPath};
 ghost use Rattle.kernel_model.specs.Need.{missing};
 ghost use Rattle.kernel_model.specs.Families.ProcessCalls.{end_updates};
@@ -18,26 +14,19 @@ ghost use Rattle.tree_model.specs.Grants.{MayBegin};
 ghost use Rattle.kernel_model.specs.Sight.{process_parts};
 ghost use Rattle.kernel_model.specs.Start.{start_state};
 ghost use Rattle.kernel_model.specs.State.{put_all, Table, Part, has_part, Agree, thread_of, tree_of, written_to};
-ghost use Rattle.kernel_model.specs.Step.{outcome_by, failed, outside, MayLackMemory, IsStep, IsUntouched, end_unreleased, end_state};
-ghost use Rattle.kernel_model.specs.Families.DescriptorCalls.{stat_get, stat_of, flags_of};
+ghost use Rattle.kernel_model.specs.Step.{failed, outside, IsStep, IsUntouched, end_unreleased, end_state};
 ghost use Rattle.kernel_model.specs.Valid.{IsValid};
-ghost use Rattle.kernel_model.specs.View.{whole};
 
 use abi_types::{
-    Answer, Call, Constants, Denial, Descriptor, Errno, FdStat, Needed, OpenKind, Payload, Pid,
-    Reply, Status, Thread, Tid, TryClone, Who,
+    Answer, Call, Constants, Denial, Descriptor, Errno, Needed, Pid, Reply, Status, Thread, Tid,
+    TryClone, Who,
 };
-use entry_calls::entry_fds;
-use fd_calls::offset_fd;
 use fd_table::FdTable;
-use file_calls::{file_fd, on_open, type_number};
 use file_tree::Tree;
-use kernel_parts::{
-    ProcessState, TableChange, Terminal, answer_of, granted, let_go_all, release, single, streams,
-};
+use kernel_parts::{ProcessState, Terminal, granted, let_go_all, release, single, streams};
 use maps::NumMap;
 use object_store::Objects;
-use right_rules::{refusal, refused, success, success_with};
+use right_rules::refused;
 use run_types::Launch;
 use std::alloc::{AllocError, Global};
 use std::marker::Model;
@@ -72,31 +61,6 @@ impl Model for Kernel {
     ghost invariant = { λ k. IsKept (record { clock = k.clock; tables = k.tables; processes = k.processes; statuses = k.statuses; opens = k.objects.kinds; nodes = k.tree.nodes; names = k.tree.names; terms = k.terms }) k.objects.counts };
 }
 
-// An open's flags. A process has none.
-fn flags_of(kind: &OpenKind) -> u16
-    ensures { result ≡ flags_of kind.now }
-{
-    match kind {
-        OpenKind::File { flags, .. }
-        | OpenKind::Directory { flags, .. }
-        | OpenKind::End { flags, .. }
-        | OpenKind::Terminal { flags, .. } => *flags,
-        OpenKind::Process(_) => 0,
-    }
-}
-
-// What a descriptor of the open is and may do.
-fn stat_of(descriptor: &Descriptor, kind: &OpenKind) -> FdStat
-    ensures { result ≡ stat_of descriptor.now kind.now }
-{
-    FdStat {
-        kind: type_number(kind),
-        flags: flags_of(kind),
-        base: descriptor.base,
-        inheriting: descriptor.inheriting,
-    }
-}
-
 // Whether the status is that of a live process.
 fn is_live(status: &Status) -> bool
     ensures { result ≡ is_live status.now }
@@ -126,7 +90,7 @@ impl Kernel {
     }
 
     // Ends a process: it has this status, no descriptor and no thread, and what nothing holds any more ends.
-    fn end_process(&mut self, pid: Pid, status: Status)
+    pub(crate) fn end_process(&mut self, pid: Pid, status: Status)
         requires { IsSome (map.get self.old.statuses pid) }
         ensures { self.new ≡ release (put_all (end_updates pid (map.get self.old.processes pid) status) self.old) }
     {
@@ -135,124 +99,6 @@ impl Kernel {
         self.processes.get_mut(p).end();
         let_go_all(self.tables.get_mut(p), &mut self.objects);
         release(&mut self.objects, &mut self.tree);
-    }
-
-    // What the descriptor is and may do.
-    fn fd_stat_get(&self, pid: Pid, fd: u32) -> Reply
-        ensures { (table : Table) → map.get self.now.tables pid ≡ Some table → answer.Reply result ≡ (stat_get (whole self.now) (map.get table fd)).answer }
-    {
-        let Some(table) = self.tables.get(u64::from(pid.0)) else {
-            return refused(Errno::Badf);
-        };
-        let Some(descriptor) = table.get(fd) else {
-            return refused(Errno::Badf);
-        };
-        match self.objects.get(descriptor.id) {
-            None => refused(Errno::Badf),
-            Some(kind) => success_with(0, Payload::FdStat(stat_of(descriptor, kind))),
-        }
-    }
-
-    // Changes the process's descriptors. What nothing holds any more ends. `Err` changes nothing.
-    fn change_descriptors(&mut self, pid: Pid, change: &TableChange) -> Result<Answer, AllocError>
-        requires there { IsSome (map.get self.old.statuses pid) }
-        requires replaced { (table : Table) → map.get self.old.tables pid ≡ Some table → HasReplaced table change.now }
-        ensures ok { IfOk result (λ given. (table : Table) → map.get self.old.tables pid ≡ Some table →
-            (given ≡ (change_outcome pid self.old.opens table change.now).answer)
-            × (self.new ≡ release (put_all (change_outcome pid self.old.opens table change.now).updates self.old))) }
-        ensures only { OnErr result (IsDup change.now) }
-        ensures err { OnErr result (self.new ≡ self.old) }
-    {
-        let p = u64::from(pid.0);
-        let reply = change.apply(self.tables.get_mut(p), &mut self.objects)?;
-        release(&mut self.objects, &mut self.tree);
-        Ok(Answer::Reply(reply))
-    }
-
-    // Does a call on the open of a descriptor. `Err` changes nothing.
-    fn file_call(
-        &mut self,
-        constants: &Constants,
-        pid: Pid,
-        fd: u32,
-        call: &Call,
-    ) -> Result<Answer, AllocError>
-        requires on { files.file_fd call.now ≡ Some fd }
-        requires early { self.old.clock + constants.now.epoch < 2 ^ 64 }
-        ensures ok { IfOk result (λ given. (table : Table) → map.get self.old.tables pid ≡ Some table →
-            (given ≡ (file_outcome constants.now self.old table fd call.now).answer)
-            × (self.new ≡ release (put_all (file_outcome constants.now self.old table fd call.now).updates self.old))) }
-        ensures only { OnErr result (takes_memory call.now ≡ true) }
-        ensures err { OnErr result (self.new ≡ self.old) }
-    {
-        let Some(table) = self.tables.get(u64::from(pid.0)) else {
-            return Ok(Answer::Reply(refused(Errno::Badf)));
-        };
-        let Some(descriptor) = table.get(fd) else {
-            return Ok(Answer::Reply(refused(Errno::Badf)));
-        };
-        let Some(kind) = self.objects.get(descriptor.id) else {
-            return Ok(Answer::Reply(refused(Errno::Badf)));
-        };
-        let now = self.clock + constants.epoch;
-        let reply = on_open(self.alloc, &mut self.tree, kind, now, call)?;
-        Ok(Answer::Reply(reply))
-    }
-
-    // Does a call, but for the clock. `Err` changes nothing.
-    fn dispatch(&mut self, constants: &Constants, who: &Who, call: &Call) -> Result<Answer, AllocError>
-        requires there { IsSome (map.get self.old.statuses who.now.pid) }
-        requires early { self.old.clock + constants.now.epoch < 2 ^ 64 }
-        ensures ok { IfOk result (λ given. (given ≡ (outcome_by constants.now (whole self.old) who.now call.now).answer)
-            × (self.new ≡ release (put_all (outcome_by constants.now (whole self.old) who.now call.now).updates self.old))) }
-        ensures err { OnErr result (MayLackMemory self.old who.now call.now × (self.new ≡ self.old)) }
-    {
-        let Some(table) = self.tables.get(u64::from(who.pid.0)) else {
-            return Ok(Answer::Reply(refused(Errno::Badf)));
-        };
-        if let Some(reply) = refusal(table, call) {
-            return Ok(Answer::Reply(reply));
-        }
-        if let Some(fd) = file_fd(call) {
-            return self.file_call(constants, who.pid, fd, call);
-        }
-        if let Some(fd) = offset_fd(call) {
-            return self.offset_call(constants, who.pid, fd, call);
-        }
-        if let Some((fd, other)) = entry_fds(call) {
-            return self.entry_call(constants, who.pid, fd, other, call);
-        }
-        match call {
-            Call::FdClose { fd } => self.change_descriptors(who.pid, &TableChange::Close(*fd)),
-            Call::FdDup { fd } => self.change_descriptors(who.pid, &TableChange::Dup(*fd)),
-            Call::FdReplace { from, to } => {
-                let change = TableChange::Replace {
-                    from: *from,
-                    to: *to,
-                };
-                self.change_descriptors(who.pid, &change)
-            }
-            Call::FdStatGet { fd } => Ok(Answer::Reply(self.fd_stat_get(who.pid, *fd))),
-            Call::FdStatPut { fd, stat, flags } => {
-                let change = TableChange::StatPut {
-                    fd: *fd,
-                    stat: *stat,
-                    flags: *flags,
-                };
-                self.change_descriptors(who.pid, &change)
-            }
-            Call::FileOpen {
-                lookup,
-                path,
-                oflags,
-                stat,
-            } => self.file_open(constants, who.pid, lookup, path.as_slice(), *oflags, stat),
-            Call::ProcExit { code } => {
-                self.end_process(who.pid, Status::Exit(*code));
-                Ok(Answer::Reply(success(0, 0)))
-            }
-            other => Ok(Answer::Reply(answer_of(other))),
-        }
     }
 
     // A call, with the clock.

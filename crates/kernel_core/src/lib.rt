@@ -4,7 +4,10 @@
 pub use kernel::Kernel;
 pub use run_types::{Act, Entry, History, Launch, Record};
 
+mod descriptors;
+mod dispatch;
 mod entries;
+mod files;
 mod kernel;
 mod offset_calls;
 mod opening;

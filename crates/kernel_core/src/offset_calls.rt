@@ -1,6 +1,7 @@
 //! The calls that move an open: they read or write where the last one ended, or set that place.
 ghost use Rattle.std.specs.Prelude.{◌≡◌, ◌+◌, ◌^◌, ◌<◌, Some, IfOk, OnErr, true};
 ghost use Rattle.std.specs.FinMap as map;
+ghost use Rattle.abi_types.specs.Families.{call_of_offset};
 ghost use Rattle.fd_calls.specs.Calls as model;
 ghost use Rattle.kernel_core.specs.OffsetCalls.{offset_outcome};
 ghost use Rattle.kernel_model.specs.Calls.{takes_memory};
@@ -8,7 +9,7 @@ ghost use Rattle.kernel_model.specs.Release.{release};
 ghost use Rattle.kernel_model.specs.State.{put_all, Table};
 
 use crate::kernel::Kernel;
-use abi_types::{Answer, Call, Constants, Errno, OpenKind, Pid};
+use abi_types::{Answer, Constants, Errno, OffsetCall, OpenKind, Pid};
 use fd_calls::at_offset;
 use kernel_parts::on_stream;
 use right_rules::refused;
@@ -21,14 +22,14 @@ impl Kernel {
         constants: &Constants,
         pid: Pid,
         fd: u32,
-        call: &Call,
+        call: OffsetCall<'_>,
     ) -> Result<Answer, AllocError>
-        requires on { model.offset_fd call.now ≡ Some fd }
+        requires on { model.offset_fd (call_of_offset call) ≡ Some fd }
         requires early { self.old.clock + constants.now.epoch < 2 ^ 64 }
         ensures ok { IfOk result (λ given. (table : Table) → map.get self.old.tables pid ≡ Some table →
-            (given ≡ (offset_outcome constants.now self.old table fd call.now).answer)
-            × (self.new ≡ release (put_all (offset_outcome constants.now self.old table fd call.now).updates self.old))) }
-        ensures only { OnErr result (takes_memory call.now ≡ true) }
+            (given ≡ (offset_outcome constants.now self.old table fd (call_of_offset call.entry)).answer)
+            × (self.new ≡ release (put_all (offset_outcome constants.now self.old table fd (call_of_offset call.entry)).updates self.old))) }
+        ensures only { OnErr result (takes_memory (call_of_offset call.entry) ≡ true) }
         ensures err { OnErr result (self.new ≡ self.old) }
     {
         let Some(table) = self.tables.get(u64::from(pid.0)) else {

@@ -8,7 +8,7 @@ ghost use Rattle.kernel_model.specs.Release.{release};
 ghost use Rattle.kernel_model.specs.State.{put_all, Table};
 
 use crate::kernel::Kernel;
-use abi_types::{Answer, Constants, Errno, FdStat, Lookup, ObjId, Pid, Reply};
+use abi_types::{Answer, Constants, Errno, ObjId, OpenCall, Pid, Reply};
 use entry_calls::plan_open;
 use file_calls::reply_of;
 use kernel_parts::{Opening, forget_nameless, open_of, put_opening};
@@ -17,18 +17,11 @@ use std::alloc::AllocError;
 
 impl Kernel {
     // What a call opens, or its reply where it opens nothing. A free number is looked for first.
-    fn plan_opening(
-        &self,
-        pid: Pid,
-        lookup: &Lookup,
-        path: &[u8],
-        oflags: u32,
-        stat: &FdStat,
-    ) -> Result<Opening, Reply>
+    fn plan_opening(&self, pid: Pid, call: &OpenCall<'_>) -> Result<Opening, Reply>
         ensures ok { IfOk result (λ opening. (table : Table) → map.get self.now.tables pid ≡ Some table
-            → IsOpening self.now pid table lookup.now path.now oflags stat.now opening) }
+            → IsOpening self.now pid table call.now.lookup call.now.path.now call.now.oflags call.now.stat opening) }
         ensures refused { IfErr result (λ reply. (table : Table) → map.get self.now.tables pid ≡ Some table
-            → (now : ℕ) → open_outcome now self.now pid table lookup.now path.now oflags stat.now ≡ replies reply) }
+            → (now : ℕ) → open_outcome now self.now pid table call.now.lookup call.now.path.now call.now.oflags call.now.stat ≡ replies reply) }
     {
         let p = u64::from(pid.0);
         let (Some(table), Some(own)) = (self.tables.get(p), self.processes.get(p)) else {
@@ -37,10 +30,10 @@ impl Kernel {
         let Some(fd) = table.lowest() else {
             return Err(refused(Errno::Mfile));
         };
-        let Some(here) = open_of(&self.objects, table, Some(lookup.fd)) else {
+        let Some(here) = open_of(&self.objects, table, Some(call.lookup.fd)) else {
             return Err(refused(Errno::Badf));
         };
-        let plan = match plan_open(&self.tree, here, oflags, lookup.flags, path) {
+        let plan = match plan_open(&self.tree, here, call.oflags, call.lookup.flags, call.path) {
             Ok(plan) => plan,
             Err(refusal) => return Err(reply_of(refusal)),
         };
@@ -50,8 +43,8 @@ impl Kernel {
         let new = ObjId(id.0 - u64::from(plan.makes()));
         Ok(Opening {
             fd,
-            descriptor: plan.descriptor(id, stat),
-            kind: plan.kind(stat.flags, new),
+            descriptor: plan.descriptor(id, &call.stat),
+            kind: plan.kind(call.stat.flags, new),
             plan,
             new,
         })
@@ -62,19 +55,16 @@ impl Kernel {
         &mut self,
         constants: &Constants,
         pid: Pid,
-        lookup: &Lookup,
-        path: &[u8],
-        oflags: u32,
-        stat: &FdStat,
+        call: &OpenCall<'_>,
     ) -> Result<Answer, AllocError>
         requires there { IsSome (map.get self.old.statuses pid) }
         requires early { self.old.clock + constants.now.epoch < 2 ^ 64 }
         ensures ok { IfOk result (λ given. (table : Table) → map.get self.old.tables pid ≡ Some table →
-            (given ≡ (open_outcome (real_time constants.now self.old.clock) self.old pid table lookup.now path.now oflags stat.now).answer)
-            × (self.new ≡ release (put_all (open_outcome (real_time constants.now self.old.clock) self.old pid table lookup.now path.now oflags stat.now).updates self.old))) }
+            (given ≡ (open_outcome (real_time constants.now self.old.clock) self.old pid table call.now.lookup call.now.path.now call.now.oflags call.now.stat).answer)
+            × (self.new ≡ release (put_all (open_outcome (real_time constants.now self.old.clock) self.old pid table call.now.lookup call.now.path.now call.now.oflags call.now.stat).updates self.old))) }
         ensures err { OnErr result (self.new ≡ self.old) }
     {
-        let opening = match self.plan_opening(pid, lookup, path, oflags, stat) {
+        let opening = match self.plan_opening(pid, call) {
             Ok(opening) => opening,
             Err(reply) => return Ok(Answer::Reply(reply)),
         };
@@ -87,7 +77,7 @@ impl Kernel {
             &mut self.objects,
             &mut self.tree,
             &opening,
-            path,
+            call.path,
             now,
         )?;
         self.processes.get_mut(p).make(opening.plan.makes() + 1);

@@ -24,11 +24,11 @@ use Rattle.kernel_core.proofs.Uses.{change_use}
 use Rattle.kernel_core.proofs.kernel.Kernel.change_descriptors.Goals as goal
 use Rattle.kernel_core.proofs.kernel.Kernel.change_descriptors.Goals.{In_err-reply, After-release}
 
-pub apply-requires-clause-covered : goal.apply-requires-clause-covered
-apply-requires-clause-covered c = λ o. rw c.self.invariant.counted (covered _ _ _ (sym c.get_mut.ensures.value) o)
+pub change_table-requires-clause-covered : goal.change_table-requires-clause-covered
+change_table-requires-clause-covered c = λ o. rw c.self.invariant.counted (covered _ _ _ (sym c.get_mut.ensures.value) o)
 
-pub apply-requires-clause-few : goal.apply-requires-clause-few
-apply-requires-clause-few c = λ o.
+pub change_table-requires-clause-few : goal.change_table-requires-clause-few
+change_table-requires-clause-few c = λ o.
     subst (λ (n : ℕ). n < 2 ^ 63) (sym (c.self.invariant.counted o)) (holders_few (the_view c.self.inside) o c.self.invariant.small c.self.invariant.processes)
 
 -- ---- where memory is wanting nothing has changed
@@ -36,16 +36,16 @@ apply-requires-clause-few c = λ o.
 abbrev unchanged : In_err-reply → State
 unchanged c = record {
   clock = c.self.inside.clock;
-  tables = insert c.self.inside.tables c.from-p.result c.apply.new.table;
+  tables = insert c.self.inside.tables c.from-p.result c.change_table.new.table;
   processes = c.self.inside.processes;
   statuses = c.self.inside.statuses;
-  opens = c.apply.new.objects.kinds;
+  opens = c.change_table.new.objects.kinds;
   nodes = c.self.inside.tree.nodes;
   names = c.self.inside.tree.names;
   terms = c.self.inside.terms;
 }
 
-same_tables : (c : In_err-reply) → insert c.self.inside.tables c.from-p.result c.apply.new.table ≡ c.self.inside.tables
+same_tables : (c : In_err-reply) → insert c.self.inside.tables c.from-p.result c.change_table.new.table ≡ c.self.inside.tables
 same_tables c =
     ap (insert c.self.inside.tables c.from-p.result) c.in_err-reply.ensures.same_table ∙ insert_self c.self.inside.tables c.from-p.result c.get_mut.result.now (sym c.get_mut.ensures.value)
 
@@ -61,10 +61,10 @@ as_before c = λ i. record {
   terms = c.self.inside.terms;
 }
 
-still_kept : (c : In_err-reply) → IsKept (unchanged c) c.apply.new.objects.counts
+still_kept : (c : In_err-reply) → IsKept (unchanged c) c.change_table.new.objects.counts
 still_kept c =
     let counts = ap (λ (h : Held). h.counts) c.in_err-reply.ensures.same_objects in
-    subst (λ (S : State). IsKept S c.apply.new.objects.counts) (sym (as_before c))
+    subst (λ (S : State). IsKept S c.change_table.new.objects.counts) (sym (as_before c))
     (subst (λ (m : FinMap nat_cmp ℕ). IsKept (the_view c.self.inside) m) (sym counts) c.self.invariant)
 
 pub invariant_of-self : goal.invariant_of-self
@@ -80,13 +80,13 @@ there : (c : After-release) → get c.self.inside.tables c.args.pid ≡ Some c.g
 there c = ap (get c.self.inside.tables) (sym (c.from-p.ensures ∙ c.pid.view_is)) ∙ sym c.get_mut.ensures.value
 
 abbrev us : After-release → List Update
-us c = (change_outcome c.args.pid c.self.inside.objects.kinds c.get_mut.result.now c.args.change.now).updates
+us c = (change_outcome c.args.pid c.self.inside.objects.kinds c.get_mut.result.now c.args.change).updates
 
 -- the fields as they are in the end
 abbrev fields : After-release → State
 fields c = record {
   clock = c.self.inside.clock;
-  tables = insert c.self.inside.tables c.from-p.result c.apply.new.table;
+  tables = insert c.self.inside.tables c.from-p.result c.change_table.new.table;
   processes = c.self.inside.processes;
   statuses = c.self.inside.statuses;
   opens = c.release.new.objects.kinds;
@@ -102,14 +102,14 @@ changed c = record (the_view c.self.inside) {
   opens = opens_after c.self.inside.objects.kinds (us c);
 }
 
-set : (c : After-release) → insert c.self.inside.tables c.from-p.result c.apply.new.table ≡ insert c.self.inside.tables c.args.pid (table_after c.get_mut.result.now (us c))
+set : (c : After-release) → insert c.self.inside.tables c.from-p.result c.change_table.new.table ≡ insert c.self.inside.tables c.args.pid (table_after c.get_mut.result.now (us c))
 set c =
     ap (insert c.self.inside.tables c.from-p.result) (c.in_ok-reply.ensures.table c.args.pid)
     ∙ ap (λ (p : ℕ). insert c.self.inside.tables p (table_after c.get_mut.result.now (us c))) (c.from-p.ensures ∙ c.pid.view_is)
 
-counted : (c : After-release) (o : ℕ) → number (get c.apply.new.objects.counts o) ≡ total (count_in o) (insert c.self.inside.tables c.args.pid (table_after c.get_mut.result.now (us c)))
+counted : (c : After-release) (o : ℕ) → number (get c.change_table.new.objects.counts o) ≡ total (count_in o) (insert c.self.inside.tables c.args.pid (table_after c.get_mut.result.now (us c)))
 counted c o =
-    moved_holders c.self.inside.tables c.args.pid c.get_mut.result.now c.apply.new.table c.self.inside.objects.counts c.apply.new.objects.counts (there c)
+    moved_holders c.self.inside.tables c.args.pid c.get_mut.result.now c.change_table.new.table c.self.inside.objects.counts c.change_table.new.objects.counts (there c)
     c.self.invariant.counted c.in_ok-reply.ensures.counts o
     ∙ ap (λ (t : Table). total (count_in o) (insert c.self.inside.tables c.args.pid t)) (c.in_ok-reply.ensures.table c.args.pid)
 
@@ -118,19 +118,19 @@ after c =
     let k = c.self.inside in
     let opens : c.release.new.objects.kinds ≡ retain_keys (opens_after k.objects.kinds (us c)) (λ o. not (holders (changed c) o == 0)) =
     ap (λ (h : Held). h.kinds) c.release.ensures.objects
-    ∙ ap (λ (m : FinMap nat_cmp OpenKind). retain_keys m (is_held c.apply.new.objects.counts)) (c.in_ok-reply.ensures.kinds c.args.pid)
+    ∙ ap (λ (m : FinMap nat_cmp OpenKind). retain_keys m (is_held c.change_table.new.objects.counts)) (c.in_ok-reply.ensures.kinds c.args.pid)
     ∙ retain_same _ _ _ (λ o. ap (λ (n : ℕ). not (n == 0)) (counted c o)) in
     let tree : c.release.new.tree ≡ retained k.tree (is_used (retain_keys (opens_after k.objects.kinds (us c)) (λ o. not (holders (changed c) o == 0))) k.tree) =
     c.release.ensures.tree ∙ ap (λ (m : FinMap nat_cmp OpenKind). retained k.tree (is_used m k.tree)) opens in
     (λ i. record { clock = k.clock; tables = set c i; processes = k.processes; statuses = k.statuses; opens = opens i; nodes = (tree i).nodes; names = (tree i).names; terms = k.terms })
     ∙ sym (ap without_nodes (ended_is (changed c)))
-    ∙ sym (ap release (puts_are (us c) (the_view k) c.args.pid c.get_mut.result.now (there c) (change_of_own c.args.pid k.objects.kinds c.get_mut.result.now c.args.change.now)))
+    ∙ sym (ap release (puts_are (us c) (the_view k) c.args.pid c.get_mut.result.now (there c) (change_of_own c.args.pid k.objects.kinds c.get_mut.result.now c.args.change)))
 
 -- each node is as much used after the change as before it, and so is used
 pub release-requires-clause-used : goal.release-requires-clause-used
 release-requires-clause-used c = λ n there.
     ap (λ (m : FinMap nat_cmp OpenKind). is_used m c.self.inside.tree n) (c.in_ok-reply.ensures.kinds c.args.pid)
-    ∙ change_use c.args.pid c.self.inside.objects.kinds c.get_mut.result.now c.self.inside.tree n c.args.change.now ∙ c.self.invariant.valid.kept n there
+    ∙ change_use c.args.pid c.self.inside.objects.kinds c.get_mut.result.now c.self.inside.tree n c.args.change ∙ c.self.invariant.valid.kept n there
 
 pub release-requires-clause-tree : goal.release-requires-clause-tree
 release-requires-clause-tree c = c.self.invariant.valid.nearly.tree
@@ -145,14 +145,14 @@ invariant_of-self-2 d =
     let k = c.self.inside in
     let table = c.get_mut.result.now in
     let fits : IsTable (table_after table (us c)) =
-    change_small c.args.pid k.objects.kinds table c.args.change.now (c.requires.replaced table (had c)) (c.self.invariant.small c.args.pid table (there c)) in
+    change_small c.args.pid k.objects.kinds table c.args.change (c.requires.replaced table (had c)) (c.self.invariant.small c.args.pid table (there c)) in
     record {
-      valid = subst IsValid (sym (after c)) (release_restores _ (change_valid (the_view k) c.args.pid table c.args.change.now (there c) c.self.invariant.valid.nearly));
+      valid = subst IsValid (sym (after c)) (release_restores _ (change_valid (the_view k) c.args.pid table c.args.change (there c) c.self.invariant.valid.nearly));
       counted = λ o.
-          ap (λ (h : Held). number (get h.counts o)) c.release.ensures.objects ∙ number-retain c.apply.new.objects.counts o ∙ counted c o
+          ap (λ (h : Held). number (get h.counts o)) c.release.ensures.objects ∙ number-retain c.change_table.new.objects.counts o ∙ counted c o
           ∙ sym (ap (λ (m : FinMap nat_cmp Table). total (count_in o) m) (set c));
-      small = small_set k.tables c.from-p.result c.apply.new.table c.self.invariant.small (subst IsTable (sym (c.in_ok-reply.ensures.table c.args.pid)) fits);
-      processes = below-insert_again (2 ^ 32) k.tables c.from-p.result c.apply.new.table c.self.invariant.processes (ap is_some (sym c.get_mut.ensures.value));
+      small = small_set k.tables c.from-p.result c.change_table.new.table c.self.invariant.small (subst IsTable (sym (c.in_ok-reply.ensures.table c.args.pid)) fits);
+      processes = below-insert_again (2 ^ 32) k.tables c.from-p.result c.change_table.new.table c.self.invariant.processes (ap is_some (sym c.get_mut.ensures.value));
     }
 
 pub returns-clause-ok : goal.returns-clause-ok
@@ -160,10 +160,10 @@ returns-clause-ok d = λ table here.
     let c = (goal.at.returns-clause-ok d).After-release in
     let k = c.self.inside in
     let same : c.get_mut.result.now ≡ table = same_value _ _ _ (had c) here in
-    let outcome : change_outcome c.args.pid k.objects.kinds c.get_mut.result.now c.args.change.now ≡ change_outcome c.args.pid c.args.self.now.opens table c.args.change.now =
-    ap (λ (t : Table). change_outcome c.args.pid k.objects.kinds t c.args.change.now) same
-    ∙ ap (λ (S : State). change_outcome c.args.pid S.opens table c.args.change.now) c.self.view_is in (
+    let outcome : change_outcome c.args.pid k.objects.kinds c.get_mut.result.now c.args.change ≡ change_outcome c.args.pid c.args.self.now.opens table c.args.change =
+    ap (λ (t : Table). change_outcome c.args.pid k.objects.kinds t c.args.change) same
+    ∙ ap (λ (S : State). change_outcome c.args.pid S.opens table c.args.change) c.self.view_is in (
       c.in_ok-reply.ensures.reply c.args.pid ∙ ap (λ (o : Outcome). o.answer) outcome,
       after c ∙ ap (λ (o : Outcome). release (put_all o.updates (the_view k))) outcome
-          ∙ ap (λ (S : State). release (put_all (change_outcome c.args.pid c.args.self.now.opens table c.args.change.now).updates S)) c.self.view_is,
+          ∙ ap (λ (S : State). release (put_all (change_outcome c.args.pid c.args.self.now.opens table c.args.change).updates S)) c.self.view_is,
     )

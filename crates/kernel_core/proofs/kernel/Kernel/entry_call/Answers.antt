@@ -3,6 +3,7 @@ use Rattle.std.specs.FinMap.{get, insert}
 use Rattle.maps.specs.Maps.{insert_self}
 use Rattle.tree_model.specs.Opens.{is_used}
 use Rattle.tree_model.specs.Retained.{retained}
+use Rattle.abi_types.specs.Families.{call_of_entry}
 use Rattle.kernel_model.specs.Families.EntryCalls.{name_meaning}
 use Rattle.kernel_model.specs.Families.NameMeaning.{NameOutcome}
 use Rattle.kernel_model.specs.Families.Numbers.{next_object}
@@ -69,24 +70,24 @@ owned : (c : In_ok-reply) → get c.self.inside.processes c.args.pid ≡ Some c.
 owned c = ap (get c.self.inside.processes) (sym (c.from-p.ensures ∙ c.pid.view_is)) ∙ sym c.get_mut-own.ensures.value
 
 abbrev comes : In_ok-reply → NameOutcome
-comes c = entries_come c.args.constants.now (the_view c.self.inside) c.args.pid c.in-Some.table.now c.args.fd c.args.other c.args.call.now
+comes c = entries_come c.args.constants.now (the_view c.self.inside) c.args.pid c.in-Some.table.now c.args.fd c.args.other (call_of_entry c.args.call)
 
-done : (c : In_ok-reply) → IsLeftBy c.args.pid (name_meaning c.args.call.now).makes c.get_mut-own.result.now c.change_entries.new.own c.self.inside.tree
+done : (c : In_ok-reply) → IsLeftBy c.args.pid (name_meaning (call_of_entry c.args.call)).makes c.get_mut-own.result.now c.change_entries.new.own c.self.inside.tree
     c.change_entries.new.tree (comes c) c.in_ok-reply.reply
 done c =
     let S = the_view c.self.inside in
     let here : Some c.in-Some-open_of.here.now ≡ open_in S.opens (get c.in-Some.table.now c.args.fd) = c.in-Some-open_of.ensures in
     let other : option_copied c.open_of-there.result ≡ open_at S.opens c.in-Some.table.now c.args.other = c.open_of-there.ensures in
     let same : _ ≡ comes c =
-    λ i. (name_meaning c.args.call.now).effect (c.self.inside.clock + c.args.constants.now.epoch) (next_object c.args.pid (sym (owned c) i) 1) (tree_of S) (here i) (other i) in
-    subst (λ k. IsLeftBy c.args.pid (name_meaning c.args.call.now).makes c.get_mut-own.result.now c.change_entries.new.own c.self.inside.tree c.change_entries.new.tree k
+    λ i. (name_meaning (call_of_entry c.args.call)).effect (c.self.inside.clock + c.args.constants.now.epoch) (next_object c.args.pid (sym (owned c) i) 1) (tree_of S) (here i) (other i) in
+    subst (λ k. IsLeftBy c.args.pid (name_meaning (call_of_entry c.args.call)).makes c.get_mut-own.result.now c.change_entries.new.own c.self.inside.tree c.change_entries.new.tree k
     c.in_ok-reply.reply) same c.in_ok-reply.ensures.done
 
 pub forget_nameless-requires : goal.forget_nameless-requires
 forget_nameless-requires d =
     let c = (goal.at.forget_nameless-requires d).In_ok-reply in
     let S = the_view d.self.inside in
-    entries_tree d.args.constants.now S d.args.pid d.in-Some.table.now d.args.fd d.args.other d.args.call.now d.requires.on d.get_mut-own.result.now d.change_entries.new.own (owned c)
+    entries_tree d.args.constants.now S d.args.pid d.in-Some.table.now d.args.fd d.args.other (call_of_entry d.args.call) d.requires.on d.get_mut-own.result.now d.change_entries.new.own (owned c)
     d.self.invariant.valid d.change_entries.new.tree d.in_ok-reply.reply (done c) (there (goal.at.forget_nameless-requires d).In-Some)
 
 -- the fields as they are in the end
@@ -94,11 +95,11 @@ abbrev fields : In_ok-reply → Tree → State
 fields c t = record (the_view c.self.inside) { processes = insert c.self.inside.processes c.from-p.result c.change_entries.new.own; nodes = t.nodes; names = t.names }
 
 after : (c : In_ok-reply) (t : Tree) → t ≡ retained c.change_entries.new.tree (is_used c.self.inside.objects.kinds c.change_entries.new.tree)
-    → fields c t ≡ release (put_all (entry_outcome c.args.constants.now (the_view c.self.inside) c.args.pid c.in-Some.table.now c.args.fd c.args.other c.args.call.now).updates (the_view c.self.inside))
+    → fields c t ≡ release (put_all (entry_outcome c.args.constants.now (the_view c.self.inside) c.args.pid c.in-Some.table.now c.args.fd c.args.other (call_of_entry c.args.call)).updates (the_view c.self.inside))
 after c t rest =
     let S = the_view c.self.inside in
     ap (λ (p : ℕ). record S { processes = insert S.processes p c.change_entries.new.own; nodes = t.nodes; names = t.names }) (c.from-p.ensures ∙ c.pid.view_is)
-    ∙ entries_after c.args.constants.now S c.args.pid c.in-Some.table.now c.args.fd c.args.other c.args.call.now c.requires.on c.get_mut-own.result.now c.change_entries.new.own
+    ∙ entries_after c.args.constants.now S c.args.pid c.in-Some.table.now c.args.fd c.args.other (call_of_entry c.args.call) c.requires.on c.get_mut-own.result.now c.change_entries.new.own
     (owned c) c.self.invariant.valid c.change_entries.new.tree c.in_ok-reply.reply (done c) t rest
 
 pub invariant_of-self-2 : goal.invariant_of-self-2
@@ -107,7 +108,7 @@ invariant_of-self-2 d =
     let S = the_view d.self.inside in
     record {
       valid = subst IsValid (sym (after c d.forget_nameless.new.tree d.forget_nameless.ensures)) (release_restores _
-          (entries_valid d.args.constants.now S d.args.pid d.in-Some.table.now d.args.fd d.args.other d.args.call.now d.requires.on (there (goal.at.invariant_of-self-2 d).In-Some)
+          (entries_valid d.args.constants.now S d.args.pid d.in-Some.table.now d.args.fd d.args.other (call_of_entry d.args.call) d.requires.on (there (goal.at.invariant_of-self-2 d).In-Some)
           d.self.invariant.valid.nearly));
       counted = d.self.invariant.counted;
       small = d.self.invariant.small;
@@ -119,13 +120,13 @@ returns-clause-ok d = λ table here.
     let c = (goal.at.returns-clause-ok d).In_ok-reply in
     let S = the_view d.self.inside in
     let same : d.in-Some.table.now ≡ table = same_value _ _ _ (had (goal.at.returns-clause-ok d).In-Some) here in
-    let outcome : entry_outcome d.args.constants.now S d.args.pid d.in-Some.table.now d.args.fd d.args.other d.args.call.now
-    ≡ entry_outcome d.args.constants.now d.args.self.now d.args.pid table d.args.fd d.args.other d.args.call.now =
-    ap (λ (t : Table). entry_outcome d.args.constants.now S d.args.pid t d.args.fd d.args.other d.args.call.now) same
-    ∙ ap (λ (T : State). entry_outcome d.args.constants.now T d.args.pid table d.args.fd d.args.other d.args.call.now) d.self.view_is in (
-      entries_answer d.args.constants.now S d.args.pid d.in-Some.table.now d.args.fd d.args.other d.args.call.now d.requires.on d.get_mut-own.result.now d.change_entries.new.own
+    let outcome : entry_outcome d.args.constants.now S d.args.pid d.in-Some.table.now d.args.fd d.args.other (call_of_entry d.args.call)
+    ≡ entry_outcome d.args.constants.now d.args.self.now d.args.pid table d.args.fd d.args.other (call_of_entry d.args.call) =
+    ap (λ (t : Table). entry_outcome d.args.constants.now S d.args.pid t d.args.fd d.args.other (call_of_entry d.args.call)) same
+    ∙ ap (λ (T : State). entry_outcome d.args.constants.now T d.args.pid table d.args.fd d.args.other (call_of_entry d.args.call)) d.self.view_is in (
+      entries_answer d.args.constants.now S d.args.pid d.in-Some.table.now d.args.fd d.args.other (call_of_entry d.args.call) d.requires.on d.get_mut-own.result.now d.change_entries.new.own
           (owned c) d.self.invariant.valid d.change_entries.new.tree d.in_ok-reply.reply (done c)
           ∙ ap (λ (o : Outcome). o.answer) outcome,
       after c d.forget_nameless.new.tree d.forget_nameless.ensures ∙ ap (λ (o : Outcome). release (put_all o.updates S)) outcome
-          ∙ ap (λ (T : State). release (put_all (entry_outcome d.args.constants.now d.args.self.now d.args.pid table d.args.fd d.args.other d.args.call.now).updates T)) d.self.view_is,
+          ∙ ap (λ (T : State). release (put_all (entry_outcome d.args.constants.now d.args.self.now d.args.pid table d.args.fd d.args.other (call_of_entry d.args.call)).updates T)) d.self.view_is,
     )

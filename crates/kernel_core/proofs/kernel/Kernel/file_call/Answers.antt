@@ -2,6 +2,7 @@ use Rattle.std.proofs.Common.{◌≡◌, ◌+◌, Option, Some, None, refl, sym,
 use Rattle.std.specs.FinMap.{get}
 use Rattle.abi_types.specs.declared.descriptor.Descriptor.{Descriptor}
 use Rattle.abi_types.specs.declared.reply.Answer.TheVariants as answer
+use Rattle.abi_types.specs.Families.{call_of_file}
 use Rattle.kernel_model.specs.Families.FileMeaning.{open_of}
 use Rattle.kernel_model.specs.State.{State, Table}
 use Rattle.kernel_model.specs.View.{whole}
@@ -29,8 +30,8 @@ returns-in_default-get-clause-ok d = λ table here.
     let c = (goal.at.returns-in_default-get-clause-ok d).In-Some in
     let S = d.self.inside in
     subst (λ (X : State). get X.tables d.args.pid ≡ Some table
-    → IsFileStep d.args.constants.now X table d.args.fd d.args.call.now (answer.Reply d.refused-in_default-get.result) X) d.self.view_is
-    (λ there. absent_answers d.args.constants.now (the_view S) table d.args.fd d.args.call.now d.refused-in_default-get.result d.requires.on d.self.invariant.valid
+    → IsFileStep d.args.constants.now X table d.args.fd (call_of_file d.args.call) (answer.Reply d.refused-in_default-get.result) X) d.self.view_is
+    (λ there. absent_answers d.args.constants.now (the_view S) table d.args.fd (call_of_file d.args.call) d.refused-in_default-get.result d.requires.on d.self.invariant.valid
     (opened c table None there d.in_default-get.ensures) d.refused-in_default-get.ensures) here
 
 pub returns-in_default-get-2-clause-ok : goal.returns-in_default-get-2-clause-ok
@@ -38,13 +39,13 @@ returns-in_default-get-2-clause-ok d = λ table here.
     let c = (goal.at.returns-in_default-get-2-clause-ok d).In-Some in
     let S = d.self.inside in
     subst (λ (X : State). get X.tables d.args.pid ≡ Some table
-    → IsFileStep d.args.constants.now X table d.args.fd d.args.call.now (answer.Reply d.refused-in_default-get-2.result) X) d.self.view_is
-    (λ there. absent_answers d.args.constants.now (the_view S) table d.args.fd d.args.call.now d.refused-in_default-get-2.result d.requires.on d.self.invariant.valid
+    → IsFileStep d.args.constants.now X table d.args.fd (call_of_file d.args.call) (answer.Reply d.refused-in_default-get-2.result) X) d.self.view_is
+    (λ there. absent_answers d.args.constants.now (the_view S) table d.args.fd (call_of_file d.args.call) d.refused-in_default-get-2.result d.requires.on d.self.invariant.valid
     (opened c table (Some d.in-Some-get.descriptor.now) there d.in-Some-get.ensures ∙ sym d.in_default-get-2.ensures) d.refused-in_default-get-2.ensures) here
 
 pub invariant_of-self-2 : goal.invariant_of-self-2
 invariant_of-self-2 c = record {
-  valid = done_valid c.args.call.now c.args.fd (c.self.inside.clock + c.args.constants.now.epoch) c.requires.on (the_view c.self.inside)
+  valid = done_valid (call_of_file c.args.call) c.args.fd (c.self.inside.clock + c.args.constants.now.epoch) c.requires.on (the_view c.self.inside)
       c.in-Some-get.descriptor.now.id c.in-Some-get-2.kind.now (sym c.in-Some-get-2.ensures) c.self.invariant.valid c.on_open.new.tree
       c.in_ok-reply.ensures.ok.1 c.in_ok-reply.ensures.nodes;
   counted = c.self.invariant.counted;
@@ -57,9 +58,9 @@ returns-clause-ok d = λ table here.
     let c = (goal.at.returns-clause-ok d).In-Some in
     let S = d.self.inside in
     subst (λ (X : State). get X.tables d.args.pid ≡ Some table
-    → IsFileStep d.args.constants.now X table d.args.fd d.args.call.now (answer.Reply d.in_ok-reply.reply) (with_tree (the_view S) d.on_open.new.tree))
+    → IsFileStep d.args.constants.now X table d.args.fd (call_of_file d.args.call) (answer.Reply d.in_ok-reply.reply) (with_tree (the_view S) d.on_open.new.tree))
     d.self.view_is
-    (λ there. done_answers d.args.call.now d.args.fd (d.self.inside.clock + d.args.constants.now.epoch) d.requires.on (the_view S)
+    (λ there. done_answers (call_of_file d.args.call) d.args.fd (d.self.inside.clock + d.args.constants.now.epoch) d.requires.on (the_view S)
     d.in-Some-get.descriptor.now.id d.in-Some-get-2.kind.now (sym d.in-Some-get-2.ensures) d.self.invariant.valid d.on_open.new.tree
     d.in_ok-reply.ensures.ok.1 d.in_ok-reply.ensures.nodes d.args.constants.now table d.in_ok-reply.reply refl
     (opened c table (Some d.in-Some-get.descriptor.now) there d.in-Some-get.ensures ∙ sym d.in-Some-get-2.ensures)

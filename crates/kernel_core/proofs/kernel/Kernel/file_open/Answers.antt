@@ -37,10 +37,10 @@ returns-in-Err-clause-ok c = λ table here.
 
 -- ---- what is opened was planned for this state
 
-planned : (c : After-get_mut-table) → IsOpening (the_view c.self.inside) c.args.pid c.get_mut-table.result.now c.args.lookup.now c.args.path.now c.args.oflags
-    c.args.stat.now c.in-Ok.opening
+planned : (c : After-get_mut-table) → IsOpening (the_view c.self.inside) c.args.pid c.get_mut-table.result.now c.args.call.now.lookup c.args.call.now.path.now c.args.call.now.oflags
+    c.args.call.now.stat c.in-Ok.opening
 planned c =
-    planned_before (λ S t. IsOpening S c.args.pid t c.args.lookup.now c.args.path.now c.args.oflags c.args.stat.now c.in-Ok.opening) (the_view c.self.inside)
+    planned_before (λ S t. IsOpening S c.args.pid t c.args.call.now.lookup c.args.call.now.path.now c.args.call.now.oflags c.args.call.now.stat c.in-Ok.opening) (the_view c.self.inside)
     c.args.self.now c.args.pid c.from-p.result c.get_mut-table.result.now c.self.view_is (c.from-p.ensures ∙ c.pid.view_is) c.get_mut-table.ensures.value
     c.in-Ok.ensures.ok
 
@@ -52,18 +52,18 @@ put_opening-requires-clause-free d = (planned (goal.at.put_opening-requires-clau
 
 pub put_opening-requires-clause-new : goal.put_opening-requires-clause-new
 put_opening-requires-clause-new d =
-    open_is_new (the_view d.self.inside) d.args.pid d.get_mut-table.result.now d.args.lookup.now d.args.path.now d.args.oflags d.args.stat.now d.in-Ok.opening
+    open_is_new (the_view d.self.inside) d.args.pid d.get_mut-table.result.now d.args.call.now.lookup d.args.call.now.path.now d.args.call.now.oflags d.args.call.now.stat d.in-Ok.opening
     (planned (goal.at.put_opening-requires-clause-new d).After-get_mut-table) d.self.invariant.valid
 
 pub put_opening-requires-clause-unheld : goal.put_opening-requires-clause-unheld
 put_opening-requires-clause-unheld d =
     d.self.invariant.counted d.in-Ok.opening.descriptor.id
-    ∙ none_holds_it (the_view d.self.inside) d.args.pid d.get_mut-table.result.now d.args.lookup.now d.args.path.now d.args.oflags d.args.stat.now d.in-Ok.opening
+    ∙ none_holds_it (the_view d.self.inside) d.args.pid d.get_mut-table.result.now d.args.call.now.lookup d.args.call.now.path.now d.args.call.now.oflags d.args.call.now.stat d.in-Ok.opening
     (planned (goal.at.put_opening-requires-clause-unheld d).After-get_mut-table) d.self.invariant.valid
 
 pub put_opening-requires-clause-made : goal.put_opening-requires-clause-made
 put_opening-requires-clause-made d =
-    node_is_new (the_view d.self.inside) d.args.pid d.get_mut-table.result.now d.args.lookup.now d.args.path.now d.args.oflags d.args.stat.now d.in-Ok.opening
+    node_is_new (the_view d.self.inside) d.args.pid d.get_mut-table.result.now d.args.call.now.lookup d.args.call.now.path.now d.args.call.now.oflags d.args.call.now.stat d.in-Ok.opening
     (planned (goal.at.put_opening-requires-clause-made d).After-get_mut-table) d.self.invariant.valid
 
 -- ---- where memory is wanting nothing has changed
@@ -109,7 +109,7 @@ returns-in_err-put_opening-clause-err d =
 pub make-requires : goal.make-requires
 make-requires d =
     let S = the_view d.self.inside in
-    let fits = open_fits S d.args.pid d.get_mut-table.result.now d.args.lookup.now d.args.path.now d.args.oflags d.args.stat.now d.in-Ok.opening
+    let fits = open_fits S d.args.pid d.get_mut-table.result.now d.args.call.now.lookup d.args.call.now.path.now d.args.call.now.oflags d.args.call.now.stat d.in-Ok.opening
     (planned (goal.at.make-requires d).After-get_mut-table) d.self.invariant.valid in
     let own : get S.processes d.args.pid ≡ Some d.get_mut.result.now =
     ap (get S.processes) (sym (d.from-p.ensures ∙ d.pid.view_is)) ∙ sym d.get_mut.ensures.value in
@@ -122,8 +122,8 @@ forget_nameless-requires d =
     let S = the_view d.self.inside in
     let plan = planned (goal.at.forget_nameless-requires d).After-get_mut-table in
     let now : ℕ = d.self.inside.clock + d.args.constants.now.epoch in
-    let changes = open_changes S d.args.pid d.get_mut-table.result.now d.args.lookup.now d.args.path.now d.args.oflags d.args.stat.now d.in-Ok.opening plan d.self.invariant.valid now in
-    subst IsTree (sym (d.in_ok-put_opening.ensures.tree ∙ ap (λ n. (change_of d.in-Ok.opening.plan d.args.path.now now n (tree_of S)).tree) plan.new)) changes.tree
+    let changes = open_changes S d.args.pid d.get_mut-table.result.now d.args.call.now.lookup d.args.call.now.path.now d.args.call.now.oflags d.args.call.now.stat d.in-Ok.opening plan d.self.invariant.valid now in
+    subst IsTree (sym (d.in_ok-put_opening.ensures.tree ∙ ap (λ n. (change_of d.in-Ok.opening.plan d.args.call.now.path.now now n (tree_of S)).tree) plan.new)) changes.tree
 
 -- what its process had
 there : (c : After-success) → get c.self.inside.tables c.args.pid ≡ Some c.get_mut-table.result.now
@@ -133,12 +133,12 @@ owned : (c : After-success) → get c.self.inside.processes c.args.pid ≡ Some 
 owned c = ap (get c.self.inside.processes) (sym (c.from-p.ensures ∙ c.pid.view_is)) ∙ sym c.get_mut.ensures.value
 
 abbrev Plans : After-success → Type 0
-Plans c = IsOpening (the_view c.self.inside) c.args.pid c.get_mut-table.result.now c.args.lookup.now c.args.path.now c.args.oflags c.args.stat.now c.in-Ok.opening
+Plans c = IsOpening (the_view c.self.inside) c.args.pid c.get_mut-table.result.now c.args.call.now.lookup c.args.call.now.path.now c.args.call.now.oflags c.args.call.now.stat c.in-Ok.opening
 
 abbrev outcome : After-success → Outcome
 outcome c =
-    open_outcome (c.self.inside.clock + c.args.constants.now.epoch) (the_view c.self.inside) c.args.pid c.get_mut-table.result.now c.args.lookup.now c.args.path.now
-    c.args.oflags c.args.stat.now
+    open_outcome (c.self.inside.clock + c.args.constants.now.epoch) (the_view c.self.inside) c.args.pid c.get_mut-table.result.now c.args.call.now.lookup c.args.call.now.path.now
+    c.args.call.now.oflags c.args.call.now.stat
 
 -- the fields as they are in the end
 abbrev fields : After-success → State
@@ -164,13 +164,13 @@ after c plan =
     ap (insert S.processes c.from-p.result) (c.make.ensures ∙ ap (λ k. made_more (k + 1) c.get_mut.result.now) c.makes.ensures)
     ∙ ap (λ (q : ℕ). insert S.processes q (made_more (makes_of o.plan + 1) c.get_mut.result.now)) same in
     let opens : c.put_opening.new.objects.kinds ≡ insert S.opens o.descriptor.id o.kind = c.in_ok-put_opening.ensures.kinds in
-    let u : Tree = (change_of o.plan c.args.path.now now (next_object p (get S.processes p) 1) (tree_of S)).tree in
+    let u : Tree = (change_of o.plan c.args.call.now.path.now now (next_object p (get S.processes p) 1) (tree_of S)).tree in
     let changed : c.put_opening.new.tree ≡ u =
-    c.in_ok-put_opening.ensures.tree ∙ ap (λ n. (change_of o.plan c.args.path.now now n (tree_of S)).tree) plan.new in
+    c.in_ok-put_opening.ensures.tree ∙ ap (λ n. (change_of o.plan c.args.call.now.path.now now n (tree_of S)).tree) plan.new in
     let tree : c.forget_nameless.new.tree ≡ retained u (is_used (insert S.opens o.descriptor.id o.kind) u) =
     c.forget_nameless.ensures ∙ (λ i. retained (changed i) (is_used (opens i) (changed i))) in
     (λ i. record S { tables = tables i; processes = own i; opens = opens i; nodes = (tree i).nodes; names = (tree i).names })
-    ∙ open_released S p c.get_mut-table.result.now c.args.lookup.now c.args.path.now c.args.oflags c.args.stat.now o plan c.self.invariant.valid (there c) now
+    ∙ open_released S p c.get_mut-table.result.now c.args.call.now.lookup c.args.call.now.path.now c.args.call.now.oflags c.args.call.now.stat o plan c.self.invariant.valid (there c) now
     c.get_mut.result.now (owned c)
 
 pub invariant_of-self-2 : goal.invariant_of-self-2
@@ -184,7 +184,7 @@ invariant_of-self-2 d =
     subst IsTable (sym d.in_ok-put_opening.ensures.table) (below-insert MOST_DESCRIPTORS table o.fd o.descriptor had plan.free.0) in
     record {
       valid = subst IsValid (sym (after c plan)) (release_restores _
-          (open_valid d.args.constants.now (the_view d.self.inside) d.args.pid table d.args.lookup.now d.args.path.now d.args.oflags d.args.stat.now (there c)
+          (open_valid d.args.constants.now (the_view d.self.inside) d.args.pid table d.args.call.now.lookup d.args.call.now.path.now d.args.call.now.oflags d.args.call.now.stat (there c)
           d.self.invariant.valid.nearly));
       counted = moved_holders d.self.inside.tables d.from-p.result table d.put_opening.new.table d.self.inside.objects.counts d.put_opening.new.objects.counts
           (sym d.get_mut-table.ensures.value) d.self.invariant.counted d.in_ok-put_opening.ensures.counts;
@@ -201,13 +201,13 @@ returns-clause-ok d = λ table here.
     let T = d.args.self.now in
     let now : ℕ = d.self.inside.clock + d.args.constants.now.epoch in
     let at : State → Table → Outcome = λ X t.
-    open_outcome (X.clock + d.args.constants.now.epoch) X d.args.pid t d.args.lookup.now d.args.path.now d.args.oflags d.args.stat.now in
+    open_outcome (X.clock + d.args.constants.now.epoch) X d.args.pid t d.args.call.now.lookup d.args.call.now.path.now d.args.call.now.oflags d.args.call.now.stat in
     let had : get T.tables d.args.pid ≡ Some d.get_mut-table.result.now = ap (λ (X : State). get X.tables d.args.pid) (sym d.self.view_is) ∙ there c in
     let same : at S d.get_mut-table.result.now ≡ at T table =
     ap (λ X. at X d.get_mut-table.result.now) d.self.view_is ∙ ap (at T) (same_value _ _ _ had here) in
     let number : success d.from.result 0 ≡ success d.in-Ok.opening.fd 0 = ap (λ n. success n 0) d.from.ensures in (
       ap answer.Reply (d.success.ensures ∙ number)
-          ∙ sym (open_answer S d.args.pid d.get_mut-table.result.now d.args.lookup.now d.args.path.now d.args.oflags d.args.stat.now d.in-Ok.opening plan
+          ∙ sym (open_answer S d.args.pid d.get_mut-table.result.now d.args.call.now.lookup d.args.call.now.path.now d.args.call.now.oflags d.args.call.now.stat d.in-Ok.opening plan
           d.self.invariant.valid now)
           ∙ ap (λ (o : Outcome). o.answer) same,
       after c plan ∙ ap (λ (o : Outcome). release (put_all o.updates S)) same ∙ ap (λ X. release (put_all (at T table).updates X)) d.self.view_is,

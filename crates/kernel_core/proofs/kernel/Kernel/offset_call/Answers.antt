@@ -9,6 +9,7 @@ use Rattle.abi_types.specs.declared.reply.Answer.TheVariants as answer
 use Rattle.maps.specs.Maps.{number}
 use Rattle.object_store.specs.Nodes.{IsOfSameNode}
 use Rattle.object_store.specs.Objects.{Held}
+use Rattle.abi_types.specs.Families.{call_of_offset}
 use Rattle.kernel_model.specs.State.{State, Table}
 use Rattle.kernel_model.specs.Valid.{IsValid}
 use Rattle.kernel_model.proofs.Valids.{same_value}
@@ -34,8 +35,8 @@ returns-in_default-get-clause-ok d = λ table here.
     let c = (goal.at.returns-in_default-get-clause-ok d).In-Some in
     let S = d.self.inside in
     subst (λ (X : State). get X.tables d.args.pid ≡ Some table
-    → IsOffsetStep d.args.constants.now X table d.args.fd d.args.call.now (answer.Reply d.refused-in_default-get.result) X) d.self.view_is
-    (λ there. unnamed_answers d.args.constants.now (the_view S) table d.args.fd d.args.call.now d.refused-in_default-get.result d.self.invariant.valid
+    → IsOffsetStep d.args.constants.now X table d.args.fd (call_of_offset d.args.call) (answer.Reply d.refused-in_default-get.result) X) d.self.view_is
+    (λ there. unnamed_answers d.args.constants.now (the_view S) table d.args.fd (call_of_offset d.args.call) d.refused-in_default-get.result d.self.invariant.valid
     (named c table None there d.in_default-get.ensures) d.refused-in_default-get.ensures) here
 
 pub returns-in_default-get-2-clause-ok : goal.returns-in_default-get-2-clause-ok
@@ -43,8 +44,8 @@ returns-in_default-get-2-clause-ok d = λ table here.
     let c = (goal.at.returns-in_default-get-2-clause-ok d).In-Some in
     let S = d.self.inside in
     subst (λ (X : State). get X.tables d.args.pid ≡ Some table
-    → IsOffsetStep d.args.constants.now X table d.args.fd d.args.call.now (answer.Reply d.refused-in_default-get-2.result) X) d.self.view_is
-    (λ there. unopened_answers d.args.constants.now (the_view S) table d.args.fd d.args.call.now d.refused-in_default-get-2.result d.in-Some-get.descriptor.now
+    → IsOffsetStep d.args.constants.now X table d.args.fd (call_of_offset d.args.call) (answer.Reply d.refused-in_default-get-2.result) X) d.self.view_is
+    (λ there. unopened_answers d.args.constants.now (the_view S) table d.args.fd (call_of_offset d.args.call) d.refused-in_default-get-2.result d.in-Some-get.descriptor.now
     d.requires.on d.self.invariant.valid (named c table (Some d.in-Some-get.descriptor.now) there d.in-Some-get.ensures) (sym d.in_default-get-2.ensures)
     d.refused-in_default-get-2.ensures) here
 
@@ -63,14 +64,14 @@ returns-in-Terminal-clause-ok d =
     let c = (goal.at.returns-in-Terminal-clause-ok d).In-Some in
     let S = d.self.inside in
     let stream = get S.terms d.in-Terminal.which in
-    let step : (given : Answer) → (given ≡ (stream_outcome d.args.call.now d.in-Terminal.which stream).answer)
-    × (d.on_stream.new.terms ≡ terms_after (stream_outcome d.args.call.now d.in-Terminal.which stream).updates S.terms)
+    let step : (given : Answer) → (given ≡ (stream_outcome (call_of_offset d.args.call) d.in-Terminal.which stream).answer)
+    × (d.on_stream.new.terms ≡ terms_after (stream_outcome (call_of_offset d.args.call) d.in-Terminal.which stream).updates S.terms)
     → (table : Table) → get d.args.self.now.tables d.args.pid ≡ Some table
-    → IsOffsetStep d.args.constants.now d.args.self.now table d.args.fd d.args.call.now given (with_terms (the_view S) d.on_stream.new.terms) =
+    → IsOffsetStep d.args.constants.now d.args.self.now table d.args.fd (call_of_offset d.args.call) given (with_terms (the_view S) d.on_stream.new.terms) =
     λ given done table here.
     subst (λ (X : State). get X.tables d.args.pid ≡ Some table
-    → IsOffsetStep d.args.constants.now X table d.args.fd d.args.call.now given (with_terms (the_view S) d.on_stream.new.terms)) d.self.view_is
-    (λ there. stream_answers d.args.constants.now (the_view S) table d.args.fd d.args.call.now d.requires.on d.in-Some-get.descriptor.now d.in-Terminal.which
+    → IsOffsetStep d.args.constants.now X table d.args.fd (call_of_offset d.args.call) given (with_terms (the_view S) d.on_stream.new.terms)) d.self.view_is
+    (λ there. stream_answers d.args.constants.now (the_view S) table d.args.fd (call_of_offset d.args.call) d.requires.on d.in-Some-get.descriptor.now d.in-Terminal.which
     d.in-Terminal.flags d.on_stream.new.terms d.self.invariant.valid (named c table (Some d.in-Some-get.descriptor.now) there d.in-Some-get.ensures)
     (sym d.in-Some-get-2.ensures ∙ ap Some d.in-Terminal.is) d.on_stream.ensures.there given done.0 done.1) here in
     IfOk-weaker _ _ _ step d.on_stream.ensures.ok
@@ -86,7 +87,7 @@ pub set-requires : goal.set-requires
 set-requires c = record {
   there = ap is_some (sym c.in-Some-get-2.ensures);
   same_node = subst (λ (o : Option OpenKind). IfSome o (IsOfSameNode c.at_offset.new.kind)) c.in-Some-get-2.ensures
-      (offset_same (c.self.inside.clock + c.args.constants.now.epoch) c.self.inside.tree c.at_offset.new.tree c.args.call.now c.in-Some-get-2.kind.now
+      (offset_same (c.self.inside.clock + c.args.constants.now.epoch) c.self.inside.tree c.at_offset.new.tree (call_of_offset c.args.call) c.in-Some-get-2.kind.now
       c.at_offset.new.kind c.in_ok-reply.reply c.in_ok-reply.ensures.ok);
 }
 
@@ -94,7 +95,7 @@ pub invariant_of-self-2 : goal.invariant_of-self-2
 invariant_of-self-2 c = record {
   valid = subst (λ (h : Held). IsValid (record (the_view c.self.inside) { opens = h.kinds; nodes = c.at_offset.new.tree.nodes; names = c.at_offset.new.tree.names }))
       (sym c.set.ensures)
-      (offset_valid c.args.call.now c.args.fd (c.self.inside.clock + c.args.constants.now.epoch) c.requires.on (the_view c.self.inside)
+      (offset_valid (call_of_offset c.args.call) c.args.fd (c.self.inside.clock + c.args.constants.now.epoch) c.requires.on (the_view c.self.inside)
       c.in-Some-get.descriptor.now.id c.in-Some-get-2.kind.now c.at_offset.new.kind (sym c.in-Some-get-2.ensures) c.in_default-kind.not-Terminal
       c.self.invariant.valid c.at_offset.new.tree c.in_ok-reply.reply c.in_ok-reply.ensures.ok c.in_ok-reply.ensures.nodes);
   counted = λ o. ap (λ (h : Held). number (get h.counts o)) c.set.ensures ∙ c.self.invariant.counted o;
@@ -108,11 +109,11 @@ returns d = record {
       let c = (goal.at.returns d).In-Some in
       let S = d.self.inside in
       let t = d.at_offset.new.tree in
-      subst (λ (X : State). get X.tables d.args.pid ≡ Some table → IsOffsetStep d.args.constants.now X table d.args.fd d.args.call.now (answer.Reply d.in_ok-reply.reply)
+      subst (λ (X : State). get X.tables d.args.pid ≡ Some table → IsOffsetStep d.args.constants.now X table d.args.fd (call_of_offset d.args.call) (answer.Reply d.in_ok-reply.reply)
       (record (the_view S) { opens = d.set.new.self.kinds; nodes = t.nodes; names = t.names })) d.self.view_is
-      (λ there. subst (λ (h : Held). IsOffsetStep d.args.constants.now (the_view S) table d.args.fd d.args.call.now (answer.Reply d.in_ok-reply.reply)
+      (λ there. subst (λ (h : Held). IsOffsetStep d.args.constants.now (the_view S) table d.args.fd (call_of_offset d.args.call) (answer.Reply d.in_ok-reply.reply)
       (record (the_view S) { opens = h.kinds; nodes = t.nodes; names = t.names })) (sym d.set.ensures)
-      (offset_answers d.args.call.now d.args.fd (d.self.inside.clock + d.args.constants.now.epoch) d.requires.on (the_view S) d.in-Some-get.descriptor.now.id
+      (offset_answers (call_of_offset d.args.call) d.args.fd (d.self.inside.clock + d.args.constants.now.epoch) d.requires.on (the_view S) d.in-Some-get.descriptor.now.id
       d.in-Some-get-2.kind.now d.at_offset.new.kind (sym d.in-Some-get-2.ensures) d.in_default-kind.not-Terminal d.self.invariant.valid t d.in_ok-reply.reply
       d.in_ok-reply.ensures.ok d.in_ok-reply.ensures.nodes d.args.constants.now table d.in-Some-get.descriptor.now refl
       (named c table (Some d.in-Some-get.descriptor.now) there d.in-Some-get.ensures) refl)) here;

@@ -34,8 +34,8 @@ seen c P holds table here =
 pub returns-in_default-lowest-clause-refused : goal.returns-in_default-lowest-clause-refused
 returns-in_default-lowest-clause-refused d = λ table here now.
     let c = (goal.at.returns-in_default-lowest-clause-refused d).In-Some-Some in
-    seen c (λ S t. open_outcome now S d.args.pid t d.args.lookup.now d.args.path.now d.args.oflags d.args.stat.now ≡ replies d.refused-in_default-lowest.result)
-    (full_opens_none now (the_view d.self.inside) d.args.pid d.in-Some-Some.table.now d.args.lookup.now d.args.path.now d.args.oflags d.args.stat.now
+    seen c (λ S t. open_outcome now S d.args.pid t d.args.call.now.lookup d.args.call.now.path.now d.args.call.now.oflags d.args.call.now.stat ≡ replies d.refused-in_default-lowest.result)
+    (full_opens_none now (the_view d.self.inside) d.args.pid d.in-Some-Some.table.now d.args.call.now.lookup d.args.call.now.path.now d.args.call.now.oflags d.args.call.now.stat
     d.refused-in_default-lowest.result
     (full_is_none d.in-Some-Some.table.now (d.self.invariant.small d.args.pid d.in-Some-Some.table.now (there c)) (d.in_default-lowest.ensures.full.0 refl))
     d.refused-in_default-lowest.ensures) table here
@@ -44,11 +44,11 @@ pub returns-in_default-open_of-clause-refused : goal.returns-in_default-open_of-
 returns-in_default-open_of-clause-refused d = λ table here now.
     let c = (goal.at.returns-in_default-open_of-clause-refused d).In-Some-Some in
     let S = the_view d.self.inside in
-    let none : None ≡ open_in S.opens (get d.in-Some-Some.table.now d.args.lookup.now.fd) = ap option_copied (sym d.in_default-open_of.is) ∙ d.open_of.ensures in
-    seen c (λ T t. open_outcome now T d.args.pid t d.args.lookup.now d.args.path.now d.args.oflags d.args.stat.now ≡ replies d.refused-in_default-open_of.result)
-    (refused_opens_none now S d.args.pid d.in-Some-Some.table.now d.args.lookup.now d.args.path.now d.args.oflags d.args.stat.now
+    let none : None ≡ open_in S.opens (get d.in-Some-Some.table.now d.args.call.now.lookup.fd) = ap option_copied (sym d.in_default-open_of.is) ∙ d.open_of.ensures in
+    seen c (λ T t. open_outcome now T d.args.pid t d.args.call.now.lookup d.args.call.now.path.now d.args.call.now.oflags d.args.call.now.stat ≡ replies d.refused-in_default-open_of.result)
+    (refused_opens_none now S d.args.pid d.in-Some-Some.table.now d.args.call.now.lookup d.args.call.now.path.now d.args.call.now.oflags d.args.call.now.stat
     d.refused-in_default-open_of.result d.in-Some.fd (path_fault.Errno Badf) d.in-Some.ensures.free
-    (opens_from now (next_object d.args.pid (get S.processes d.args.pid) 1) S d.in-Some-Some.table.now d.args.lookup.now d.args.path.now d.args.oflags d.args.stat.now None none)
+    (opens_from now (next_object d.args.pid (get S.processes d.args.pid) 1) S d.in-Some-Some.table.now d.args.call.now.lookup d.args.call.now.path.now d.args.call.now.oflags d.args.call.now.stat None none)
     d.refused-in_default-open_of.ensures) table here
 
 pub returns-in-Err-clause-refused : goal.returns-in-Err-clause-refused
@@ -56,22 +56,22 @@ returns-in-Err-clause-refused d = λ table here now.
     let c = (goal.at.returns-in-Err-clause-refused d).In-Some-Some in
     let S = the_view d.self.inside in
     let new : ℕ = next_object d.args.pid (get S.processes d.args.pid) 1 in
-    seen c (λ T t. open_outcome now T d.args.pid t d.args.lookup.now d.args.path.now d.args.oflags d.args.stat.now ≡ replies d.reply_of.result)
-    (refused_opens_none now S d.args.pid d.in-Some-Some.table.now d.args.lookup.now d.args.path.now d.args.oflags d.args.stat.now
+    seen c (λ T t. open_outcome now T d.args.pid t d.args.call.now.lookup d.args.call.now.path.now d.args.call.now.oflags d.args.call.now.stat ≡ replies d.reply_of.result)
+    (refused_opens_none now S d.args.pid d.in-Some-Some.table.now d.args.call.now.lookup d.args.call.now.path.now d.args.call.now.oflags d.args.call.now.stat
     d.reply_of.result d.in-Some.fd d.in-Err.refusal d.in-Some.ensures.free
-    (opens_from now new S d.in-Some-Some.table.now d.args.lookup.now d.args.path.now d.args.oflags d.args.stat.now (Some d.in-Some-open_of.here.now) d.in-Some-open_of.ensures
-    ∙ d.plan_open.ensures d.args.stat.now.flags now new ∙ ap (λ r. opened_of r d.args.path.now (tree_of S) d.args.stat.now.flags now new) d.in-Err.is)
+    (opens_from now new S d.in-Some-Some.table.now d.args.call.now.lookup d.args.call.now.path.now d.args.call.now.oflags d.args.call.now.stat (Some d.in-Some-open_of.here.now) d.in-Some-open_of.ensures
+    ∙ d.plan_open.ensures d.args.call.now.stat.flags now new ∙ ap (λ r. opened_of r d.args.call.now.path.now (tree_of S) d.args.call.now.stat.flags now new) d.in-Err.is)
     d.reply_of.ensures) table here
 
 -- what is opened by the plan
 planned : (c : In-Ok) (now new : ℕ)
-    → opened_at now new (the_view c.self.inside) c.in-Some-Some.table.now c.args.lookup.now c.args.path.now c.args.oflags c.args.stat.now
-    ≡ opened_by c.in-Ok.plan c.args.path.now (tree_of (the_view c.self.inside)) c.args.stat.now.flags now new
+    → opened_at now new (the_view c.self.inside) c.in-Some-Some.table.now c.args.call.now.lookup c.args.call.now.path.now c.args.call.now.oflags c.args.call.now.stat
+    ≡ opened_by c.in-Ok.plan c.args.call.now.path.now (tree_of (the_view c.self.inside)) c.args.call.now.stat.flags now new
 planned c now new =
-    opens_from now new (the_view c.self.inside) c.in-Some-Some.table.now c.args.lookup.now c.args.path.now c.args.oflags c.args.stat.now
+    opens_from now new (the_view c.self.inside) c.in-Some-Some.table.now c.args.call.now.lookup c.args.call.now.path.now c.args.call.now.oflags c.args.call.now.stat
     (Some c.in-Some-open_of.here.now) c.in-Some-open_of.ensures
-    ∙ c.plan_open.ensures c.args.stat.now.flags now new
-    ∙ ap (λ r. opened_of r c.args.path.now (tree_of (the_view c.self.inside)) c.args.stat.now.flags now new) c.in-Ok.is
+    ∙ c.plan_open.ensures c.args.call.now.stat.flags now new
+    ∙ ap (λ r. opened_of r c.args.call.now.path.now (tree_of (the_view c.self.inside)) c.args.call.now.stat.flags now new) c.in-Ok.is
 
 pub returns-in_default-numbered-clause-refused : goal.returns-in_default-numbered-clause-refused
 returns-in_default-numbered-clause-refused d = λ table here now.
@@ -80,8 +80,8 @@ returns-in_default-numbered-clause-refused d = λ table here now.
     let new : ℕ = next_object d.args.pid (get S.processes d.args.pid) 1 in
     let none : number_of d.args.pid (makes_of d.in-Ok.plan + 1) (Some d.in-Some-Some.own.now) ≡ None =
     ap (λ k. number_of d.args.pid (k + 1) (Some d.in-Some-Some.own.now)) (sym d.makes.ensures) ∙ sym d.numbered.ensures.number ∙ d.in_default-numbered.is in
-    seen c (λ T t. open_outcome now T d.args.pid t d.args.lookup.now d.args.path.now d.args.oflags d.args.stat.now ≡ replies d.refused-in_default-numbered.result)
-    (uncounted_opens_none now S d.args.pid d.in-Some-Some.table.now d.args.lookup.now d.args.path.now d.args.oflags d.args.stat.now
+    seen c (λ T t. open_outcome now T d.args.pid t d.args.call.now.lookup d.args.call.now.path.now d.args.call.now.oflags d.args.call.now.stat ≡ replies d.refused-in_default-numbered.result)
+    (uncounted_opens_none now S d.args.pid d.in-Some-Some.table.now d.args.call.now.lookup d.args.call.now.path.now d.args.call.now.oflags d.args.call.now.stat
     d.refused-in_default-numbered.result d.in-Some.fd d.in-Ok.plan d.in-Some.ensures.free
     (planned (goal.at.returns-in_default-numbered-clause-refused d).In-Ok now new)
     (ap (can_number d.args.pid (makes_of d.in-Ok.plan + 1)) (owned c) ∙ unnumbered d.args.pid (makes_of d.in-Ok.plan + 1) (Some d.in-Some-Some.own.now) none)
@@ -92,14 +92,14 @@ returns-clause-ok d = λ table here.
     let c = (goal.at.returns-clause-ok d).In-Some-Some in
     let S = the_view d.self.inside in
     let p : ℕ = d.args.pid in
-    let stat = d.args.stat.now in
+    let stat = d.args.call.now.stat in
     let makes : ℕ = makes_of d.in-Ok.plan in
     let found : number_of p (makes + 1) (Some d.in-Some-Some.own.now) ≡ Some d.in-Some-numbered.id =
     ap (λ k. number_of p (k + 1) (Some d.in-Some-Some.own.now)) (sym d.makes.ensures) ∙ sym d.numbered.ensures.number ∙ d.in-Some-numbered.is in
     let number = numbered_is p (makes + 1) d.in-Some-numbered.id (Some d.in-Some-Some.own.now) found in
     let last : d.in-Some-numbered.id ≡ next_object p (get S.processes p) (makes + 1) =
     number.1 ∙ ap (λ o. next_object p o (makes + 1)) (sym (owned c)) in
-    seen c (λ T t. IsOpening T p t d.args.lookup.now d.args.path.now d.args.oflags stat (record {
+    seen c (λ T t. IsOpening T p t d.args.call.now.lookup d.args.call.now.path.now d.args.call.now.oflags stat (record {
       fd = d.in-Some.fd;
       descriptor = d.descriptor.result;
       kind = d.kind.result;

@@ -1,0 +1,197 @@
+-- What a call means, by the part of the kernel that does it.
+--     change_is, state_is, file_is, offset_is, entries_is, open_is, exit_is, zeros_is, answered_is, unbuilt_is      the call of a view
+--     file_on, offset_on, entries_on      the descriptors of a view are those on whose opens its call works
+--     change_does, zeros_does, answered_does, unbuilt_does      what such a call does
+--     change_replaces, change_takes_memory      a number that is replaced is there;  memory may be wanting for a new number
+--     all_named      where a call isn't refused each descriptor that it names is there
+--     on_err_both      what follows where there is an error
+use Rattle.std.proofs.Common.{◌≡◌, ℕ, Bool, true, false, cond, ◌∷◌, [], Option, None, Some, IsSome, Result, Ok, Err, OnErr, refl, sym, ap, subst, ◌∙◌}
+use Rattle.abi_base.specs.declared.errno.Errno.{Errno}
+use Rattle.abi_base.specs.declared.errno.Errno.TheVariants.{Badf, Nosys, Success}
+use Rattle.abi_types.specs.Families.{HasFile, IsOf, answer_of, call_of_change, call_of_entry, call_of_file, call_of_offset, call_of_open, fd_of_file, fd_of_offset, fds_of_entry, is_anonymous, is_unbuilt, zeros_of}
+use Rattle.abi_types.specs.declared.call.Call.{Call}
+use Rattle.abi_types.specs.declared.call.Call.TheVariants as call
+use Rattle.abi_types.specs.declared.constants.Constants.{Constants}
+use Rattle.abi_types.specs.declared.family.DescriptorChange.{DescriptorChange}
+use Rattle.abi_types.specs.declared.family.DescriptorChange.TheVariants.{Close, Dup, Replace, StatPut}
+use Rattle.abi_types.specs.declared.family.EntryCall.{EntryCall}
+use Rattle.abi_types.specs.declared.family.EntryCall.TheVariants as entry
+use Rattle.abi_types.specs.declared.family.Family.{Family}
+use Rattle.abi_types.specs.declared.family.Family.TheVariants as family
+use Rattle.abi_types.specs.declared.family.FileCall.{FileCall}
+use Rattle.abi_types.specs.declared.family.FileCall.TheVariants as file
+use Rattle.abi_types.specs.declared.family.OffsetCall.{OffsetCall}
+use Rattle.abi_types.specs.declared.family.OffsetCall.TheVariants as offset
+use Rattle.abi_types.specs.declared.family.OpenCall.{OpenCall}
+use Rattle.abi_types.specs.declared.place.Place.{Place}
+use Rattle.abi_types.specs.declared.reply.Reply.{Reply}
+use Rattle.abi_types.specs.declared.who.Who.{Who}
+use Rattle.fd_calls.specs.Calls.{offset_fd}
+use Rattle.kernel_model.specs.Calls.{meaning_of, named, refusal, takes_memory}
+use Rattle.kernel_model.specs.Families.EntryCalls.{entry_fds}
+use Rattle.kernel_model.specs.Families.FileCalls.{file_fd}
+use Rattle.kernel_model.specs.Families.MemoryCalls.{map_zeros, placed}
+use Rattle.kernel_model.specs.Laws.{HasAll}
+use Rattle.kernel_model.specs.Meaning.{Meaning}
+use Rattle.kernel_model.specs.Need.{some_absent}
+use Rattle.kernel_model.specs.Outcome.{replies}
+use Rattle.kernel_model.specs.Reply.{refused}
+use Rattle.kernel_model.specs.State.{State, Table}
+use Rattle.kernel_model.specs.View.{View, whole}
+use Rattle.kernel_model.proofs.Lacks.{all_present}
+use Rattle.kernel_model.proofs.Tests.{none_is_no, same_some}
+use Rattle.kernel_parts.specs.Changes.{HasReplaced, IsDup, change_outcome}
+use Rattle.kernel_core.proofs.Changes.{put_is}
+
+-- ---- the call of a view
+
+module _ (c : Call) (f : Family) (of : IsOf c f) where
+  pub change_is : (v : DescriptorChange) → f ≡ family.Descriptors v → c ≡ call_of_change v
+  unfolding IsOf
+  change_is v is = subst (IsOf c) is of
+
+  pub state_is : (fd : ℕ) → f ≡ family.DescriptorState fd → c ≡ call.FdStatGet fd
+  unfolding IsOf
+  state_is fd is = subst (IsOf c) is of
+
+  pub file_is : (v : FileCall) → f ≡ family.File v → (c ≡ call_of_file v) × HasFile v
+  unfolding IsOf
+  file_is v is = subst (IsOf c) is of
+
+  pub offset_is : (v : OffsetCall) → f ≡ family.Offset v → c ≡ call_of_offset v
+  unfolding IsOf
+  offset_is v is = subst (IsOf c) is of
+
+  pub entries_is : (v : EntryCall) → f ≡ family.Entries v → c ≡ call_of_entry v
+  unfolding IsOf
+  entries_is v is = subst (IsOf c) is of
+
+  pub open_is : (v : OpenCall) → f ≡ family.Open v → c ≡ call_of_open v
+  unfolding IsOf
+  open_is v is = subst (IsOf c) is of
+
+  pub exit_is : (code : ℕ) → f ≡ family.Exit code → c ≡ call.ProcExit code
+  unfolding IsOf
+  exit_is code is = subst (IsOf c) is of
+
+  pub zeros_is : (place : Place) → f ≡ family.Zeros place → zeros_of c ≡ Some place
+  unfolding IsOf
+  zeros_is place is = subst (IsOf c) is of
+
+  pub answered_is : (errno : Errno) → f ≡ family.Answered errno → answer_of c ≡ Some errno
+  unfolding IsOf
+  answered_is errno is = subst (IsOf c) is of
+
+  pub unbuilt_is : f ≡ family.NotBuilt → is_unbuilt c ≡ true
+  unfolding IsOf
+  unbuilt_is is = subst (IsOf c) is of
+
+-- ---- the descriptors of a view
+
+pub file_on : (v : FileCall) → HasFile v → file_fd (call_of_file v) ≡ Some (fd_of_file v)
+file_on (file.FdPread fd length offset) has = refl
+file_on (file.FdPwrite fd bytes offset) has = refl
+file_on (file.FileAllocate fd offset length) has = refl
+file_on (file.FileReaddir fd length cookie) has = refl
+file_on (file.FileReadlink fd path length) has = refl
+file_on (file.FileStatFget fd) has = refl
+file_on (file.FileStatFput fd stat flags) has = refl
+file_on (file.FileStatGet lookup path) has = refl
+file_on (file.FileStatPut lookup path stat flags) has = refl
+file_on (file.MemMap place length prot flags fd offset) has = ap (λ b. cond b None (Some fd)) has
+
+pub offset_on : (v : OffsetCall) → offset_fd (call_of_offset v) ≡ Some (fd_of_offset v)
+offset_on (offset.FdRead fd length) = refl
+offset_on (offset.FdSeek fd offset whence) = refl
+offset_on (offset.FdWrite fd bytes) = refl
+
+pub entries_on : (v : EntryCall) → entry_fds (call_of_entry v) ≡ Some (fds_of_entry v)
+entries_on (entry.FileCreate fd path kind) = refl
+entries_on (entry.FileLink lookup path new_fd new_path) = refl
+entries_on (entry.FileRename fd path new_fd new_path) = refl
+entries_on (entry.FileSymlink text fd path) = refl
+entries_on (entry.FileUnlink fd path flags) = refl
+
+-- ---- changes of descriptors
+
+pub change_does : (constants : Constants) (S : State) (who : Who) (table : Table) (v : DescriptorChange)
+    → (meaning_of (call_of_change v)).effect constants (whole S) who table ≡ change_outcome who.pid S.opens table v
+change_does constants S who table (Close fd) = refl
+change_does constants S who table (Dup fd) = refl
+change_does constants S who table (Replace from to) = refl
+change_does constants S who table (StatPut fd stat flags) = put_is S who.pid table fd stat flags
+
+pub change_replaces : (table : Table) (v : DescriptorChange) → HasAll table (named (call_of_change v)) → HasReplaced table v
+change_replaces table (Close fd) all = tt
+change_replaces table (Dup fd) all = tt
+change_replaces table (Replace from to) all = all.1.0
+change_replaces table (StatPut fd stat flags) all = tt
+
+pub change_takes_memory : (v : DescriptorChange) → IsDup v → takes_memory (call_of_change v) ≡ true
+change_takes_memory (Close fd) h = absurd h
+change_takes_memory (Dup fd) h = refl
+change_takes_memory (Replace from to) h = absurd h
+change_takes_memory (StatPut fd stat flags) h = absurd h
+
+-- ---- calls that need no view
+
+zeros_by : (b : Bool) (at place : Place) (m : Meaning) (constants : Constants) (v : View) (who : Who) (table : Table) → cond b (Some at) None ≡ Some place
+    → (cond b (map_zeros at) m).effect constants v who table ≡ replies (placed place)
+zeros_by true at place m constants v who table is = ap (λ p. replies (placed p)) (same_some at place is)
+zeros_by false at place m constants v who table is = absurd (none_is_no place is)
+
+pub zeros_does : (c : Call) (place : Place) (constants : Constants) (v : View) (who : Who) (table : Table) → zeros_of c ≡ Some place
+    → (meaning_of c).effect constants v who table ≡ replies (placed place)
+zeros_does (call.MemMap at length prot flags fd offset) place constants v who table is =
+    zeros_by (is_anonymous flags) at place _ constants v who table is
+zeros_does other place constants v who table is = absurd (none_is_no place is)
+
+replied_with : (errno given : Errno) → Some errno ≡ Some given → replies (refused errno) ≡ replies (refused given)
+replied_with errno given is = ap (λ e. replies (refused e)) (same_some errno given is)
+
+pub answered_does : (c : Call) (errno : Errno) (constants : Constants) (v : View) (who : Who) (table : Table) → answer_of c ≡ Some errno
+    → (meaning_of c).effect constants v who table ≡ replies (refused errno)
+answered_does (call.FdDatasync fd) errno constants v who table is = replied_with Success errno is
+answered_does (call.FdSync fd) errno constants v who table is = replied_with Success errno is
+answered_does (call.FileAdvise fd offset length advice) errno constants v who table is = replied_with Success errno is
+answered_does (call.Memory number had) errno constants v who table is = replied_with had errno is
+answered_does (call.Refused number had) errno constants v who table is = replied_with had errno is
+answered_does (call.Unknown number) errno constants v who table is = replied_with Nosys errno is
+answered_does other errno constants v who table is = absurd (none_is_no errno is)
+
+pub unbuilt_does : (c : Call) (constants : Constants) (v : View) (who : Who) (table : Table) → is_unbuilt c ≡ true
+    → (meaning_of c).effect constants v who table ≡ replies (refused Nosys)
+unbuilt_does (call.ClockResGet clock) constants v who table is = refl
+unbuilt_does (call.ClockTimeGet clock precision) constants v who table is = refl
+unbuilt_does (call.CondvarSignal condvar word scope n) constants v who table is = refl
+unbuilt_does (call.FdCreate1 kind) constants v who table is = refl
+unbuilt_does (call.FdCreate2 kind) constants v who table is = refl
+unbuilt_does (call.LockUnlock lock word scope) constants v who table is = refl
+unbuilt_does (call.Poll subscriptions) constants v who table is = refl
+unbuilt_does (call.ProcExec fd bytes fds) constants v who table is = refl
+unbuilt_does (call.ProcFork left) constants v who table is = refl
+unbuilt_does (call.ProcRaise signal) constants v who table is = refl
+unbuilt_does (call.RandomGet length) constants v who table is = refl
+unbuilt_does (call.SockRecv fd length fds flags) constants v who table is = refl
+unbuilt_does (call.SockSend fd bytes fds flags) constants v who table is = refl
+unbuilt_does (call.SockShutdown fd how) constants v who table is = refl
+unbuilt_does (call.ThreadCreate attributes) constants v who table is = refl
+unbuilt_does (call.ThreadExit lock word scope) constants v who table is = refl
+unbuilt_does call.ThreadYield constants v who table is = refl
+unbuilt_does other constants v who table is = absurd (cc)
+
+-- ---- refusals
+
+present_by : (absent : Bool) (x : Reply) (o : Option Reply) → cond absent (Some x) o ≡ None → absent ≡ false
+present_by true x o none = absurd (none_is_no x (sym none))
+present_by false x o none = refl
+
+-- where a call isn't refused each descriptor that it names is there
+pub all_named : (table : Table) (c : Call) → refusal table c ≡ None → HasAll table (named c)
+all_named table c none = all_present table (named c) (present_by (some_absent table (named c)) (refused Badf) _ none)
+
+-- ---- errors
+
+pub on_err_both : {X E A B C : Type 0} (r : Result X E) → OnErr r A → OnErr r B → (A → B → C) → OnErr r C
+on_err_both (Ok x) a b h = tt
+on_err_both (Err e) a b h = h a b

@@ -1,0 +1,276 @@
+use Rattle.std.proofs.Common.{◌≡◌, true, Some, None, refl, sym, ap, subst, ◌∙◌}
+use Rattle.std.proofs.lemmas.Result.{IfOk-weaker}
+use Rattle.std.specs.FinMap.{get}
+use Rattle.abi_types.specs.Families.{IsOf, call_of_change, call_of_entry, call_of_file, call_of_offset, call_of_open, fd_of_file, fds_of_entry}
+use Rattle.abi_types.specs.declared.call.Call.{Call}
+use Rattle.abi_types.specs.declared.call.Call.TheVariants as call
+use Rattle.abi_types.specs.declared.reply.Answer.{Answer}
+use Rattle.abi_types.specs.declared.reply.Answer.TheVariants as answer
+use Rattle.abi_types.specs.declared.reply.Reply.{Reply}
+use Rattle.abi_types.specs.declared.who.Who.{Who}
+use Rattle.kernel_model.specs.Calls.{meaning_of, named, refusal, refusal_of, takes_memory}
+use Rattle.kernel_model.specs.Families.ClockCalls.{real_time}
+use Rattle.kernel_model.specs.Families.DescriptorCalls.{stat_get}
+use Rattle.kernel_model.specs.Families.MemoryCalls.{placed}
+use Rattle.kernel_model.specs.Families.ProcessCalls.{exit_of}
+use Rattle.kernel_model.specs.Laws.{HasAll}
+use Rattle.kernel_model.specs.Outcome.{Outcome, replies}
+use Rattle.kernel_model.specs.Release.{release}
+use Rattle.kernel_model.specs.Reply.{refused}
+use Rattle.kernel_model.specs.State.{State, Table, put_all}
+use Rattle.kernel_model.specs.Step.{MayLackMemory, outcome_by}
+use Rattle.kernel_model.specs.Valid.{IsValid}
+use Rattle.kernel_model.specs.View.{whole}
+use Rattle.kernel_model.proofs.Valids.{release_valid, same_value}
+use Rattle.kernel_parts.specs.Changes.{change_outcome}
+use Rattle.kernel_core.specs.Entries.{entry_outcome}
+use Rattle.kernel_core.specs.Files.{file_outcome}
+use Rattle.kernel_core.specs.OffsetCalls.{offset_outcome}
+use Rattle.kernel_core.specs.Opening.{open_outcome}
+use Rattle.kernel_core.proofs.Acts.{act_allowed, act_refused, by_outcome, stat_get_sets_nothing}
+use Rattle.kernel_core.proofs.EntryCalls.{entries_does, first_is_named}
+use Rattle.kernel_core.proofs.Families.{all_named, answered_does, answered_is, change_does, change_is, change_replaces, change_takes_memory, entries_is, entries_on, exit_is, file_is, file_on, offset_is, offset_on, on_err_both, open_is, state_is, unbuilt_does, unbuilt_is, zeros_does, zeros_is}
+use Rattle.kernel_core.proofs.FileCalls.{file_does}
+use Rattle.kernel_core.proofs.OffsetCalls.{offset_does}
+use Rattle.kernel_core.proofs.OpenCalls.{open_does}
+use Rattle.kernel_core.proofs.kernel.Kernel.dispatch.Goals as goal
+use Rattle.kernel_core.proofs.kernel.Kernel.dispatch.Goals.{After-family, After-refusal}
+
+-- the process's table is the one that was found
+there : (c : After-refusal) → get c.args.self.now.tables c.args.who.now.pid ≡ Some c.in-Some.table.now
+there c =
+    ap (λ (S : State). get S.tables c.args.who.now.pid) (sym c.self.view_is)
+    ∙ ap (get c.self.inside.tables) (sym (c.from.ensures ∙ ap (λ (w : Who). w.pid) c.who.view_is))
+    ∙ sym c.in-Some.ensures.value
+
+valid : (c : After-refusal) → IsValid c.args.self.now
+valid c = subst IsValid c.self.view_is c.self.invariant.valid
+
+-- the refusal is of what the call names and needs
+rows : (c : After-refusal) → refusal c.in-Some.table.now c.args.call.now ≡ c.refusal.result
+rows c =
+    sym c.refusal.ensures
+
+-- what is said of a call's answer, where the call changes nothing
+abbrev IsAnswered : After-refusal → Answer → Type 0
+IsAnswered c given =
+    let o = outcome_by c.args.constants.now (whole c.args.self.now) c.args.who.now c.args.call.now in
+    (given ≡ o.answer) × (c.args.self.now ≡ release (put_all o.updates c.args.self.now))
+
+-- a call whose outcome is a reply alone
+replied : (c : After-refusal) (reply : Reply) → outcome_by c.args.constants.now (whole c.args.self.now) c.args.who.now c.args.call.now ≡ replies reply
+    → IsAnswered c (answer.Reply reply)
+replied c reply is =
+    let S = c.args.self.now in
+    by_outcome c.args.constants.now S S c.args.who.now c.args.call.now (answer.Reply reply) (replies reply) is (refl, sym (release_valid S (valid c)))
+
+-- a call that isn't refused comes to what its part of the kernel says that it does
+allowed : (c : After-refusal) (called : Call) (o : Outcome) → c.refusal.result ≡ None → c.args.call.now ≡ called
+    → (meaning_of called).effect c.args.constants.now (whole c.args.self.now) c.args.who.now c.in-Some.table.now ≡ o
+    → outcome_by c.args.constants.now (whole c.args.self.now) c.args.who.now c.args.call.now ≡ o
+allowed c called o none same does =
+    act_allowed c.args.constants.now c.args.self.now c.args.who.now c.args.call.now c.in-Some.table.now (there c) (rows c ∙ none)
+    ∙ ap (λ (it : Call). (meaning_of it).effect c.args.constants.now (whole c.args.self.now) c.args.who.now c.in-Some.table.now) same ∙ does
+
+-- where memory ran out it was for a call that takes some
+lacks : (c : After-refusal) (called : Call) → c.refusal.result ≡ None → c.args.call.now ≡ called → takes_memory called ≡ true
+    → MayLackMemory c.args.self.now c.args.who.now c.args.call.now
+lacks c called none same takes = (
+  ap takes_memory same ∙ takes,
+  ap (refusal_of c.args.call.now) (there c) ∙ rows c ∙ none,
+)
+
+pub returns-in-Some-refusal-clause-ok : goal.returns-in-Some-refusal-clause-ok
+returns-in-Some-refusal-clause-ok c =
+    let a = (goal.at.returns-in-Some-refusal-clause-ok c).After-refusal in
+    replied a c.in-Some-refusal.reply
+    (act_refused c.args.constants.now c.args.self.now c.args.who.now c.args.call.now c.in-Some.table.now c.in-Some-refusal.reply (there a)
+    (rows a ∙ c.in-Some-refusal.is))
+
+-- each descriptor that a call names is there that isn't refused
+present : (c : After-refusal) (called : Call) (table : Table) → c.refusal.result ≡ None → c.args.call.now ≡ called
+    → get c.args.self.now.tables c.args.who.now.pid ≡ Some table → HasAll table (named called)
+present c called table none same here =
+    subst (λ (it : Call). HasAll table (named it)) same
+    (subst (λ (t : Table). HasAll t (named c.args.call.now)) (same_value _ _ _ (there c) here)
+    (all_named c.in-Some.table.now c.args.call.now (rows c ∙ none)))
+
+-- ---- the process's descriptors
+
+pub change_descriptors-requires-clause-replaced : goal.change_descriptors-requires-clause-replaced
+change_descriptors-requires-clause-replaced c = λ table here.
+    let change = c.in-Descriptors.change in
+    change_replaces table change
+    (present (goal.at.change_descriptors-requires-clause-replaced c).After-refusal (call_of_change change) table c.in_default-refusal.is
+    (change_is c.args.call.now c.family.result c.family.ensures change c.in-Descriptors.is) here)
+
+pub returns-in-Descriptors-clause-ok : goal.returns-in-Descriptors-clause-ok
+returns-in-Descriptors-clause-ok c =
+    let a = (goal.at.returns-in-Descriptors-clause-ok c).After-refusal in
+    let S = c.args.self.now in
+    let who = c.args.who.now in
+    let change = c.in-Descriptors.change in
+    let o = change_outcome who.pid S.opens c.in-Some.table.now change in
+    let is = allowed a (call_of_change change) o c.in_default-refusal.is (change_is c.args.call.now c.family.result c.family.ensures change c.in-Descriptors.is)
+    (change_does c.args.constants.now S who c.in-Some.table.now change) in
+    IfOk-weaker _ _ _ (λ given done. by_outcome c.args.constants.now S c.change_descriptors.new.self who c.args.call.now given o is (done c.in-Some.table.now (there a)))
+    c.change_descriptors.ensures.ok
+
+pub returns-in-Descriptors-clause-err : goal.returns-in-Descriptors-clause-err
+returns-in-Descriptors-clause-err c =
+    let a = (goal.at.returns-in-Descriptors-clause-err c).After-refusal in
+    let change = c.in-Descriptors.change in
+    let same = change_is c.args.call.now c.family.result c.family.ensures change c.in-Descriptors.is in
+    on_err_both c.change_descriptors.result c.change_descriptors.ensures.only c.change_descriptors.ensures.err
+    (λ dup unchanged. (lacks a (call_of_change change) c.in_default-refusal.is same (change_takes_memory change dup), unchanged))
+
+pub returns-in-DescriptorState-clause-ok : goal.returns-in-DescriptorState-clause-ok
+returns-in-DescriptorState-clause-ok c =
+    let a = (goal.at.returns-in-DescriptorState-clause-ok c).After-refusal in
+    let S = c.args.self.now in
+    let found = get c.in-Some.table.now c.in-DescriptorState.fd in
+    let is = allowed a (call.FdStatGet c.in-DescriptorState.fd) (stat_get (whole S) found) c.in_default-refusal.is
+    (state_is c.args.call.now c.family.result c.family.ensures c.in-DescriptorState.fd c.in-DescriptorState.is) refl in
+    by_outcome c.args.constants.now S S c.args.who.now c.args.call.now (answer.Reply c.fd_stat_get.result) (stat_get (whole S) found) is
+    (c.fd_stat_get.ensures c.in-Some.table.now (there a), sym (ap (λ us. release (put_all us S)) (stat_get_sets_nothing (whole S) found) ∙ release_valid S (valid a)))
+
+-- ---- files and directories
+
+pub file_call-requires-clause-on : goal.file_call-requires-clause-on
+file_call-requires-clause-on c =
+    let view = c.in-File.view in
+    file_on view (file_is c.args.call.now c.family.result c.family.ensures view c.in-File.is).1 ∙ ap Some (sym c.fd.ensures)
+
+pub returns-in-File-clause-ok : goal.returns-in-File-clause-ok
+returns-in-File-clause-ok c =
+    let a = (goal.at.returns-in-File-clause-ok c).After-refusal in
+    let S = c.args.self.now in
+    let who = c.args.who.now in
+    let view = c.in-File.view in
+    let of = file_is c.args.call.now c.family.result c.family.ensures view c.in-File.is in
+    let o = file_outcome c.args.constants.now S c.in-Some.table.now c.fd.result (call_of_file view) in
+    let is = allowed a (call_of_file view) o c.in_default-refusal.is of.0
+    (file_does c.args.constants.now S who c.in-Some.table.now (call_of_file view) c.fd.result (file_on view of.1 ∙ ap Some (sym c.fd.ensures))) in
+    IfOk-weaker _ _ _ (λ given done. by_outcome c.args.constants.now S c.file_call.new.self who c.args.call.now given o is (done c.in-Some.table.now (there a)))
+    c.file_call.ensures.ok
+
+pub returns-in-File-clause-err : goal.returns-in-File-clause-err
+returns-in-File-clause-err c =
+    let a = (goal.at.returns-in-File-clause-err c).After-refusal in
+    let of = file_is c.args.call.now c.family.result c.family.ensures c.in-File.view c.in-File.is in
+    on_err_both c.file_call.result c.file_call.ensures.only c.file_call.ensures.err
+    (λ takes unchanged. (lacks a (call_of_file c.in-File.view) c.in_default-refusal.is of.0 takes, unchanged))
+
+-- ---- offsets of opens
+
+pub returns-in-Offset-clause-ok : goal.returns-in-Offset-clause-ok
+returns-in-Offset-clause-ok c =
+    let a = (goal.at.returns-in-Offset-clause-ok c).After-refusal in
+    let S = c.args.self.now in
+    let who = c.args.who.now in
+    let view = c.in-Offset.view in
+    let o = offset_outcome c.args.constants.now S c.in-Some.table.now c.fd-in-Offset.result (call_of_offset view) in
+    let is = allowed a (call_of_offset view) o c.in_default-refusal.is (offset_is c.args.call.now c.family.result c.family.ensures view c.in-Offset.is)
+    (offset_does c.args.constants.now S who c.in-Some.table.now (call_of_offset view) c.fd-in-Offset.result (offset_on view ∙ ap Some (sym c.fd-in-Offset.ensures))) in
+    IfOk-weaker _ _ _ (λ given done. by_outcome c.args.constants.now S c.offset_call.new.self who c.args.call.now given o is (done c.in-Some.table.now (there a)))
+    c.offset_call.ensures.ok
+
+pub returns-in-Offset-clause-err : goal.returns-in-Offset-clause-err
+returns-in-Offset-clause-err c =
+    let a = (goal.at.returns-in-Offset-clause-err c).After-refusal in
+    let same = offset_is c.args.call.now c.family.result c.family.ensures c.in-Offset.view c.in-Offset.is in
+    on_err_both c.offset_call.result c.offset_call.ensures.only c.offset_call.ensures.err
+    (λ takes unchanged. (lacks a (call_of_offset c.in-Offset.view) c.in_default-refusal.is same takes, unchanged))
+
+-- ---- entries of directories
+
+pub entry_call-requires-clause-named : goal.entry_call-requires-clause-named
+entry_call-requires-clause-named c = λ table here.
+    let view = c.in-Entries.view in
+    let fds = c.fds-fd.result in
+    first_is_named table (call_of_entry view) fds.0 fds.1 (entries_on view ∙ ap Some (sym c.fds-fd.ensures))
+    (present (goal.at.entry_call-requires-clause-named c).After-refusal (call_of_entry view) table c.in_default-refusal.is
+    (entries_is c.args.call.now c.family.result c.family.ensures view c.in-Entries.is) here)
+
+pub returns-in-Entries-clause-ok : goal.returns-in-Entries-clause-ok
+returns-in-Entries-clause-ok c =
+    let a = (goal.at.returns-in-Entries-clause-ok c).After-refusal in
+    let S = c.args.self.now in
+    let who = c.args.who.now in
+    let view = c.in-Entries.view in
+    let fds = c.fds-fd.result in
+    let o = entry_outcome c.args.constants.now S who.pid c.in-Some.table.now fds.0 fds.1 (call_of_entry view) in
+    let is = allowed a (call_of_entry view) o c.in_default-refusal.is (entries_is c.args.call.now c.family.result c.family.ensures view c.in-Entries.is)
+    (entries_does c.args.constants.now S who c.in-Some.table.now (call_of_entry view) fds.0 fds.1 (entries_on view ∙ ap Some (sym c.fds-fd.ensures))) in
+    IfOk-weaker _ _ _ (λ given done. by_outcome c.args.constants.now S c.entry_call.new.self who c.args.call.now given o is (done c.in-Some.table.now (there a)))
+    c.entry_call.ensures.ok
+
+pub returns-in-Entries-clause-err : goal.returns-in-Entries-clause-err
+returns-in-Entries-clause-err c =
+    let a = (goal.at.returns-in-Entries-clause-err c).After-refusal in
+    let same = entries_is c.args.call.now c.family.result c.family.ensures c.in-Entries.view c.in-Entries.is in
+    on_err_both c.entry_call.result c.entry_call.ensures.only c.entry_call.ensures.err
+    (λ takes unchanged. (lacks a (call_of_entry c.in-Entries.view) c.in_default-refusal.is same takes, unchanged))
+
+-- ---- opens
+
+pub returns-in-Open-clause-ok : goal.returns-in-Open-clause-ok
+returns-in-Open-clause-ok c =
+    let a = (goal.at.returns-in-Open-clause-ok c).After-refusal in
+    let S = c.args.self.now in
+    let who = c.args.who.now in
+    let view = c.in-Open.view in
+    let o = open_outcome (real_time c.args.constants.now S.clock) S who.pid c.in-Some.table.now view.lookup view.path.now view.oflags view.stat in
+    let is = allowed a (call_of_open view) o c.in_default-refusal.is (open_is c.args.call.now c.family.result c.family.ensures view c.in-Open.is)
+    (open_does c.args.constants.now S who c.in-Some.table.now view.lookup view.path.now view.oflags view.stat) in
+    IfOk-weaker _ _ _ (λ given done. by_outcome c.args.constants.now S c.file_open.new.self who c.args.call.now given o is (done c.in-Some.table.now (there a)))
+    c.file_open.ensures.ok
+
+pub returns-in-Open-clause-err : goal.returns-in-Open-clause-err
+returns-in-Open-clause-err c =
+    let a = (goal.at.returns-in-Open-clause-err c).After-refusal in
+    let same = open_is c.args.call.now c.family.result c.family.ensures c.in-Open.view c.in-Open.is in
+    on_err_both c.file_open.result c.file_open.ensures.err c.file_open.ensures.err
+    (λ unchanged again. (lacks a (call_of_open c.in-Open.view) c.in_default-refusal.is same refl, unchanged))
+
+-- ---- calls that change nothing, and the end of the process
+
+pub returns-in-Zeros-clause-ok : goal.returns-in-Zeros-clause-ok
+returns-in-Zeros-clause-ok c =
+    let a = (goal.at.returns-in-Zeros-clause-ok c).After-refusal in
+    let S = c.args.self.now in
+    replied a c.placed.result
+    (allowed a c.args.call.now (replies c.placed.result) c.in_default-refusal.is refl
+    (zeros_does c.args.call.now c.in-Zeros.place c.args.constants.now (whole S) c.args.who.now c.in-Some.table.now
+    (zeros_is c.args.call.now c.family.result c.family.ensures c.in-Zeros.place c.in-Zeros.is) ∙ ap replies (sym c.placed.ensures)))
+
+pub returns-in-Answered-clause-ok : goal.returns-in-Answered-clause-ok
+returns-in-Answered-clause-ok c =
+    let a = (goal.at.returns-in-Answered-clause-ok c).After-refusal in
+    let S = c.args.self.now in
+    let reply = c.refused-in-Answered.result in
+    replied a reply
+    (allowed a c.args.call.now (replies reply) c.in_default-refusal.is refl
+    (answered_does c.args.call.now c.in-Answered.errno c.args.constants.now (whole S) c.args.who.now c.in-Some.table.now
+    (answered_is c.args.call.now c.family.result c.family.ensures c.in-Answered.errno c.in-Answered.is) ∙ ap replies (sym c.refused-in-Answered.ensures)))
+
+pub returns-in-NotBuilt-clause-ok : goal.returns-in-NotBuilt-clause-ok
+returns-in-NotBuilt-clause-ok c =
+    let a = (goal.at.returns-in-NotBuilt-clause-ok c).After-refusal in
+    let S = c.args.self.now in
+    let reply = c.refused-in-NotBuilt.result in
+    replied a reply
+    (allowed a c.args.call.now (replies reply) c.in_default-refusal.is refl
+    (unbuilt_does c.args.call.now c.args.constants.now (whole S) c.args.who.now c.in-Some.table.now
+    (unbuilt_is c.args.call.now c.family.result c.family.ensures c.in-NotBuilt.is) ∙ ap replies (sym c.refused-in-NotBuilt.ensures)))
+
+pub returns-in-Exit-clause-ok : goal.returns-in-Exit-clause-ok
+returns-in-Exit-clause-ok c =
+    let a = (goal.at.returns-in-Exit-clause-ok c).After-refusal in
+    let S = c.args.self.now in
+    let who = c.args.who.now in
+    let code = c.in-Exit.code in
+    let o = exit_of who.pid (get S.processes who.pid) code in
+    let is = allowed a (call.ProcExit code) o c.in_default-refusal.is (exit_is c.args.call.now c.family.result c.family.ensures code c.in-Exit.is) refl in
+    by_outcome c.args.constants.now S c.end_process.new.self who c.args.call.now (answer.Reply c.success.result) o is
+    (ap answer.Reply c.success.ensures, c.end_process.ensures)

@@ -1,0 +1,81 @@
+//! The calls that look at a process's descriptors or change them.
+ghost use Rattle.std.specs.Prelude.{◌≡◌, Some, IsSome, IfOk, OnErr};
+ghost use Rattle.std.specs.FinMap as map;
+ghost use Rattle.abi_types.specs.declared.reply.Answer.TheVariants as answer;
+ghost use Rattle.kernel_model.specs.Families.DescriptorCalls.{stat_get, stat_of, flags_of};
+ghost use Rattle.kernel_model.specs.Release.{release};
+ghost use Rattle.kernel_model.specs.State.{put_all, Table};
+ghost use Rattle.kernel_model.specs.View.{whole};
+ghost use Rattle.kernel_parts.specs.Changes.{change_outcome, HasReplaced, IsDup};
+
+use crate::kernel::Kernel;
+use abi_types::{
+    Answer, Descriptor, DescriptorChange, Errno, FdStat, OpenKind, Payload, Pid, Reply,
+};
+use file_calls::type_number;
+use kernel_parts::{change_table, release};
+use right_rules::{refused, success_with};
+use std::alloc::AllocError;
+
+// An open's flags. A process has none.
+fn flags_of(kind: &OpenKind) -> u16
+    ensures { result ≡ flags_of kind.now }
+{
+    match kind {
+        OpenKind::File { flags, .. }
+        | OpenKind::Directory { flags, .. }
+        | OpenKind::End { flags, .. }
+        | OpenKind::Terminal { flags, .. } => *flags,
+        OpenKind::Process(_) => 0,
+    }
+}
+
+// What a descriptor of the open is and may do.
+fn stat_of(descriptor: &Descriptor, kind: &OpenKind) -> FdStat
+    ensures { result ≡ stat_of descriptor.now kind.now }
+{
+    FdStat {
+        kind: type_number(kind),
+        flags: flags_of(kind),
+        base: descriptor.base,
+        inheriting: descriptor.inheriting,
+    }
+}
+
+impl Kernel {
+    // What the descriptor is and may do.
+    pub(crate) fn fd_stat_get(&self, pid: Pid, fd: u32) -> Reply
+        ensures { (table : Table) → map.get self.now.tables pid ≡ Some table → answer.Reply result ≡ (stat_get (whole self.now) (map.get table fd)).answer }
+    {
+        let Some(table) = self.tables.get(u64::from(pid.0)) else {
+            return refused(Errno::Badf);
+        };
+        let Some(descriptor) = table.get(fd) else {
+            return refused(Errno::Badf);
+        };
+        match self.objects.get(descriptor.id) {
+            None => refused(Errno::Badf),
+            Some(kind) => success_with(0, Payload::FdStat(stat_of(descriptor, kind))),
+        }
+    }
+
+    // Changes the process's descriptors. What nothing holds any more ends. `Err` changes nothing.
+    pub(crate) fn change_descriptors(
+        &mut self,
+        pid: Pid,
+        change: DescriptorChange,
+    ) -> Result<Answer, AllocError>
+        requires there { IsSome (map.get self.old.statuses pid) }
+        requires replaced { (table : Table) → map.get self.old.tables pid ≡ Some table → HasReplaced table change }
+        ensures ok { IfOk result (λ given. (table : Table) → map.get self.old.tables pid ≡ Some table →
+            (given ≡ (change_outcome pid self.old.opens table change).answer)
+            × (self.new ≡ release (put_all (change_outcome pid self.old.opens table change).updates self.old))) }
+        ensures only { OnErr result (IsDup change) }
+        ensures err { OnErr result (self.new ≡ self.old) }
+    {
+        let p = u64::from(pid.0);
+        let reply = change_table(self.tables.get_mut(p), &mut self.objects, change)?;
+        release(&mut self.objects, &mut self.tree);
+        Ok(Answer::Reply(reply))
+    }
+}

@@ -1,0 +1,54 @@
+//! Which part of the kernel does a call.
+ghost use Rattle.std.specs.Prelude.{◌≡◌, ◌+◌, ◌<◌, ◌^◌, IsSome, IfOk, OnErr};
+ghost use Rattle.std.specs.FinMap as map;
+ghost use Rattle.kernel_model.specs.Release.{release};
+ghost use Rattle.kernel_model.specs.State.{put_all};
+ghost use Rattle.kernel_model.specs.Step.{outcome_by, MayLackMemory};
+ghost use Rattle.kernel_model.specs.View.{whole};
+
+use crate::kernel::Kernel;
+use abi_types::{Answer, Call, Constants, Errno, Family, Status, Who};
+use kernel_parts::placed;
+use right_rules::{refusal, refused, success};
+use std::alloc::AllocError;
+
+impl Kernel {
+    // Does a call, but for the clock. `Err` changes nothing.
+    pub(crate) fn dispatch(
+        &mut self,
+        constants: &Constants,
+        who: &Who,
+        call: &Call,
+    ) -> Result<Answer, AllocError>
+        requires there { IsSome (map.get self.old.statuses who.now.pid) }
+        requires early { self.old.clock + constants.now.epoch < 2 ^ 64 }
+        ensures ok { IfOk result (λ given. (given ≡ (outcome_by constants.now (whole self.old) who.now call.now).answer)
+            × (self.new ≡ release (put_all (outcome_by constants.now (whole self.old) who.now call.now).updates self.old))) }
+        ensures err { OnErr result (MayLackMemory self.old who.now call.now × (self.new ≡ self.old)) }
+    {
+        let Some(table) = self.tables.get(u64::from(who.pid.0)) else {
+            return Ok(Answer::Reply(refused(Errno::Badf)));
+        };
+        if let Some(reply) = refusal(table, call) {
+            return Ok(Answer::Reply(reply));
+        }
+        match call.family() {
+            Family::Descriptors(change) => self.change_descriptors(who.pid, change),
+            Family::DescriptorState { fd } => Ok(Answer::Reply(self.fd_stat_get(who.pid, fd))),
+            Family::File(view) => self.file_call(constants, who.pid, view.fd(), view),
+            Family::Offset(view) => self.offset_call(constants, who.pid, view.fd(), view),
+            Family::Entries(view) => {
+                let (fd, other) = view.fds();
+                self.entry_call(constants, who.pid, fd, other, view)
+            }
+            Family::Open(view) => self.file_open(constants, who.pid, &view),
+            Family::Exit { code } => {
+                self.end_process(who.pid, Status::Exit(code));
+                Ok(Answer::Reply(success(0, 0)))
+            }
+            Family::Zeros(place) => Ok(Answer::Reply(placed(place))),
+            Family::Answered(errno) => Ok(Answer::Reply(refused(errno))),
+            Family::NotBuilt => Ok(Answer::Reply(refused(Errno::Nosys))),
+        }
+    }
+}

@@ -1,0 +1,47 @@
+//! The calls on the file or the directory that an open is of.
+ghost use Rattle.std.specs.Prelude.{◌≡◌, ◌+◌, ◌<◌, ◌^◌, true, Some, IfOk, OnErr};
+ghost use Rattle.std.specs.FinMap as map;
+ghost use Rattle.abi_types.specs.Families.{call_of_file};
+ghost use Rattle.kernel_core.specs.Files.{file_outcome};
+ghost use Rattle.kernel_model.specs.Calls.{takes_memory};
+ghost use Rattle.kernel_model.specs.Families.FileCalls as model;
+ghost use Rattle.kernel_model.specs.Release.{release};
+ghost use Rattle.kernel_model.specs.State.{put_all, Table};
+
+use crate::kernel::Kernel;
+use abi_types::{Answer, Constants, Errno, FileCall, Pid};
+use file_calls::on_open;
+use right_rules::refused;
+use std::alloc::AllocError;
+
+impl Kernel {
+    // Does a call on the open of a descriptor. `Err` changes nothing.
+    pub(crate) fn file_call(
+        &mut self,
+        constants: &Constants,
+        pid: Pid,
+        fd: u32,
+        call: FileCall<'_>,
+    ) -> Result<Answer, AllocError>
+        requires on { model.file_fd (call_of_file call) ≡ Some fd }
+        requires early { self.old.clock + constants.now.epoch < 2 ^ 64 }
+        ensures ok { IfOk result (λ given. (table : Table) → map.get self.old.tables pid ≡ Some table →
+            (given ≡ (file_outcome constants.now self.old table fd (call_of_file call.entry)).answer)
+            × (self.new ≡ release (put_all (file_outcome constants.now self.old table fd (call_of_file call.entry)).updates self.old))) }
+        ensures only { OnErr result (takes_memory (call_of_file call.entry) ≡ true) }
+        ensures err { OnErr result (self.new ≡ self.old) }
+    {
+        let Some(table) = self.tables.get(u64::from(pid.0)) else {
+            return Ok(Answer::Reply(refused(Errno::Badf)));
+        };
+        let Some(descriptor) = table.get(fd) else {
+            return Ok(Answer::Reply(refused(Errno::Badf)));
+        };
+        let Some(kind) = self.objects.get(descriptor.id) else {
+            return Ok(Answer::Reply(refused(Errno::Badf)));
+        };
+        let now = self.clock + constants.epoch;
+        let reply = on_open(self.alloc, &mut self.tree, kind, now, call)?;
+        Ok(Answer::Reply(reply))
+    }
+}
