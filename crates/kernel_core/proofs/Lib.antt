@@ -13,3 +13,4 @@ pub mod Leaving
 pub mod EntryCalls
 pub mod OpenCalls
 pub mod Families
+pub mod Opens

@@ -1,6 +1,6 @@
 -- Calls that move the open of a descriptor: what their meanings come to by the table, and the state after them.
 --     offset_does      a call means what its outcome is;  offset_takes_memory      memory may be wanting for it
---     unnamed_answers, unopened_answers      without a descriptor or an open it answers BADF, and leaves the state
+--     lacking_answers      without a descriptor or an open it answers BADF, and leaves the state
 --     stream_is, stream_valid, stream_answers      on a standard stream;  the state after it is valid, and that of its outcome
 --     offset_is, offset_keeps      on any other open: it moves the open and changes the file tree;  it keeps what stands behind the open
 --     offset_valid, offset_answers      the state after it is valid, and that of its outcome, of which nothing is released
@@ -47,6 +47,7 @@ use Rattle.kernel_model.proofs.OpenMeanings.{OpensWell}
 use Rattle.kernel_model.proofs.StreamCalls.{read_opens_well, seek_opens_well, write_opens_well}
 use Rattle.kernel_model.proofs.Tests.{none_is_no, same_some}
 use Rattle.kernel_model.proofs.Valids.{IsSameBehind, release_valid, set_open_nearly_valid, some_again}
+use Rattle.kernel_parts.specs.Entries.{open_in}
 use Rattle.kernel_parts.specs.StreamCalls.{terms_after}
 use Rattle.kernel_core.specs.OffsetCalls.{offset_outcome}
 use Rattle.kernel_parts.specs.StreamCalls.{stream_outcome}
@@ -106,19 +107,24 @@ unopened_is_badf (call.FdSeek n offset whence) fd now S o is = refl
 unopened_is_badf (call.FdWrite n bytes) fd now S o is = refl
 unopened_is_badf other fd now S o is = absurd (none_is_no fd is)
 
-pub unnamed_answers : (constants : Constants) (S : State) (table : Table) (fd : ℕ) (called : Call) (reply : Reply) → IsValid S
+unnamed_answers : (constants : Constants) (S : State) (table : Table) (fd : ℕ) (called : Call) (reply : Reply) → IsValid S
     → get table fd ≡ None → reply ≡ refused Badf → IsOffsetStep constants S table fd called (answer.Reply reply) S
 unnamed_answers constants S table fd called reply valid none badf =
     step_of constants S S table fd called (answer.Reply reply) (replies (refused Badf))
     (ap (at_descriptor ((offset_meaning called).effect (real_time constants S.clock) (whole S)) (whole S)) none)
     (ap answer.Reply badf) (sym (release_valid S valid))
 
-pub unopened_answers : (constants : Constants) (S : State) (table : Table) (fd : ℕ) (called : Call) (reply : Reply) (d : Descriptor) → offset_fd called ≡ Some fd
+unopened_answers : (constants : Constants) (S : State) (table : Table) (fd : ℕ) (called : Call) (reply : Reply) (d : Descriptor) → offset_fd called ≡ Some fd
     → IsValid S → get table fd ≡ Some d → get S.opens d.id ≡ None → reply ≡ refused Badf → IsOffsetStep constants S table fd called (answer.Reply reply) S
 unopened_answers constants S table fd called reply d is valid there none badf =
     step_of constants S S table fd called (answer.Reply reply) (replies (refused Badf))
     (at_open constants S table fd called d None there none ∙ unopened_is_badf called fd (real_time constants S.clock) S d.id is)
     (ap answer.Reply badf) (sym (release_valid S valid))
+
+pub lacking_answers : (constants : Constants) (S : State) (table : Table) (fd : ℕ) (called : Call) (reply : Reply) → offset_fd called ≡ Some fd → IsValid S
+    → (o : Option Descriptor) → get table fd ≡ o → open_in S.opens o ≡ None → reply ≡ refused Badf → IsOffsetStep constants S table fd called (answer.Reply reply) S
+lacking_answers constants S table fd called reply is valid None named none badf = unnamed_answers constants S table fd called reply valid named badf
+lacking_answers constants S table fd called reply is valid (Some d) named none badf = unopened_answers constants S table fd called reply d is valid named none badf
 
 -- ---- standard streams
 

@@ -13,7 +13,7 @@ use abi_types::{
     Answer, Descriptor, DescriptorChange, Errno, FdStat, OpenKind, Payload, Pid, Reply,
 };
 use file_calls::type_number;
-use kernel_parts::{change_table, release};
+use kernel_parts::{change_table, open_of, release};
 use right_rules::{refused, success_with};
 use std::alloc::AllocError;
 
@@ -47,15 +47,11 @@ impl Kernel {
     pub(crate) fn fd_stat_get(&self, pid: Pid, fd: u32) -> Reply
         ensures { (table : Table) → map.get self.now.tables pid ≡ Some table → answer.Reply result ≡ (stat_get (whole self.now) (map.get table fd)).answer }
     {
-        let Some(table) = self.tables.get(u64::from(pid.0)) else {
-            return refused(Errno::Badf);
-        };
-        let Some(descriptor) = table.get(fd) else {
-            return refused(Errno::Badf);
-        };
-        match self.objects.get(descriptor.id) {
+        match open_of(&self.tables, &self.objects, pid, fd) {
             None => refused(Errno::Badf),
-            Some(kind) => success_with(0, Payload::FdStat(stat_of(descriptor, kind))),
+            Some((descriptor, kind)) => {
+                success_with(0, Payload::FdStat(stat_of(&descriptor, &kind)))
+            }
         }
     }
 

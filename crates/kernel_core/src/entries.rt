@@ -10,7 +10,7 @@ ghost use Rattle.kernel_model.specs.State.{put_all, Table};
 
 use crate::kernel::Kernel;
 use abi_types::{Answer, Constants, EntryCall, Errno, Pid};
-use kernel_parts::{Caller, change_entries, forget_nameless, open_of};
+use kernel_parts::{Caller, change_entries, forget_nameless, kind_of, open_of};
 use right_rules::refused;
 use std::alloc::AllocError;
 
@@ -34,20 +34,24 @@ impl Kernel {
         ensures only { OnErr result (takes_memory (call_of_entry call.entry) ≡ true) }
         ensures err { OnErr result (self.new ≡ self.old) }
     {
-        let p = u64::from(pid.0);
-        let Some(table) = self.tables.get(p) else {
+        let Some((_, here)) = open_of(&self.tables, &self.objects, pid, fd) else {
             return Ok(Answer::Reply(refused(Errno::Badf)));
         };
-        let Some(here) = open_of(&self.objects, table, Some(fd)) else {
-            unreachable!()
-        };
-        let there = open_of(&self.objects, table, other);
+        let there = kind_of(&self.tables, &self.objects, pid, other);
         let caller = Caller {
             pid,
             time: self.clock + constants.epoch,
         };
-        let own = self.processes.get_mut(p);
-        let reply = change_entries(self.alloc, own, &mut self.tree, &caller, here, there, call)?;
+        let own = self.processes.get_mut(u64::from(pid.0));
+        let reply = change_entries(
+            self.alloc,
+            own,
+            &mut self.tree,
+            &caller,
+            &here,
+            there.as_ref(),
+            call,
+        )?;
         forget_nameless(&mut self.tree, &self.objects);
         Ok(Answer::Reply(reply))
     }

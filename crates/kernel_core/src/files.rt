@@ -11,6 +11,7 @@ ghost use Rattle.kernel_model.specs.State.{put_all, Table};
 use crate::kernel::Kernel;
 use abi_types::{Answer, Constants, Errno, FileCall, Pid};
 use file_calls::on_open;
+use kernel_parts::open_of;
 use right_rules::refused;
 use std::alloc::AllocError;
 
@@ -31,17 +32,11 @@ impl Kernel {
         ensures only { OnErr result (takes_memory (call_of_file call.entry) ≡ true) }
         ensures err { OnErr result (self.new ≡ self.old) }
     {
-        let Some(table) = self.tables.get(u64::from(pid.0)) else {
-            return Ok(Answer::Reply(refused(Errno::Badf)));
-        };
-        let Some(descriptor) = table.get(fd) else {
-            return Ok(Answer::Reply(refused(Errno::Badf)));
-        };
-        let Some(kind) = self.objects.get(descriptor.id) else {
+        let Some((_, kind)) = open_of(&self.tables, &self.objects, pid, fd) else {
             return Ok(Answer::Reply(refused(Errno::Badf)));
         };
         let now = self.clock + constants.epoch;
-        let reply = on_open(self.alloc, &mut self.tree, kind, now, call)?;
+        let reply = on_open(self.alloc, &mut self.tree, &kind, now, call)?;
         Ok(Answer::Reply(reply))
     }
 }

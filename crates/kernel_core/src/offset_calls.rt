@@ -11,7 +11,7 @@ ghost use Rattle.kernel_model.specs.State.{put_all, Table};
 use crate::kernel::Kernel;
 use abi_types::{Answer, Constants, Errno, OffsetCall, OpenKind, Pid};
 use fd_calls::at_offset;
-use kernel_parts::on_stream;
+use kernel_parts::{on_stream, open_of};
 use right_rules::refused;
 use std::alloc::AllocError;
 
@@ -32,23 +32,16 @@ impl Kernel {
         ensures only { OnErr result (takes_memory (call_of_offset call.entry) ≡ true) }
         ensures err { OnErr result (self.new ≡ self.old) }
     {
-        let Some(table) = self.tables.get(u64::from(pid.0)) else {
-            return Ok(Answer::Reply(refused(Errno::Badf)));
-        };
-        let Some(descriptor) = table.get(fd) else {
-            return Ok(Answer::Reply(refused(Errno::Badf)));
-        };
-        let id = descriptor.id;
-        let Some(kind) = self.objects.get(id) else {
+        let Some((descriptor, kind)) = open_of(&self.tables, &self.objects, pid, fd) else {
             return Ok(Answer::Reply(refused(Errno::Badf)));
         };
         if let OpenKind::Terminal { which, .. } = kind {
-            return on_stream(self.alloc, &mut self.terms, *which, call);
+            return on_stream(self.alloc, &mut self.terms, which, call);
         }
-        let mut moved = *kind;
+        let mut moved = kind;
         let now = self.clock + constants.epoch;
         let reply = at_offset(self.alloc, &mut self.tree, &mut moved, now, call)?;
-        self.objects.set(id, moved);
+        self.objects.set(descriptor.id, moved);
         Ok(Answer::Reply(reply))
     }
 }

@@ -30,10 +30,10 @@ impl Kernel {
         let Some(fd) = table.lowest() else {
             return Err(refused(Errno::Mfile));
         };
-        let Some(here) = open_of(&self.objects, table, Some(call.lookup.fd)) else {
+        let Some((_, here)) = open_of(&self.tables, &self.objects, pid, call.lookup.fd) else {
             return Err(refused(Errno::Badf));
         };
-        let plan = match plan_open(&self.tree, here, call.oflags, call.lookup.flags, call.path) {
+        let plan = match plan_open(&self.tree, &here, call.oflags, call.lookup.flags, call.path) {
             Ok(plan) => plan,
             Err(refusal) => return Err(reply_of(refusal)),
         };

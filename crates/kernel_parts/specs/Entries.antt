@@ -2,6 +2,7 @@
 use Rattle.std.specs.Prelude.{◌≡◌, ℕ, Option, None, Some, if◌then◌else◌}
 use Rattle.std.specs.Ordering.{nat_cmp}
 use Rattle.std.specs.FinMap.{FinMap, get}
+use Rattle.std.specs.Option.{option_map}
 use Rattle.abi_types.specs.declared.descriptor.Descriptor.{Descriptor}
 use Rattle.abi_types.specs.declared.open_kind.OpenKind.{OpenKind}
 use Rattle.abi_types.specs.declared.reply.Answer.TheVariants as answer
@@ -23,6 +24,21 @@ open_in opens (Some d) = get opens d.id
 abbrev pub open_at : FinMap nat_cmp OpenKind → Table → Option ℕ → Option OpenKind
 open_at opens table None = None
 open_at opens table (Some fd) = open_in opens (get table fd)
+
+-- a descriptor with its open
+abbrev pub open_by : FinMap nat_cmp OpenKind → Option Descriptor → Option (Descriptor × OpenKind)
+open_by opens None = None
+open_by opens (Some d) = option_map (λ kind. (d, kind)) (get opens d.id)
+
+-- the descriptor with this number in a process's table, with its open
+abbrev pub open_with : FinMap nat_cmp OpenKind → Option Table → ℕ → Option (Descriptor × OpenKind)
+open_with opens None fd = None
+open_with opens (Some table) fd = open_by opens (get table fd)
+
+-- the open of the descriptor with this number in a process's table, where a number is given
+abbrev pub kind_with : FinMap nat_cmp OpenKind → Option Table → Option ℕ → Option OpenKind
+kind_with opens None fd = None
+kind_with opens (Some table) fd = open_at opens table fd
 
 -- what the process has of its own once that is done, where it makes so many nodes
 abbrev pub process_left : ℕ → ℕ → ProcessState → NameOutcome → ProcessState

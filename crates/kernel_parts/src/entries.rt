@@ -2,7 +2,7 @@
 //! its own.
 ghost use Rattle.std.specs.Prelude.{◌≡◌, true, Some, IfOk, OnErr, option_copied};
 ghost use Rattle.abi_types.specs.Families.{call_of_entry};
-ghost use Rattle.kernel_parts.specs.Entries.{IsLeftBy, open_at};
+ghost use Rattle.kernel_parts.specs.Entries.{IsLeftBy};
 ghost use Rattle.kernel_model.specs.Families.EntryCalls as model;
 ghost use Rattle.kernel_model.specs.Families.Numbers.{can_number, next_object};
 ghost use Rattle.entry_calls.specs.Done.{IsNew};
@@ -10,20 +10,10 @@ ghost use Rattle.entry_calls.specs.Done.{IsNew};
 use crate::process::ProcessState;
 use abi_types::{EntryCall, Errno, OpenKind, Pid, Reply};
 use entry_calls::{Failure, check_entries, makes, on_entries};
-use fd_table::FdTable;
 use file_calls::reply_of;
 use file_tree::Tree;
-use object_store::Objects;
 use right_rules::{refused, success};
 use std::alloc::{AllocError, Global};
-
-/// The open of the descriptor with this number, where a number is named.
-pub fn open_of<'a>(objects: &'a Objects, table: &FdTable, fd: Option<u32>) -> Option<&'a OpenKind>
-    ensures { option_copied result ≡ open_at objects.now.kinds table.now fd }
-{
-    let descriptor = table.get(fd?)?;
-    objects.get(descriptor.id)
-}
 
 /// Who does a call, and when.
 #[derive(Clone, Copy)]

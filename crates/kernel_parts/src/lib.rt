@@ -2,8 +2,9 @@
 //! that it holds, what a process has of its own, the standard streams, and the nodes of the file tree that nothing holds any more.
 #![tactic(auto)]
 
-pub use entries::{Caller, change_entries, open_of};
+pub use entries::{Caller, change_entries};
 pub use installing::{Opening, put_opening};
+pub use opens::{kind_of, open_of};
 pub use places::placed;
 pub use process::ProcessState;
 pub use releasing::{forget_nameless, release};
@@ -15,6 +16,7 @@ pub use terminal::Terminal;
 
 mod entries;
 mod installing;
+mod opens;
 mod places;
 mod process;
 mod releasing;

@@ -14,40 +14,49 @@ use Rattle.kernel_model.specs.Valid.{IsValid}
 use Rattle.kernel_model.proofs.Valids.{release_restores, same_value}
 use Rattle.kernel_core.specs.Kernel.{IsKept}
 use Rattle.kernel_core.specs.Entries.{entry_outcome, entries_come}
-use Rattle.kernel_parts.specs.Entries.{IsLeftBy, open_at, open_in}
+use Rattle.kernel_parts.specs.Entries.{IsLeftBy, kind_with, open_at, open_in}
 use Rattle.kernel_core.specs.contracts.kernel.Kernel.{the_view}
 use Rattle.kernel_core.proofs.EntryCalls.{entries_after, entries_answer, entries_tree, entries_valid, open_there}
 use Rattle.kernel_parts.proofs.Tests.{on_err}
+use Rattle.kernel_core.proofs.Opens.{IsFound, open_absent, open_found}
 use Rattle.kernel_core.proofs.kernel.Kernel.entry_call.Goals as goal
-use Rattle.kernel_core.proofs.kernel.Kernel.entry_call.Goals.{In-Some, In_err-reply, In_ok-reply}
+use Rattle.kernel_core.proofs.kernel.Kernel.entry_call.Goals.{In_err-reply, In_ok-reply}
 
--- the process's table is the one that was found
-there : (c : In-Some) → get c.self.inside.tables c.args.pid ≡ Some c.in-Some.table.now
-there c = ap (get c.self.inside.tables) (sym (c.from-p.ensures ∙ c.pid.view_is)) ∙ sym c.in-Some.ensures.value
+-- the first descriptor and its open, by the process's table
+found : (c : In_ok-reply) → IsFound c.self.inside.objects.kinds (get c.self.inside.tables c.args.pid) c.args.fd c.in-Some.field-0-0 c.in-Some.here
+found c = open_found _ _ _ _ _ (sym c.open_of.ensures ∙ c.in-Some.is)
 
-had : (c : In-Some) → get c.args.self.now.tables c.args.pid ≡ Some c.in-Some.table.now
+abbrev table_of : In_ok-reply → Table
+table_of c = (found c).table
+
+there : (c : In_ok-reply) → get c.self.inside.tables c.args.pid ≡ Some (table_of c)
+there c = (found c).there
+
+had : (c : In_ok-reply) → get c.args.self.now.tables c.args.pid ≡ Some (table_of c)
 had c = ap (λ (S : State). get S.tables c.args.pid) (sym c.self.view_is) ∙ there c
 
-pub unreachable-requires : goal.unreachable-requires
-unreachable-requires d =
-    let c = (goal.at.unreachable-requires d).In-Some in
-    open_there (the_view d.self.inside) d.args.pid d.args.fd d.in-Some.table.now (there c) d.self.invariant.valid.nearly (d.requires.named d.in-Some.table.now (had c))
-    (sym d.open_of.ensures ∙ ap option_copied d.in_default-open_of.is)
+-- the first descriptor is there, and so is its open
+pub returns-in_default-clause-ok : goal.returns-in_default-clause-ok
+returns-in_default-clause-ok d = λ table here.
+    let S = the_view d.self.inside in
+    let has = ap (λ (T : State). get T.tables d.args.pid) d.self.view_is ∙ here in
+    absurd (open_there S d.args.pid d.args.fd table has d.self.invariant.valid.nearly (d.requires.named table here)
+    (open_absent S.opens (get S.tables d.args.pid) table d.args.fd has (sym d.open_of.ensures ∙ d.in_default.is)))
 
 -- ---- where memory is wanting nothing has changed
 
 abbrev unchanged : In_err-reply → State
 unchanged c = record (the_view c.self.inside) {
-  processes = insert c.self.inside.processes c.from-p.result c.change_entries.new.own;
+  processes = insert c.self.inside.processes c.from.result c.change_entries.new.own;
   nodes = c.change_entries.new.tree.nodes;
   names = c.change_entries.new.tree.names;
 }
 
 as_before : (c : In_err-reply) → unchanged c ≡ the_view c.self.inside
 as_before c =
-    let own : insert c.self.inside.processes c.from-p.result c.change_entries.new.own ≡ c.self.inside.processes =
-    ap (insert c.self.inside.processes c.from-p.result) c.in_err-reply.ensures.same_process
-    ∙ insert_self c.self.inside.processes c.from-p.result c.get_mut-own.result.now (sym c.get_mut-own.ensures.value) in
+    let own : insert c.self.inside.processes c.from.result c.change_entries.new.own ≡ c.self.inside.processes =
+    ap (insert c.self.inside.processes c.from.result) c.in_err-reply.ensures.same_process
+    ∙ insert_self c.self.inside.processes c.from.result c.get_mut-own.result.now (sym c.get_mut-own.ensures.value) in
     λ i. record (the_view c.self.inside) {
       processes = own i;
       nodes = (c.in_err-reply.ensures.same_tree i).nodes;
@@ -67,17 +76,19 @@ returns-in_err-reply-clause-err d =
 
 -- what the process had of its own
 owned : (c : In_ok-reply) → get c.self.inside.processes c.args.pid ≡ Some c.get_mut-own.result.now
-owned c = ap (get c.self.inside.processes) (sym (c.from-p.ensures ∙ c.pid.view_is)) ∙ sym c.get_mut-own.ensures.value
+owned c = ap (get c.self.inside.processes) (sym (c.from.ensures ∙ c.pid.view_is)) ∙ sym c.get_mut-own.ensures.value
 
 abbrev comes : In_ok-reply → NameOutcome
-comes c = entries_come c.args.constants.now (the_view c.self.inside) c.args.pid c.in-Some.table.now c.args.fd c.args.other (call_of_entry c.args.call)
+comes c = entries_come c.args.constants.now (the_view c.self.inside) c.args.pid (table_of c) c.args.fd c.args.other (call_of_entry c.args.call)
 
 done : (c : In_ok-reply) → IsLeftBy c.args.pid (name_meaning (call_of_entry c.args.call)).makes c.get_mut-own.result.now c.change_entries.new.own c.self.inside.tree
     c.change_entries.new.tree (comes c) c.in_ok-reply.reply
 done c =
     let S = the_view c.self.inside in
-    let here : Some c.in-Some-open_of.here.now ≡ open_in S.opens (get c.in-Some.table.now c.args.fd) = c.in-Some-open_of.ensures in
-    let other : option_copied c.open_of-there.result ≡ open_at S.opens c.in-Some.table.now c.args.other = c.open_of-there.ensures in
+    let f = found c in
+    let here : Some c.in-Some.here ≡ open_in S.opens (get f.table c.args.fd) = sym (ap (open_in S.opens) f.named ∙ f.opened) in
+    let other : option_copied c.as_ref.result ≡ open_at S.opens f.table c.args.other =
+    c.as_ref.ensures.value ∙ c.kind_of-there.ensures ∙ ap (λ t. kind_with S.opens t c.args.other) f.there in
     let same : _ ≡ comes c =
     λ i. (name_meaning (call_of_entry c.args.call)).effect (c.self.inside.clock + c.args.constants.now.epoch) (next_object c.args.pid (sym (owned c) i) 1) (tree_of S) (here i) (other i) in
     subst (λ k. IsLeftBy c.args.pid (name_meaning (call_of_entry c.args.call)).makes c.get_mut-own.result.now c.change_entries.new.own c.self.inside.tree c.change_entries.new.tree k
@@ -87,19 +98,19 @@ pub forget_nameless-requires : goal.forget_nameless-requires
 forget_nameless-requires d =
     let c = (goal.at.forget_nameless-requires d).In_ok-reply in
     let S = the_view d.self.inside in
-    entries_tree d.args.constants.now S d.args.pid d.in-Some.table.now d.args.fd d.args.other (call_of_entry d.args.call) d.requires.on d.get_mut-own.result.now d.change_entries.new.own (owned c)
-    d.self.invariant.valid d.change_entries.new.tree d.in_ok-reply.reply (done c) (there (goal.at.forget_nameless-requires d).In-Some)
+    entries_tree d.args.constants.now S d.args.pid (table_of (goal.at.forget_nameless-requires d).In_ok-reply) d.args.fd d.args.other (call_of_entry d.args.call) d.requires.on d.get_mut-own.result.now d.change_entries.new.own (owned c)
+    d.self.invariant.valid d.change_entries.new.tree d.in_ok-reply.reply (done c) (there (goal.at.forget_nameless-requires d).In_ok-reply)
 
 -- the fields as they are in the end
 abbrev fields : In_ok-reply → Tree → State
-fields c t = record (the_view c.self.inside) { processes = insert c.self.inside.processes c.from-p.result c.change_entries.new.own; nodes = t.nodes; names = t.names }
+fields c t = record (the_view c.self.inside) { processes = insert c.self.inside.processes c.from.result c.change_entries.new.own; nodes = t.nodes; names = t.names }
 
 after : (c : In_ok-reply) (t : Tree) → t ≡ retained c.change_entries.new.tree (is_used c.self.inside.objects.kinds c.change_entries.new.tree)
-    → fields c t ≡ release (put_all (entry_outcome c.args.constants.now (the_view c.self.inside) c.args.pid c.in-Some.table.now c.args.fd c.args.other (call_of_entry c.args.call)).updates (the_view c.self.inside))
+    → fields c t ≡ release (put_all (entry_outcome c.args.constants.now (the_view c.self.inside) c.args.pid (table_of c) c.args.fd c.args.other (call_of_entry c.args.call)).updates (the_view c.self.inside))
 after c t rest =
     let S = the_view c.self.inside in
-    ap (λ (p : ℕ). record S { processes = insert S.processes p c.change_entries.new.own; nodes = t.nodes; names = t.names }) (c.from-p.ensures ∙ c.pid.view_is)
-    ∙ entries_after c.args.constants.now S c.args.pid c.in-Some.table.now c.args.fd c.args.other (call_of_entry c.args.call) c.requires.on c.get_mut-own.result.now c.change_entries.new.own
+    ap (λ (p : ℕ). record S { processes = insert S.processes p c.change_entries.new.own; nodes = t.nodes; names = t.names }) (c.from.ensures ∙ c.pid.view_is)
+    ∙ entries_after c.args.constants.now S c.args.pid (table_of c) c.args.fd c.args.other (call_of_entry c.args.call) c.requires.on c.get_mut-own.result.now c.change_entries.new.own
     (owned c) c.self.invariant.valid c.change_entries.new.tree c.in_ok-reply.reply (done c) t rest
 
 pub invariant_of-self-2 : goal.invariant_of-self-2
@@ -108,7 +119,7 @@ invariant_of-self-2 d =
     let S = the_view d.self.inside in
     record {
       valid = subst IsValid (sym (after c d.forget_nameless.new.tree d.forget_nameless.ensures)) (release_restores _
-          (entries_valid d.args.constants.now S d.args.pid d.in-Some.table.now d.args.fd d.args.other (call_of_entry d.args.call) d.requires.on (there (goal.at.invariant_of-self-2 d).In-Some)
+          (entries_valid d.args.constants.now S d.args.pid (table_of (goal.at.invariant_of-self-2 d).In_ok-reply) d.args.fd d.args.other (call_of_entry d.args.call) d.requires.on (there (goal.at.invariant_of-self-2 d).In_ok-reply)
           d.self.invariant.valid.nearly));
       counted = d.self.invariant.counted;
       small = d.self.invariant.small;
@@ -119,12 +130,12 @@ pub returns-clause-ok : goal.returns-clause-ok
 returns-clause-ok d = λ table here.
     let c = (goal.at.returns-clause-ok d).In_ok-reply in
     let S = the_view d.self.inside in
-    let same : d.in-Some.table.now ≡ table = same_value _ _ _ (had (goal.at.returns-clause-ok d).In-Some) here in
-    let outcome : entry_outcome d.args.constants.now S d.args.pid d.in-Some.table.now d.args.fd d.args.other (call_of_entry d.args.call)
+    let same : (table_of (goal.at.returns-clause-ok d).In_ok-reply) ≡ table = same_value _ _ _ (had (goal.at.returns-clause-ok d).In_ok-reply) here in
+    let outcome : entry_outcome d.args.constants.now S d.args.pid (table_of (goal.at.returns-clause-ok d).In_ok-reply) d.args.fd d.args.other (call_of_entry d.args.call)
     ≡ entry_outcome d.args.constants.now d.args.self.now d.args.pid table d.args.fd d.args.other (call_of_entry d.args.call) =
     ap (λ (t : Table). entry_outcome d.args.constants.now S d.args.pid t d.args.fd d.args.other (call_of_entry d.args.call)) same
     ∙ ap (λ (T : State). entry_outcome d.args.constants.now T d.args.pid table d.args.fd d.args.other (call_of_entry d.args.call)) d.self.view_is in (
-      entries_answer d.args.constants.now S d.args.pid d.in-Some.table.now d.args.fd d.args.other (call_of_entry d.args.call) d.requires.on d.get_mut-own.result.now d.change_entries.new.own
+      entries_answer d.args.constants.now S d.args.pid (table_of (goal.at.returns-clause-ok d).In_ok-reply) d.args.fd d.args.other (call_of_entry d.args.call) d.requires.on d.get_mut-own.result.now d.change_entries.new.own
           (owned c) d.self.invariant.valid d.change_entries.new.tree d.in_ok-reply.reply (done c)
           ∙ ap (λ (o : Outcome). o.answer) outcome,
       after c d.forget_nameless.new.tree d.forget_nameless.ensures ∙ ap (λ (o : Outcome). release (put_all o.updates S)) outcome

@@ -17,37 +17,24 @@ use Rattle.kernel_parts.specs.StreamCalls.{terms_after}
 use Rattle.kernel_parts.specs.StreamCalls.{stream_outcome}
 use Rattle.kernel_core.specs.contracts.kernel.Kernel.{the_view}
 use Rattle.kernel_core.proofs.FileCalls.{there_behind}
-use Rattle.kernel_core.proofs.OffsetCalls.{IsOffsetStep, offset_answers, offset_same, offset_valid, stream_answers, unnamed_answers, unopened_answers, with_terms}
+use Rattle.kernel_core.proofs.OffsetCalls.{IsOffsetStep, lacking_answers, offset_answers, offset_same, offset_valid, stream_answers, with_terms}
+use Rattle.kernel_core.proofs.Opens.{IsFound, found_named, open_absent, open_found}
 use Rattle.kernel_core.proofs.Streams.{written_valid}
 use Rattle.kernel_core.proofs.kernel.Kernel.offset_call.Goals as goal
 use Rattle.kernel_core.proofs.kernel.Kernel.offset_call.Goals.{In-Some}
 
--- the descriptor with the number, by the table that was found
-named : (c : In-Some) (table : Table) (o : Option Descriptor) → get c.self.inside.tables c.args.pid ≡ Some table → o ≡ get c.in-Some.table.now c.args.fd
-    → get table c.args.fd ≡ o
-named c table o here is =
-    let had : get c.self.inside.tables c.args.pid ≡ Some c.in-Some.table.now =
-    ap (get c.self.inside.tables) (sym (c.from.ensures ∙ c.pid.view_is)) ∙ sym c.in-Some.ensures.value in
-    ap (λ (t : Table). get t c.args.fd) (sym (same_value _ _ _ had here)) ∙ sym is
+-- the descriptor and its open
+found : (c : In-Some) → IsFound c.self.inside.objects.kinds (get c.self.inside.tables c.args.pid) c.args.fd c.in-Some.descriptor c.in-Some.kind
+found c = open_found _ _ _ _ _ (sym c.open_of.ensures ∙ c.in-Some.is)
 
-pub returns-in_default-get-clause-ok : goal.returns-in_default-get-clause-ok
-returns-in_default-get-clause-ok d = λ table here.
-    let c = (goal.at.returns-in_default-get-clause-ok d).In-Some in
+pub returns-in_default-clause-ok : goal.returns-in_default-clause-ok
+returns-in_default-clause-ok d = λ table here.
     let S = d.self.inside in
     subst (λ (X : State). get X.tables d.args.pid ≡ Some table
-    → IsOffsetStep d.args.constants.now X table d.args.fd (call_of_offset d.args.call) (answer.Reply d.refused-in_default-get.result) X) d.self.view_is
-    (λ there. unnamed_answers d.args.constants.now (the_view S) table d.args.fd (call_of_offset d.args.call) d.refused-in_default-get.result d.self.invariant.valid
-    (named c table None there d.in_default-get.ensures) d.refused-in_default-get.ensures) here
-
-pub returns-in_default-get-2-clause-ok : goal.returns-in_default-get-2-clause-ok
-returns-in_default-get-2-clause-ok d = λ table here.
-    let c = (goal.at.returns-in_default-get-2-clause-ok d).In-Some in
-    let S = d.self.inside in
-    subst (λ (X : State). get X.tables d.args.pid ≡ Some table
-    → IsOffsetStep d.args.constants.now X table d.args.fd (call_of_offset d.args.call) (answer.Reply d.refused-in_default-get-2.result) X) d.self.view_is
-    (λ there. unopened_answers d.args.constants.now (the_view S) table d.args.fd (call_of_offset d.args.call) d.refused-in_default-get-2.result d.in-Some-get.descriptor.now
-    d.requires.on d.self.invariant.valid (named c table (Some d.in-Some-get.descriptor.now) there d.in-Some-get.ensures) (sym d.in_default-get-2.ensures)
-    d.refused-in_default-get-2.ensures) here
+    → IsOffsetStep d.args.constants.now X table d.args.fd (call_of_offset d.args.call) (answer.Reply d.refused.result) X) d.self.view_is
+    (λ there. lacking_answers d.args.constants.now (the_view S) table d.args.fd (call_of_offset d.args.call) d.refused.result d.requires.on d.self.invariant.valid
+    (get table d.args.fd) refl (open_absent S.objects.kinds (get S.tables d.args.pid) table d.args.fd there (sym d.open_of.ensures ∙ d.in_default.is))
+    d.refused.ensures) here
 
 -- ---- a standard stream
 
@@ -61,7 +48,6 @@ invariant_of-self c = record {
 
 pub returns-in-Terminal-clause-ok : goal.returns-in-Terminal-clause-ok
 returns-in-Terminal-clause-ok d =
-    let c = (goal.at.returns-in-Terminal-clause-ok d).In-Some in
     let S = d.self.inside in
     let stream = get S.terms d.in-Terminal.which in
     let step : (given : Answer) → (given ≡ (stream_outcome (call_of_offset d.args.call) d.in-Terminal.which stream).answer)
@@ -71,23 +57,23 @@ returns-in-Terminal-clause-ok d =
     λ given done table here.
     subst (λ (X : State). get X.tables d.args.pid ≡ Some table
     → IsOffsetStep d.args.constants.now X table d.args.fd (call_of_offset d.args.call) given (with_terms (the_view S) d.on_stream.new.terms)) d.self.view_is
-    (λ there. stream_answers d.args.constants.now (the_view S) table d.args.fd (call_of_offset d.args.call) d.requires.on d.in-Some-get.descriptor.now d.in-Terminal.which
-    d.in-Terminal.flags d.on_stream.new.terms d.self.invariant.valid (named c table (Some d.in-Some-get.descriptor.now) there d.in-Some-get.ensures)
-    (sym d.in-Some-get-2.ensures ∙ ap Some d.in-Terminal.is) d.on_stream.ensures.there given done.0 done.1) here in
+    (λ there. stream_answers d.args.constants.now (the_view S) table d.args.fd (call_of_offset d.args.call) d.requires.on d.in-Some.descriptor d.in-Terminal.which
+    d.in-Terminal.flags d.on_stream.new.terms d.self.invariant.valid (found_named (the_view S) d.args.pid d.args.fd d.in-Some.descriptor d.in-Some.kind (found (goal.at.returns-in-Terminal-clause-ok d).In-Some) table there)
+    ((found (goal.at.returns-in-Terminal-clause-ok d).In-Some).opened ∙ ap Some d.in-Terminal.is) d.on_stream.ensures.there given done.0 done.1) here in
     IfOk-weaker _ _ _ step d.on_stream.ensures.ok
 
 -- ---- any other open
 
 pub at_offset-requires : goal.at_offset-requires
 at_offset-requires c =
-    there_behind (the_view c.self.inside) c.in-Some-get-2.kind.now
-    (c.self.invariant.valid.nearly.behind c.in-Some-get.descriptor.now.id c.in-Some-get-2.kind.now (sym c.in-Some-get-2.ensures))
+    there_behind (the_view c.self.inside) c.in-Some.kind
+    (c.self.invariant.valid.nearly.behind c.in-Some.descriptor.id c.in-Some.kind (found (goal.at.at_offset-requires c).In-Some).opened)
 
 pub set-requires : goal.set-requires
 set-requires c = record {
-  there = ap is_some (sym c.in-Some-get-2.ensures);
-  same_node = subst (λ (o : Option OpenKind). IfSome o (IsOfSameNode c.at_offset.new.kind)) c.in-Some-get-2.ensures
-      (offset_same (c.self.inside.clock + c.args.constants.now.epoch) c.self.inside.tree c.at_offset.new.tree (call_of_offset c.args.call) c.in-Some-get-2.kind.now
+  there = ap is_some (found (goal.at.set-requires c).In-Some).opened;
+  same_node = subst (λ (o : Option OpenKind). IfSome o (IsOfSameNode c.at_offset.new.kind)) (sym (found (goal.at.set-requires c).In-Some).opened)
+      (offset_same (c.self.inside.clock + c.args.constants.now.epoch) c.self.inside.tree c.at_offset.new.tree (call_of_offset c.args.call) c.in-Some.kind
       c.at_offset.new.kind c.in_ok-reply.reply c.in_ok-reply.ensures.ok);
 }
 
@@ -96,7 +82,7 @@ invariant_of-self-2 c = record {
   valid = subst (λ (h : Held). IsValid (record (the_view c.self.inside) { opens = h.kinds; nodes = c.at_offset.new.tree.nodes; names = c.at_offset.new.tree.names }))
       (sym c.set.ensures)
       (offset_valid (call_of_offset c.args.call) c.args.fd (c.self.inside.clock + c.args.constants.now.epoch) c.requires.on (the_view c.self.inside)
-      c.in-Some-get.descriptor.now.id c.in-Some-get-2.kind.now c.at_offset.new.kind (sym c.in-Some-get-2.ensures) c.in_default-kind.not-Terminal
+      c.in-Some.descriptor.id c.in-Some.kind c.at_offset.new.kind (found (goal.at.invariant_of-self-2 c).In-Some).opened c.in_default-kind.not-Terminal
       c.self.invariant.valid c.at_offset.new.tree c.in_ok-reply.reply c.in_ok-reply.ensures.ok c.in_ok-reply.ensures.nodes);
   counted = λ o. ap (λ (h : Held). number (get h.counts o)) c.set.ensures ∙ c.self.invariant.counted o;
   small = c.self.invariant.small;
@@ -106,17 +92,16 @@ invariant_of-self-2 c = record {
 pub returns : goal.returns
 returns d = record {
   ok = λ table here.
-      let c = (goal.at.returns d).In-Some in
       let S = d.self.inside in
       let t = d.at_offset.new.tree in
       subst (λ (X : State). get X.tables d.args.pid ≡ Some table → IsOffsetStep d.args.constants.now X table d.args.fd (call_of_offset d.args.call) (answer.Reply d.in_ok-reply.reply)
       (record (the_view S) { opens = d.set.new.self.kinds; nodes = t.nodes; names = t.names })) d.self.view_is
       (λ there. subst (λ (h : Held). IsOffsetStep d.args.constants.now (the_view S) table d.args.fd (call_of_offset d.args.call) (answer.Reply d.in_ok-reply.reply)
       (record (the_view S) { opens = h.kinds; nodes = t.nodes; names = t.names })) (sym d.set.ensures)
-      (offset_answers (call_of_offset d.args.call) d.args.fd (d.self.inside.clock + d.args.constants.now.epoch) d.requires.on (the_view S) d.in-Some-get.descriptor.now.id
-      d.in-Some-get-2.kind.now d.at_offset.new.kind (sym d.in-Some-get-2.ensures) d.in_default-kind.not-Terminal d.self.invariant.valid t d.in_ok-reply.reply
-      d.in_ok-reply.ensures.ok d.in_ok-reply.ensures.nodes d.args.constants.now table d.in-Some-get.descriptor.now refl
-      (named c table (Some d.in-Some-get.descriptor.now) there d.in-Some-get.ensures) refl)) here;
+      (offset_answers (call_of_offset d.args.call) d.args.fd (d.self.inside.clock + d.args.constants.now.epoch) d.requires.on (the_view S) d.in-Some.descriptor.id
+      d.in-Some.kind d.at_offset.new.kind (found (goal.at.returns d).In-Some).opened d.in_default-kind.not-Terminal d.self.invariant.valid t d.in_ok-reply.reply
+      d.in_ok-reply.ensures.ok d.in_ok-reply.ensures.nodes d.args.constants.now table d.in-Some.descriptor refl
+      (found_named (the_view S) d.args.pid d.args.fd d.in-Some.descriptor d.in-Some.kind (found (goal.at.returns d).In-Some) table there) refl)) here;
   only = tt;
   err = tt;
 }

@@ -1,4 +1,4 @@
-use Rattle.std.proofs.Common.{◌≡◌, ℕ, ◌+◌, ◌-◌, None, Some, option_copied, refl, sym, ap, subst, ◌∙◌}
+use Rattle.std.proofs.Common.{◌≡◌, ℕ, ◌+◌, ◌-◌, None, Some, refl, sym, ap, subst, ◌∙◌}
 use Rattle.std.specs.FinMap.{get}
 use Rattle.abi_base.specs.declared.errno.Errno.TheVariants.{Badf}
 use Rattle.file_calls.specs.declared.path_fault.PathFault.TheVariants as path_fault
@@ -14,6 +14,7 @@ use Rattle.kernel_core.specs.contracts.kernel.Kernel.{the_view}
 use Rattle.kernel_parts.proofs.Lowest.{full_is_none}
 use Rattle.kernel_parts.proofs.Naming.{numbered_is, unnumbered}
 use Rattle.kernel_core.proofs.OpenCalls.{first_number, full_opens_none, opens_from, refused_opens_none, uncounted_opens_none}
+use Rattle.kernel_core.proofs.Opens.{found_here, open_absent}
 use Rattle.kernel_core.proofs.kernel.Kernel.plan_opening.Goals as goal
 use Rattle.kernel_core.proofs.kernel.Kernel.plan_opening.Goals.{In-Some-Some, In-Ok}
 
@@ -44,7 +45,8 @@ pub returns-in_default-open_of-clause-refused : goal.returns-in_default-open_of-
 returns-in_default-open_of-clause-refused d = λ table here now.
     let c = (goal.at.returns-in_default-open_of-clause-refused d).In-Some-Some in
     let S = the_view d.self.inside in
-    let none : None ≡ open_in S.opens (get d.in-Some-Some.table.now d.args.call.now.lookup.fd) = ap option_copied (sym d.in_default-open_of.is) ∙ d.open_of.ensures in
+    let none : None ≡ open_in S.opens (get d.in-Some-Some.table.now d.args.call.now.lookup.fd) =
+    sym (open_absent S.opens (get S.tables d.args.pid) d.in-Some-Some.table.now d.args.call.now.lookup.fd (there c) (sym d.open_of.ensures ∙ d.in_default-open_of.is)) in
     seen c (λ T t. open_outcome now T d.args.pid t d.args.call.now.lookup d.args.call.now.path.now d.args.call.now.oflags d.args.call.now.stat ≡ replies d.refused-in_default-open_of.result)
     (refused_opens_none now S d.args.pid d.in-Some-Some.table.now d.args.call.now.lookup d.args.call.now.path.now d.args.call.now.oflags d.args.call.now.stat
     d.refused-in_default-open_of.result d.in-Some.fd (path_fault.Errno Badf) d.in-Some.ensures.free
@@ -59,9 +61,12 @@ returns-in-Err-clause-refused d = λ table here now.
     seen c (λ T t. open_outcome now T d.args.pid t d.args.call.now.lookup d.args.call.now.path.now d.args.call.now.oflags d.args.call.now.stat ≡ replies d.reply_of.result)
     (refused_opens_none now S d.args.pid d.in-Some-Some.table.now d.args.call.now.lookup d.args.call.now.path.now d.args.call.now.oflags d.args.call.now.stat
     d.reply_of.result d.in-Some.fd d.in-Err.refusal d.in-Some.ensures.free
-    (opens_from now new S d.in-Some-Some.table.now d.args.call.now.lookup d.args.call.now.path.now d.args.call.now.oflags d.args.call.now.stat (Some d.in-Some-open_of.here.now) d.in-Some-open_of.ensures
+    (opens_from now new S d.in-Some-Some.table.now d.args.call.now.lookup d.args.call.now.path.now d.args.call.now.oflags d.args.call.now.stat (Some d.in-Some-open_of.here) (found_here S d.args.pid d.args.call.now.lookup.fd d.in-Some-Some.table.now d.open_of.result _ d.in-Some-open_of.here (there c) d.open_of.ensures d.in-Some-open_of.is)
     ∙ d.plan_open.ensures d.args.call.now.stat.flags now new ∙ ap (λ r. opened_of r d.args.call.now.path.now (tree_of S) d.args.call.now.stat.flags now new) d.in-Err.is)
     d.reply_of.ensures) table here
+
+there_planned : (c : In-Ok) → get c.self.inside.tables c.args.pid ≡ Some c.in-Some-Some.table.now
+there_planned c = ap (get c.self.inside.tables) (sym (c.from-p.ensures ∙ c.pid.view_is)) ∙ sym c.in-Some-Some.ensures.value
 
 -- what is opened by the plan
 planned : (c : In-Ok) (now new : ℕ)
@@ -69,7 +74,9 @@ planned : (c : In-Ok) (now new : ℕ)
     ≡ opened_by c.in-Ok.plan c.args.call.now.path.now (tree_of (the_view c.self.inside)) c.args.call.now.stat.flags now new
 planned c now new =
     opens_from now new (the_view c.self.inside) c.in-Some-Some.table.now c.args.call.now.lookup c.args.call.now.path.now c.args.call.now.oflags c.args.call.now.stat
-    (Some c.in-Some-open_of.here.now) c.in-Some-open_of.ensures
+    (Some c.in-Some-open_of.here)
+    (found_here (the_view c.self.inside) c.args.pid c.args.call.now.lookup.fd c.in-Some-Some.table.now c.open_of.result _ c.in-Some-open_of.here (there_planned c)
+    c.open_of.ensures c.in-Some-open_of.is)
     ∙ c.plan_open.ensures c.args.call.now.stat.flags now new
     ∙ ap (λ r. opened_of r c.args.call.now.path.now (tree_of (the_view c.self.inside)) c.args.call.now.stat.flags now new) c.in-Ok.is
 
