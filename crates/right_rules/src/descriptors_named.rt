@@ -109,7 +109,6 @@ pub fn named(call: &Call) -> NamedList<'_>
         | Call::ThreadCreate { .. }
         | Call::ThreadExit { .. }
         | Call::ThreadYield
-        | Call::Refused { .. }
-        | Call::Unknown { .. } => none(),
+        | Call::Refused { .. } => none(),
     }
 }

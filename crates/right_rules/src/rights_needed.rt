@@ -186,7 +186,6 @@ pub fn need(call: &Call) -> Needs<'_>
         | Call::ThreadCreate { .. }
         | Call::ThreadExit { .. }
         | Call::ThreadYield
-        | Call::Refused { .. }
-        | Call::Unknown { .. } => none(),
+        | Call::Refused { .. } => none(),
     }
 }
