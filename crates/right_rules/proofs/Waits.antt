@@ -8,7 +8,7 @@ use Rattle.abi_types.specs.declared.needed.Needed.{Needed}
 use Rattle.kernel_model.specs.Need.{either_lack, first_lack, lack_at, some_absent}
 use Rattle.kernel_model.specs.State.{Table}
 use Rattle.kernel_model.specs.Families.WaitCalls.{fds_of, wait_row, wait_rows}
-use Rattle.right_rules.specs.Lists.{of_option}
+use Rattle.right_rules.specs.Needs.{of_option}
 
 -- this is the row of the subscription at a place, if it has one
 abbrev pub IsRowAt : List Subscription → ℕ → Subscription → Option Needed → Type 0

@@ -4,24 +4,13 @@ ghost use Rattle.std.specs.FinMap as map;
 ghost use Rattle.kernel_model.specs.Calls.{refusal};
 ghost use Rattle.kernel_model.specs.Need.{some_absent, first_lack, lack_at, has_instead, lack_base};
 ghost use Rattle.kernel_model.specs.Families.WaitCalls.{fds_of, wait_rows};
-ghost use Rattle.right_rules.specs.Lists.{named_in, of_option, rows_in};
+ghost use Rattle.right_rules.specs.Needs.{named_in, rows_in};
 
-use crate::descriptors_named::{NamedList, named};
+use crate::needs::{Needs, needs_of};
 use crate::replies::refused;
-use crate::rights_needed::{Needs, need};
 use crate::rows::wait_row;
 use abi_types::{Call, Denial, Descriptor, Errno, Needed, Reply, Rights, Subscription};
 use fd_table::FdTable;
-
-// Whether the descriptor is absent, if one is named.
-fn is_absent(table: &FdTable, fd: Option<u32>) -> bool
-    ensures { result ≡ some_absent table.now (of_option fd) }
-{
-    match fd {
-        Some(fd) => !table.contains(fd),
-        None => false,
-    }
-}
 
 // Whether one of these descriptors is absent.
 fn is_one_absent(table: &FdTable, fds: &[u32]) -> bool
@@ -50,13 +39,17 @@ fn is_waited_absent(table: &FdTable, subscriptions: &[Subscription]) -> bool
 }
 
 // Whether some descriptor of those named is absent.
-fn some_absent(table: &FdTable, named: NamedList<'_>) -> bool
-    ensures { result ≡ some_absent table.now (named_in named.entry) }
+fn some_absent(table: &FdTable, needs: Needs<'_>) -> bool
+    ensures { result ≡ some_absent table.now (named_in needs.entry) }
 {
-    match named {
-        NamedList::Few { first, second } => is_absent(table, first) || is_absent(table, second),
-        NamedList::Listed { first, rest } => !table.contains(first) || is_one_absent(table, rest),
-        NamedList::Waited(subscriptions) => is_waited_absent(table, subscriptions),
+    match needs {
+        Needs::Nothing => false,
+        Needs::Named(fd) => !table.contains(fd),
+        Needs::NamedTwo(first, second) => !table.contains(first) || !table.contains(second),
+        Needs::One(row) => !table.contains(row.fd),
+        Needs::Two(first, second) => !table.contains(first.fd) || !table.contains(second.fd),
+        Needs::OneAndNamed(row, rest) => !table.contains(row.fd) || is_one_absent(table, rest),
+        Needs::Waited(subscriptions) => is_waited_absent(table, subscriptions),
     }
 }
 
@@ -104,16 +97,6 @@ fn row_lack(table: &FdTable, row: &Needed) -> Option<Denial>
     }
 }
 
-// The denial of the row's descriptor, if there is a row, and it lacks a right.
-fn option_lack(table: &FdTable, row: Option<Needed>) -> Option<Denial>
-    ensures { result ≡ first_lack table.now (of_option row) }
-{
-    match row {
-        Some(row) => row_lack(table, &row),
-        None => None,
-    }
-}
-
 // The denial of the first descriptor that is waited for and lacks a right.
 fn waited_lack(table: &FdTable, subscriptions: &[Subscription]) -> Option<Denial>
     ensures { result ≡ first_lack table.now (wait_rows subscriptions.now) }
@@ -134,9 +117,11 @@ fn first_lack(table: &FdTable, needs: Needs<'_>) -> Option<Denial>
     ensures { result ≡ first_lack table.now (rows_in needs.entry) }
 {
     match needs {
-        Needs::Few { first, second } => match option_lack(table, first) {
+        Needs::Nothing | Needs::Named(_) | Needs::NamedTwo(_, _) => None,
+        Needs::One(row) | Needs::OneAndNamed(row, _) => row_lack(table, &row),
+        Needs::Two(first, second) => match row_lack(table, &first) {
             Some(denial) => Some(denial),
-            None => option_lack(table, second),
+            None => row_lack(table, &second),
         },
         Needs::Waited(subscriptions) => waited_lack(table, subscriptions),
     }
@@ -147,10 +132,11 @@ fn first_lack(table: &FdTable, needs: Needs<'_>) -> Option<Denial>
 pub fn refusal(table: &FdTable, call: &Call) -> Option<Reply>
     ensures { result ≡ refusal table.now call.now }
 {
-    if some_absent(table, named(call)) {
+    let needs = needs_of(call);
+    if some_absent(table, needs) {
         return Some(refused(Errno::Badf));
     }
-    first_lack(table, need(call)).map(|denial| Reply {
+    first_lack(table, needs).map(|denial| Reply {
         denial: Some(denial),
         ..refused(Errno::Notcapable)
     })

@@ -3,7 +3,7 @@ ghost use Rattle.std.specs.Prelude.{◌≡◌, ◌++◌, List};
 ghost use Rattle.abi_types.specs.declared.needed.Needed as needed;
 ghost use Rattle.kernel_model.specs.Rows.{asking_row, base_row, both, either_row, where_set};
 ghost use Rattle.kernel_model.specs.Families.WaitCalls.{wait_row};
-ghost use Rattle.right_rules.specs.Lists.{of_option};
+ghost use Rattle.right_rules.specs.Needs.{of_option};
 
 use abi_types::{Needed, Rights, What};
 

@@ -3,8 +3,8 @@
 //! other calls is shown by scripts of calls (docs/GATE.md).
 use crate::kernel::stdout_kernel::{answer_to, bare_kernel};
 use abi_types::{
-    Answer, Bytes, Call, Denial, Descriptor, Errno, FdList, ObjId, OpenType, Reply, Rights,
-    Subscription, SubscriptionList, ThreadAttr, What,
+    Answer, Bytes, Call, CallNumber, Denial, Descriptor, Errno, FdList, ObjId, OpenType, Reply,
+    Rights, Subscription, SubscriptionList, ThreadAttr, What,
 };
 use fd_table::FdTable;
 use right_rules::{fits, refusal};
@@ -399,7 +399,8 @@ fn bare_wanted(case: &Case) -> Errno {
 fn needs_its_rights(alloc: Global, case: &Case, call: &Call) -> Result<bool, AllocError> {
     let got = told_of_rights(alloc, case.rows, call)?;
     let right = wanted_of_rights(alloc, case.rows)?;
-    Ok(call.number() == case.number && got.as_slice() == right.as_slice())
+    let numbered = call.number().ok() == CallNumber::of(case.number);
+    Ok(numbered && got.as_slice() == right.as_slice())
 }
 
 // Whether it is BADF without one of the descriptors that the call names.

@@ -1,8 +1,8 @@
 //! Reports of runs that the command doesn't come to: of entries that the kernel isn't asked for, and of runs that stop on the way.
 use crate::kernel::stdout_kernel::{PID, TID, answer_to, expire, stdout_kernel, write_of};
 use abi_types::{
-    Answer, Bytes, Call, Denial, Errno, Payload, Pid, Reply, Rights, Signal, Tid, TidList, WakeIn,
-    WordWrites,
+    Answer, Bytes, Call, CallNumber, Denial, Errno, Payload, Pid, Reply, Rights, Signal, Tid,
+    TidList, WakeIn, WordWrites,
 };
 use kernel_core::Kernel;
 use run_report::report;
@@ -136,9 +136,12 @@ fn giving(r1: u64) -> Answer {
 
 // A call of this number.
 fn numbered(number: u64) -> Call {
-    Call::Refused {
-        number,
-        errno: Errno::Notcapable,
+    match CallNumber::of(number) {
+        Some(number) => Call::Refused {
+            number,
+            errno: Errno::Notcapable,
+        },
+        None => Call::Unknown { number },
     }
 }
 

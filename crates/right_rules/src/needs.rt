@@ -1,0 +1,166 @@
+//! What a call needs of its descriptors.
+ghost use Rattle.std.specs.Prelude.{◌≡◌};
+ghost use Rattle.abi_base.specs.declared.rights.TheConstants.Rights.{FILE_STAT_FPUT_SIZE, FILE_STAT_FPUT_TIMES};
+ghost use Rattle.kernel_model.specs.Calls.{named, need};
+ghost use Rattle.kernel_model.specs.Families.DescriptorCalls.{stat_put_row};
+ghost use Rattle.kernel_model.specs.Families.MemoryCalls.{map_row};
+ghost use Rattle.kernel_model.specs.Families.Opening.{open_row};
+ghost use Rattle.kernel_model.specs.Families.StreamCalls.{seek_row};
+ghost use Rattle.kernel_model.specs.Rows.{base_row, both, where_set};
+ghost use Rattle.right_rules.specs.Needs.{named_in, rows_in};
+ghost use Rattle.right_rules.specs.declared.needs.Needs.TheVariants as needs;
+
+use crate::rows::{asking_row, base_row, both, either_row, where_set};
+use abi_types::{Call, FdStat, Needed, Rights, Subscription};
+
+/// A view of the descriptors that a call names, in the order of its arguments, and of the rights that it needs of them.
+#[derive(Clone, Copy)]
+pub enum Needs<'a> {
+    /// It names no descriptor.
+    Nothing,
+    /// It names this descriptor, and needs no right of it.
+    Named(u32),
+    /// It names these two descriptors, and needs no right of them.
+    NamedTwo(u32, u32),
+    /// It needs rights of one descriptor.
+    One(Needed),
+    /// It needs rights of two descriptors.
+    Two(Needed, Needed),
+    /// It needs rights of one descriptor, and names the others of a list behind it.
+    OneAndNamed(Needed, &'a [u32]),
+    /// It needs rights of the descriptors that it waits for.
+    Waited(&'a [Subscription]),
+}
+
+// Base rights of one descriptor.
+fn base<'a>(fd: u32, rights: Rights) -> Needs<'a>
+    ensures { result ≡ needs.One (base_row fd rights) }
+{
+    Needs::One(base_row(fd, rights))
+}
+
+// What fd_seek needs: an offset of 0 from where it is tells it alone.
+fn seek_row(fd: u32, offset: u64, whence: u32) -> Needed
+    ensures { result ≡ seek_row fd offset whence }
+{
+    if offset == 0 && whence == 1 {
+        either_row(fd, Rights::FD_TELL, Rights::FD_SEEK)
+    } else {
+        base_row(fd, Rights::FD_SEEK)
+    }
+}
+
+// What fd_stat_put needs: flags are set by a right of their own, and rights are lowered to some of those that are there.
+fn stat_put_row(fd: u32, stat: &FdStat, flags: u32) -> Needed
+    ensures { result ≡ stat_put_row fd stat.now flags }
+{
+    let base = both(
+        where_set(flags, 1, Rights::FD_STAT_PUT_FLAGS),
+        where_set(flags, 2, stat.base),
+    );
+    asking_row(fd, base, where_set(flags, 2, stat.inheriting))
+}
+
+// What file_open needs of the directory where it begins.
+fn open_row(fd: u32, oflags: u32, stat: &FdStat) -> Needed
+    ensures { result ≡ open_row fd oflags stat.now }
+{
+    let base = both(
+        Rights::FILE_OPEN,
+        where_set(oflags, 1, Rights::FILE_CREATE_FILE),
+    );
+    let inheriting = both(
+        both(stat.base, stat.inheriting),
+        where_set(oflags, 8, Rights::FILE_STAT_FPUT_SIZE),
+    );
+    asking_row(fd, base, inheriting)
+}
+
+// The rights by which file_stat_fput sets the size and the times.
+fn stat_fput_rights(flags: u32) -> Rights
+    ensures { result ≡ both (where_set flags 16 FILE_STAT_FPUT_SIZE) (where_set flags 15 FILE_STAT_FPUT_TIMES) }
+{
+    both(
+        where_set(flags, 16, Rights::FILE_STAT_FPUT_SIZE),
+        where_set(flags, 15, Rights::FILE_STAT_FPUT_TIMES),
+    )
+}
+
+// What mem_map needs of a file.
+fn map_row(fd: u32, prot: u32) -> Needed
+    ensures { result ≡ map_row fd prot }
+{
+    let read = both(Rights::MEM_MAP, Rights::FD_READ);
+    base_row(fd, both(read, where_set(prot, 1, Rights::MEM_MAP_EXEC)))
+}
+
+/// What the call needs of its descriptors.
+pub fn needs_of(call: &Call) -> Needs<'_>
+    ensures named { named_in result ≡ named call.now }
+    ensures rights { rows_in result ≡ need call.now }
+{
+    match call {
+        Call::FdClose { fd } | Call::FdDup { fd } | Call::FdStatGet { fd } => Needs::Named(*fd),
+        Call::FdReplace { from, to } => Needs::NamedTwo(*from, *to),
+        Call::FdDatasync { fd } => base(*fd, Rights::FD_DATASYNC),
+        Call::FdPread { fd, .. } => base(*fd, both(Rights::FD_READ, Rights::FD_SEEK)),
+        Call::FdPwrite { fd, .. } => base(*fd, both(Rights::FD_WRITE, Rights::FD_SEEK)),
+        Call::FdRead { fd, .. } | Call::SockRecv { fd, .. } => base(*fd, Rights::FD_READ),
+        Call::FdSeek { fd, offset, whence } => Needs::One(seek_row(*fd, *offset, *whence)),
+        Call::FdStatPut { fd, stat, flags } => Needs::One(stat_put_row(*fd, stat, *flags)),
+        Call::FdSync { fd } => base(*fd, Rights::FD_SYNC),
+        Call::FdWrite { fd, .. } => base(*fd, Rights::FD_WRITE),
+        Call::FileAdvise { fd, .. } => base(*fd, Rights::FILE_ADVISE),
+        Call::FileAllocate { fd, .. } => base(*fd, Rights::FILE_ALLOCATE),
+        Call::FileCreate { fd, .. } => base(*fd, Rights::FILE_CREATE_DIRECTORY),
+        Call::FileLink { lookup, new_fd, .. } => Needs::Two(
+            base_row(lookup.fd, Rights::FILE_LINK_SOURCE),
+            base_row(*new_fd, Rights::FILE_LINK_TARGET),
+        ),
+        Call::FileOpen {
+            lookup,
+            oflags,
+            stat,
+            ..
+        } => Needs::One(open_row(lookup.fd, *oflags, stat)),
+        Call::FileReaddir { fd, .. } => base(*fd, Rights::FILE_READDIR),
+        Call::FileReadlink { fd, .. } => base(*fd, Rights::FILE_READLINK),
+        Call::FileRename { fd, new_fd, .. } => Needs::Two(
+            base_row(*fd, Rights::FILE_RENAME_SOURCE),
+            base_row(*new_fd, Rights::FILE_RENAME_TARGET),
+        ),
+        Call::FileStatFget { fd } => base(*fd, Rights::FILE_STAT_FGET),
+        Call::FileStatFput { fd, flags, .. } => base(*fd, stat_fput_rights(*flags)),
+        Call::FileStatGet { lookup, .. } => base(lookup.fd, Rights::FILE_STAT_GET),
+        Call::FileStatPut { lookup, .. } => base(lookup.fd, Rights::FILE_STAT_PUT_TIMES),
+        Call::FileSymlink { fd, .. } => base(*fd, Rights::FILE_SYMLINK),
+        Call::FileUnlink { fd, .. } => base(*fd, Rights::FILE_UNLINK),
+        // A mapping of zeros.
+        Call::MemMap { flags, .. } if *flags & 1 == 1 => Needs::Nothing,
+        Call::MemMap { fd, prot, .. } => Needs::One(map_row(*fd, *prot)),
+        Call::Poll { subscriptions } => Needs::Waited(subscriptions.as_slice()),
+        Call::ProcExec { fd, fds, .. } => {
+            Needs::OneAndNamed(base_row(*fd, Rights::PROC_EXEC), fds.as_slice())
+        }
+        Call::SockSend { fd, fds, .. } => {
+            Needs::OneAndNamed(base_row(*fd, Rights::FD_WRITE), fds.as_slice())
+        }
+        Call::SockShutdown { fd, .. } => base(*fd, Rights::SOCK_SHUTDOWN),
+        Call::ClockResGet { .. }
+        | Call::ClockTimeGet { .. }
+        | Call::CondvarSignal { .. }
+        | Call::FdCreate1 { .. }
+        | Call::FdCreate2 { .. }
+        | Call::LockUnlock { .. }
+        | Call::Memory { .. }
+        | Call::ProcExit { .. }
+        | Call::ProcFork { .. }
+        | Call::ProcRaise { .. }
+        | Call::RandomGet { .. }
+        | Call::ThreadCreate { .. }
+        | Call::ThreadExit { .. }
+        | Call::ThreadYield
+        | Call::Refused { .. }
+        | Call::Unknown { .. } => Needs::Nothing,
+    }
+}
