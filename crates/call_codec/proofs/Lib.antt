@@ -1,5 +1,4 @@
 pub mod Readings
-pub mod FileReadings
 pub mod Layouts
 pub mod Calls
 pub mod Images

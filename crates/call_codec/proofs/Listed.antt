@@ -1,9 +1,10 @@
 -- The calls about memory answer the first condition of their lists that holds.
-use Rattle.std.proofs.Common.{Decides, ◌≡◌, ◌≢◌, ℕ, ◌+◌, ◌*◌, ◌/◌, ◌%◌, ◌^◌, ◌<◌, ◌≤◌, ◌==◌, ◌&&◌, ◌||◌, not, inl, inr, Bool, true, false, cond, nat_le, nat_lt, is_none, Option, Some, None, refl, sym, subst, arith}
+use Rattle.std.proofs.Common.{Decides, ◌≡◌, ◌≢◌, ℕ, ◌+◌, ◌*◌, ◌/◌, ◌%◌, ◌^◌, ◌<◌, ◌≤◌, ◌==◌, ◌&&◌, ◌||◌, not, inl, inr, Bool, true, false, cond, nat_le, nat_lt, is_none, Option, Some, None, Ok, refl, sym, subst, arith}
 use Rattle.std.proofs.lemmas.Bool.{leb-true, le-leb, eqb-true, eq-eqb}
 use Rattle.std.proofs.lemmas.Bool.Decides.{Decides-like, Decides-not, Decides-and, Decides-ltb, not_from_Decides, eqb_tells, leb_tells}
 use Rattle.std.specs.FinMap.{len}
-use Rattle.abi_types.specs.declared.call.Call.TheVariants.{MemMap, Memory, Refused}
+use Rattle.abi_types.specs.declared.call.Call.TheVariants.{MemMap, Memory}
+use Rattle.abi_types.specs.declared.call_number.CallNumber.TheVariants as number
 use Rattle.abi_types.specs.declared.place.Place.TheVariants as place
 use Rattle.abi_types.specs.declared.place.Place.TheVariants.{At}
 use Rattle.abi_base.specs.declared.address_space.TheConstants.{GUEST_BEGIN, GUEST_END, PAGE_LIMIT}
@@ -13,7 +14,9 @@ use Rattle.guest_memory.specs.Changes.{all_there, lowest_gap, without_pages}
 use Rattle.guest_memory.specs.Page.{Pages}
 use Rattle.guest_memory.proofs.Changes.{there_is}
 use Rattle.codec_arguments.specs.Arguments.{argument, low}
-use Rattle.call_codec.specs.MemoryCalls.{has_bits, is_aligned, pages_in, place_in, unless_refused}
+use Rattle.codec_arguments.specs.Reading.{◌>>=◌, refuse_when}
+use Rattle.call_codec.specs.Arguments.{or_refused}
+use Rattle.call_codec.specs.MemoryCalls.{has_bits, is_aligned, pages_in, place_in}
 use Rattle.call_codec.specs.Refusals.{Conditions, success, when, AnswersFirst, errno_of, IsMisaligned, LacksPages, Holds, room_conditions, AdviseIsListed, MapIsListed, ProtectIsListed, SyncIsListed, UnmapIsListed}
 
 -- a condition that a test decides answers where the test is true, and else the others do
@@ -54,7 +57,7 @@ itself b = (λ e. e, λ e. e)
 
 -- ---- mem_advise
 
-advise_flat : (x y z t : Bool) → errno_of (cond (x && y && z) (Memory 32 (cond t Success Fault)) (Refused 32 Inval))
+advise_flat : (x y z t : Bool) → errno_of (or_refused number.MemAdvise (refuse_when (not (x && y)) Inval >>= λ _. refuse_when (not z) Inval >>= λ _. Ok (Memory number.MemAdvise (cond t Success Fault))))
     ≡ cond (not x) Inval (cond (not y) Inval (cond (not z) Inval (cond (not t) Fault Success)))
 advise_flat true true true true = refl
 advise_flat true true true false = refl
@@ -77,7 +80,7 @@ advise_listed m r =
 
 -- ---- mem_protect
 
-protect_flat : (x al w t : Bool) → errno_of (unless_refused 34 (cond (x || not al) (Some Inval) (cond w (Some Notsup) None)) (Memory 34 (cond t Success Fault)))
+protect_flat : (x al w t : Bool) → errno_of (or_refused number.MemProtect (refuse_when (x || not al) Inval >>= λ _. refuse_when w Notsup >>= λ _. Ok (Memory number.MemProtect (cond t Success Fault))))
     ≡ cond x Inval (cond (not al) Inval (cond w Notsup (cond (not t) Fault Success)))
 protect_flat true al w t = refl
 protect_flat false false w t = refl
@@ -100,7 +103,7 @@ protect_listed m r =
 
 -- ---- mem_sync
 
-sync_flat : (k p q al t : Bool) → errno_of (cond ((k && cond p (not q) q) && al) (Memory 35 (cond t Success Fault)) (Refused 35 Inval))
+sync_flat : (k p q al t : Bool) → errno_of (or_refused number.MemSync (refuse_when (not (k && cond p (not q) q)) Inval >>= λ _. refuse_when (not al) Inval >>= λ _. Ok (Memory number.MemSync (cond t Success Fault))))
     ≡ cond (not k) Inval (cond (p && q) Inval (cond (not p && not q) Inval (cond (not al) Inval (cond (not t) Fault Success))))
 sync_flat false p q al t = refl
 sync_flat true true true al t = refl
@@ -130,7 +133,7 @@ sync_listed m r =
 
 -- ---- mem_unmap
 
-unmap_flat : (al s f : Bool) → errno_of (cond (al && (s && f)) (Memory 36 Success) (Refused 36 Inval))
+unmap_flat : (al s f : Bool) → errno_of (or_refused number.MemUnmap (refuse_when (not al) Inval >>= λ _. refuse_when (not (s && f)) Inval >>= λ _. Ok (Memory number.MemUnmap Success)))
     ≡ cond (not al) Inval (cond (not s) Inval (cond (not f) Inval Success))
 unmap_flat false s f = refl
 unmap_flat true false f = refl
@@ -161,10 +164,10 @@ map_answer p7 f15 b0 p q ao w f al g1 g2 r1 r2 gap =
     (cond (f && not r1) Nobufs (cond (not f && not r2) Nobufs (cond (not f && is_none gap) Nobufs Success)))))))))))))
 
 map_flat : (p7 f15 b0 p q ao w f al g1 g2 r1 r2 : Bool) (gap : Option ℕ) (a bytes prot flags fd offset : ℕ)
-    → errno_of (unless_refused 33
-    (cond (p7 || f15 || b0 || not (cond p (not q) q) || not ao) (Some Inval)
-    (cond (q || w) (Some Notsup) (cond (f && not (al && (g1 && g2))) (Some Inval) None)))
-    (MemMap (cond f (cond r1 (At a) (place.Refused Nobufs)) (cond r2 (place_in gap) (place.Refused Nobufs))) bytes prot flags fd offset))
+    → errno_of (or_refused number.MemMap (
+    (refuse_when (p7 || f15 || b0) Inval >>= λ _. refuse_when (not (cond p (not q) q)) Inval >>= λ _. refuse_when (not ao) Inval >>= λ _.
+    refuse_when q Notsup >>= λ _. refuse_when w Notsup >>= λ _. refuse_when (f && not (al && (g1 && g2))) Inval) >>= λ _.
+    Ok (MemMap (cond f (cond r1 (At a) (place.Refused Nobufs)) (cond r2 (place_in gap) (place.Refused Nobufs))) bytes prot flags fd offset)))
     ≡ map_answer p7 f15 b0 p q ao w f al g1 g2 r1 r2 gap
 map_flat true f15 b0 p q ao w f al g1 g2 r1 r2 gap a bytes prot flags fd offset = refl
 map_flat false true b0 p q ao w f al g1 g2 r1 r2 gap a bytes prot flags fd offset = refl

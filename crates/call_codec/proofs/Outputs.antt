@@ -4,11 +4,9 @@
 --     entries_written, link_written      a directory's entries, the text of a symlink
 --     open_state_written, found_state_written      a file's state
 use Rattle.std.proofs.Common.{◌≡◌, ℕ, zero, suc, ◌+◌, ◌-◌, ◌%◌, ◌^◌, ◌≤◌, min, List, [], ◌∷◌, take, drop, length, length-drop, length-take, Result, Ok, Err, IsOk, refl, sym, ap, subst, ◌∙◌, arith}
-use Rattle.abi_base.specs.declared.errno.Errno.{Errno}
 use Rattle.abi_base.specs.declared.errno.Errno.TheVariants.{Inval}
 use Rattle.abi_base.specs.Registers.{Registers}
 use Rattle.abi_structures.specs.declared.structures.Iovec.{Iovec}
-use Rattle.abi_types.specs.declared.call.Call.{Call}
 use Rattle.abi_types.specs.declared.call.Call.TheVariants.{FdPread, FdRead, FdStatGet, FileReaddir, FileReadlink, FileStatFget, FileStatGet}
 use Rattle.abi_types.specs.declared.call.Lookup.{Lookup}
 use Rattle.guest_memory.specs.declared.access.Access.TheVariants.{Write}
@@ -20,16 +18,16 @@ use Rattle.guest_memory.proofs.Writes.{SameRights, ok_after, rights_kept}
 use Rattle.codec_arguments.specs.Arguments.{argument}
 use Rattle.codec_arguments.specs.Bytes.{path_in, writable}
 use Rattle.codec_arguments.specs.Ranges.{counted, ranges_at, room_among, room_in, room_of}
-use Rattle.codec_arguments.specs.Reading.{◌>>=◌, or_fault, refuse_when}
+use Rattle.codec_arguments.specs.Reading.{◌>>=◌, or_fault}
 use Rattle.codec_arguments.specs.declared.ranges.TheConstants.{MOST_TRANSFERRED}
+use Rattle.call_codec.specs.Arguments.{read_of}
 use Rattle.call_codec.specs.Output.{fdstat_bytes, filestat_bytes, or_unwritten, with_bytes}
 use Rattle.call_codec.specs.OutputLaws.{AreWrittenInto, TakesBytes, TakesFileState, TakesUpTo, EntriesAreWritten, FoundStateIsWritten, LinkIsWritten, OpenStateIsWritten, PreadIsWritten, ReadIsWritten, StateIsWritten}
 use Rattle.call_codec.proofs.Layouts.{fdstat_length, filestat_length}
 use Rattle.call_codec.proofs.Puts.{call_suits}
-use Rattle.call_codec.proofs.Readings.{after}
+use Rattle.call_codec.proofs.Readings.{not_refused, passed}
 use Rattle.codec_calls.specs.DescriptorCalls.{fd_pread_of, fd_read_of, fd_stat_get_of, has_many, is_beyond}
-use Rattle.codec_files.specs.Lookups.{looks_unknown}
-use Rattle.codec_files.specs.ByPath.{file_readlink_of}
+use Rattle.codec_files.specs.ByPath.{file_readlink_of, looks_unknown}
 use Rattle.codec_files.specs.ByNode.{file_readdir_of, file_stat_fget_of, file_stat_get_of}
 
 -- ---- one write
@@ -121,22 +119,24 @@ takes_bytes m r most e =
     (found.0, found.1, λ bytes less. written_into found.0 m m MOST_TRANSFERRED most bytes (λ q. refl) found.2 less)
 
 read_room : (m : Pages) (r : Registers) (fd most : ℕ) → fd_read_of m r ≡ Ok (FdRead fd most) → room_in m (argument r 1) (argument r 2) ≡ Ok most
-read_room m r fd most =
-    let wanted = λ (x : Result Call Errno). x ≡ Ok (FdRead fd most) → room_in m (argument r 1) (argument r 2) ≡ Ok most in
-    after wanted (refuse_when (has_many (argument r 2)) Inval) _ (λ errno e is. absurd (cc)) (λ x e.
-    after wanted (room_in m (argument r 1) (argument r 2)) _ (λ errno e is. absurd (cc)) (λ n e is. let same : n ≡ most = cc in e ∙ ap Ok same))
+read_room m r fd most is =
+    let few = not_refused (has_many (argument r 2)) Inval _ (FdRead fd most) is in
+    let room = passed (room_in m (argument r 1) (argument r 2)) _ (FdRead fd most) few.1 in
+    let same : room.0 ≡ most = cc room.2 in room.1 ∙ ap Ok same
 
 pread_room : (m : Pages) (r : Registers) (fd most offset : ℕ) → fd_pread_of m r ≡ Ok (FdPread fd most offset) → room_in m (argument r 1) (argument r 2) ≡ Ok most
-pread_room m r fd most offset =
-    let wanted = λ (x : Result Call Errno). x ≡ Ok (FdPread fd most offset) → room_in m (argument r 1) (argument r 2) ≡ Ok most in
-    after wanted (refuse_when (has_many (argument r 2)) Inval) _ (λ errno e is. absurd (cc)) (λ x e.
-    after wanted (refuse_when (is_beyond (argument r 3)) Inval) _ (λ errno e is. absurd (cc)) (λ y f.
-    after wanted (room_in m (argument r 1) (argument r 2)) _ (λ errno e is. absurd (cc)) (λ n e is. let same : n ≡ most = cc in e ∙ ap Ok same)))
+pread_room m r fd most offset is =
+    let few = not_refused (has_many (argument r 2)) Inval _ (FdPread fd most offset) is in
+    let within = not_refused (is_beyond (argument r 3)) Inval _ (FdPread fd most offset) few.1 in
+    let room = passed (room_in m (argument r 1) (argument r 2)) _ (FdPread fd most offset) within.1 in
+    let same : room.0 ≡ most = cc room.2 in room.1 ∙ ap Ok same
 
 pub read_written : ReadIsWritten
+unfolding read_of
 read_written m r fd most spelled = takes_bytes m r most (read_room m r fd most (call_suits m r (FdRead fd most) (sym spelled)))
 
 pub pread_written : PreadIsWritten
+unfolding read_of
 pread_written m r fd most offset spelled = takes_bytes m r most (pread_room m r fd most offset (call_suits m r (FdPread fd most offset) (sym spelled)))
 
 -- ---- a descriptor's state
@@ -146,11 +146,12 @@ had_ok (Ok bytes) x e = refl
 had_ok (Err fault) x e = absurd (cc)
 
 state_room : (m : Pages) (r : Registers) (fd : ℕ) → fd_stat_get_of m r ≡ Ok (FdStatGet fd) → IsOk (bytes_from Write m (argument r 1) 24)
-state_room m r fd =
-    after (λ x. x ≡ Ok (FdStatGet fd) → IsOk (bytes_from Write m (argument r 1) 24)) (writable m (argument r 1) 24) _
-    (λ errno e is. absurd (cc)) (λ x e is. had_ok (bytes_from Write m (argument r 1) 24) x e)
+state_room m r fd is =
+    let room = passed (writable m (argument r 1) 24) _ (FdStatGet fd) is in
+    had_ok (bytes_from Write m (argument r 1) 24) room.0 room.1
 
 pub state_written : StateIsWritten
+unfolding read_of
 state_written m r fd stat spelled =
     write_made m (argument r 1) 24 (fdstat_bytes stat) (let all = fdstat_length stat in omega (arith, all)) (state_room m r fd (call_suits m r (FdStatGet fd) (sym spelled)))
 
@@ -168,24 +169,26 @@ takes_up_to m a room has bytes less = write_made m a (min room MOST_TRANSFERRED)
 
 entries_room : (m : Pages) (r : Registers) (fd room cookie : ℕ) → file_readdir_of m r ≡ Ok (FileReaddir fd room cookie)
     → IsWritable m (argument r 1) (min room MOST_TRANSFERRED)
-entries_room m r fd room cookie =
-    let wanted = λ (x : Result Call Errno). x ≡ Ok (FileReaddir fd room cookie) → IsWritable m (argument r 1) (min room MOST_TRANSFERRED) in
-    after wanted (writable m (argument r 1) (min (argument r 2) MOST_TRANSFERRED)) _ (λ errno e is. absurd (cc))
-    (λ x e is. room_writable m (argument r 1) (argument r 2) room x e (cc))
+entries_room m r fd room cookie is =
+    let has = passed (writable m (argument r 1) (min (argument r 2) MOST_TRANSFERRED)) _ (FileReaddir fd room cookie) is in
+    let same : argument r 2 ≡ room = cc has.2 in
+    room_writable m (argument r 1) (argument r 2) room has.0 has.1 same
 
 link_room : (m : Pages) (r : Registers) (fd : ℕ) (path : List ℕ) (room : ℕ) → file_readlink_of m r ≡ Ok (FileReadlink fd path room)
     → IsWritable m (argument r 3) (min room MOST_TRANSFERRED)
-link_room m r fd path room =
-    let wanted = λ (x : Result Call Errno). x ≡ Ok (FileReadlink fd path room) → IsWritable m (argument r 3) (min room MOST_TRANSFERRED) in
-    after wanted (path_in m (argument r 1) (argument r 2)) _ (λ errno e is. absurd (cc)) (λ read e.
-    after wanted (writable m (argument r 3) (min (argument r 4) MOST_TRANSFERRED)) _ (λ errno e is. absurd (cc))
-    (λ x e is. room_writable m (argument r 3) (argument r 4) room x e (cc)))
+link_room m r fd path room is =
+    let read = passed (path_in m (argument r 1) (argument r 2)) _ (FileReadlink fd path room) is in
+    let has = passed (writable m (argument r 3) (min (argument r 4) MOST_TRANSFERRED)) _ (FileReadlink fd path room) read.2 in
+    let same : argument r 4 ≡ room = cc has.2 in
+    room_writable m (argument r 3) (argument r 4) room has.0 has.1 same
 
 pub entries_written : EntriesAreWritten
+unfolding read_of
 entries_written m r fd room cookie spelled =
     takes_up_to m (argument r 1) room (entries_room m r fd room cookie (call_suits m r (FileReaddir fd room cookie) (sym spelled)))
 
 pub link_written : LinkIsWritten
+unfolding read_of
 link_written m r fd path room spelled =
     takes_up_to m (argument r 3) room (link_room m r fd path room (call_suits m r (FileReadlink fd path room) (sym spelled)))
 
@@ -196,22 +199,23 @@ takes_file_state m a has stat =
     let all = filestat_length stat in (all, write_made m a 56 (filestat_bytes stat) (omega (arith, all)) has)
 
 open_room : (m : Pages) (r : Registers) (fd : ℕ) → file_stat_fget_of m r ≡ Ok (FileStatFget fd) → IsWritable m (argument r 1) 56
-open_room m r fd =
-    after (λ x. x ≡ Ok (FileStatFget fd) → IsWritable m (argument r 1) 56) (writable m (argument r 1) 56) _
-    (λ errno e is. absurd (cc)) (λ x e is. had_ok (bytes_from Write m (argument r 1) 56) x e)
+open_room m r fd is =
+    let has = passed (writable m (argument r 1) 56) _ (FileStatFget fd) is in
+    had_ok (bytes_from Write m (argument r 1) 56) has.0 has.1
 
 found_room : (m : Pages) (r : Registers) (lookup : Lookup) (path : List ℕ) → file_stat_get_of m r ≡ Ok (FileStatGet lookup path)
     → IsWritable m (argument r 3) 56
-found_room m r lookup path =
-    let wanted = λ (x : Result Call Errno). x ≡ Ok (FileStatGet lookup path) → IsWritable m (argument r 3) 56 in
-    after wanted (refuse_when (looks_unknown (argument r 0)) Inval) _ (λ errno e is. absurd (cc)) (λ x e.
-    after wanted (path_in m (argument r 1) (argument r 2)) _ (λ errno e is. absurd (cc)) (λ read e.
-    after wanted (writable m (argument r 3) 56) _ (λ errno e is. absurd (cc))
-    (λ x e is. had_ok (bytes_from Write m (argument r 3) 56) x e)))
+found_room m r lookup path is =
+    let known = not_refused (looks_unknown (argument r 0)) Inval _ (FileStatGet lookup path) is in
+    let read = passed (path_in m (argument r 1) (argument r 2)) _ (FileStatGet lookup path) known.1 in
+    let has = passed (writable m (argument r 3) 56) _ (FileStatGet lookup path) read.2 in
+    had_ok (bytes_from Write m (argument r 3) 56) has.0 has.1
 
 pub open_state_written : OpenStateIsWritten
+unfolding read_of
 open_state_written m r fd spelled = takes_file_state m (argument r 1) (open_room m r fd (call_suits m r (FileStatFget fd) (sym spelled)))
 
 pub found_state_written : FoundStateIsWritten
+unfolding read_of
 found_state_written m r lookup path spelled =
     takes_file_state m (argument r 3) (found_room m r lookup path (call_suits m r (FileStatGet lookup path) (sym spelled)))

@@ -1,6 +1,7 @@
 -- What registers and memory are like that spell a call.
 --     call_suits      what a call gives has its room; a mapping goes where it may; mem_protect and mem_unmap are of a page's
 --                     address, and mem_protect's pages are there
+--     memory_is      what the calls about pages that are there answer
 --     few_of_pread, few_of_read      an iovec array to read into has at most 1024 iovecs
 --     guests_pages      pages that are there lie in the guest's part of the address space
 --     unmapped_within      pages past that part need not be taken away
@@ -11,7 +12,9 @@ use Rattle.std.specs.FinMap.{get, len}
 use Rattle.guest_memory.specs.declared.fault.MemFault.{MemFault}
 use Rattle.guest_memory.specs.declared.fault.MemFault.TheVariants.{NotMapped, NoRight, PageLimit, Overlaps, NoMemory}
 use Rattle.abi_types.specs.declared.call.Call.{Call}
-use Rattle.abi_types.specs.declared.call.Call.TheVariants.{FdPread, FdRead, FdStatGet, FileReaddir, FileReadlink, FileStatFget, FileStatGet, MemMap, Memory, Refused}
+use Rattle.abi_types.specs.declared.call.Call.TheVariants.{FdPread, FdRead, MemMap, Memory}
+use Rattle.abi_types.specs.declared.call_number.CallNumber.TheVariants as number
+use Rattle.abi_types.specs.declared.call_number.CallNumber.{CallNumber}
 use Rattle.abi_base.specs.declared.errno.Errno.{Errno}
 use Rattle.abi_base.specs.declared.errno.Errno.TheVariants.{Success, Fault, Inval, Nobufs, Notsup}
 use Rattle.abi_types.specs.declared.place.Place.{Place}
@@ -27,37 +30,19 @@ use Rattle.guest_memory.specs.Ranges.{IsPageAddress, in_range}
 use Rattle.guest_memory.proofs.Changes.{are_there, gap_of_lowest, protected_is, unmapped_is, without_free, without_none}
 use Rattle.guest_memory.proofs.PageRanges.{first_true, second_true, inside, is_inside, not_both, no_page_unless, none_changed}
 use Rattle.codec_arguments.specs.Reading.{◌>>=◌, refuse_when}
-use Rattle.call_codec.proofs.Calls.{args_hold}
-use Rattle.call_codec.proofs.Readings.{after, test_false}
-use Rattle.codec_calls.specs.DescriptorCalls.{fd_pread_of, fd_read_of, fd_stat_get_of, has_many}
-use Rattle.codec_files.specs.ByPath.{file_readlink_of}
-use Rattle.codec_files.specs.ByNode.{file_readdir_of, file_stat_fget_of, file_stat_get_of}
+use Rattle.call_codec.proofs.Calls.{IsSpelledBy, args_spelled}
+use Rattle.call_codec.proofs.Readings.{not_refused, passed, test_false}
+use Rattle.codec_calls.specs.DescriptorCalls.{has_many}
 use Rattle.codec_arguments.specs.Arguments.{argument, low}
-use Rattle.call_codec.specs.Args.{args_of}
-use Rattle.call_codec.specs.MemoryCalls.{has_bits, is_aligned, is_guests, is_range, is_sync, pages_in, if_mapped, mem_advise_of, mem_map_of, mem_protect_of, mem_sync_of, mem_unmap_of, map_refusal, protect_refusal, unless_refused, place_at, place_in, place_in_gap, place_of, writes_and_executes, has_one, MayMapAt, MayMapThere}
+use Rattle.call_codec.specs.Arguments.{args_of, read_of}
+use Rattle.call_codec.specs.MemoryCalls.{has_bits, is_aligned, is_guests, is_range, is_sync, pages_in, if_mapped, mem_map_of, may_map, placed_map, place_at, place_in, place_in_gap, place_of, writes_and_executes, has_one, MayMapAt, MayMapThere}
 
 -- what these registers and this memory are like where they spell the call
 abbrev pub Suits : Pages → Registers → Call → Type 0
-Suits m r (FdPread fd length offset) = fd_pread_of m r ≡ Ok (FdPread fd length offset)
-Suits m r (FdRead fd length) = fd_read_of m r ≡ Ok (FdRead fd length)
-Suits m r (FdStatGet fd) = fd_stat_get_of m r ≡ Ok (FdStatGet fd)
-Suits m r (FileReaddir fd room cookie) = file_readdir_of m r ≡ Ok (FileReaddir fd room cookie)
-Suits m r (FileReadlink fd path room) = file_readlink_of m r ≡ Ok (FileReadlink fd path room)
-Suits m r (FileStatFget fd) = file_stat_fget_of m r ≡ Ok (FileStatFget fd)
-Suits m r (FileStatGet lookup path) = file_stat_get_of m r ≡ Ok (FileStatGet lookup path)
 Suits m r (MemMap place length prot flags fd offset) = MayMapThere m place (pages_in length)
-Suits m r (Memory number errno) =
-    IsPageAddress (argument r 0) × (number ≡ 34 → errno ≡ Success → AreThere m (argument r 0 / 4096) (pages_in (argument r 1)))
-Suits m r other = Unit {0}
-
-either_suits : (m : Pages) (r : Registers) (b : Bool) (x y : Call) → (b ≡ true → Suits m r x) → Suits m r y → Suits m r (cond b x y)
-either_suits m r true x y h k = h refl
-either_suits m r false x y h k = k
-
-unless_suits : (m : Pages) (r : Registers) (number : ℕ) (refusal : Option Errno) (call : Call) → (refusal ≡ None → Suits m r call)
-    → Suits m r (unless_refused number refusal call)
-unless_suits m r number None call h = h refl
-unless_suits m r number (Some errno) call h = tt
+Suits m r (Memory it errno) =
+    IsPageAddress (argument r 0) × (it ≡ number.MemProtect → errno ≡ Success → AreThere m (argument r 0 / 4096) (pages_in (argument r 1)))
+Suits m r call = IsSpelledBy m r call
 
 aligned_is : (a : ℕ) → is_aligned a ≡ true → IsPageAddress a
 aligned_is a h = elim (eqb_tells (a % 4096) 0) [
@@ -71,51 +56,55 @@ success_is_there m n k = elim (all_there m n k) as (λ b. cond b Success Fault �
 mapped_there : (m : Pages) (a bytes : ℕ) → if_mapped m a bytes ≡ Success → AreThere m (a / 4096) (pages_in bytes)
 mapped_there m a bytes h = are_there (pages_in bytes) m (a / 4096) (success_is_there m (a / 4096) (pages_in bytes) h)
 
-advise_suits : (m : Pages) (r : Registers) → Suits m r (mem_advise_of m r)
-advise_suits m r =
-    let known = nat_lt 0 (low (argument r 2)) && nat_le (low (argument r 2)) 6 in
-    either_suits m r (known && is_aligned (argument r 0)) (Memory 32 (if_mapped m (argument r 0) (argument r 1))) (Refused 32 Inval)
-    (λ e. (aligned_is (argument r 0) (second_true known (is_aligned (argument r 0)) e), λ n. cc)) tt
-
-sync_suits : (m : Pages) (r : Registers) → Suits m r (mem_sync_of m r)
-sync_suits m r =
-    let known = is_sync (low (argument r 2)) in
-    either_suits m r (known && is_aligned (argument r 0)) (Memory 35 (if_mapped m (argument r 0) (argument r 1))) (Refused 35 Inval)
-    (λ e. (aligned_is (argument r 0) (second_true known (is_aligned (argument r 0)) e), λ n. cc)) tt
-
-unmap_suits : (m : Pages) (r : Registers) → Suits m r (mem_unmap_of r)
-unmap_suits m r =
-    let some = is_range (argument r 0) (argument r 1) in
-    either_suits m r (is_aligned (argument r 0) && some) (Memory 36 Success) (Refused 36 Inval)
-    (λ e. (aligned_is (argument r 0) (first_true (is_aligned (argument r 0)) some e), λ n. cc)) tt
-
--- ---- refusals that don't come
-
-not_refused : (b : Bool) (errno : Errno) (rest : Option Errno) → cond b (Some errno) rest ≡ None → b ≡ false
-not_refused true errno rest h = cc
-not_refused false errno rest h = refl
-
-rest_refuses : (b : Bool) (errno : Errno) (rest : Option Errno) → cond b (Some errno) rest ≡ None → rest ≡ None
-rest_refuses true errno rest h = cc
-rest_refuses false errno rest h = h
+not_false : (b : Bool) → not b ≡ false → b ≡ true
+not_false true h = refl
+not_false false h = cc
 
 or_not : (a b : Bool) → (a || not b) ≡ false → b ≡ true
 or_not true b h = cc
-or_not false true h = refl
-or_not false false h = cc
+or_not false b h = not_false b h
 
 and_not : (a b : Bool) → (a && not b) ≡ false → a ≡ true → b ≡ true
-and_not true true h e = refl
-and_not true false h e = cc
+and_not true b h e = not_false b h
 and_not false b h e = cc
 
-protect_suits : (m : Pages) (r : Registers) → Suits m r (mem_protect_of m r)
-protect_suits m r =
-    let a = argument r 0 in
-    let prot = low (argument r 2) in
-    let last = cond (writes_and_executes prot) (Some Notsup) None in
-    unless_suits m r 34 (protect_refusal a prot) (Memory 34 (if_mapped m a (argument r 1)))
-    (λ e. (aligned_is a (or_not (nat_lt 7 prot) (is_aligned a) (not_refused (nat_lt 7 prot || not (is_aligned a)) Inval last e)), λ n. mapped_there m a (argument r 1)))
+-- ---- calls about pages that are there
+
+-- mem_advise, mem_protect, mem_sync and mem_unmap have a page's address; all but mem_unmap answer by the pages
+pub memory_is : (m : Pages) (r : Registers) (it : CallNumber) (errno : Errno) → IsSpelledBy m r (Memory it errno)
+    → (is_aligned (argument r 0) ≡ true) × ((if_mapped m (argument r 0) (argument r 1) ≡ errno) ⊎ ((it ≡ number.MemUnmap) × (errno ≡ Success)))
+unfolding read_of
+memory_is m r number.MemAdvise errno is =
+    let call = Memory number.MemAdvise errno in
+    let known = not_refused (not (nat_lt 0 (low (argument r 2)) && nat_le (low (argument r 2)) 6)) Inval _ call is in
+    let page = not_refused (not (is_aligned (argument r 0))) Inval _ call known.1 in
+    (not_false (is_aligned (argument r 0)) page.0, inl (cc page.1))
+memory_is m r number.MemProtect errno is =
+    let call = Memory number.MemProtect errno in
+    let known = not_refused (nat_lt 7 (low (argument r 2)) || not (is_aligned (argument r 0))) Inval _ call is in
+    let apart = not_refused (writes_and_executes (low (argument r 2))) Notsup _ call known.1 in
+    (or_not (nat_lt 7 (low (argument r 2))) (is_aligned (argument r 0)) known.0, inl (cc apart.1))
+memory_is m r number.MemSync errno is =
+    let call = Memory number.MemSync errno in
+    let known = not_refused (not (is_sync (low (argument r 2)))) Inval _ call is in
+    let page = not_refused (not (is_aligned (argument r 0))) Inval _ call known.1 in
+    (not_false (is_aligned (argument r 0)) page.0, inl (cc page.1))
+memory_is m r number.MemUnmap errno is =
+    let call = Memory number.MemUnmap errno in
+    let page = not_refused (not (is_aligned (argument r 0))) Inval _ call is in
+    let some = not_refused (not (is_range (argument r 0) (argument r 1))) Inval _ call page.1 in
+    (not_false (is_aligned (argument r 0)) page.0, inr (refl, cc some.1))
+memory_is m r it errno is = absurd is
+
+memory_suits : (m : Pages) (r : Registers) (it : CallNumber) (errno : Errno) → IsSpelledBy m r (Memory it errno) → Suits m r (Memory it errno)
+memory_suits m r it errno is =
+    let of_pages = memory_is m r it errno is in (
+      aligned_is (argument r 0) of_pages.0,
+      λ protects succeeds. elim of_pages.1 [
+        | inl answered ↦ mapped_there m (argument r 0) (argument r 1) (answered ∙ succeeds)
+        | inr unmaps ↦ let same : number.MemUnmap ≡ number.MemProtect = sym unmaps.0 ∙ protects in absurd (cc)
+      ],
+    )
 
 -- ---- where a mapping goes
 
@@ -160,76 +149,49 @@ in_gap_good m k =
     either_good m k (nat_le (len m + k) page_limit) (place_in (lowest_gap m k)) (place.Refused Nobufs)
     (λ e. gap_good m k (lowest_gap m k) refl (leb-true (len m + k) page_limit e)) (λ e. tt)
 
-place_good : (m : Pages) (a bytes prot flags offset : ℕ) → map_refusal a bytes prot flags offset ≡ None → MayMapThere m (place_of m a flags (pages_in bytes)) (pages_in bytes)
-place_good m a bytes prot flags offset h =
+place_good : (m : Pages) (a bytes prot flags offset : ℕ) (x : Unit {0}) → may_map a bytes prot flags offset ≡ Ok x
+    → MayMapThere m (place_of m a flags (pages_in bytes)) (pages_in bytes)
+place_good m a bytes prot flags offset x h =
     let k = pages_in bytes in
-    let wrong = nat_lt 7 prot || nat_lt 15 flags || bytes == 0 || not (has_one flags 4 8) || not (is_aligned offset) in
-    let shared = has_bits flags 8 || writes_and_executes prot in
     let outside = has_bits flags 2 && not (is_aligned a && is_guests a k) in
-    let last : Option Errno = cond outside (Some Inval) None in
-    let second : Option Errno = cond shared (Some Notsup) last in
-    let within = not_refused outside Inval None (rest_refuses shared Notsup last (rest_refuses wrong Inval second h)) in
+    let known = not_refused (nat_lt 7 prot || nat_lt 15 flags || bytes == 0) Inval _ x h in
+    let one = not_refused (not (has_one flags 4 8)) Inval _ x known.1 in
+    let page = not_refused (not (is_aligned offset)) Inval _ x one.1 in
+    let private = not_refused (has_bits flags 8) Notsup _ x page.1 in
+    let apart = not_refused (writes_and_executes prot) Notsup _ x private.1 in
+    let within = test_false outside Inval x apart.1 in
     either_good m k (has_bits flags 2) (place_at m a k) (place_in_gap m k)
     (λ e. fixed_good m a k (and_not (has_bits flags 2) (is_aligned a && is_guests a k) within e)) (λ e. in_gap_good m k)
 
-map_suits : (m : Pages) (r : Registers) → Suits m r (mem_map_of m r)
-map_suits m r =
-    unless_suits m r 33 (map_refusal (argument r 0) (argument r 1) (low (argument r 2)) (low (argument r 3)) (argument r 5)) _
-    (place_good m (argument r 0) (argument r 1) (low (argument r 2)) (low (argument r 3)) (argument r 5))
+map_suits : (m : Pages) (r : Registers) (call : Call) → mem_map_of m r ≡ Ok call → Suits m r call
+map_suits m r call is =
+    let may = passed (may_map (argument r 0) (argument r 1) (low (argument r 2)) (low (argument r 3)) (argument r 5)) _ call is in
+    let placed : placed_map m r ≡ call = cc may.2 in
+    subst (Suits m r) placed (place_good m (argument r 0) (argument r 1) (low (argument r 2)) (low (argument r 3)) (argument r 5) may.0 may.1)
 
--- the registers and the memory suit the call that they spell
-args_suit : (m : Pages) (r : Registers) → Suits m r (args_of m r)
-args_suit m r = args_hold (Suits m r) m r (record {
-  fd_close = λ fd. tt;
-  fd_datasync = λ fd. tt;
-  fd_dup = λ fd. tt;
-  fd_pread = λ fd length offset is. is;
-  fd_pwrite = λ fd bytes offset is. tt;
-  fd_read = λ fd length is. is;
-  fd_replace = λ from to. tt;
-  fd_seek = λ fd offset whence is. tt;
-  fd_stat_get = λ fd is. is;
-  fd_stat_put = λ fd stat flags is. tt;
-  fd_sync = λ fd. tt;
-  fd_write = λ fd bytes. tt;
-  files = record {
-    file_advise = λ fd offset length advice is. tt;
-    file_allocate = λ fd offset length is. tt;
-    file_create = λ fd path kind is. tt;
-    file_link = λ lookup path new_fd new_path is. tt;
-    file_open = λ lookup path oflags stat is. tt;
-    file_readdir = λ fd room cookie is. is;
-    file_readlink = λ fd path room is. is;
-    file_rename = λ fd path new_fd new_path is. tt;
-    file_stat_fget = λ fd is. is;
-    file_stat_fput = λ fd stat flags is. tt;
-    file_stat_get = λ lookup path is. is;
-    file_stat_put = λ lookup path stat flags is. tt;
-    file_symlink = λ text fd path is. tt;
-    file_unlink = λ fd path flags is. tt;
-  };
-  mem_advise = advise_suits m r;
-  mem_map = map_suits m r;
-  mem_protect = protect_suits m r;
-  mem_sync = sync_suits m r;
-  mem_unmap = unmap_suits m r;
-  proc_exit = λ code. tt;
-  refused = λ number errno listed. tt;
-})
+-- ---- all of them
+
+suits : (m : Pages) (r : Registers) (call : Call) → IsSpelledBy m r call → Suits m r call
+unfolding read_of
+suits m r (MemMap place length prot flags fd offset) is = map_suits m r (MemMap place length prot flags fd offset) is
+suits m r (Memory it errno) is = memory_suits m r it errno is
+suits m r call is = is
 
 pub call_suits : (m : Pages) (r : Registers) (call : Call) → call ≡ args_of m r → Suits m r call
-call_suits m r call spelled = subst (Suits m r) (sym spelled) (args_suit m r)
+call_suits m r call spelled = suits m r call (subst (IsSpelledBy m r) (sym spelled) (args_spelled m r))
 
 -- ---- iovec arrays
 
 -- what isn't refused has at most 1024 iovecs
 few_iovecs : (count : ℕ) (rest : Unit {0} → Result Call Errno) (call : Call) → (refuse_when (has_many count) Inval >>= rest) ≡ Ok call → count ≤ 1024
-few_iovecs count rest call = after (λ x. x ≡ Ok call → count ≤ 1024) (refuse_when (has_many count) Inval) rest (λ errno e is. cc) (λ x e is. ltb-false 1024 count (test_false (has_many count) Inval x e))
+few_iovecs count rest call is = let few = not_refused (has_many count) Inval rest call is in ltb-false 1024 count few.0
 
-pub few_of_pread : (m : Pages) (r : Registers) (fd length offset : ℕ) → fd_pread_of m r ≡ Ok (FdPread fd length offset) → argument r 2 ≤ 1024
+pub few_of_pread : (m : Pages) (r : Registers) (fd length offset : ℕ) → IsSpelledBy m r (FdPread fd length offset) → argument r 2 ≤ 1024
+unfolding read_of
 few_of_pread m r fd length offset is = few_iovecs (argument r 2) _ (FdPread fd length offset) is
 
-pub few_of_read : (m : Pages) (r : Registers) (fd length : ℕ) → fd_read_of m r ≡ Ok (FdRead fd length) → argument r 2 ≤ 1024
+pub few_of_read : (m : Pages) (r : Registers) (fd length : ℕ) → IsSpelledBy m r (FdRead fd length) → argument r 2 ≤ 1024
+unfolding read_of
 few_of_read m r fd length is = few_iovecs (argument r 2) _ (FdRead fd length) is
 
 -- ---- the guest's part of the address space

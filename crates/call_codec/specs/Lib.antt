@@ -1,7 +1,5 @@
-pub mod Args
 pub mod MemoryCalls
-pub mod WriteCall
-pub mod Spelled
+pub mod Arguments
 pub mod Output
 pub mod Put
 pub mod OutputLaws

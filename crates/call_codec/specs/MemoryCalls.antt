@@ -1,11 +1,13 @@
 -- The calls that a process makes about its own memory: mem_advise, mem_map, mem_protect, mem_sync and mem_unmap. What
 -- they answer is in the caller's registers and memory alone, and so is what they leave of the memory.
-use Rattle.std.specs.Prelude.{ℕ, ◌≤◌, ◌+◌, ◌-◌, ◌*◌, ◌/◌, ◌%◌, ◌^◌, ◌==◌, ◌&&◌, ◌||◌, not, nat_le, nat_lt, Bool, List, take, Option, Some, None, if◌then◌else◌}
+use Rattle.std.specs.Prelude.{ℕ, ◌≤◌, ◌+◌, ◌-◌, ◌*◌, ◌/◌, ◌%◌, ◌^◌, ◌==◌, ◌&&◌, ◌||◌, not, nat_le, nat_lt, Bool, List, take, Option, Some, None, Result, Ok, if◌then◌else◌}
 use Rattle.abi_base.specs.declared.address_space.TheConstants.{GUEST_BEGIN, GUEST_END, PAGE_SIZE}
 use Rattle.std.specs.Int.RustNames.{bit_and}
 use Rattle.std.specs.FinMap.{len}
 use Rattle.abi_types.specs.declared.call.Call.{Call}
-use Rattle.abi_types.specs.declared.call.Call.TheVariants.{MemMap, Memory, Refused}
+use Rattle.abi_types.specs.declared.call.Call.TheVariants.{MemMap, Memory}
+use Rattle.abi_types.specs.declared.call_number.CallNumber.{CallNumber}
+use Rattle.abi_types.specs.declared.call_number.CallNumber.TheVariants.{MemAdvise, MemProtect, MemSync, MemUnmap}
 use Rattle.abi_base.specs.declared.errno.Errno.{Errno}
 use Rattle.abi_base.specs.declared.errno.Errno.TheVariants.{Success, Fault, Inval, Nobufs, Notsup}
 use Rattle.abi_types.specs.declared.place.Place.{Place}
@@ -19,6 +21,7 @@ use Rattle.guest_memory.specs.Page.{Pages}
 use Rattle.guest_memory.specs.Ranges.{IsPageAddress}
 use Rattle.guest_memory.specs.Written.{set_bytes}
 use Rattle.codec_arguments.specs.Arguments.{argument, low}
+use Rattle.codec_arguments.specs.Reading.{◌>>=◌, refuse_when}
 
 -- ---- arguments
 
@@ -57,59 +60,53 @@ abbrev pub if_mapped : Pages → ℕ → ℕ → Errno
 if_mapped m a bytes = if all_there m (a / PAGE_SIZE) (pages_in bytes) then Success else Fault
 
 -- mem_advise: an address, a length and an advice from 1 to 6
-abbrev pub mem_advise_of : Pages → Registers → Call
+abbrev pub mem_advise_of : Pages → Registers → Result Call Errno
 mem_advise_of m r =
-    if nat_lt 0 (low (argument r 2)) && nat_le (low (argument r 2)) 6 && is_aligned (argument r 0)
-    then Memory 32 (if_mapped m (argument r 0) (argument r 1))
-    else Refused 32 Inval
-
--- why mem_protect is refused by its address and its prot
-abbrev pub protect_refusal : ℕ → ℕ → Option Errno
-protect_refusal a prot =
-    if nat_lt 7 prot || not (is_aligned a) then Some Inval
-    else if writes_and_executes prot then Some Notsup
-    else None
-
--- the call with this number, if it is not refused beforehand
-abbrev pub unless_refused : ℕ → Option Errno → Call → Call
-unless_refused number None call = call
-unless_refused number (Some errno) call = Refused number errno
+    refuse_when (not (nat_lt 0 (low (argument r 2)) && nat_le (low (argument r 2)) 6)) Inval >>= λ _.
+    refuse_when (not (is_aligned (argument r 0))) Inval >>= λ _.
+    Ok (Memory MemAdvise (if_mapped m (argument r 0) (argument r 1)))
 
 -- mem_protect: an address, a length and a prot
-abbrev pub mem_protect_of : Pages → Registers → Call
+abbrev pub mem_protect_of : Pages → Registers → Result Call Errno
 mem_protect_of m r =
-    unless_refused 34 (protect_refusal (argument r 0) (low (argument r 2))) (Memory 34 (if_mapped m (argument r 0) (argument r 1)))
+    refuse_when (nat_lt 7 (low (argument r 2)) || not (is_aligned (argument r 0))) Inval >>= λ _.
+    refuse_when (writes_and_executes (low (argument r 2))) Notsup >>= λ _.
+    Ok (Memory MemProtect (if_mapped m (argument r 0) (argument r 1)))
 
 -- the flags of mem_sync: exactly one of ASYNC, which is 1, and SYNC, which is 4; INVALIDATE, which is 2, may be there too
 abbrev pub is_sync : ℕ → Bool
 is_sync flags = nat_le flags 7 && has_one flags 1 4
 
 -- mem_sync: an address, a length and flags
-abbrev pub mem_sync_of : Pages → Registers → Call
+abbrev pub mem_sync_of : Pages → Registers → Result Call Errno
 mem_sync_of m r =
-    if is_sync (low (argument r 2)) && is_aligned (argument r 0)
-    then Memory 35 (if_mapped m (argument r 0) (argument r 1))
-    else Refused 35 Inval
+    refuse_when (not (is_sync (low (argument r 2)))) Inval >>= λ _.
+    refuse_when (not (is_aligned (argument r 0))) Inval >>= λ _.
+    Ok (Memory MemSync (if_mapped m (argument r 0) (argument r 1)))
 
 -- some bytes from the address on, none of which stands at 2^64 or behind it
 abbrev pub is_range : ℕ → ℕ → Bool
 is_range a bytes = nat_lt 0 bytes && nat_le (a + bytes) (2 ^ 64)
 
 -- mem_unmap: an address and a length. It passes over pages that aren't there.
-abbrev pub mem_unmap_of : Registers → Call
+abbrev pub mem_unmap_of : Registers → Result Call Errno
 mem_unmap_of r =
-    if is_aligned (argument r 0) && is_range (argument r 0) (argument r 1) then Memory 36 Success else Refused 36 Inval
+    refuse_when (not (is_aligned (argument r 0))) Inval >>= λ _.
+    refuse_when (not (is_range (argument r 0) (argument r 1))) Inval >>= λ _.
+    Ok (Memory MemUnmap Success)
 
 -- ---- mem_map
 
--- Why mem_map is refused by its address, length, prot, flags and offset, with a file or without one. ANON is 1, FIXED is 2,
+-- How mem_map is refused by its address, length, prot, flags and offset, with a file or without one. ANON is 1, FIXED is 2,
 -- PRIVATE is 4 and SHARED is 8.
-abbrev pub map_refusal : ℕ → ℕ → ℕ → ℕ → ℕ → Option Errno
-map_refusal a bytes prot flags offset =
-    if nat_lt 7 prot || nat_lt 15 flags || bytes == 0 || not (has_one flags 4 8) || not (is_aligned offset) then Some Inval
-    else if has_bits flags 8 || writes_and_executes prot then Some Notsup
-    else if has_bits flags 2 && not (is_aligned a && is_guests a (pages_in bytes)) then Some Inval
-    else None
+abbrev pub may_map : ℕ → ℕ → ℕ → ℕ → ℕ → Result (Unit {0}) Errno
+may_map a bytes prot flags offset =
+    refuse_when (nat_lt 7 prot || nat_lt 15 flags || bytes == 0) Inval >>= λ _.
+    refuse_when (not (has_one flags 4 8)) Inval >>= λ _.
+    refuse_when (not (is_aligned offset)) Inval >>= λ _.
+    refuse_when (has_bits flags 8) Notsup >>= λ _.
+    refuse_when (writes_and_executes prot) Notsup >>= λ _.
+    refuse_when (has_bits flags 2 && not (is_aligned a && is_guests a (pages_in bytes))) Inval
 
 -- FIXED: k pages at the address, in place of those that are there; NOBUFS where that would be too many
 abbrev pub place_at : Pages → ℕ → ℕ → Place
@@ -133,9 +130,10 @@ placed_map m r =
     MemMap (place_of m (argument r 0) (low (argument r 3)) (pages_in (argument r 1))) (argument r 1) (low (argument r 2)) (low (argument r 3)) (low (argument r 4)) (argument r 5)
 
 -- mem_map: an address, a length, a prot, flags, a descriptor and an offset
-abbrev pub mem_map_of : Pages → Registers → Call
+abbrev pub mem_map_of : Pages → Registers → Result Call Errno
 mem_map_of m r =
-    unless_refused 33 (map_refusal (argument r 0) (argument r 1) (low (argument r 2)) (low (argument r 3)) (argument r 5)) (placed_map m r)
+    may_map (argument r 0) (argument r 1) (low (argument r 2)) (low (argument r 3)) (argument r 5) >>= λ _.
+    Ok (placed_map m r)
 
 -- ---- what they leave of the memory
 
@@ -158,11 +156,10 @@ with_mapping m (At a) k prot bytes = set_bytes (mapped m (a / PAGE_SIZE) k prot)
 with_mapping m (place.Refused errno) k prot bytes = m
 
 -- the memory after the call with this number, which succeeded; the others change nothing
-abbrev pub with_change : Pages → Registers → ℕ → Pages
-with_change m r number =
-    if number == 34 then protected m (argument r 0 / PAGE_SIZE) (pages_in (argument r 1)) (prot_of (low (argument r 2)))
-    else if number == 36 then without_pages m (argument r 0 / PAGE_SIZE) (pages_in (argument r 1))
-    else m
+abbrev pub with_change : Pages → Registers → CallNumber → Pages
+with_change m r MemProtect = protected m (argument r 0 / PAGE_SIZE) (pages_in (argument r 1)) (prot_of (low (argument r 2)))
+with_change m r MemUnmap = without_pages m (argument r 0 / PAGE_SIZE) (pages_in (argument r 1))
+with_change m r other = m
 
 -- the first on SUCCESS, and else the second
 abbrev pub on_success : {X : Type 0} → Errno → X → X → X

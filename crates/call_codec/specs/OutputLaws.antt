@@ -17,7 +17,7 @@ use Rattle.guest_memory.specs.Written.{write_of}
 use Rattle.codec_arguments.specs.Arguments.{argument}
 use Rattle.codec_arguments.specs.Ranges.{ranges_at}
 use Rattle.codec_arguments.specs.declared.ranges.TheConstants.{MOST_TRANSFERRED}
-use Rattle.call_codec.specs.Args.{args_of}
+use Rattle.call_codec.specs.Arguments.{args_of}
 use Rattle.call_codec.specs.MemoryCalls.{pages_in, prot_of}
 use Rattle.call_codec.specs.Output.{content_of, fdstat_bytes, filestat_bytes, with_bytes}
 use Rattle.call_codec.specs.Put.{memory_after}

@@ -1,79 +1,198 @@
 //! From registers and memory to a call.
-ghost use Rattle.std.specs.Prelude.{◌≡◌, IfOk, OnErr, slice_index};
-ghost use Rattle.call_codec.specs.Args.{args_of, IsCopied};
-ghost use Rattle.call_codec.specs.Spelled.{descriptor_call, or_refused};
-ghost use Rattle.codec_files.specs.Numbers.{CopiesPath, file_call};
+ghost use Rattle.std.specs.Prelude.{◌≡◌, ◌&&◌, IfOk, IsTrue, OnErr};
+ghost use Rattle.codec_arguments.specs.Reading.{LacksMemory, Reads};
+ghost use Rattle.call_codec.specs.Arguments.{AsksFor, args_of, is_built, is_copied, or_refused, read_of, spelled_of};
 
-use crate::memory_calls::{
-    MEM_ADVISE, MEM_MAP, MEM_PROTECT, MEM_SYNC, MEM_UNMAP, mem_advise, mem_map, mem_protect,
-    mem_sync, mem_unmap,
+use crate::memory_calls::{mem_advise, mem_map, mem_protect, mem_sync, mem_unmap};
+use abi_types::{Call, CallNumber, Errno, Regs};
+use codec_arguments::ArgumentFault;
+use codec_calls::{
+    clock_res_get, clock_time_get, condvar_signal, fd_close, fd_create1, fd_create2, fd_datasync,
+    fd_dup, fd_pread, fd_pwrite, fd_read, fd_replace, fd_seek, fd_stat_get, fd_stat_put, fd_sync,
+    fd_write, lock_unlock, proc_exec, proc_exit, proc_fork, proc_raise, random_get, sock_recv,
+    sock_send, sock_shutdown, thread_create, thread_exit, thread_yield,
 };
-use crate::reading::descriptor_call;
-use abi_types::{Call, Errno, Regs};
-use codec_arguments::{ArgumentFault, low};
-use codec_files::file_call;
+use codec_files::{
+    file_advise, file_allocate, file_create, file_link, file_open, file_readdir, file_readlink,
+    file_rename, file_stat_fget, file_stat_fput, file_stat_get, file_stat_put, file_symlink,
+    file_unlink,
+};
+use codec_poll::poll;
 use guest_memory::GuestMemory;
 use std::alloc::{AllocError, Global};
 
-// The number of proc_exit.
-const PROC_EXIT: u64 = 39;
-
-/// The call that the registers and the memory spell as a thread stands at an ECALL. A call that its arguments refuse is
-/// `Refused`, with its number and its error; so is one that isn't built, with NOSYS.
-#[tactic(auto, unfolding(crate::specs::Args::args_of))]
+/// The call that the registers and the memory of a program that runs spell as a thread stands at an ECALL. A call that its
+/// arguments refuse is `Refused`, with its number and its error; so is one that isn't built, with NOSYS.
+#[tactic(auto, unfolding(crate::specs::Arguments::args_of))]
 pub fn args(alloc: Global, regs: &Regs, memory: &GuestMemory) -> Result<Call, AllocError>
     ensures ok { IfOk result (λ call. call ≡ args_of memory.now regs.now) }
-    ensures only { OnErr result (IsCopied (slice_index regs.now.x 17)) }
+    ensures only { OnErr result (AsksFor (λ number. is_built number && is_copied number) regs.now) }
 {
-    let number = regs.get(17);
-    match number {
-        3 | 4 | 6..=16 => of_descriptors(alloc, regs, memory, number),
-        17..=30 => of_files(alloc, regs, memory, number),
-        MEM_ADVISE => Ok(mem_advise(regs, memory)),
-        MEM_MAP => Ok(mem_map(regs, memory)),
-        MEM_PROTECT => Ok(mem_protect(regs, memory)),
-        MEM_SYNC => Ok(mem_sync(regs, memory)),
-        MEM_UNMAP => Ok(mem_unmap(regs)),
-        PROC_EXIT => Ok(Call::ProcExit {
-            code: low(regs.get(10)),
-        }),
-        _ => Ok(Call::Refused {
+    let asked = regs.get(17);
+    match CallNumber::of(asked) {
+        // proc_fork alone asks how many turns are left, and it isn't built.
+        Some(number) if is_built(number) => read_or_refuse(alloc, regs, memory, 0, number),
+        Some(number) => Ok(Call::Refused {
             number,
             errno: Errno::Nosys,
         }),
+        None => Ok(Call::Unknown { number: asked }),
     }
 }
 
-// The call about descriptors with this number, or its refusal.
-fn of_descriptors(
+/// The same for all 49 calls, of a process that has so many turns left.
+pub fn read_call(
     alloc: Global,
     regs: &Regs,
     memory: &GuestMemory,
-    number: u64,
+    left: u64,
 ) -> Result<Call, AllocError>
-    ensures ok { IfOk result (λ call. call ≡ or_refused number (descriptor_call memory.now regs.now number)) }
-    ensures only { OnErr result (IsCopied number) }
+    ensures ok { IfOk result (λ call. call ≡ spelled_of memory.now regs.now left) }
+    ensures only { OnErr result (AsksFor is_copied regs.now) }
 {
-    match descriptor_call(alloc, regs, memory, number) {
+    let asked = regs.get(17);
+    match CallNumber::of(asked) {
+        Some(number) => read_or_refuse(alloc, regs, memory, left, number),
+        None => Ok(Call::Unknown { number: asked }),
+    }
+}
+
+// The call with this number, or its refusal.
+fn read_or_refuse(
+    alloc: Global,
+    regs: &Regs,
+    memory: &GuestMemory,
+    left: u64,
+    number: CallNumber,
+) -> Result<Call, AllocError>
+    ensures ok { IfOk result (λ call. call ≡ or_refused number (read_of memory.now regs.now left number)) }
+    ensures only { OnErr result (IsTrue (is_copied number)) }
+{
+    match read(alloc, regs, memory, left, number) {
         Ok(call) => Ok(call),
         Err(ArgumentFault::Errno(errno)) => Ok(Call::Refused { number, errno }),
         Err(ArgumentFault::NoMemory) => Err(AllocError),
     }
 }
 
-// The call about files with this number, or its refusal.
-fn of_files(
+// Whether the kernel does the call.
+fn is_built(number: CallNumber) -> bool
+    ensures { result ≡ is_built number }
+{
+    match number {
+        CallNumber::FdClose
+        | CallNumber::FdCreate1
+        | CallNumber::FdDatasync
+        | CallNumber::FdDup
+        | CallNumber::FdPread
+        | CallNumber::FdPwrite
+        | CallNumber::FdRead
+        | CallNumber::FdReplace
+        | CallNumber::FdSeek
+        | CallNumber::FdStatGet
+        | CallNumber::FdStatPut
+        | CallNumber::FdSync
+        | CallNumber::FdWrite
+        | CallNumber::FileAdvise
+        | CallNumber::FileAllocate
+        | CallNumber::FileCreate
+        | CallNumber::FileLink
+        | CallNumber::FileOpen
+        | CallNumber::FileReaddir
+        | CallNumber::FileReadlink
+        | CallNumber::FileRename
+        | CallNumber::FileStatFget
+        | CallNumber::FileStatFput
+        | CallNumber::FileStatGet
+        | CallNumber::FileStatPut
+        | CallNumber::FileSymlink
+        | CallNumber::FileUnlink
+        | CallNumber::MemAdvise
+        | CallNumber::MemMap
+        | CallNumber::MemProtect
+        | CallNumber::MemSync
+        | CallNumber::MemUnmap
+        | CallNumber::ProcExit => true,
+        CallNumber::ClockResGet
+        | CallNumber::ClockTimeGet
+        | CallNumber::CondvarSignal
+        | CallNumber::FdCreate2
+        | CallNumber::LockUnlock
+        | CallNumber::Poll
+        | CallNumber::ProcExec
+        | CallNumber::ProcFork
+        | CallNumber::ProcRaise
+        | CallNumber::RandomGet
+        | CallNumber::SockRecv
+        | CallNumber::SockSend
+        | CallNumber::SockShutdown
+        | CallNumber::ThreadCreate
+        | CallNumber::ThreadExit
+        | CallNumber::ThreadYield => false,
+    }
+}
+
+// The call with this number, of a process that has so many turns left. The host needs memory only for what is copied.
+#[tactic(auto, unfolding(crate::specs::Arguments::read_of))]
+fn read(
     alloc: Global,
     regs: &Regs,
     memory: &GuestMemory,
-    number: u64,
-) -> Result<Call, AllocError>
-    ensures ok { IfOk result (λ call. call ≡ or_refused number (file_call memory.now regs.now number)) }
-    ensures only { OnErr result (CopiesPath number) }
+    left: u64,
+    number: CallNumber,
+) -> Result<Call, ArgumentFault>
+    ensures reads { Reads result (read_of memory.now regs.now left number) }
+    ensures only { LacksMemory result → IsTrue (is_copied number) }
 {
-    match file_call(alloc, regs, memory, number) {
-        Ok(call) => Ok(call),
-        Err(ArgumentFault::Errno(errno)) => Ok(Call::Refused { number, errno }),
-        Err(ArgumentFault::NoMemory) => Err(AllocError),
+    match number {
+        CallNumber::ClockResGet => Ok(clock_res_get(regs)?),
+        CallNumber::ClockTimeGet => Ok(clock_time_get(regs)?),
+        CallNumber::CondvarSignal => Ok(condvar_signal(regs, memory)?),
+        CallNumber::FdClose => Ok(fd_close(regs)),
+        CallNumber::FdCreate1 => Err(ArgumentFault::Errno(fd_create1(regs))),
+        CallNumber::FdCreate2 => Ok(fd_create2(regs)?),
+        CallNumber::FdDatasync => Ok(fd_datasync(regs)),
+        CallNumber::FdDup => Ok(fd_dup(regs)),
+        CallNumber::FdPread => fd_pread(alloc, regs, memory),
+        CallNumber::FdPwrite => fd_pwrite(alloc, regs, memory),
+        CallNumber::FdRead => fd_read(alloc, regs, memory),
+        CallNumber::FdReplace => Ok(fd_replace(regs)),
+        CallNumber::FdSeek => Ok(fd_seek(regs)?),
+        CallNumber::FdStatGet => Ok(fd_stat_get(regs, memory)?),
+        CallNumber::FdStatPut => Ok(fd_stat_put(regs, memory)?),
+        CallNumber::FdSync => Ok(fd_sync(regs)),
+        CallNumber::FdWrite => fd_write(alloc, regs, memory),
+        CallNumber::FileAdvise => Ok(file_advise(regs)?),
+        CallNumber::FileAllocate => Ok(file_allocate(regs)?),
+        CallNumber::FileCreate => file_create(alloc, regs, memory),
+        CallNumber::FileLink => file_link(alloc, regs, memory),
+        CallNumber::FileOpen => file_open(alloc, regs, memory),
+        CallNumber::FileReaddir => Ok(file_readdir(regs, memory)?),
+        CallNumber::FileReadlink => file_readlink(alloc, regs, memory),
+        CallNumber::FileRename => file_rename(alloc, regs, memory),
+        CallNumber::FileStatFget => Ok(file_stat_fget(regs, memory)?),
+        CallNumber::FileStatFput => Ok(file_stat_fput(regs, memory)?),
+        CallNumber::FileStatGet => file_stat_get(alloc, regs, memory),
+        CallNumber::FileStatPut => file_stat_put(alloc, regs, memory),
+        CallNumber::FileSymlink => file_symlink(alloc, regs, memory),
+        CallNumber::FileUnlink => file_unlink(alloc, regs, memory),
+        CallNumber::LockUnlock => Ok(lock_unlock(regs, memory)?),
+        CallNumber::MemAdvise => Ok(mem_advise(regs, memory)?),
+        CallNumber::MemMap => Ok(mem_map(regs, memory)?),
+        CallNumber::MemProtect => Ok(mem_protect(regs, memory)?),
+        CallNumber::MemSync => Ok(mem_sync(regs, memory)?),
+        CallNumber::MemUnmap => Ok(mem_unmap(regs)?),
+        CallNumber::Poll => poll(alloc, regs, memory),
+        CallNumber::ProcExec => proc_exec(alloc, regs, memory),
+        CallNumber::ProcExit => Ok(proc_exit(regs)),
+        CallNumber::ProcFork => Ok(proc_fork(left)),
+        CallNumber::ProcRaise => Ok(proc_raise(regs)?),
+        CallNumber::RandomGet => Ok(random_get(regs, memory)?),
+        CallNumber::SockRecv => sock_recv(alloc, regs, memory),
+        CallNumber::SockSend => sock_send(alloc, regs, memory),
+        CallNumber::SockShutdown => Ok(sock_shutdown(regs)?),
+        CallNumber::ThreadCreate => Ok(thread_create(regs, memory)?),
+        CallNumber::ThreadExit => Ok(thread_exit(regs, memory)?),
+        CallNumber::ThreadYield => Ok(thread_yield()),
     }
 }

@@ -2,10 +2,9 @@
 //! memory spell, and the registers and memory after an answer.
 #![tactic(auto)]
 
-pub use arguments::args;
+pub use arguments::{args, read_call};
 pub use image::load;
 pub use laws::{output_is_written, refusals_are_listed, start_block_stands};
-pub use reading::read_call;
 pub use replies::put_answer;
 pub use start::start_memory;
 
@@ -14,7 +13,5 @@ mod image;
 mod laws;
 mod memory_calls;
 mod output;
-mod reading;
 mod replies;
 mod start;
-mod write_call;

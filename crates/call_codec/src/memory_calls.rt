@@ -1,28 +1,12 @@
 //! The calls that a process makes about its own memory, from registers and memory.
 ghost use Rattle.std.specs.Prelude.{◌≡◌, ◌≤◌, ◌+◌, ◌*◌, ◌^◌};
-ghost use Rattle.codec_arguments.specs.Arguments.{low};
-ghost use Rattle.call_codec.specs.MemoryCalls.{has_bits, has_one, writes_and_executes, pages_in, is_aligned, is_guests, if_mapped, mem_advise_of, protect_refusal, mem_protect_of, is_sync, mem_sync_of, is_range, mem_unmap_of, map_refusal, place_at, place_in_gap, place_of, mem_map_of};
+ghost use Rattle.call_codec.specs.MemoryCalls.{has_bits, has_one, pages_in, is_aligned, is_guests, if_mapped, mem_advise_of, mem_protect_of, mem_sync_of, is_range, mem_unmap_of, may_map, place_at, place_in_gap, mem_map_of};
 ghost use Rattle.guest_memory.specs.Ranges.{IsPageAddress};
 
 use abi_base::{GUEST_BEGIN, GUEST_END, PAGE_LIMIT, PAGE_SIZE};
-use abi_types::{Call, Errno, Place, Regs};
-use codec_arguments::low;
+use abi_types::{Call, CallNumber, Errno, Place, Regs};
+use codec_arguments::{low, refuse_when};
 use guest_memory::GuestMemory;
-
-/// The number of mem_advise.
-pub const MEM_ADVISE: u64 = 32;
-
-/// The number of mem_map.
-pub const MEM_MAP: u64 = 33;
-
-/// The number of mem_protect.
-pub const MEM_PROTECT: u64 = 34;
-
-/// The number of mem_sync.
-pub const MEM_SYNC: u64 = 35;
-
-/// The number of mem_unmap.
-pub const MEM_UNMAP: u64 = 36;
 
 // The bits of a prot that are for a writable page that can be executed.
 const WRITE_AND_EXEC: u32 = 3;
@@ -93,76 +77,48 @@ fn if_mapped(memory: &GuestMemory, at: u64, bytes: u64) -> Errno
     }
 }
 
-// A call that is refused with INVAL.
-fn invalid(number: u64) -> Call
-    ensures { result ≡ Call.Refused number Errno.Inval }
-{
-    Call::Refused {
-        number,
-        errno: Errno::Inval,
-    }
-}
-
-/// mem_advise: an address, a length and an advice from 1 to 6.
-pub fn mem_advise(regs: &Regs, memory: &GuestMemory) -> Call
+/// mem_advise: an address, a length and an advice. INVAL for an advice but 1 to 6, and for an address that isn't a page's.
+pub fn mem_advise(regs: &Regs, memory: &GuestMemory) -> Result<Call, Errno>
     ensures { result ≡ mem_advise_of memory.now regs.now }
 {
     let at = regs.get(10);
     let advice = low(regs.get(12));
-    if 0 < advice && advice <= 6 && is_aligned(at) {
-        Call::Memory {
-            number: 32,
-            errno: if_mapped(memory, at, regs.get(11)),
-        }
-    } else {
-        invalid(MEM_ADVISE)
-    }
+    refuse_when(!(0 < advice && advice <= 6), Errno::Inval)?;
+    refuse_when(!is_aligned(at), Errno::Inval)?;
+    Ok(Call::Memory {
+        number: CallNumber::MemAdvise,
+        errno: if_mapped(memory, at, regs.get(11)),
+    })
 }
 
-// Why mem_protect is refused by its address and its prot.
-fn protect_refusal(at: u64, prot: u32) -> Option<Errno>
-    ensures { result ≡ protect_refusal at prot }
-{
-    if prot > 7 || !is_aligned(at) {
-        Some(Errno::Inval)
-    } else if has_bits(prot, WRITE_AND_EXEC) {
-        Some(Errno::Notsup)
-    } else {
-        None
-    }
-}
-
-/// mem_protect: an address, a length and a prot.
-pub fn mem_protect(regs: &Regs, memory: &GuestMemory) -> Call
+/// mem_protect: an address, a length and a prot. INVAL for a prot over 7, and for an address that isn't a page's; NOTSUP for a
+/// page that is both written and executed.
+pub fn mem_protect(regs: &Regs, memory: &GuestMemory) -> Result<Call, Errno>
     ensures { result ≡ mem_protect_of memory.now regs.now }
 {
     let at = regs.get(10);
-    match protect_refusal(at, low(regs.get(12))) {
-        Some(errno) => Call::Refused {
-            number: MEM_PROTECT,
-            errno,
-        },
-        None => Call::Memory {
-            number: 34,
-            errno: if_mapped(memory, at, regs.get(11)),
-        },
-    }
+    let prot = low(regs.get(12));
+    refuse_when(prot > 7 || !is_aligned(at), Errno::Inval)?;
+    refuse_when(has_bits(prot, WRITE_AND_EXEC), Errno::Notsup)?;
+    Ok(Call::Memory {
+        number: CallNumber::MemProtect,
+        errno: if_mapped(memory, at, regs.get(11)),
+    })
 }
 
-/// mem_sync: an address, a length, and flags with exactly one of ASYNC and SYNC.
-pub fn mem_sync(regs: &Regs, memory: &GuestMemory) -> Call
+/// mem_sync: an address, a length, and flags with exactly one of ASYNC and SYNC, else INVAL; INVAL too for an address that isn't
+/// a page's.
+pub fn mem_sync(regs: &Regs, memory: &GuestMemory) -> Result<Call, Errno>
     ensures { result ≡ mem_sync_of memory.now regs.now }
 {
     let at = regs.get(10);
     let flags = low(regs.get(12));
-    if flags <= 7 && has_one(flags, ASYNC, SYNC) && is_aligned(at) {
-        Call::Memory {
-            number: 35,
-            errno: if_mapped(memory, at, regs.get(11)),
-        }
-    } else {
-        invalid(MEM_SYNC)
-    }
+    refuse_when(!(flags <= 7 && has_one(flags, ASYNC, SYNC)), Errno::Inval)?;
+    refuse_when(!is_aligned(at), Errno::Inval)?;
+    Ok(Call::Memory {
+        number: CallNumber::MemSync,
+        errno: if_mapped(memory, at, regs.get(11)),
+    })
 }
 
 // Whether there are some bytes from the address on, none of which stands at 2^64 or behind it.
@@ -172,35 +128,30 @@ fn is_range(at: u64, length: u64) -> bool
     length > 0 && length - 1 <= u64::MAX - at
 }
 
-/// mem_unmap: an address and a length, of a range that isn't empty and doesn't pass 2^64.
-pub fn mem_unmap(regs: &Regs) -> Call
+/// mem_unmap: an address and a length. INVAL for an address that isn't a page's, and for a range that is empty or passes 2^64.
+pub fn mem_unmap(regs: &Regs) -> Result<Call, Errno>
     ensures { result ≡ mem_unmap_of regs.now }
 {
     let at = regs.get(10);
-    if is_aligned(at) && is_range(at, regs.get(11)) {
-        Call::Memory {
-            number: 36,
-            errno: Errno::Success,
-        }
-    } else {
-        invalid(MEM_UNMAP)
-    }
+    refuse_when(!is_aligned(at), Errno::Inval)?;
+    refuse_when(!is_range(at, regs.get(11)), Errno::Inval)?;
+    Ok(Call::Memory {
+        number: CallNumber::MemUnmap,
+        errno: Errno::Success,
+    })
 }
 
-// Why mem_map is refused by its address, length, prot, flags and offset, with a file or without one.
-fn map_refusal(at: u64, bytes: u64, prot: u32, flags: u32, offset: u64) -> Option<Errno>
-    ensures { result ≡ map_refusal at bytes prot flags offset }
+// Whether mem_map may be made by its address, length, prot, flags and offset, with a file or without one.
+fn check_map(at: u64, bytes: u64, prot: u32, flags: u32, offset: u64) -> Result<(), Errno>
+    ensures { result ≡ may_map at bytes prot flags offset }
 {
-    let known = prot <= 7 && flags <= 15;
-    if !known || bytes == 0 || !has_one(flags, PRIVATE, SHARED) || !is_aligned(offset) {
-        Some(Errno::Inval)
-    } else if has_bits(flags, SHARED) || has_bits(prot, WRITE_AND_EXEC) {
-        Some(Errno::Notsup)
-    } else if has_bits(flags, FIXED) && !(is_aligned(at) && is_guests(at, pages_in(bytes))) {
-        Some(Errno::Inval)
-    } else {
-        None
-    }
+    refuse_when(prot > 7 || flags > 15 || bytes == 0, Errno::Inval)?;
+    refuse_when(!has_one(flags, PRIVATE, SHARED), Errno::Inval)?;
+    refuse_when(!is_aligned(offset), Errno::Inval)?;
+    refuse_when(has_bits(flags, SHARED), Errno::Notsup)?;
+    refuse_when(has_bits(prot, WRITE_AND_EXEC), Errno::Notsup)?;
+    let placed = is_aligned(at) && is_guests(at, pages_in(bytes));
+    refuse_when(has_bits(flags, FIXED) && !placed, Errno::Inval)
 }
 
 // Where so many pages go at the address that FIXED names, in place of those that are there.
@@ -232,7 +183,7 @@ fn place_in_gap(memory: &GuestMemory, pages: u64) -> Place
 }
 
 /// mem_map, with a file or without one: an address, a length, a prot, flags, a descriptor and an offset.
-pub fn mem_map(regs: &Regs, memory: &GuestMemory) -> Call
+pub fn mem_map(regs: &Regs, memory: &GuestMemory) -> Result<Call, Errno>
     ensures { result ≡ mem_map_of memory.now regs.now }
 {
     let at = regs.get(10);
@@ -240,24 +191,19 @@ pub fn mem_map(regs: &Regs, memory: &GuestMemory) -> Call
     let prot = low(regs.get(12));
     let flags = low(regs.get(13));
     let offset = regs.get(15);
-    if let Some(errno) = map_refusal(at, length, prot, flags, offset) {
-        return Call::Refused {
-            number: MEM_MAP,
-            errno,
-        };
-    }
+    check_map(at, length, prot, flags, offset)?;
     let pages = pages_in(length);
     let place = if has_bits(flags, FIXED) {
         place_at(memory, at, pages)
     } else {
         place_in_gap(memory, pages)
     };
-    Call::MemMap {
+    Ok(Call::MemMap {
         place,
         length,
         prot,
         flags,
         fd: low(regs.get(14)),
         offset,
-    }
+    })
 }

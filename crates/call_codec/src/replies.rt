@@ -1,8 +1,9 @@
 //! From an answer back to the registers and the memory.
 ghost use Rattle.std.specs.Prelude.{◌≡◌, ◌≤◌, ◌/◌, ◌^◌, OnOk, OnErr};
+ghost use Rattle.abi_types.specs.declared.call_number.CallNumber.TheVariants as number;
 ghost use Rattle.abi_types.specs.declared.place.Place.TheVariants as place;
 ghost use Rattle.codec_arguments.specs.Arguments.{argument};
-ghost use Rattle.call_codec.specs.Args.{args_of};
+ghost use Rattle.call_codec.specs.Arguments.{args_of};
 ghost use Rattle.call_codec.specs.MemoryCalls.{IsSomewhere, MayMapAt, MayMapThere, with_change, with_mapping, pages_in, prot_of};
 ghost use Rattle.call_codec.specs.Put.{answered_memory, answered_of, memory_after, put_of, with_results, TakesRoom};
 ghost use Rattle.guest_memory.specs.Changes.{protected, without_pages};
@@ -13,7 +14,7 @@ use crate::image::READ_WRITE;
 use crate::memory_calls::{has_bits, pages_in};
 use crate::output::{content, put_content, put_payload};
 use abi_base::{GUEST_END, PAGE_SIZE};
-use abi_types::{Answer, Call, Errno, Payload, Place, Prot, Regs, Reply};
+use abi_types::{Answer, Call, CallNumber, Errno, Payload, Place, Prot, Regs, Reply};
 use codec_arguments::low;
 use guest_memory::GuestMemory;
 use std::alloc::{AllocError, Global};
@@ -178,17 +179,17 @@ fn map_at(
     Ok(())
 }
 
-// The memory after mem_protect, mem_unmap or a call that changes nothing, by its number.
-fn change(regs: &Regs, memory: &mut GuestMemory, number: u32)
+// The memory after mem_protect, mem_unmap or a call that changes nothing.
+fn change(regs: &Regs, memory: &mut GuestMemory, call: CallNumber)
     requires aligned { IsPageAddress (argument regs.now 0) }
-    requires there { number ≡ 34 → AreThere memory.old (argument regs.now 0 / PAGE_SIZE) (pages_in (argument regs.now 1)) }
-    ensures { memory.new ≡ with_change memory.old regs.now number }
+    requires there { call ≡ number.MemProtect → AreThere memory.old (argument regs.now 0 / PAGE_SIZE) (pages_in (argument regs.now 1)) }
+    ensures { memory.new ≡ with_change memory.old regs.now call }
 {
     let at = regs.get(10);
     let pages = pages_in(regs.get(11));
-    match number {
-        34 => protect(memory, at, pages, prot_of(low(regs.get(12)))),
-        36 => unmap(memory, at, pages),
+    match call {
+        CallNumber::MemProtect => protect(memory, at, pages, prot_of(low(regs.get(12)))),
+        CallNumber::MemUnmap => unmap(memory, at, pages),
         _ => {}
     }
 }

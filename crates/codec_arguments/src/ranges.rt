@@ -50,8 +50,8 @@ pub fn read_ranges(
     Ok(Some(ranges))
 }
 
-/// The bytes of the ranges, one after another, of which `MOST_TRANSFERRED` count. `None` exactly where some can't be read.
-pub fn gather(
+// The bytes of the ranges, one after another, of which `MOST_TRANSFERRED` count. `None` exactly where some can't be read.
+fn gather(
     alloc: Global,
     memory: &GuestMemory,
     ranges: &[Iovec],

@@ -1,11 +1,11 @@
--- The calls about descriptors, but fd_write.
+-- The calls about descriptors.
 use Rattle.std.specs.Prelude.{ℕ, ◌^◌, Bool, not, ◌==◌, ◌&&◌, ◌||◌, nat_le, nat_lt, Result, Ok, if◌then◌else◌}
 use Rattle.abi_base.specs.declared.errno.Errno.{Errno}
 use Rattle.abi_base.specs.declared.errno.Errno.TheVariants.{Inval, Notsup}
 use Rattle.abi_base.specs.Registers.{Registers}
 use Rattle.abi_structures.specs.declared.structures.FdStat.{FdStat}
 use Rattle.abi_types.specs.declared.call.Call.{Call}
-use Rattle.abi_types.specs.declared.call.Call.TheVariants.{FdClose, FdCreate2, FdDatasync, FdDup, FdPread, FdPwrite, FdRead, FdReplace, FdSeek, FdStatGet, FdStatPut, FdSync}
+use Rattle.abi_types.specs.declared.call.Call.TheVariants.{FdClose, FdCreate2, FdDatasync, FdDup, FdPread, FdPwrite, FdRead, FdReplace, FdSeek, FdStatGet, FdStatPut, FdSync, FdWrite}
 use Rattle.guest_memory.specs.Page.{Pages}
 use Rattle.codec_arguments.specs.Arguments.{argument, low}
 use Rattle.codec_arguments.specs.Bytes.{writable}
@@ -91,6 +91,13 @@ fd_read_of m r =
     refuse_when (has_many (argument r 2)) Inval >>= λ _.
     room_in m (argument r 1) (argument r 2) >>= λ length.
     Ok (FdRead (low (argument r 0)) length)
+
+-- fd_write: the same
+abbrev pub fd_write_of : Pages → Registers → Result Call Errno
+fd_write_of m r =
+    refuse_when (has_many (argument r 2)) Inval >>= λ _.
+    written_in m (argument r 1) (argument r 2) >>= λ bytes.
+    Ok (FdWrite (low (argument r 0)) bytes)
 
 -- fd_seek: a descriptor, an offset, and from where on it counts: from the place (1), from the end (2), or from the start (3), as
 -- the file's new offset

@@ -1,10 +1,10 @@
--- The calls about processes, but proc_exit, and random_get.
+-- The calls about processes, and random_get.
 use Rattle.std.specs.Prelude.{ℕ, Bool, not, ◌==◌, ◌&&◌, ◌||◌, nat_le, nat_lt, Result, Ok}
 use Rattle.abi_base.specs.declared.errno.Errno.{Errno}
 use Rattle.abi_base.specs.declared.errno.Errno.TheVariants.{Inval, Notsup, TooBig}
 use Rattle.abi_base.specs.Registers.{Registers}
 use Rattle.abi_types.specs.declared.call.Call.{Call}
-use Rattle.abi_types.specs.declared.call.Call.TheVariants.{ProcExec, ProcFork, ProcRaise, RandomGet}
+use Rattle.abi_types.specs.declared.call.Call.TheVariants.{ProcExec, ProcExit, ProcFork, ProcRaise, RandomGet}
 use Rattle.guest_memory.specs.Page.{Pages}
 use Rattle.codec_arguments.specs.Arguments.{argument, low}
 use Rattle.codec_arguments.specs.Bytes.{bytes_in, descriptors_in, writable}
@@ -20,6 +20,10 @@ proc_exec_of m r =
     bytes_in m (argument r 1) (argument r 2) >>= λ bytes.
     descriptors_in m (argument r 3) (argument r 4) >>= λ fds.
     Ok (ProcExec (low (argument r 0)) bytes fds)
+
+-- proc_exit: a code
+abbrev pub proc_exit_of : Registers → Call
+proc_exit_of r = ProcExit (low (argument r 0))
 
 -- proc_fork, with the turns that the process has left
 abbrev pub proc_fork_of : ℕ → Call

@@ -1,9 +1,9 @@
-//! The calls about descriptors, but fd_write.
+//! The calls about descriptors.
 ghost use Rattle.std.specs.Prelude.{◌≡◌};
 ghost use Rattle.codec_arguments.specs.Reading.{Reads};
 ghost use Rattle.codec_calls.specs.DescriptorCalls.{asks_unknown, fd_close_of, fd_create1_of, fd_create2_of, fd_datasync_of, fd_dup_of};
 ghost use Rattle.codec_calls.specs.DescriptorCalls.{fd_pread_of, fd_pwrite_of, fd_read_of, fd_replace_of, fd_seek_of, fd_stat_get_of};
-ghost use Rattle.codec_calls.specs.DescriptorCalls.{fd_stat_put_of, fd_sync_of, has_many, is_beyond, is_file_type, is_pair, unmade};
+ghost use Rattle.codec_calls.specs.DescriptorCalls.{fd_stat_put_of, fd_sync_of, fd_write_of, has_many, is_beyond, is_file_type, is_pair, unmade};
 
 use crate::flags::has_unknown;
 use abi_types::{Call, Errno, FdStat, Regs};
@@ -175,6 +175,20 @@ pub fn fd_read(alloc: Global, regs: &Regs, memory: &GuestMemory) -> Result<Call,
     Ok(Call::FdRead {
         fd: low(regs.get(10)),
         length,
+    })
+}
+
+/// fd_write: a descriptor, the address of an iovec array and its count. INVAL for over 1024 iovecs; FAULT for an array or bytes
+/// that can't be read.
+pub fn fd_write(alloc: Global, regs: &Regs, memory: &GuestMemory) -> Result<Call, ArgumentFault>
+    ensures { Reads result (fd_write_of memory.now regs.now) }
+{
+    let count = regs.get(12);
+    refuse_when(has_many(count), Errno::Inval)?;
+    let bytes = read_written(alloc, memory, regs.get(11), count)?;
+    Ok(Call::FdWrite {
+        fd: low(regs.get(10)),
+        bytes,
     })
 }
 

@@ -9,11 +9,11 @@
 pub use clock_calls::{clock_res_get, clock_time_get, is_cpu_clock, is_time_clock};
 pub use descriptor_calls::{
     asks_unknown, fd_close, fd_create1, fd_create2, fd_datasync, fd_dup, fd_pread, fd_pwrite,
-    fd_read, fd_replace, fd_seek, fd_stat_get, fd_stat_put, fd_sync,
+    fd_read, fd_replace, fd_seek, fd_stat_get, fd_stat_put, fd_sync, fd_write,
 };
 pub use flags::has_unknown;
 pub use lock_calls::{check_scope, condvar_signal, is_misaligned, lock_unlock, thread_exit};
-pub use process_calls::{proc_exec, proc_fork, proc_raise, random_get};
+pub use process_calls::{proc_exec, proc_exit, proc_fork, proc_raise, random_get};
 pub use socket_calls::{sock_recv, sock_send, sock_shutdown};
 pub use thread_calls::{thread_create, thread_yield};
 

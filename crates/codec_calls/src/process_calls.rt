@@ -1,7 +1,7 @@
-//! The calls about processes, but proc_exit, and random_get.
+//! The calls about processes, and random_get.
 ghost use Rattle.std.specs.Prelude.{◌≡◌};
 ghost use Rattle.codec_arguments.specs.Reading.{Reads};
-ghost use Rattle.codec_calls.specs.ProcessCalls.{is_signal, is_stop, proc_exec_of, proc_fork_of, proc_raise_of, random_get_of};
+ghost use Rattle.codec_calls.specs.ProcessCalls.{is_signal, is_stop, proc_exec_of, proc_exit_of, proc_fork_of, proc_raise_of, random_get_of};
 
 use abi_types::{Call, Errno, Regs};
 use codec_arguments::{
@@ -35,6 +35,15 @@ pub fn proc_exec(alloc: Global, regs: &Regs, memory: &GuestMemory) -> Result<Cal
         bytes,
         fds,
     })
+}
+
+/// proc_exit: a code.
+pub fn proc_exit(regs: &Regs) -> Call
+    ensures { result ≡ proc_exit_of regs.now }
+{
+    Call::ProcExit {
+        code: low(regs.get(10)),
+    }
 }
 
 /// proc_fork, by a process with so many turns left.

@@ -13,7 +13,7 @@ use Rattle.codec_arguments.specs.Reading.{◌>>=◌, refuse_when}
 use Rattle.codec_arguments.specs.Structures.{filestat_at}
 use Rattle.codec_arguments.specs.declared.ranges.TheConstants.{MOST_TRANSFERRED}
 use Rattle.codec_calls.specs.Flags.{has_unknown}
-use Rattle.codec_files.specs.Lookups.{lookup_of, looks_unknown}
+use Rattle.codec_files.specs.ByPath.{lookup_of, looks_unknown}
 use Rattle.codec_files.specs.declared.by_node.TheConstants.{ATIM_BOTH, KNOWN_SETTINGS, MTIM_BOTH, SIZE}
 
 -- file_advise: a descriptor, an offset, a length and an advice from 1 to 6. The part of the file ends below 2^63

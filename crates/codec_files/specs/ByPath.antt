@@ -6,16 +6,24 @@ use Rattle.abi_base.specs.declared.errno.Errno.TheVariants.{Inval}
 use Rattle.abi_base.specs.Registers.{Registers}
 use Rattle.abi_types.specs.declared.call.Call.{Call}
 use Rattle.abi_types.specs.declared.call.Call.TheVariants.{FileCreate, FileLink, FileOpen, FileReadlink, FileRename, FileSymlink, FileUnlink}
+use Rattle.abi_types.specs.declared.call.Lookup.{Lookup}
 use Rattle.guest_memory.specs.Page.{Pages}
-use Rattle.codec_arguments.specs.Arguments.{argument, low}
+use Rattle.codec_arguments.specs.Arguments.{argument, high, low}
 use Rattle.codec_arguments.specs.Bytes.{path_in, writable}
 use Rattle.codec_arguments.specs.Reading.{◌>>=◌, refuse_when}
 use Rattle.codec_arguments.specs.Structures.{fdstat_at}
 use Rattle.codec_arguments.specs.declared.ranges.TheConstants.{MOST_TRANSFERRED}
 use Rattle.codec_calls.specs.DescriptorCalls.{asks_unknown}
 use Rattle.codec_calls.specs.Flags.{has_unknown}
-use Rattle.codec_files.specs.Lookups.{lookup_of, looks_unknown}
-use Rattle.codec_files.specs.declared.by_path.TheConstants.{CREAT_DIRECTORY, DIRECTORY, KNOWN_OFLAGS, REMOVEDIR}
+use Rattle.codec_files.specs.declared.by_path.TheConstants.{CREAT_DIRECTORY, DIRECTORY, KNOWN_OFLAGS, REMOVEDIR, SYMLINK_FOLLOW}
+
+-- where a path begins: a descriptor in the low half of a register, and lookup flags in its high half
+abbrev pub lookup_of : ℕ → Lookup
+lookup_of value = record { fd = low value; flags = high value }
+
+-- a lookup flag that there isn't: SYMLINK_FOLLOW is the only one
+abbrev pub looks_unknown : ℕ → Bool
+looks_unknown value = has_unknown (high value) SYMLINK_FOLLOW
 
 -- file_create: a descriptor, a path and a type of file, which is DIRECTORY
 abbrev pub file_create_of : Pages → Registers → Result Call Errno

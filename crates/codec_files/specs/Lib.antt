@@ -1,4 +1,2 @@
-pub mod Lookups
 pub mod ByPath
 pub mod ByNode
-pub mod Numbers

@@ -4,7 +4,7 @@ ghost use Rattle.codec_arguments.specs.Reading.{Reads};
 ghost use Rattle.codec_files.specs.ByNode.{file_advise_of, file_allocate_of, file_readdir_of, file_stat_fget_of, file_stat_fput_of};
 ghost use Rattle.codec_files.specs.ByNode.{file_stat_get_of, file_stat_put_of, sets_wrongly};
 
-use crate::lookups::{looks_unknown, lookup_of};
+use crate::by_path::{looks_unknown, lookup_of};
 use abi_types::{Call, Errno, Regs};
 use codec_arguments::{
     ArgumentFault, MOST_TRANSFERRED, check_writable, low, read_filestat, read_path, refuse_when,

@@ -2,16 +2,18 @@
 ghost use Rattle.std.specs.Prelude.{◌≡◌};
 ghost use Rattle.codec_arguments.specs.Reading.{Reads};
 ghost use Rattle.codec_files.specs.ByPath.{file_create_of, file_link_of, file_open_of, file_readlink_of, file_rename_of};
-ghost use Rattle.codec_files.specs.ByPath.{file_symlink_of, file_unlink_of, opens_wrongly};
+ghost use Rattle.codec_files.specs.ByPath.{file_symlink_of, file_unlink_of, lookup_of, looks_unknown, opens_wrongly};
 
-use crate::lookups::{looks_unknown, lookup_of};
-use abi_types::{Call, Errno, Regs};
+use abi_types::{Call, Errno, Lookup, Regs};
 use codec_arguments::{
-    ArgumentFault, MOST_TRANSFERRED, check_writable, low, read_fdstat, read_path, refuse_when,
+    ArgumentFault, MOST_TRANSFERRED, check_writable, high, low, read_fdstat, read_path, refuse_when,
 };
 use codec_calls::{asks_unknown, has_unknown};
 use guest_memory::GuestMemory;
 use std::alloc::Global;
+
+/// The lookup flag by which a symbolic link at a path's end is followed.
+pub const SYMLINK_FOLLOW: u32 = 1;
 
 /// The type of a directory.
 pub const DIRECTORY: u32 = 32;
@@ -24,6 +26,23 @@ pub const CREAT_DIRECTORY: u32 = 3;
 
 /// The flag by which file_unlink takes a directory's name away.
 pub const REMOVEDIR: u32 = 1;
+
+/// The descriptor in the low half of a register, and the lookup flags in its high half.
+pub(crate) fn lookup_of(value: u64) -> Lookup
+    ensures { result ≡ lookup_of value }
+{
+    Lookup {
+        fd: low(value),
+        flags: high(value),
+    }
+}
+
+/// Whether a register has a lookup flag that there isn't.
+pub(crate) fn looks_unknown(value: u64) -> bool
+    ensures { result ≡ looks_unknown value }
+{
+    has_unknown(high(value), SYMLINK_FOLLOW)
+}
 
 /// file_create: a descriptor, a path and a type of file. INVAL for a type but DIRECTORY, FAULT for a path that can't be read.
 pub fn file_create(alloc: Global, regs: &Regs, memory: &GuestMemory) -> Result<Call, ArgumentFault>

@@ -1,13 +1,17 @@
-//! The calls about files that a thread's registers and memory spell, or the error that refuses one. `file_call` is given a call's
-//! number; each call has a function of its own, named after it, and beside it in specs/ its definition, whose name ends in `_of`.
+//! The calls about files that a thread's registers and memory spell, or the error that refuses one: a function for each call,
+//! named after it, and beside it in specs/ its definition, whose name ends in `_of`.
 //!
 //! Errors are refusals that the arguments alone show. What registers show comes first, then FAULT for memory that can't be
 //! read or written, then what the memory shows. A path of over 1024 bytes isn't read here, and isn't refused here.
 #![tactic(auto)]
 
-pub use numbers::file_call;
+pub use by_node::{
+    file_advise, file_allocate, file_readdir, file_stat_fget, file_stat_fput, file_stat_get,
+    file_stat_put,
+};
+pub use by_path::{
+    file_create, file_link, file_open, file_readlink, file_rename, file_symlink, file_unlink,
+};
 
 mod by_node;
 mod by_path;
-mod lookups;
-mod numbers;

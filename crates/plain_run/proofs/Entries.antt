@@ -16,7 +16,7 @@ use Rattle.kernel_model.specs.Step.{end_state, IsStep}
 use Rattle.kernel_model.proofs.Steps.{step_moves_only}
 use Rattle.maps.specs.Maps.{get-insert-same, insert_self}
 use Rattle.rv_interp.specs.declared.turns.TurnEnd.TheVariants as turn_end_is
-use Rattle.call_codec.specs.Args.{args_of}
+use Rattle.call_codec.specs.Arguments.{args_of}
 use Rattle.run_model.specs.Legal.{Legal, Fits, FitsAct}
 use Rattle.run_model.specs.World.{World, Guest, or_no_guest, world, apply, acted, turned, who_of, guest_of, registers_of, called_state, called_guest}
 use Rattle.run_model.proofs.Calls.{called_is, ended_by}

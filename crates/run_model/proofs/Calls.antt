@@ -18,7 +18,7 @@ use Rattle.kernel_model.specs.Step.{failed, step_state, IsStep, end_state}
 use Rattle.kernel_model.proofs.Refusals.{IsNoLackOf, reply_no_lack}
 use Rattle.kernel_model.proofs.Steps.{end_ends_only}
 use Rattle.guest_memory.specs.Page.{Pages}
-use Rattle.call_codec.specs.Args.{args_of}
+use Rattle.call_codec.specs.Arguments.{args_of}
 use Rattle.run_model.specs.World.{by_errno, called_state}
 use Rattle.run_model.proofs.Spelled.{args_no_lack}
 

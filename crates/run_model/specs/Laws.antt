@@ -12,7 +12,7 @@ use Rattle.tree_model.specs.Grants.{MayBegin}
 use Rattle.kernel_model.specs.Calls.{errors_of}
 use Rattle.kernel_model.specs.Valid.{IsValid}
 use Rattle.guest_memory.specs.Page.{Pages}
-use Rattle.call_codec.specs.Args.{args_of}
+use Rattle.call_codec.specs.Arguments.{args_of}
 use Rattle.run_model.specs.Confined.{IsConfined}
 use Rattle.run_model.specs.Ends.{Ended, Stalled, potential}
 use Rattle.run_model.specs.Legal.{Fits, Legal}

@@ -267,7 +267,9 @@ fn of_node_call(call: &Call) -> [u64; 8] {
             u64::from(*fd),
             *offset,
         ]),
-        Call::Memory { number, errno } => padded(&[u64::from(*number), u64::from(errno.number())]),
+        Call::Memory { number, errno } => {
+            padded(&[u64::from(number.number()), u64::from(errno.number())])
+        }
         _ => of_other_call(call),
     }
 }
@@ -337,22 +339,31 @@ fn of_socket_call(call: &Call) -> [u64; 8] {
     }
 }
 
+// Whether it is the call that this number asks for.
+fn has_number(call: &Call, number: u64) -> bool {
+    match call.number() {
+        Ok(known) => u64::from(known.number()) == number,
+        Err(unknown) => unknown == number,
+    }
+}
+
+// The error that refuses the call: NOSYS for a number that no call has.
+fn refusal_of(call: &Call) -> Option<Errno> {
+    match call {
+        Call::Refused { errno, .. } => Some(*errno),
+        Call::Unknown { .. } => Some(Errno::Nosys),
+        _ => None,
+    }
+}
+
 // Whether the call is the wanted one of this number.
 fn is_wanted(call: &Call, number: u64, want: Want) -> bool {
-    match (call, want) {
-        (
-            Call::Refused {
-                number: refused,
-                errno,
-            },
-            Want::No(error),
-        ) => { *refused == number && *errno == error }
-        (Call::Refused { .. }, Want::Yes(_)) => false,
-        (_, Want::No(_)) => false,
-        (_, Want::Yes(fields)) => {
-            call.number() == number && of_descriptor_call(call) == padded(fields)
-        }
-    }
+    let matches = match (refusal_of(call), want) {
+        (Some(errno), Want::No(error)) => errno == error,
+        (None, Want::Yes(fields)) => of_descriptor_call(call) == padded(fields),
+        _ => false,
+    };
+    matches && has_number(call, number)
 }
 
 /// The first row whose call isn't the wanted one.

@@ -1,5 +1,5 @@
-use Rattle.run_model.proofs.Spelled.{args_spelled}
+use Rattle.run_model.proofs.Spelled.{args_plain}
 use Rattle.run_model.proofs.laws.spelled_calls_are_plain.Goals as goal
 
 pub returns : goal.returns
-returns c = args_spelled
+returns c = args_plain

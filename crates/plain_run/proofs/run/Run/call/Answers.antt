@@ -2,7 +2,7 @@ use Rattle.std.proofs.Common.{◌≡◌, IsSome, sym, ap, subst, ◌∙◌}
 use Rattle.std.proofs.lemmas.Result.{on_ok_weaker}
 use Rattle.std.specs.Ordering.{nat_cmp}
 use Rattle.std.specs.FinMap.{FinMap, get, insert}
-use Rattle.call_codec.specs.Args.{args_of}
+use Rattle.call_codec.specs.Arguments.{args_of}
 use Rattle.run_model.specs.Legal.{Legal}
 use Rattle.run_model.specs.World.{Guest, registers_of, called_guest}
 use Rattle.plain_run.specs.Run.{IsBetweenTurns, guest_now}
