@@ -282,6 +282,7 @@ told (call.ThreadCreate attributes) = unbuilt_told (call.ThreadCreate attributes
 told (call.ThreadExit lock word scope) = unbuilt_told (call.ThreadExit lock word scope) (λ made row reply. refl) (λ constants v who table. refl)
 told call.ThreadYield = unbuilt_told call.ThreadYield (λ made row reply. refl) (λ constants v who table. refl)
 told (call.Refused number errno) = λ constants S v who table there. decided_told (call.Refused number errno) errno S who.pid (λ made row reply. refl)
+told (call.Unknown number) = λ constants S v who table there. decided_told (call.Unknown number) Nosys S who.pid (λ made row reply. refl)
 
 -- ---- refusals for want of a descriptor or of rights
 
