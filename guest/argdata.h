@@ -2,7 +2,7 @@
  * Argument data: the value that a launch file gives to a program, and that `proc_exec` gives to the next one. docs/ABI.md has
  * where it stands at the start, docs/LAUNCH.md what a launch file says. The names are those of CloudABI's library argdata.
  *
- * A value is its bytes, where they stand; nothing is copied. Any bytes may be read: what isn't spelled as it should is no value
+ * A value is its bytes, where they stand; nothing is copied. Any bytes may be read: what isn't encoded as it should is no value
  * of any type, and an end of its map or sequence.
  */
 #ifndef ARGDATA_H

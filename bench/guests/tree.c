@@ -1,5 +1,5 @@
 /*
- * A guest that does one thing with files as often as it is told, and exits with 0 where all came out as it should. bench/tree runs it
+ * A guest that does one thing with files as often as it is asked, and exits with 0 where all came out as it should. bench/tree runs it
  * and measures how long one takes. tree.elf is made of this text by `../../guest/cc --bare -s -o tree.elf tree.c`.
  *
  * Its argument data is a map. The key `walk`, `write`, `list` or `open` has how often that is done, and `in` the directory in which the

@@ -21,7 +21,7 @@ struct bytes {
 };
 
 static uint8_t report_room[262144], arena_room[262144], wanted_room[131072];
-static struct bytes report = {report_room, sizeof report_room, 0}; /* what is told of differences */
+static struct bytes report = {report_room, sizeof report_room, 0}; /* what is reported of differences */
 static struct bytes arena = {arena_room, sizeof arena_room, 0};    /* what the arguments of a row place in memory */
 static struct bytes wanted = {wanted_room, sizeof wanted_room, 0}; /* what the row's call must write in the output */
 
@@ -681,7 +681,7 @@ static size_t first_difference(size_t length)
     return SIZE_MAX;
 }
 
-/* Tells an answer: its error, the registers that the other answer has otherwise, and the output, if that differs. */
+/* Reports an answer: its error, the registers that the other answer has otherwise, and the output, if that differs. */
 static void tell_answer(const uint64_t *own, const uint64_t *other, const uint8_t *bytes, size_t length, bool differs)
 {
     tell_error(own[0]);

@@ -1,6 +1,6 @@
 /*
- * Does the rows of a table (rows.h), and tells descriptor 0 what differs, a line for each difference: in a register, in the pc at the
- * row's end, or in memory. Last it tells how many rows there were. It exits with 0 where nothing differs, with 1 where something does,
+ * Does the rows of a table (rows.h), and reports to descriptor 0 what differs, a line for each difference: in a register, in the pc at the
+ * row's end, or in memory. Last it reports how many rows there were. It exits with 0 where nothing differs, with 1 where something does,
  * and with 2 where it can't have its pages.
  */
 #include "argdata.h"

@@ -120,7 +120,7 @@ static cloudabi_errno_t link_made(void)
     return error != CLOUDABI_ESUCCESS ? error : read_at(PATH("made/key"));
 }
 
-/* Ways by calls that make names, move them, take them away and tell of them. */
+/* Ways by calls that make names, move them, take them away and report on them. */
 
 static cloudabi_errno_t rename_out(void)
 {

@@ -1,4 +1,4 @@
-//! What a thread waits for, and what it is told.
+//! What a thread waits for, and what is reported to it.
 ghost use Rattle.std.specs.Prelude.{◌≡◌, MatchOption};
 ghost use Rattle.abi_structures.specs.Events.{IsOfNoType, number_of, type_of};
 

@@ -16,7 +16,7 @@ pub struct Lookup {
     pub flags: u32,
 }
 
-/// A call, as the registers and the memory of its thread spell it, with its arguments in their order (docs/ABI.md has the
+/// A call, as the registers and the memory of its thread encode it, with its arguments in their order (docs/ABI.md has the
 /// numbers). In place of an address and a length of input it has the bytes, of which a path of over 1024 is 1025 zeros; in
 /// place of an array of iovecs the bytes to write, or the length to read, of at most 65,536; in place of a structure's
 /// address its fields; beside the address of a lock or a condition variable the word that was read there; and no address
@@ -106,7 +106,7 @@ pub enum Call {
         fd: u32,
         bytes: Bytes,
     },
-    /// Tells how a part of a file will be used.
+    /// Says how a part of a file will be used.
     FileAdvise {
         fd: u32,
         offset: u64,

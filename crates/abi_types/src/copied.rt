@@ -18,7 +18,7 @@ pub type FdList = Copied<u32>;
 /// What a thread waits for.
 pub type SubscriptionList = Copied<Subscription>;
 
-/// What a thread is told.
+/// What is reported to a thread.
 pub type EventList = Copied<Event>;
 
 impl<T> Model for Copied<T> {

@@ -1,9 +1,9 @@
--- What is spelled is read again: so no bytes spell two values.
+-- What is encoded is read again: so no bytes encode two values.
 use Rattle.std.proofs.Common.{◌≡◌, ℕ, zero, suc, ◌<◌, ◌≤◌, true, false, List, [], ◌∷◌, ◌++◌, length, Option, Some, option_map, refl, ap, ◌∙◌, append_assoc, arith}
 use Rattle.std.proofs.lemmas.List.{length-append}
 use Rattle.std.proofs.lemmas.Nat.{from_be_bytes-to_be_bytes_4}
 use Rattle.argdata_codec.specs.Shape.{Shape, Shapes, Pairs, null, binary, boolean, descriptor, integer, mapping, sequence, text, no_items, item, no_pairs, pair, of_list, of_pairs, to_list, to_pairs, depth_of, depth_of_items, depth_of_pairs}
-use Rattle.argdata_codec.specs.Spelling.{IsLength, IsField, Spells, AreItems, ArePairs}
+use Rattle.argdata_codec.specs.Encoding.{IsLength, IsField, Encodes, AreItems, ArePairs}
 use Rattle.argdata_codec.specs.Reading.{entry_at, items_of, items_at, pairs_of, pairs_at, value_at}
 use Rattle.argdata_codec.proofs.Fields.{field_again}
 use Rattle.argdata_codec.proofs.Loops.{items_end, items_more, pairs_end, pairs_more}
@@ -18,15 +18,15 @@ of_to_pairs : (ps : Pairs) → of_pairs (to_pairs ps) ≡ ps
 of_to_pairs no_pairs = refl
 of_to_pairs (pair k v ps) = ap (pair k v) (of_to_pairs ps)
 
--- a value that bytes spell is read from them
+-- a value that bytes encode is read from them
 abbrev IsReadBy : (List ℕ → Option Shape) → Shape → Type 0
-IsReadBy value x = (bytes : List ℕ) → Spells x bytes → value bytes ≡ Some x
+IsReadBy value x = (bytes : List ℕ) → Encodes x bytes → value bytes ≡ Some x
 
 length_some : (v n : ℕ) (front : List ℕ) → IsLength v front n → 0 < length front
 length_some v n [] h = absurd h
 length_some v n (b ∷ bs) h = omega arith
 
-entry_again : (value : List ℕ → Option Shape) (x : Shape) (field rest : List ℕ) → IsReadBy value x → IsField (λ body. Spells x body) field → entry_at value (field ++ rest) ≡ Some (x, rest)
+entry_again : (value : List ℕ → Option Shape) (x : Shape) (field rest : List ℕ) → IsReadBy value x → IsField (λ body. Encodes x body) field → entry_at value (field ++ rest) ≡ Some (x, rest)
 entry_again value x field rest reads h =
     let front = h.0 in
     let body = h.1 in
@@ -36,16 +36,16 @@ entry_again value x field rest reads h =
 field_some : (P : List ℕ → Type 0) (field rest : List ℕ) → IsField P field → 0 < length (field ++ rest)
 field_some P field rest h = omega (arith, length-append field rest, ap length h.2, length-append h.0 h.1, length_some 0 (length h.1) h.0 h.3)
 
-items_step : (value : List ℕ → Option Shape) (x : Shape) (bytes front rest : List ℕ) (xs : List Shape) → IsReadBy value x → bytes ≡ front ++ rest → IsField (λ body. Spells x body) front
+items_step : (value : List ℕ → Option Shape) (x : Shape) (bytes front rest : List ℕ) (xs : List Shape) → IsReadBy value x → bytes ≡ front ++ rest → IsField (λ body. Encodes x body) front
     → items_of value rest ≡ Some xs → items_of value bytes ≡ Some (x ∷ xs)
 items_step value x bytes front rest xs reads whole field others =
-    let some = field_some (λ body. Spells x body) front rest field in
+    let some = field_some (λ body. Encodes x body) front rest field in
     ap (items_of value) whole ∙ items_more value (front ++ rest) some ∙ rw (entry_again value x front rest reads field, others) refl
 
 pairs_step : (value : List ℕ → Option Shape) (k v : Shape) (bytes key val rest : List ℕ) (ps : List (Shape × Shape)) → IsReadBy value k → IsReadBy value v → bytes ≡ key ++ (val ++ rest)
-    → IsField (λ body. Spells k body) key → IsField (λ body. Spells v body) val → pairs_of value rest ≡ Some ps → pairs_of value bytes ≡ Some ((k, v) ∷ ps)
+    → IsField (λ body. Encodes k body) key → IsField (λ body. Encodes v body) val → pairs_of value rest ≡ Some ps → pairs_of value bytes ≡ Some ((k, v) ∷ ps)
 pairs_step value k v bytes key val rest ps reads_key reads_value whole is_key is_value others =
-    let some = field_some (λ body. Spells k body) key (val ++ rest) is_key in
+    let some = field_some (λ body. Encodes k body) key (val ++ rest) is_key in
     ap (pairs_of value) whole ∙ pairs_more value (key ++ (val ++ rest)) some
     ∙ rw (entry_again value k key (val ++ rest) reads_key is_key, entry_again value v val rest reads_value is_value, others) refl
 
@@ -59,7 +59,7 @@ unfolding items_at
 up_pairs d body ps h = h
 
 mutual
-  pub value_again : (d : ℕ) (x : Shape) → depth_of x ≤ d → (bytes : List ℕ) → Spells x bytes → value_at d bytes ≡ Some x
+  pub value_again : (d : ℕ) (x : Shape) → depth_of x ≤ d → (bytes : List ℕ) → Encodes x bytes → value_at d bytes ≡ Some x
   value_again d null le bytes h = ap (value_at d) h
   value_again d (binary content) le bytes h = ap (value_at d) h
   value_again d (boolean true) le bytes h = ap (value_at d) h

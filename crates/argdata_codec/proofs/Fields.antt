@@ -5,7 +5,7 @@ use Rattle.std.proofs.Math.Dec.{eqb-suc-zero}
 use Rattle.std.proofs.lemmas.Bool.{ltb-false, lt-ltb, le-ltb, ltb-true}
 use Rattle.std.proofs.lemmas.List.{take_at, drop_at, take-append-drop, length-append, length-take}
 use Rattle.lists.proofs.Chosen.{chosen, some_is, none_some}
-use Rattle.argdata_codec.specs.Spelling.{IsLength}
+use Rattle.argdata_codec.specs.Encoding.{IsLength}
 use Rattle.argdata_codec.specs.Reading.{field_at}
 
 abbrev pub AreBytes : List ℕ → Type 0

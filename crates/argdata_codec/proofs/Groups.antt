@@ -4,7 +4,7 @@ use Rattle.std.proofs.lemmas.List.{take_all}
 use Rattle.std.proofs.lemmas.Bool.{cases_lt, lt-ltb, le-ltb}
 use Rattle.std.proofs.Math.Nat.{zero-add}
 use Rattle.std.specs.Int.{w128, bytes_high_first}
-use Rattle.argdata_codec.specs.Spelling.{IsInRange, IsWithin, complement_bytes}
+use Rattle.argdata_codec.specs.Encoding.{IsInRange, IsWithin, complement_bytes}
 use Rattle.argdata_codec.specs.Writing.{groups, groups_of, further, further_bytes, width_of}
 
 -- any fuel that is enough gives the same groups

@@ -2,7 +2,7 @@
 use Rattle.std.proofs.Common.{◌≡◌, ℕ, zero, suc, ◌+◌, ◌-◌, ◌*◌, ◌^◌, ◌<◌, ◌≤◌, ◌⊎◌, inl, inr, Bool, true, false, not, cond, eqb, ltb, ◌&&◌, ◌||◌, List, [], ◌∷◌, length, refl, sym, ap, subst, ◌∙◌, arith, ℤ, pos, negsuc, pow-suc, mul_comm}
 use Rattle.std.proofs.Math.Nat.{mul-le-mul_right}
 use Rattle.std.proofs.lemmas.Bool.{cases_lt, cases_eq, lt-ltb, le-ltb, ltb-true, ltb-false, eqb-true, eq-eqb, true≢false, and_parts, not-true, false_from_ne_true}
-use Rattle.argdata_codec.specs.Spelling.{steps, IsInRange, IsWithin}
+use Rattle.argdata_codec.specs.Encoding.{steps, IsInRange, IsWithin}
 use Rattle.argdata_codec.specs.Writing.{width_of}
 use Rattle.argdata_codec.specs.Reading.{number_after, signed, is_in_range, integer_at}
 use Rattle.lists.proofs.Chosen.{chosen, none_some}

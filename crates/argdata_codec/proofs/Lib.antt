@@ -1,6 +1,6 @@
 pub mod Groups
 pub mod Depths
-pub mod Spelled
+pub mod Encoded
 pub mod Fields
 pub mod Loops
 pub mod Numbers

@@ -5,7 +5,7 @@ use Rattle.std.proofs.Math.Nat.{pow-le-pow_right, mul-le-mul_right, mul-add-mod_
 use Rattle.std.proofs.Math.Arith.{mod-mul}
 use Rattle.std.proofs.lemmas.Nat.{pow-add}
 use Rattle.std.proofs.lemmas.Bool.{cases_lt, ltb-false, ltb-true, lt-ltb, le-ltb, eqb-true, eq-eqb, and_parts}
-use Rattle.argdata_codec.specs.Spelling.{steps, IsInteger, IsInRange, IsWithin, complement_bytes}
+use Rattle.argdata_codec.specs.Encoding.{steps, IsInteger, IsInRange, IsWithin, complement_bytes}
 use Rattle.argdata_codec.specs.Writing.{width_of}
 use Rattle.argdata_codec.specs.Reading.{number_after, signed, is_in_range, integer_at}
 use Rattle.lists.proofs.Chosen.{chosen, none_some, some_is}

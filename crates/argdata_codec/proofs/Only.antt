@@ -1,9 +1,9 @@
--- Each value has one spelling.
+-- Each value has one encoding.
 use Rattle.std.proofs.Common.{◌≡◌, ℕ, ◌+◌, ◌*◌, ◌/◌, ◌%◌, ◌<◌, ◌≤◌, ◌⊎◌, inl, inr, max, true, false, List, [], ◌∷◌, ◌++◌, length, sym, ap, ◌∙◌, append_assoc, arith, ℤ}
 use Rattle.std.proofs.lemmas.Bool.{cases_lt}
 use Rattle.argdata_codec.specs.Shape.{Shape, Shapes, Pairs, null, binary, boolean, descriptor, integer, mapping, sequence, text, no_items, item, no_pairs, pair, depth_of}
-use Rattle.argdata_codec.specs.Spelling.{IsLength, IsInteger, IsField, complement_bytes, Spells, AreItems, ArePairs, IsSpellable, ItemsAreSpellable, PairsAreSpellable}
-use Rattle.argdata_codec.specs.Writing.{groups_of, length_bytes, width_of, field_of, spelling, item_fields, pair_fields}
+use Rattle.argdata_codec.specs.Encoding.{IsLength, IsInteger, IsField, complement_bytes, Encodes, AreItems, ArePairs, IsEncodable, ItemsAreEncodable, PairsAreEncodable}
+use Rattle.argdata_codec.specs.Writing.{groups_of, length_bytes, width_of, field_of, encoding, item_fields, pair_fields}
 use Rattle.lists.proofs.Chosen.{some_is}
 use Rattle.argdata_codec.proofs.Groups.{no_groups, more_groups, width_within, width_least}
 use Rattle.argdata_codec.proofs.Again.{value_again}
@@ -37,54 +37,54 @@ field_only P field body only h =
     h.2 ∙ ap (λ (xs : List ℕ). xs ++ h.1) (length_only (length h.1) h.0 h.3) ∙ ap field_of same
 
 mutual
-  pub spelling_only : (x : Shape) (bytes : List ℕ) → Spells x bytes → bytes ≡ spelling x
-  spelling_only null bytes h = h
-  spelling_only (binary content) bytes h = h
-  spelling_only (boolean false) bytes h = h
-  spelling_only (boolean true) bytes h = h
-  spelling_only (descriptor n) bytes h = h.1
-  spelling_only (integer i) bytes h = h.1 ∙ ap (λ (xs : List ℕ). 5 ∷ xs) (integer_only i h.0 h.2)
-  spelling_only (mapping ps) bytes h = h.1 ∙ ap (λ (xs : List ℕ). 6 ∷ xs) (pairs_only ps h.0 h.2)
-  spelling_only (sequence xs) bytes h = h.1 ∙ ap (λ (ys : List ℕ). 7 ∷ ys) (items_only xs h.0 h.2)
-  spelling_only (text content) bytes h = h.1
+  pub encoding_only : (x : Shape) (bytes : List ℕ) → Encodes x bytes → bytes ≡ encoding x
+  encoding_only null bytes h = h
+  encoding_only (binary content) bytes h = h
+  encoding_only (boolean false) bytes h = h
+  encoding_only (boolean true) bytes h = h
+  encoding_only (descriptor n) bytes h = h.1
+  encoding_only (integer i) bytes h = h.1 ∙ ap (λ (xs : List ℕ). 5 ∷ xs) (integer_only i h.0 h.2)
+  encoding_only (mapping ps) bytes h = h.1 ∙ ap (λ (xs : List ℕ). 6 ∷ xs) (pairs_only ps h.0 h.2)
+  encoding_only (sequence xs) bytes h = h.1 ∙ ap (λ (ys : List ℕ). 7 ∷ ys) (items_only xs h.0 h.2)
+  encoding_only (text content) bytes h = h.1
 
   items_only : (xs : Shapes) (bytes : List ℕ) → AreItems xs bytes → bytes ≡ item_fields xs
   items_only no_items bytes h = h
   items_only (item x xs) bytes h =
-      h.2 ∙ ap (λ (ys : List ℕ). ys ++ h.1) (field_only (λ body. Spells x body) h.0 (spelling x) (spelling_only x) h.3)
-      ∙ ap (λ (ys : List ℕ). field_of (spelling x) ++ ys) (items_only xs h.1 h.4)
+      h.2 ∙ ap (λ (ys : List ℕ). ys ++ h.1) (field_only (λ body. Encodes x body) h.0 (encoding x) (encoding_only x) h.3)
+      ∙ ap (λ (ys : List ℕ). field_of (encoding x) ++ ys) (items_only xs h.1 h.4)
 
   pairs_only : (ps : Pairs) (bytes : List ℕ) → ArePairs ps bytes → bytes ≡ pair_fields ps
   pairs_only no_pairs bytes h = h
   pairs_only (pair k v ps) bytes h =
-      h.3 ∙ ap (λ (ys : List ℕ). ys ++ (h.1 ++ h.2)) (field_only (λ body. Spells k body) h.0 (spelling k) (spelling_only k) h.4)
-      ∙ ap (λ (ys : List ℕ). field_of (spelling k) ++ (ys ++ h.2)) (field_only (λ body. Spells v body) h.1 (spelling v) (spelling_only v) h.5)
-      ∙ ap (λ (ys : List ℕ). field_of (spelling k) ++ (field_of (spelling v) ++ ys)) (pairs_only ps h.2 h.6)
+      h.3 ∙ ap (λ (ys : List ℕ). ys ++ (h.1 ++ h.2)) (field_only (λ body. Encodes k body) h.0 (encoding k) (encoding_only k) h.4)
+      ∙ ap (λ (ys : List ℕ). field_of (encoding k) ++ (ys ++ h.2)) (field_only (λ body. Encodes v body) h.1 (encoding v) (encoding_only v) h.5)
+      ∙ ap (λ (ys : List ℕ). field_of (encoding k) ++ (field_of (encoding v) ++ ys)) (pairs_only ps h.2 h.6)
 
-pub one_spelling : (x : Shape) (a b : List ℕ) → Spells x a → Spells x b → a ≡ b
-one_spelling x a b p q = spelling_only x a p ∙ sym (spelling_only x b q)
+pub one_encoding : (x : Shape) (a b : List ℕ) → Encodes x a → Encodes x b → a ≡ b
+one_encoding x a b p q = encoding_only x a p ∙ sym (encoding_only x b q)
 
-pub one_value : (x y : Shape) (bytes : List ℕ) → Spells x bytes → Spells y bytes → x ≡ y
+pub one_value : (x y : Shape) (bytes : List ℕ) → Encodes x bytes → Encodes y bytes → x ≡ y
 one_value x y bytes p q =
     let d = max (depth_of x) (depth_of y) in
     some_is x y (sym (value_again d x (omega arith) bytes p) ∙ value_again d y (omega arith) bytes q)
 
--- what has a spelling is spellable
+-- what has an encoding is encodable
 mutual
-  pub spellable : (x : Shape) (bytes : List ℕ) → Spells x bytes → IsSpellable x
-  spellable null bytes h = tt
-  spellable (binary content) bytes h = tt
-  spellable (boolean b) bytes h = tt
-  spellable (descriptor n) bytes h = h.0
-  spellable (integer i) bytes h = h.2.range
-  spellable (mapping ps) bytes h = pairs_spellable ps h.0 h.2
-  spellable (sequence xs) bytes h = items_spellable xs h.0 h.2
-  spellable (text content) bytes h = h.0
+  pub encodable : (x : Shape) (bytes : List ℕ) → Encodes x bytes → IsEncodable x
+  encodable null bytes h = tt
+  encodable (binary content) bytes h = tt
+  encodable (boolean b) bytes h = tt
+  encodable (descriptor n) bytes h = h.0
+  encodable (integer i) bytes h = h.2.range
+  encodable (mapping ps) bytes h = pairs_encodable ps h.0 h.2
+  encodable (sequence xs) bytes h = items_encodable xs h.0 h.2
+  encodable (text content) bytes h = h.0
 
-  items_spellable : (xs : Shapes) (bytes : List ℕ) → AreItems xs bytes → ItemsAreSpellable xs
-  items_spellable no_items bytes h = tt
-  items_spellable (item x xs) bytes h = (spellable x h.3.1 h.3.4, items_spellable xs h.1 h.4)
+  items_encodable : (xs : Shapes) (bytes : List ℕ) → AreItems xs bytes → ItemsAreEncodable xs
+  items_encodable no_items bytes h = tt
+  items_encodable (item x xs) bytes h = (encodable x h.3.1 h.3.4, items_encodable xs h.1 h.4)
 
-  pairs_spellable : (ps : Pairs) (bytes : List ℕ) → ArePairs ps bytes → PairsAreSpellable ps
-  pairs_spellable no_pairs bytes h = tt
-  pairs_spellable (pair k v ps) bytes h = (spellable k h.4.1 h.4.4, spellable v h.5.1 h.5.4, pairs_spellable ps h.2 h.6)
+  pairs_encodable : (ps : Pairs) (bytes : List ℕ) → ArePairs ps bytes → PairsAreEncodable ps
+  pairs_encodable no_pairs bytes h = tt
+  pairs_encodable (pair k v ps) bytes h = (encodable k h.4.1 h.4.4, encodable v h.5.1 h.5.4, pairs_encodable ps h.2 h.6)

@@ -35,9 +35,9 @@ chars_text (c ∷ cs) ok some bounds =
 pub text_there : (body : List ℕ) → IsRead (text_at body) → Texts (0, (0, 0)) body
 text_there body h =
     let t = text_sound body h.0 h.1 in
-    let spelled : encodes t.0.0.0 ≡ h.0 = t.0.0.1.1 in
-    subst (Texts (0, (0, 0))) (ap (λ (p : List ℕ). p ++ 0 ∷ []) spelled ∙ sym t.1)
-    (chars_text t.0.0.0 t.0.0.1.0 (subst AreSome (sym spelled) t.0.1) (0, 0))
+    let encoded : encodes t.0.0.0 ≡ h.0 = t.0.0.1.1 in
+    subst (Texts (0, (0, 0))) (ap (λ (p : List ℕ). p ++ 0 ∷ []) encoded ∙ sym t.1)
+    (chars_text t.0.0.0 t.0.0.1.0 (subst AreSome (sym encoded) t.0.1) (0, 0))
 
 -- ---- back
 

@@ -4,7 +4,7 @@ use Rattle.std.specs.List.{AllByRecursion}
 use Rattle.std.specs.Str.{IsUtf8, is_utf8}
 use Rattle.std.proofs.Math.Dec.{eqb-suc-zero}
 use Rattle.std.proofs.lemmas.Str.{IsUtf8-from_is_utf8, is_utf8-from_IsUtf8}
-use Rattle.argdata_codec.specs.Spelling.{IsText}
+use Rattle.argdata_codec.specs.Encoding.{IsText}
 use Rattle.argdata_codec.specs.Reading.{before_zero, text_at}
 use Rattle.lists.proofs.Chosen.{chosen, none_some, some_is}
 use Rattle.lists.proofs.OptionSteps.{bind_some}

@@ -1,4 +1,4 @@
--- A code by which proofs tell values apart: a value as the list of its parts, outermost first.
+-- A code by which proofs distinguish values: a value as the list of its parts, outermost first.
 use Rattle.std.specs.Prelude.{ℕ, ℤ, pos, negsuc, ◌==◌, if◌then◌else◌, true, false, List, [], ◌∷◌, ◌≡◌, refl}
 use Rattle.std.proofs.Common.{ap, ◌∙◌}
 use Rattle.std.specs.Coded.{Coded, code_by, coded_ℕ, coded_ℤ, coded_list, coded×}

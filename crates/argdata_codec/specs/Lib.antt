@@ -1,7 +1,7 @@
 pub mod Shape
 pub mod Code
 pub mod Views
-pub mod Spelling
+pub mod Encoding
 pub mod Sizes
 pub mod Writing
 pub mod Reading

@@ -1,5 +1,5 @@
--- How far bytes go on as some spelling begins: the length of the longest such beginning. The room is the length of what is
--- to be spelled; none is known at the top.
+-- How far bytes go on as some encoding begins: the length of the longest such beginning. The room is the length of what is
+-- to be encoded; none is known at the top.
 use Rattle.std.specs.Prelude.{ℕ, zero, suc, ◌+◌, ◌-◌, ◌*◌, ◌==◌, ◌&&◌, ◌||◌, not, if◌then◌else◌, nat_lt, min, Bool, true, List, [], ◌∷◌, length, take, drop, Option, Some, None, is_some}
 use Rattle.argdata_codec.specs.declared.turn.Turn.{Turn}
 use Rattle.argdata_codec.specs.declared.turn.Turn.TheVariants as turns
@@ -115,7 +115,7 @@ text_place tail room (b ∷ bs) =
 
 -- ---- maps and sequences
 
--- the size of the field behind its length, where the bytes have all of it and spell a value
+-- the size of the field behind its length, where the bytes have all of it and encode a value
 abbrev pub field_size : (List ℕ → Option Shape) → ℕ → List ℕ → Option ℕ
 field_size value size bytes = if nat_lt (length bytes) size then None else (if is_some (value (take size bytes)) then Some size else None)
 
@@ -124,7 +124,7 @@ abbrev pub field_place : (ℕ → ℕ) → ℕ → Option ℕ → ℕ
 field_place further within None = within
 field_place further within (Some size) = size + further size
 
--- what the next byte of a field's length does, where the room behind it is given: it stops what begins a spelling, goes on
+-- what the next byte of a field's length does, where the room behind it is given: it stops what begins an encoding, goes on
 -- with more groups, or ends the length
 abbrev pub length_step : Turn → ℕ → Option ℕ → ℕ → LengthStep
 length_step turn groups left b =
@@ -132,7 +132,7 @@ length_step turn groups left b =
     then (if (128 * groups + b == 0) || not (may_grow turn (128 * groups + b) left) then steps.Stops else steps.Goes (128 * groups + b))
     else (if has_place turn (128 * groups + b - 128) left then steps.Ends (128 * groups + b - 128) else steps.Stops)
 
--- one byte more, unless it stops what begins a spelling
+-- one byte more, unless it stops what begins an encoding
 abbrev pub after_step : (ℕ → ℕ) → (ℕ → ℕ) → LengthStep → ℕ
 after_step goes ends steps.Stops = 0
 after_step goes ends (steps.Goes groups) = suc (goes groups)

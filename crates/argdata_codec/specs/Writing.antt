@@ -1,8 +1,8 @@
--- The one spelling of a value, as a function.
+-- The one encoding of a value, as a function.
 use Rattle.std.specs.Prelude.{ℕ, ℤ, pos, negsuc, zero, suc, ◌+◌, ◌/◌, ◌%◌, if◌then◌else◌, nat_lt, true, false, List, [], ◌∷◌, ◌++◌, length}
 use Rattle.std.specs.Int.{w32, to_be_bytes}
 use Rattle.argdata_codec.specs.Shape.{Shape, Shapes, Pairs, null, binary, boolean, descriptor, integer, mapping, sequence, text, no_items, item, no_pairs, pair}
-use Rattle.argdata_codec.specs.Spelling.{complement_bytes}
+use Rattle.argdata_codec.specs.Encoding.{complement_bytes}
 
 -- the groups of 7 bits of a number, the most significant first; none of 0. The fuel is at least the number
 abbrev pub groups : ℕ → ℕ → List ℕ
@@ -35,21 +35,21 @@ abbrev pub field_of : List ℕ → List ℕ
 field_of body = length_bytes (length body) ++ body
 
 abbrev mutual
-  pub spelling : Shape → List ℕ
-  spelling null = []
-  spelling (binary content) = 1 ∷ content
-  spelling (boolean false) = 2 ∷ []
-  spelling (boolean true) = 2 ∷ 1 ∷ []
-  spelling (descriptor n) = 3 ∷ to_be_bytes w32 n
-  spelling (integer i) = 5 ∷ complement_bytes (width_of i) i
-  spelling (mapping ps) = 6 ∷ pair_fields ps
-  spelling (sequence xs) = 7 ∷ item_fields xs
-  spelling (text content) = 8 ∷ (content ++ 0 ∷ [])
+  pub encoding : Shape → List ℕ
+  encoding null = []
+  encoding (binary content) = 1 ∷ content
+  encoding (boolean false) = 2 ∷ []
+  encoding (boolean true) = 2 ∷ 1 ∷ []
+  encoding (descriptor n) = 3 ∷ to_be_bytes w32 n
+  encoding (integer i) = 5 ∷ complement_bytes (width_of i) i
+  encoding (mapping ps) = 6 ∷ pair_fields ps
+  encoding (sequence xs) = 7 ∷ item_fields xs
+  encoding (text content) = 8 ∷ (content ++ 0 ∷ [])
 
   pub item_fields : Shapes → List ℕ
   item_fields no_items = []
-  item_fields (item x xs) = field_of (spelling x) ++ item_fields xs
+  item_fields (item x xs) = field_of (encoding x) ++ item_fields xs
 
   pub pair_fields : Pairs → List ℕ
   pair_fields no_pairs = []
-  pair_fields (pair k v ps) = field_of (spelling k) ++ (field_of (spelling v) ++ pair_fields ps)
+  pair_fields (pair k v ps) = field_of (encoding k) ++ (field_of (encoding v) ++ pair_fields ps)

@@ -2,25 +2,25 @@
 ghost use Rattle.std.specs.Prelude.{◌≡◌, ◌+◌, ◌*◌, ◌^◌, ◌/◌, ◌<◌, ◌≤◌, ◌∷◌, ◌++◌, map, IfOk, OnOk, length};
 ghost use Rattle.argdata_codec.specs.Shape.{of_list, of_pairs, integer as integer_shape};
 ghost use Rattle.argdata_codec.specs.Views.{shape_of, pair_of};
-ghost use Rattle.argdata_codec.specs.Spelling.{Spells, CanBeSpelled, steps};
-ghost use Rattle.argdata_codec.specs.Writing.{groups_of, length_bytes, further_bytes, width_of, spelling, field_of, item_fields, pair_fields};
+ghost use Rattle.argdata_codec.specs.Encoding.{Encodes, CanBeEncoded, steps};
+ghost use Rattle.argdata_codec.specs.Writing.{groups_of, length_bytes, further_bytes, width_of, encoding, field_of, item_fields, pair_fields};
 
 use crate::tag;
 use crate::value::Value;
 use lists::Bytes;
 use std::alloc::{AllocError, Global};
 
-/// The bytes that spell the value.
+/// The bytes that encode the value.
 pub fn encode(alloc: Global, value: &Value) -> Result<Bytes, AllocError>
-    requires { CanBeSpelled (shape_of value.now) }
-    ensures { IfOk result (λ bytes. Spells (shape_of value.now) bytes) }
+    requires { CanBeEncoded (shape_of value.now) }
+    ensures { IfOk result (λ bytes. Encodes (shape_of value.now) bytes) }
 {
-    Ok(Bytes::from_vec(spell(alloc, value)?))
+    Ok(Bytes::from_vec(encode_value(alloc, value)?))
 }
 
-#[cycle(spell)]
-fn spell(alloc: Global, value: &Value) -> Result<Vec<u8>, AllocError>
-    ensures { IfOk result (λ bytes. bytes.items ≡ spelling (shape_of value.now)) }
+#[cycle(encode_value)]
+fn encode_value(alloc: Global, value: &Value) -> Result<Vec<u8>, AllocError>
+    ensures { IfOk result (λ bytes. bytes.items ≡ encoding (shape_of value.now)) }
 {
     match value {
         Value::Null => Ok(Vec::new(alloc)),
@@ -28,9 +28,9 @@ fn spell(alloc: Global, value: &Value) -> Result<Vec<u8>, AllocError>
         Value::Bool(false) => tagged(alloc, tag::BOOL, &[]),
         Value::Bool(true) => tagged(alloc, tag::BOOL, &[1]),
         Value::Fd(number) => tagged(alloc, tag::FD, &number.to_be_bytes()),
-        Value::Int(integer) => spell_integer(alloc, *integer),
-        Value::Map(pairs) => tagged(alloc, tag::MAP, &spell_pairs(alloc, pairs.as_slice())?),
-        Value::Seq(items) => tagged(alloc, tag::SEQ, &spell_items(alloc, items.as_slice())?),
+        Value::Int(integer) => encode_integer(alloc, *integer),
+        Value::Map(pairs) => tagged(alloc, tag::MAP, &encode_pairs(alloc, pairs.as_slice())?),
+        Value::Seq(items) => tagged(alloc, tag::SEQ, &encode_items(alloc, items.as_slice())?),
         Value::Str(text) => {
             let mut bytes = tagged(alloc, tag::STR, text.as_bytes())?;
             bytes.push(0)?;
@@ -50,8 +50,8 @@ fn tagged(alloc: Global, tag: u8, body: &[u8]) -> Result<Vec<u8>, AllocError>
 }
 
 #[tactic(auto, using(crate::proofs::Groups::last_bytes))]
-fn spell_integer(alloc: Global, integer: i128) -> Result<Vec<u8>, AllocError>
-    ensures { IfOk result (λ bytes. bytes.items ≡ spelling (integer_shape integer)) }
+fn encode_integer(alloc: Global, integer: i128) -> Result<Vec<u8>, AllocError>
+    ensures { IfOk result (λ bytes. bytes.items ≡ encoding (integer_shape integer)) }
 {
     let bytes = integer.cast_unsigned().to_be_bytes();
     tagged(alloc, tag::INT, &bytes[16 - width(integer)..])
@@ -59,7 +59,7 @@ fn spell_integer(alloc: Global, integer: i128) -> Result<Vec<u8>, AllocError>
 
 /// How many bytes of two's complement hold the integer: the fewest that do, 0 for 0 and at most 16.
 ///
-/// Argdata spells an integer in these bytes, the highest first.
+/// Argdata encodes an integer in these bytes, the highest first.
 pub fn width(integer: i128) -> usize
     ensures value { result ≡ width_of integer }
     ensures small { result ≤ 16 }
@@ -95,8 +95,8 @@ fn further(steps: u128) -> usize
     }
 }
 
-#[cycle(spell)]
-fn spell_items(alloc: Global, items: &[Value]) -> Result<Vec<u8>, AllocError>
+#[cycle(encode_value)]
+fn encode_items(alloc: Global, items: &[Value]) -> Result<Vec<u8>, AllocError>
     ensures { IfOk result (λ bytes. bytes.items ≡ item_fields (of_list (map shape_of items.now))) }
 {
     let mut out = Vec::new(alloc);
@@ -106,8 +106,8 @@ fn spell_items(alloc: Global, items: &[Value]) -> Result<Vec<u8>, AllocError>
     Ok(out)
 }
 
-#[cycle(spell)]
-fn spell_pairs(alloc: Global, pairs: &[(Value, Value)]) -> Result<Vec<u8>, AllocError>
+#[cycle(encode_value)]
+fn encode_pairs(alloc: Global, pairs: &[(Value, Value)]) -> Result<Vec<u8>, AllocError>
     ensures { IfOk result (λ bytes. bytes.items ≡ pair_fields (of_pairs (map pair_of pairs.now))) }
 {
     let mut out = Vec::new(alloc);
@@ -118,11 +118,11 @@ fn spell_pairs(alloc: Global, pairs: &[(Value, Value)]) -> Result<Vec<u8>, Alloc
     Ok(out)
 }
 
-#[cycle(spell)]
+#[cycle(encode_value)]
 fn push_field(alloc: Global, out: &mut Vec<u8>, value: &Value) -> Result<(), AllocError>
-    ensures { OnOk result (out.new.items ≡ out.old.items ++ field_of (spelling (shape_of value.now))) }
+    ensures { OnOk result (out.new.items ≡ out.old.items ++ field_of (encoding (shape_of value.now))) }
 {
-    let body = spell(alloc, value)?;
+    let body = encode_value(alloc, value)?;
     push_length(out, body.len())?;
     out.extend_from_slice(&body)
 }

@@ -1,5 +1,5 @@
 //! Faults of argument data.
 
-/// The bytes spell no value.
+/// The bytes encode no value.
 #[derive(Drop)]
 pub struct Malformed;

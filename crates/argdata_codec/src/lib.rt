@@ -1,9 +1,9 @@
-//! CloudABI's argument data: values, and the bytes that spell them.
+//! CloudABI's argument data: values, and the bytes that encode them.
 #![tactic(auto)]
 
 pub use decoding::{ArgFault, decode};
 pub use encoding::encode;
-pub use laws::{bytes_spell_one_value, each_value_has_one_spelling};
+pub use laws::{bytes_encode_one_value, each_value_has_one_encoding};
 pub use pair_list::PairList;
 pub use value::Value;
 pub use value_list::ValueList;

@@ -1,4 +1,4 @@
-//! How far bytes go on as some spelling begins. The room is the length of what is to be spelled; none is known at the top.
+//! How far bytes go on as some encoding begins. The room is the length of what is to be encoded; none is known at the top.
 ghost use Rattle.std.specs.Prelude.{◌≡◌, ◌<◌, ◌≤◌, ◌+◌, ◌^◌, length, min, take, IfOk, IfSome, Some};
 ghost use Rattle.argdata_codec.specs.Places.{room_after, has_place, may_grow, at_most, exactly, more_than, boolean_place, second_place, integer_place, tail_of, begins_in, text_step, text_place, field_size, length_step, fields_place, container_place, value_place};
 ghost use Rattle.argdata_codec.specs.Reading.{value_at};
@@ -171,7 +171,7 @@ fn text(room: Option<u128>, body: &[u8]) -> usize
     body.len()
 }
 
-// The size of the field behind its length, where the bytes have all of it and spell a value.
+// The size of the field behind its length, where the bytes have all of it and encode a value.
 fn whole_field(
     alloc: Global,
     depth: usize,
@@ -203,7 +203,7 @@ fn front(bytes: &[u8], size: usize) -> &[u8]
     }
 }
 
-/// How many bytes go on as a spelling of a value begins, whose maps and sequences stand in each other so many times at most.
+/// How many bytes go on as an encoding of a value begins, whose maps and sequences stand in each other so many times at most.
 #[cycle(place)]
 pub fn value(
     alloc: Global,

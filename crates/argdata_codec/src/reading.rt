@@ -1,4 +1,4 @@
-//! The value that bytes spell, without the place of a fault.
+//! The value that bytes encode, without the place of a fault.
 ghost use Rattle.std.specs.Prelude.{◌≡◌, ◌<◌, ◌≤◌, ◌^◌, map, length, IfOk};
 ghost use Rattle.argdata_codec.specs.Views.{shape_of, pair_of};
 ghost use Rattle.lists.specs.Options.{Reads};
@@ -150,7 +150,7 @@ fn integer(body: &[u8]) -> Result<i128, Stop<Malformed>>
     }
 }
 
-// The number that at most 9 bytes spell, and how many numbers as many bytes spell.
+// The number that at most 9 bytes encode, and how many numbers as many bytes encode.
 fn number(body: &[u8]) -> (u128, u128)
     requires { length body.now ≤ 9 }
     ensures number { result.0 ≡ number_after 0 body.now }

@@ -16,7 +16,7 @@ pub enum Turn {
 /// What the next byte of a field's length does.
 #[derive(Clone, Copy, Drop)]
 pub enum LengthStep {
-    /// No spelling goes on with it.
+    /// No encoding goes on with it.
     Stops,
     /// It is a group, and brings the groups to this number.
     Goes(u128),

@@ -65,18 +65,18 @@ module _ (S : State) (p : ℕ) (table : Table) (lookup : Lookup) (path : List �
       → GivesOpen S p (opened_outcome p own table stat fd o)
   number_opens own fd (NotOpened errno) other free = λ success. absurd (other success)
   number_opens own fd (OpenedOutside component) other free = λ success. absurd (notcapable_is_error success)
-  number_opens own fd (Opens kind change makes) other free =
-      elim (can_number p (makes + 1) own) as (λ b. can_number p (makes + 1) own ≡ b → GivesOpen S p
+  number_opens own fd (Opens kind change new_nodes) other free =
+      elim (can_number p (new_nodes + 1) own) as (λ b. can_number p (new_nodes + 1) own ≡ b → GivesOpen S p
       (cond b (record {
         answer = answer.Reply (success fd 0);
         updates =
-            set_open (next_object p own (makes + 1)) kind
-            ∷ set_table p (insert table fd (opened_descriptor (next_object p own (makes + 1)) kind stat))
-            ∷ (process_updates p (makes + 1) own ++ change_updates change);
+            set_open (next_object p own (new_nodes + 1)) kind
+            ∷ set_table p (insert table fd (opened_descriptor (next_object p own (new_nodes + 1)) kind stat))
+            ∷ (process_updates p (new_nodes + 1) own ++ change_updates change);
       }) (replies (refused Again)))) [
         | true ↦ λ can success. (
           ap (λ t. row_in t fd) there ∙ free_is_absent table _ 0 fd free,
-          row_has S p table lookup path oflags stat there own fd kind change (makes + 1) (omega arith) can,
+          row_has S p table lookup path oflags stat there own fd kind change (new_nodes + 1) (omega arith) can,
         )
         | false ↦ λ _ success. absurd (again_is_error success)
       ] refl

@@ -47,12 +47,12 @@ use Rattle.kernel_model.proofs.OpenMeanings.{OpensWell, apart_descriptor, apart_
 use Rattle.kernel_model.proofs.Refusals.{refusal_is_other}
 use Rattle.kernel_model.proofs.StreamCalls.{read_opens_well, seek_opens_well, write_opens_well}
 use Rattle.authority_laws.specs.Ledger.{Row, Made, with_held, last_made, lowered_row, granted_row, by_success, answered_row}
-use Rattle.authority_laws.proofs.Openings.{open_told, walk_by_error}
-use Rattle.authority_laws.proofs.Rows.{LeavesRow, row_in, row_of, row_emptied, row_inserted, row_removed, by_error, by_either, refused_told, badf_is_error, mfile_is_error}
+use Rattle.authority_laws.proofs.Openings.{open_reported, walk_by_error}
+use Rattle.authority_laws.proofs.Rows.{LeavesRow, row_in, row_of, row_emptied, row_inserted, row_removed, by_error, by_either, refused_reported, badf_is_error, mfile_is_error}
 
 -- each outcome of the call of a process with this table, once it is not refused, is such
-abbrev IsTold : Call → Type 0
-IsTold call =
+abbrev IsReported : Call → Type 0
+IsReported call =
     (constants : Constants) (S : State) (v : View) (who : Who) (table : Table) → get S.tables who.pid ≡ Some table
     → LeavesRow S who.pid call ((meaning_of call).effect constants v who table)
 
@@ -73,8 +73,8 @@ kept S p call o nothing same =
     ap (λ tables. row_in (get tables p)) same ∙ same_answered (last_made (put_all o.updates S) p) (row_of S p) call o.answer nothing
 
 -- a call that may make another open of that of a descriptor
-moved_told : (called : Call) (m : OpenMeaning) (row : Needed) → OpensWell m → GrantsNothing called → meaning_of called ≡ by_open row m → IsTold called
-moved_told called m row well nothing means constants S v who table there =
+moved_reported : (called : Call) (m : OpenMeaning) (row : Needed) → OpensWell m → GrantsNothing called → meaning_of called ≡ by_open row m → IsReported called
+moved_reported called m row well nothing means constants S v who table there =
     let o : Outcome = (by_open row m).effect constants v who table in
     subst (λ (x : Meaning). LeavesRow S who.pid called (x.effect constants v who table)) (sym means)
     (kept S who.pid called o nothing
@@ -88,19 +88,19 @@ stat_kept : (S : State) (v : View) (d : Option Descriptor) → KeepsTables S (st
 stat_kept S v None = refl
 stat_kept S v (Some d) = stat_open_kept S d (v.opened d.id)
 
-fd_stat_get_told : (fd : ℕ) → IsTold (FdStatGet fd)
-fd_stat_get_told fd constants S v who table there =
+fd_stat_get_reported : (fd : ℕ) → IsReported (FdStatGet fd)
+fd_stat_get_reported fd constants S v who table there =
     kept S who.pid (FdStatGet fd) (stat_get v (get table fd)) (λ made row reply. refl) (stat_kept S v (get table fd))
 
 -- a call that succeeds, and does no more
-nothing_told : (call : Call) → GrantsNothing call
-    → ((constants : Constants) (v : View) (who : Who) (table : Table) → (meaning_of call).effect constants v who table ≡ replies (success 0 0)) → IsTold call
-nothing_told call nothing is constants S v who table there =
+nothing_reported : (call : Call) → GrantsNothing call
+    → ((constants : Constants) (v : View) (who : Who) (table : Table) → (meaning_of call).effect constants v who table ≡ replies (success 0 0)) → IsReported call
+nothing_reported call nothing is constants S v who table there =
     subst (LeavesRow S who.pid call) (sym (is constants v who table)) (kept S who.pid call (replies (success 0 0)) nothing refl)
 
 -- a call that works on the open of a descriptor: it changes the file tree alone
-file_told : (called : Call) (fd : ℕ) → GrantsNothing called → file_fd called ≡ Some fd → IsTold called
-file_told called fd nothing is constants S v who table there =
+file_reported : (called : Call) (fd : ℕ) → GrantsNothing called → file_fd called ≡ Some fd → IsReported called
+file_reported called fd nothing is constants S v who table there =
     let on = on_open_of called fd is in
     let o : Outcome = (on_open on.row (file_meaning called)).effect constants v who table in
     subst (λ (m : Meaning). LeavesRow S who.pid called (m.effect constants v who table)) (sym on.means)
@@ -112,31 +112,31 @@ zeros_kept : (S : State) (constants : Constants) (v : View) (who : Who) (table :
     → KeepsTables S ((map_zeros place).effect constants v who table)
 zeros_kept S constants v who table place = refl
 
-mem_map_told : (place : Place) (length prot flags fd offset : ℕ) → IsTold (MemMap place length prot flags fd offset)
-mem_map_told place length prot flags fd offset =
-    elim (is_anonymous flags) as (λ b. is_anonymous flags ≡ b → IsTold (MemMap place length prot flags fd offset)) [
+mem_map_reported : (place : Place) (length prot flags fd offset : ℕ) → IsReported (MemMap place length prot flags fd offset)
+mem_map_reported place length prot flags fd offset =
+    elim (is_anonymous flags) as (λ b. is_anonymous flags ≡ b → IsReported (MemMap place length prot flags fd offset)) [
       | true ↦ λ is constants S v who table there.
           subst (λ (m : Meaning). LeavesRow S who.pid (MemMap place length prot flags fd offset) (m.effect constants v who table))
           (sym (ap (λ b. cond b (map_zeros place) (on_open (map_row fd prot) (mapping place length offset))) is))
           (kept S who.pid (MemMap place length prot flags fd offset) ((map_zeros place).effect constants v who table) (λ made row reply. refl)
           (zeros_kept S constants v who table place))
       | false ↦ λ is.
-          file_told (MemMap place length prot flags fd offset) fd (λ made row reply. refl) (ap (λ b. cond b None (Some fd)) is)
+          file_reported (MemMap place length prot flags fd offset) fd (λ made row reply. refl) (ap (λ b. cond b None (Some fd)) is)
     ] refl
 
 -- a call that makes, moves or takes away names: it changes the tree and what its process has made alone
-named_told : (call : Call) → GrantsNothing call
-    → ((constants : Constants) (v : View) (who : Who) (table : Table) → (makes : ℕ) × (own : Option ProcessState) × (comes : NameOutcome)
-    × ((meaning_of call).effect constants v who table ≡ outcome_of who.pid own makes comes)) → IsTold call
-named_told call nothing is constants S v who table there =
+named_reported : (call : Call) → GrantsNothing call
+    → ((constants : Constants) (v : View) (who : Who) (table : Table) → (new_nodes : ℕ) × (own : Option ProcessState) × (comes : NameOutcome)
+    × ((meaning_of call).effect constants v who table ≡ outcome_of who.pid own new_nodes comes)) → IsReported call
+named_reported call nothing is constants S v who table there =
     let comes = is constants v who table in
     subst (LeavesRow S who.pid call) (sym comes.3)
     (kept S who.pid call (outcome_of who.pid comes.1 comes.0 comes.2) nothing (outcome_tables S who.pid comes.0 comes.1 comes.2))
 
 -- file_open
-file_open_told : (lookup : Lookup) (path : List ℕ) (oflags : ℕ) (stat : FdStat) → IsTold (FileOpen lookup path oflags stat)
-file_open_told lookup path oflags stat constants S v who table there =
-    open_told S who.pid table lookup path oflags stat there (v.process who.pid) (lowest_free table)
+file_open_reported : (lookup : Lookup) (path : List ℕ) (oflags : ℕ) (stat : FdStat) → IsReported (FileOpen lookup path oflags stat)
+file_open_reported lookup path oflags stat constants S v who table there =
+    open_reported S who.pid table lookup path oflags stat there (v.process who.pid) (lowest_free table)
     (open_walked oflags stat.flags path (real_time constants v.clock) (next_object who.pid (v.process who.pid) 1) v.branch
     (walked v.branch (open_mode oflags lookup.flags) path (open_of v (get table lookup.fd))))
     (walk_by_error oflags stat.flags path (real_time constants v.clock) (next_object who.pid (v.process who.pid) 1) v.branch
@@ -144,56 +144,56 @@ file_open_told lookup path oflags stat constants S v who table there =
     (walked_plainly v.branch (open_mode oflags lookup.flags) path (open_of v (get table lookup.fd))))
 
 -- a call that answers this error, and nothing else
-decided_told : (call : Call) (errno : Errno) (S : State) (p : ℕ) → GrantsNothing call → LeavesRow S p call (replies (refused errno))
-decided_told call errno S p nothing = kept S p call (replies (refused errno)) nothing refl
+decided_reported : (call : Call) (errno : Errno) (S : State) (p : ℕ) → GrantsNothing call → LeavesRow S p call (replies (refused errno))
+decided_reported call errno S p nothing = kept S p call (replies (refused errno)) nothing refl
 
 -- a call that isn't built yet
-unbuilt_told : (call : Call) → GrantsNothing call
-    → ((constants : Constants) (v : View) (who : Who) (table : Table) → (meaning_of call).effect constants v who table ≡ replies (refused Nosys)) → IsTold call
-unbuilt_told call nothing is constants S v who table there =
-    subst (LeavesRow S who.pid call) (sym (is constants v who table)) (decided_told call Nosys S who.pid nothing)
+unbuilt_reported : (call : Call) → GrantsNothing call
+    → ((constants : Constants) (v : View) (who : Who) (table : Table) → (meaning_of call).effect constants v who table ≡ replies (refused Nosys)) → IsReported call
+unbuilt_reported call nothing is constants S v who table there =
+    subst (LeavesRow S who.pid call) (sym (is constants v who table)) (decided_reported call Nosys S who.pid nothing)
 
 -- ---- calls that change their process's table
 
-proc_exit_told : (code : ℕ) → IsTold (ProcExit code)
-proc_exit_told code constants S v who table there = row_emptied S.tables who.pid
+proc_exit_reported : (code : ℕ) → IsReported (ProcExit code)
+proc_exit_reported code constants S v who table there = row_emptied S.tables who.pid
 
 -- a table that has what the call's line says
-set_told : (S : State) (p : ℕ) (call : Call) (table new : Table) (result : ℕ) → get S.tables p ≡ Some table
+set_reported : (S : State) (p : ℕ) (call : Call) (table new : Table) (result : ℕ) → get S.tables p ≡ Some table
     → ((made : Made) → row_in (Some new) ≡ granted_row made (row_in (Some table)) call (success result 0)) → LeavesRow S p call (with_table p result new)
-set_told S p call table new result there is =
+set_reported S p call table new result there is =
     let made : Made = last_made (put_one (set_table p new) S) p in
     ap row_in (get-insert-same S.tables p new) ∙ is made ∙ ap (λ row. granted_row made row call (success result 0)) (sym (ap row_in there))
 
-fd_close_told : (fd : ℕ) → IsTold (FdClose fd)
-fd_close_told fd constants S v who table there = set_told S who.pid (FdClose fd) table (remove table fd) 0 there (λ made. row_removed table fd)
+fd_close_reported : (fd : ℕ) → IsReported (FdClose fd)
+fd_close_reported fd constants S v who table there = set_reported S who.pid (FdClose fd) table (remove table fd) 0 there (λ made. row_removed table fd)
 
 -- fd_dup
-number_told : (S : State) (p fd : ℕ) (table : Table) (d : Descriptor) (number : Option ℕ) → get S.tables p ≡ Some table → get table fd ≡ Some d
+number_reported : (S : State) (p fd : ℕ) (table : Table) (d : Descriptor) (number : Option ℕ) → get S.tables p ≡ Some table → get table fd ≡ Some d
     → LeavesRow S p (FdDup fd) (dup_at p table d number)
-number_told S p fd table d None there here = refused_told S p (FdDup fd) Mfile mfile_is_error
-number_told S p fd table d (Some number) there here =
-    set_told S p (FdDup fd) table (insert table number d) number there
+number_reported S p fd table d None there here = refused_reported S p (FdDup fd) Mfile mfile_is_error
+number_reported S p fd table d (Some number) there here =
+    set_reported S p (FdDup fd) table (insert table number d) number there
     (λ made. row_inserted table number d ∙ ap (with_held (row_in (Some table)) number) (sym here))
 
-dup_told : (S : State) (p fd : ℕ) (table : Table) (o : Option Descriptor) → get S.tables p ≡ Some table → get table fd ≡ o
+dup_reported : (S : State) (p fd : ℕ) (table : Table) (o : Option Descriptor) → get S.tables p ≡ Some table → get table fd ≡ o
     → LeavesRow S p (FdDup fd) (dup_of p table o)
-dup_told S p fd table None there here = refused_told S p (FdDup fd) Badf badf_is_error
-dup_told S p fd table (Some d) there here = number_told S p fd table d (lowest_free table) there here
+dup_reported S p fd table None there here = refused_reported S p (FdDup fd) Badf badf_is_error
+dup_reported S p fd table (Some d) there here = number_reported S p fd table d (lowest_free table) there here
 
-fd_dup_told : (fd : ℕ) → IsTold (FdDup fd)
-fd_dup_told fd constants S v who table there = dup_told S who.pid fd table (get table fd) there refl
+fd_dup_reported : (fd : ℕ) → IsReported (FdDup fd)
+fd_dup_reported fd constants S v who table there = dup_reported S who.pid fd table (get table fd) there refl
 
 -- fd_replace
-replaced_told : (S : State) (p from to : ℕ) (table : Table) (o : Option Descriptor) → get S.tables p ≡ Some table → get table from ≡ o
+replaced_reported : (S : State) (p from to : ℕ) (table : Table) (o : Option Descriptor) → get S.tables p ≡ Some table → get table from ≡ o
     → LeavesRow S p (FdReplace from to) (replaced_by p table to o)
-replaced_told S p from to table None there here = refused_told S p (FdReplace from to) Badf badf_is_error
-replaced_told S p from to table (Some d) there here =
-    set_told S p (FdReplace from to) table (insert table to d) 0 there
+replaced_reported S p from to table None there here = refused_reported S p (FdReplace from to) Badf badf_is_error
+replaced_reported S p from to table (Some d) there here =
+    set_reported S p (FdReplace from to) table (insert table to d) 0 there
     (λ made. row_inserted table to d ∙ ap (with_held (row_in (Some table)) to) (sym here))
 
-fd_replace_told : (from to : ℕ) → IsTold (FdReplace from to)
-fd_replace_told from to constants S v who table there = replaced_told S who.pid from to table (get table from) there refl
+fd_replace_reported : (from to : ℕ) → IsReported (FdReplace from to)
+fd_replace_reported from to constants S v who table there = replaced_reported S who.pid from to table (get table from) there refl
 
 -- fd_stat_put: what the updates leave, of which the second alone sets the table
 updates_leave : (S : State) (p o : ℕ) (kind : OpenKind) (new : Table) (no_flags no_rights : Bool)
@@ -210,82 +210,82 @@ lowered_is table fd stat d here =
     row_inserted table fd (lowered_to d stat)
     ∙ ap (λ o. with_held (row_in (Some table)) fd (option_map (λ (x : Descriptor). lowered_to x stat) o)) (sym here)
 
-set_stat_told : (S : State) (p : ℕ) (table : Table) (fd : ℕ) (stat : FdStat) (flags : ℕ) (d : Descriptor) (kind : Option OpenKind) → get S.tables p ≡ Some table
+set_stat_reported : (S : State) (p : ℕ) (table : Table) (fd : ℕ) (stat : FdStat) (flags : ℕ) (d : Descriptor) (kind : Option OpenKind) → get S.tables p ≡ Some table
     → get table fd ≡ Some d → LeavesRow S p (FdStatPut fd stat flags) (stat_set p table fd stat flags d kind)
-set_stat_told S p table fd stat flags d None there here = refused_told S p (FdStatPut fd stat flags) Badf badf_is_error
-set_stat_told S p table fd stat flags d (Some kind) there here =
+set_stat_reported S p table fd stat flags d None there here = refused_reported S p (FdStatPut fd stat flags) Badf badf_is_error
+set_stat_reported S p table fd stat flags d (Some kind) there here =
     updates_leave S p d.id (with_flags kind stat.flags) (insert table fd (lowered_to d stat)) (bit_and flags 1 == 0) (bit_and flags 2 == 0)
     ∙ ap (cond (bit_and flags 2 == 0) (row_of S p)) (lowered_is table fd stat d here ∙ ap (λ row. lowered_row row fd stat) (sym (ap row_in there)))
 
-put_told : (S : State) (v : View) (p : ℕ) (table : Table) (fd : ℕ) (stat : FdStat) (flags : ℕ) (o : Option Descriptor) → get S.tables p ≡ Some table
+put_reported : (S : State) (v : View) (p : ℕ) (table : Table) (fd : ℕ) (stat : FdStat) (flags : ℕ) (o : Option Descriptor) → get S.tables p ≡ Some table
     → get table fd ≡ o → LeavesRow S p (FdStatPut fd stat flags) (stat_put v p table fd stat flags o)
-put_told S v p table fd stat flags None there here = refused_told S p (FdStatPut fd stat flags) Badf badf_is_error
-put_told S v p table fd stat flags (Some d) there here = set_stat_told S p table fd stat flags d (v.opened d.id) there here
+put_reported S v p table fd stat flags None there here = refused_reported S p (FdStatPut fd stat flags) Badf badf_is_error
+put_reported S v p table fd stat flags (Some d) there here = set_stat_reported S p table fd stat flags d (v.opened d.id) there here
 
-fd_stat_put_told : (fd : ℕ) (stat : FdStat) (flags : ℕ) → IsTold (FdStatPut fd stat flags)
-fd_stat_put_told fd stat flags constants S v who table there = put_told S v who.pid table fd stat flags (get table fd) there refl
+fd_stat_put_reported : (fd : ℕ) (stat : FdStat) (flags : ℕ) → IsReported (FdStatPut fd stat flags)
+fd_stat_put_reported fd stat flags constants S v who table there = put_reported S v who.pid table fd stat flags (get table fd) there refl
 
 -- ---- all of them
 
-pub told : (call : Call) → IsTold call
-told (call.ClockResGet clock) = unbuilt_told (call.ClockResGet clock) (λ made row reply. refl) (λ constants v who table. refl)
-told (call.ClockTimeGet clock precision) = unbuilt_told (call.ClockTimeGet clock precision) (λ made row reply. refl) (λ constants v who table. refl)
-told (call.CondvarSignal condvar word scope n) = unbuilt_told (call.CondvarSignal condvar word scope n) (λ made row reply. refl) (λ constants v who table. refl)
-told (call.FdClose fd) = fd_close_told fd
-told (call.FdCreate1 kind) = unbuilt_told (call.FdCreate1 kind) (λ made row reply. refl) (λ constants v who table. refl)
-told (call.FdCreate2 kind) = unbuilt_told (call.FdCreate2 kind) (λ made row reply. refl) (λ constants v who table. refl)
-told (call.FdDatasync fd) = nothing_told (call.FdDatasync fd) (λ made row reply. refl) (λ constants v who table. refl)
-told (call.FdDup fd) = fd_dup_told fd
-told (call.FdPread fd length offset) = file_told (call.FdPread fd length offset) fd (λ made row reply. refl) refl
-told (call.FdPwrite fd bytes offset) = file_told (call.FdPwrite fd bytes offset) fd (λ made row reply. refl) refl
-told (call.FdRead fd length) = moved_told (call.FdRead fd length) (reading length) _ (read_opens_well length) (λ made row reply. refl) refl
-told (call.FdReplace from to) = fd_replace_told from to
-told (call.FdSeek fd offset whence) =
-    moved_told (call.FdSeek fd offset whence) (seeking offset whence) _ (seek_opens_well offset whence) (λ made row reply. refl) refl
-told (call.FdStatGet fd) = fd_stat_get_told fd
-told (call.FdStatPut fd stat flags) = fd_stat_put_told fd stat flags
-told (call.FdSync fd) = nothing_told (call.FdSync fd) (λ made row reply. refl) (λ constants v who table. refl)
-told (call.FdWrite fd bytes) = moved_told (call.FdWrite fd bytes) (writing bytes) _ (write_opens_well bytes) (λ made row reply. refl) refl
-told (call.FileAdvise fd offset length advice) = nothing_told (call.FileAdvise fd offset length advice) (λ made row reply. refl) (λ constants v who table. refl)
-told (call.FileAllocate fd offset length) = file_told (call.FileAllocate fd offset length) fd (λ made row reply. refl) refl
-told (call.FileCreate fd path kind) =
-    named_told (call.FileCreate fd path kind) (λ made row reply. refl) (λ constants v who table. (1, v.process who.pid, _, refl))
-told (call.FileLink lookup path new_fd new_path) =
-    named_told (call.FileLink lookup path new_fd new_path) (λ made row reply. refl) (λ constants v who table. (0, v.process who.pid, _, refl))
-told (call.FileOpen lookup path oflags stat) = file_open_told lookup path oflags stat
-told (call.FileReaddir fd length cookie) = file_told (call.FileReaddir fd length cookie) fd (λ made row reply. refl) refl
-told (call.FileReadlink fd path length) = file_told (call.FileReadlink fd path length) fd (λ made row reply. refl) refl
-told (call.FileRename fd path new_fd new_path) =
-    named_told (call.FileRename fd path new_fd new_path) (λ made row reply. refl) (λ constants v who table. (0, v.process who.pid, _, refl))
-told (call.FileStatFget fd) = file_told (call.FileStatFget fd) fd (λ made row reply. refl) refl
-told (call.FileStatFput fd stat flags) = file_told (call.FileStatFput fd stat flags) fd (λ made row reply. refl) refl
-told (call.FileStatGet lookup path) = file_told (call.FileStatGet lookup path) lookup.fd (λ made row reply. refl) refl
-told (call.FileStatPut lookup path stat flags) = file_told (call.FileStatPut lookup path stat flags) lookup.fd (λ made row reply. refl) refl
-told (call.FileSymlink text fd path) =
-    named_told (call.FileSymlink text fd path) (λ made row reply. refl)
-    (λ constants v who table. ((making_unless (text_error text) (making (Link text) path)).makes, v.process who.pid, _, refl))
-told (call.FileUnlink fd path flags) =
-    named_told (call.FileUnlink fd path flags) (λ made row reply. refl) (λ constants v who table. (0, v.process who.pid, _, refl))
-told (call.LockUnlock lock word scope) = unbuilt_told (call.LockUnlock lock word scope) (λ made row reply. refl) (λ constants v who table. refl)
-told (call.MemMap place length prot flags fd offset) = mem_map_told place length prot flags fd offset
-told (call.Memory number errno) = λ constants S v who table there. decided_told (call.Memory number errno) errno S who.pid (λ made row reply. refl)
-told (call.Poll subscriptions) = unbuilt_told (call.Poll subscriptions) (λ made row reply. refl) (λ constants v who table. refl)
-told (call.ProcExec fd bytes fds) = unbuilt_told (call.ProcExec fd bytes fds) (λ made row reply. refl) (λ constants v who table. refl)
-told (call.ProcExit code) = proc_exit_told code
-told (call.ProcFork left) = unbuilt_told (call.ProcFork left) (λ made row reply. refl) (λ constants v who table. refl)
-told (call.ProcRaise signal) = unbuilt_told (call.ProcRaise signal) (λ made row reply. refl) (λ constants v who table. refl)
-told (call.RandomGet length) = unbuilt_told (call.RandomGet length) (λ made row reply. refl) (λ constants v who table. refl)
-told (call.SockRecv fd length fds flags) = unbuilt_told (call.SockRecv fd length fds flags) (λ made row reply. refl) (λ constants v who table. refl)
-told (call.SockSend fd bytes fds flags) = unbuilt_told (call.SockSend fd bytes fds flags) (λ made row reply. refl) (λ constants v who table. refl)
-told (call.SockShutdown fd how) = unbuilt_told (call.SockShutdown fd how) (λ made row reply. refl) (λ constants v who table. refl)
-told (call.ThreadCreate attributes) = unbuilt_told (call.ThreadCreate attributes) (λ made row reply. refl) (λ constants v who table. refl)
-told (call.ThreadExit lock word scope) = unbuilt_told (call.ThreadExit lock word scope) (λ made row reply. refl) (λ constants v who table. refl)
-told call.ThreadYield = unbuilt_told call.ThreadYield (λ made row reply. refl) (λ constants v who table. refl)
-told (call.Refused number errno) = λ constants S v who table there. decided_told (call.Refused number errno) errno S who.pid (λ made row reply. refl)
-told (call.Unknown number) = λ constants S v who table there. decided_told (call.Unknown number) Nosys S who.pid (λ made row reply. refl)
+pub reported : (call : Call) → IsReported call
+reported (call.ClockResGet clock) = unbuilt_reported (call.ClockResGet clock) (λ made row reply. refl) (λ constants v who table. refl)
+reported (call.ClockTimeGet clock precision) = unbuilt_reported (call.ClockTimeGet clock precision) (λ made row reply. refl) (λ constants v who table. refl)
+reported (call.CondvarSignal condvar word scope n) = unbuilt_reported (call.CondvarSignal condvar word scope n) (λ made row reply. refl) (λ constants v who table. refl)
+reported (call.FdClose fd) = fd_close_reported fd
+reported (call.FdCreate1 kind) = unbuilt_reported (call.FdCreate1 kind) (λ made row reply. refl) (λ constants v who table. refl)
+reported (call.FdCreate2 kind) = unbuilt_reported (call.FdCreate2 kind) (λ made row reply. refl) (λ constants v who table. refl)
+reported (call.FdDatasync fd) = nothing_reported (call.FdDatasync fd) (λ made row reply. refl) (λ constants v who table. refl)
+reported (call.FdDup fd) = fd_dup_reported fd
+reported (call.FdPread fd length offset) = file_reported (call.FdPread fd length offset) fd (λ made row reply. refl) refl
+reported (call.FdPwrite fd bytes offset) = file_reported (call.FdPwrite fd bytes offset) fd (λ made row reply. refl) refl
+reported (call.FdRead fd length) = moved_reported (call.FdRead fd length) (reading length) _ (read_opens_well length) (λ made row reply. refl) refl
+reported (call.FdReplace from to) = fd_replace_reported from to
+reported (call.FdSeek fd offset whence) =
+    moved_reported (call.FdSeek fd offset whence) (seeking offset whence) _ (seek_opens_well offset whence) (λ made row reply. refl) refl
+reported (call.FdStatGet fd) = fd_stat_get_reported fd
+reported (call.FdStatPut fd stat flags) = fd_stat_put_reported fd stat flags
+reported (call.FdSync fd) = nothing_reported (call.FdSync fd) (λ made row reply. refl) (λ constants v who table. refl)
+reported (call.FdWrite fd bytes) = moved_reported (call.FdWrite fd bytes) (writing bytes) _ (write_opens_well bytes) (λ made row reply. refl) refl
+reported (call.FileAdvise fd offset length advice) = nothing_reported (call.FileAdvise fd offset length advice) (λ made row reply. refl) (λ constants v who table. refl)
+reported (call.FileAllocate fd offset length) = file_reported (call.FileAllocate fd offset length) fd (λ made row reply. refl) refl
+reported (call.FileCreate fd path kind) =
+    named_reported (call.FileCreate fd path kind) (λ made row reply. refl) (λ constants v who table. (1, v.process who.pid, _, refl))
+reported (call.FileLink lookup path new_fd new_path) =
+    named_reported (call.FileLink lookup path new_fd new_path) (λ made row reply. refl) (λ constants v who table. (0, v.process who.pid, _, refl))
+reported (call.FileOpen lookup path oflags stat) = file_open_reported lookup path oflags stat
+reported (call.FileReaddir fd length cookie) = file_reported (call.FileReaddir fd length cookie) fd (λ made row reply. refl) refl
+reported (call.FileReadlink fd path length) = file_reported (call.FileReadlink fd path length) fd (λ made row reply. refl) refl
+reported (call.FileRename fd path new_fd new_path) =
+    named_reported (call.FileRename fd path new_fd new_path) (λ made row reply. refl) (λ constants v who table. (0, v.process who.pid, _, refl))
+reported (call.FileStatFget fd) = file_reported (call.FileStatFget fd) fd (λ made row reply. refl) refl
+reported (call.FileStatFput fd stat flags) = file_reported (call.FileStatFput fd stat flags) fd (λ made row reply. refl) refl
+reported (call.FileStatGet lookup path) = file_reported (call.FileStatGet lookup path) lookup.fd (λ made row reply. refl) refl
+reported (call.FileStatPut lookup path stat flags) = file_reported (call.FileStatPut lookup path stat flags) lookup.fd (λ made row reply. refl) refl
+reported (call.FileSymlink text fd path) =
+    named_reported (call.FileSymlink text fd path) (λ made row reply. refl)
+    (λ constants v who table. ((making_unless (text_error text) (making (Link text) path)).new_nodes, v.process who.pid, _, refl))
+reported (call.FileUnlink fd path flags) =
+    named_reported (call.FileUnlink fd path flags) (λ made row reply. refl) (λ constants v who table. (0, v.process who.pid, _, refl))
+reported (call.LockUnlock lock word scope) = unbuilt_reported (call.LockUnlock lock word scope) (λ made row reply. refl) (λ constants v who table. refl)
+reported (call.MemMap place length prot flags fd offset) = mem_map_reported place length prot flags fd offset
+reported (call.Memory number errno) = λ constants S v who table there. decided_reported (call.Memory number errno) errno S who.pid (λ made row reply. refl)
+reported (call.Poll subscriptions) = unbuilt_reported (call.Poll subscriptions) (λ made row reply. refl) (λ constants v who table. refl)
+reported (call.ProcExec fd bytes fds) = unbuilt_reported (call.ProcExec fd bytes fds) (λ made row reply. refl) (λ constants v who table. refl)
+reported (call.ProcExit code) = proc_exit_reported code
+reported (call.ProcFork left) = unbuilt_reported (call.ProcFork left) (λ made row reply. refl) (λ constants v who table. refl)
+reported (call.ProcRaise signal) = unbuilt_reported (call.ProcRaise signal) (λ made row reply. refl) (λ constants v who table. refl)
+reported (call.RandomGet length) = unbuilt_reported (call.RandomGet length) (λ made row reply. refl) (λ constants v who table. refl)
+reported (call.SockRecv fd length fds flags) = unbuilt_reported (call.SockRecv fd length fds flags) (λ made row reply. refl) (λ constants v who table. refl)
+reported (call.SockSend fd bytes fds flags) = unbuilt_reported (call.SockSend fd bytes fds flags) (λ made row reply. refl) (λ constants v who table. refl)
+reported (call.SockShutdown fd how) = unbuilt_reported (call.SockShutdown fd how) (λ made row reply. refl) (λ constants v who table. refl)
+reported (call.ThreadCreate attributes) = unbuilt_reported (call.ThreadCreate attributes) (λ made row reply. refl) (λ constants v who table. refl)
+reported (call.ThreadExit lock word scope) = unbuilt_reported (call.ThreadExit lock word scope) (λ made row reply. refl) (λ constants v who table. refl)
+reported call.ThreadYield = unbuilt_reported call.ThreadYield (λ made row reply. refl) (λ constants v who table. refl)
+reported (call.Refused number errno) = λ constants S v who table there. decided_reported (call.Refused number errno) errno S who.pid (λ made row reply. refl)
+reported (call.Unknown number) = λ constants S v who table there. decided_reported (call.Unknown number) Nosys S who.pid (λ made row reply. refl)
 
--- ---- refusals for want of a descriptor or of rights
+-- ---- refusals for lack of a descriptor or of rights
 
-pub refusal_told : (S : State) (p : ℕ) (call : Call) (t : Option Table) (reply : Reply) → refusal_of call t ≡ Some reply
+pub refusal_reported : (S : State) (p : ℕ) (call : Call) (t : Option Table) (reply : Reply) → refusal_of call t ≡ Some reply
     → LeavesRow S p call (replies reply)
-refusal_told S p call t reply is = sym (by_error reply.errno (granted_row (last_made S p) (row_of S p) call reply) (row_of S p) (refusal_is_other Success (λ e. cc) (λ e. cc) call t reply is))
+refusal_reported S p call t reply is = sym (by_error reply.errno (granted_row (last_made S p) (row_of S p) call reply) (row_of S p) (refusal_is_other Success (λ e. cc) (λ e. cc) call t reply is))

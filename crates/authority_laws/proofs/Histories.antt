@@ -24,7 +24,7 @@ use Rattle.run_model.specs.World.{World, Guest, start_world, guest_of, called_st
 use Rattle.kernel_model.proofs.Starts.{start_valid}
 use Rattle.run_model.proofs.Histories.{legal_front, legal_next, apply_is, first_state, world_more}
 use Rattle.run_model.proofs.Worlds.{apply_valid, world_is_valid}
-use Rattle.authority_laws.specs.Laws.{made_at, Tells, IsReachedByHeld, IsReachedByNamed, SeesByHeld, IsRecordedAt, IsRecorded}
+use Rattle.authority_laws.specs.Laws.{made_at, Reports, IsReachedByHeld, IsReachedByNamed, SeesByHeld, IsRecordedAt, IsRecorded}
 use Rattle.authority_laws.specs.Ledger.{Ledger, Made, last_made, with_row, launch_ledger}
 use Rattle.authority_laws.specs.Origins.{Change, ComesFrom, ComesFromGrant, AllComeFromGrants}
 use Rattle.authority_laws.specs.Recorded.{acted_row, made_in, noted, noted_all, ledger}
@@ -85,17 +85,17 @@ unfolding Legal world ledger
 world_rows launch history legal =
     follows_rows (start_world launch) history (launch_ledger launch.tree launch.grants) legal (start_has_rows launch)
 
-rows_tell : (S : State) (l : Ledger) → IsValid S → HasRows S l → Tells S l
-rows_tell S l valid rows = record {
+rows_report : (S : State) (l : Ledger) → IsValid S → HasRows S l → Reports S l
+rows_report S l valid rows = record {
   tables = λ p table there n. (λ i. (sym (ap row_in there) ∙ rows p) i n);
   held = λ p n d here. row_is_held S p n d valid ((λ i. rows p i n) ∙ here);
   ended = λ p ends n. (λ i. (sym (rows p) ∙ ended_row S p valid ends) i n);
 }
 
-pub ledger_tells : (launch : Launch) (history : List Entry) → MayBegin launch.tree launch.grants → Legal launch history
-    → Tells (world launch history).state (ledger launch history)
-ledger_tells launch history begins legal =
-    rows_tell (world launch history).state (ledger launch history) (world_is_valid launch history begins legal) (world_rows launch history legal)
+pub ledger_reports : (launch : Launch) (history : List Entry) → MayBegin launch.tree launch.grants → Legal launch history
+    → Reports (world launch history).state (ledger launch history)
+ledger_reports launch history begins legal =
+    rows_report (world launch history).state (ledger launch history) (world_is_valid launch history begins legal) (world_rows launch history legal)
 
 -- ---- how what is held may change
 
@@ -166,7 +166,7 @@ pub tables_are_recorded : (launch : Launch) (history : List Entry) → MayBegin 
     → get (world launch history).state.tables p ≡ Some table → get table n ≡ Some d
     → ((ledger launch history).held p n ≡ Some d) × ComesFromGrant launch.tree launch.grants d
 tables_are_recorded launch history begins legal p n table d there here =
-    let recorded : (ledger launch history).held p n ≡ Some d = sym ((ledger_tells launch history begins legal).tables p table there n) ∙ here in
+    let recorded : (ledger launch history).held p n ≡ Some d = sym ((ledger_reports launch history begins legal).tables p table there n) ∙ here in
     (recorded, held_is_granted launch history begins legal p n d recorded)
 
 -- ---- what a call may read
@@ -200,7 +200,7 @@ sight_is_recorded launch history begins legal who call part seen =
 
 recorded_at : (launch : Launch) (front : List Entry) → Legal launch front → MayBegin launch.tree launch.grants → IsRecordedAt launch front
 recorded_at launch front legal begins = record {
-  tells = ledger_tells launch front begins legal;
+  reports = ledger_reports launch front begins legal;
   granted = held_is_granted launch front begins legal;
   sees = sight_is_recorded launch front begins legal;
 }

@@ -27,14 +27,14 @@ use Rattle.kernel_model.proofs.Opened.{OpensPlainly, open_errors, opens_plainly,
 use Rattle.kernel_model.proofs.Tests.{not_true}
 use Rattle.kernel_model.proofs.TreeUpdates.{change_of_tree, put_both, tree_same, with_tree}
 use Rattle.authority_laws.specs.Ledger.{with_held, last_made, opened_held}
-use Rattle.authority_laws.proofs.Rows.{LeavesRow, held_here, row_in, row_of, row_inserted, refused_told, mfile_is_error}
+use Rattle.authority_laws.proofs.Rows.{LeavesRow, held_here, row_in, row_of, row_inserted, refused_reported, mfile_is_error}
 
 -- ---- what isn't opened is refused with an error
 
 abbrev pub RefusesByError : Opened → Type 0
 RefusesByError (NotOpened errno) = errno ≢ Success
 RefusesByError (OpenedOutside component) = ⊤
-RefusesByError (Opens kind change makes) = ⊤
+RefusesByError (Opens kind change new_nodes) = ⊤
 
 open_errors_are : AllByRecursion (λ errno. errno ≢ Success) open_errors
 open_errors_are =
@@ -46,7 +46,7 @@ is_error errno here = in_all (λ e. e ≢ Success) errno open_errors open_errors
 end_by_error : (o : Opened) → OpensPlainly o → RefusesByError o
 end_by_error (NotOpened errno) plain = is_error errno plain
 end_by_error (OpenedOutside component) plain = tt
-end_by_error (Opens kind change makes) plain = tt
+end_by_error (Opens kind change new_nodes) plain = tt
 
 pub walk_by_error : (oflags flags : ℕ) (path : List ℕ) (now new : ℕ) (t : Tree) (w : Walked) → FailsPlainly w
     → RefusesByError (open_walked oflags flags path now new t w)
@@ -121,22 +121,22 @@ module _ (S : State) (p : ℕ) (table : Table) (lookup : Lookup) (path : List �
     pub row_has : IsSome (row_of after p fd)
     row_has = ap is_some ((λ i. row_is i fd) ∙ held_here (row_of S p) fd (opened_held (last_made after p) stat) ∙ held_is)
 
-  opened_told : (own : Option ProcessState) (fd : ℕ) (o : Opened) → RefusesByError o → LeavesRow S p opening (opened_outcome p own table stat fd o)
-  opened_told own fd (NotOpened errno) other = refused_told S p opening errno other
-  opened_told own fd (OpenedOutside component) other = refl
-  opened_told own fd (Opens kind change makes) other =
-      elim (can_number p (makes + 1) own) as (λ b. can_number p (makes + 1) own ≡ b → LeavesRow S p opening
+  opened_reported : (own : Option ProcessState) (fd : ℕ) (o : Opened) → RefusesByError o → LeavesRow S p opening (opened_outcome p own table stat fd o)
+  opened_reported own fd (NotOpened errno) other = refused_reported S p opening errno other
+  opened_reported own fd (OpenedOutside component) other = refl
+  opened_reported own fd (Opens kind change new_nodes) other =
+      elim (can_number p (new_nodes + 1) own) as (λ b. can_number p (new_nodes + 1) own ≡ b → LeavesRow S p opening
       (cond b (record {
         answer = answer.Reply (success fd 0);
         updates =
-            set_open (next_object p own (makes + 1)) kind
-            ∷ set_table p (insert table fd (opened_descriptor (next_object p own (makes + 1)) kind stat))
-            ∷ (process_updates p (makes + 1) own ++ change_updates change);
+            set_open (next_object p own (new_nodes + 1)) kind
+            ∷ set_table p (insert table fd (opened_descriptor (next_object p own (new_nodes + 1)) kind stat))
+            ∷ (process_updates p (new_nodes + 1) own ++ change_updates change);
       }) (replies (refused Again)))) [
-        | true ↦ λ can. row_is own fd kind change (makes + 1) (omega arith) can
+        | true ↦ λ can. row_is own fd kind change (new_nodes + 1) (omega arith) can
         | false ↦ λ _. refl
       ] refl
 
-  pub open_told : (own : Option ProcessState) (free : Option ℕ) (o : Opened) → RefusesByError o → LeavesRow S p opening (open_at p own table stat o free)
-  open_told own None o other = refused_told S p opening Mfile mfile_is_error
-  open_told own (Some fd) o other = opened_told own fd o other
+  pub open_reported : (own : Option ProcessState) (free : Option ℕ) (o : Opened) → RefusesByError o → LeavesRow S p opening (open_at p own table stat o free)
+  open_reported own None o other = refused_reported S p opening Mfile mfile_is_error
+  open_reported own (Some fd) o other = opened_reported own fd o other

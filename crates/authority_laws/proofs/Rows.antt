@@ -81,8 +81,8 @@ abbrev pub LeavesRow : State → ℕ → Call → Outcome → Type 0
 LeavesRow S p call o = row_of (put_all o.updates S) p ≡ answered_row (last_made (put_all o.updates S) p) (row_of S p) call o.answer
 
 -- an error, after which its process has the table that it had
-pub refused_told : (S : State) (p : ℕ) (call : Call) (errno : Errno) → errno ≢ Success → LeavesRow S p call (replies (refused errno))
-refused_told S p call errno other = sym (by_error errno (granted_row (last_made S p) (row_of S p) call (refused errno)) (row_of S p) other)
+pub refused_reported : (S : State) (p : ℕ) (call : Call) (errno : Errno) → errno ≢ Success → LeavesRow S p call (replies (refused errno))
+refused_reported S p call errno other = sym (by_error errno (granted_row (last_made S p) (row_of S p) call (refused errno)) (row_of S p) other)
 
 pub badf_is_error : Badf ≢ Success
 badf_is_error e = cc

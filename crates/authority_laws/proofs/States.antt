@@ -36,7 +36,7 @@ use Rattle.kernel_model.proofs.Tests.{not_true, none_is_no}
 use Rattle.kernel_model.proofs.Valids.{get_released, held_stays, named_is_held, released_stays}
 use Rattle.authority_laws.specs.Ledger.{Row, no_row, with_held, Ledger, last_made, with_row, launch_row, launch_ledger, granted_row, by_success, answered_row}
 use Rattle.authority_laws.specs.Laws.{Holds}
-use Rattle.authority_laws.proofs.Calls.{told, refusal_told}
+use Rattle.authority_laws.proofs.Calls.{reported, refusal_reported}
 use Rattle.authority_laws.proofs.Rows.{LeavesRow, held_here, row_in, row_of, row_in_empty, row_emptied}
 
 -- the ledger has each process's row of the state
@@ -45,11 +45,11 @@ HasRows S l = (p : ℕ) → row_of S p ≡ l.held p
 
 -- ---- the process of the entry
 
-outcome_told : (constants : Constants) (S : State) (who : Who) (call : Call) → LeavesRow (tick S) who.pid call (outcome constants S who call)
-outcome_told constants S who call =
+outcome_reported : (constants : Constants) (S : State) (who : Who) (call : Call) → LeavesRow (tick S) who.pid call (outcome constants S who call)
+outcome_reported constants S who call =
     outcome_holds (LeavesRow (tick S) who.pid call) constants S who call
-    (λ reply is. refusal_told (tick S) who.pid call (get S.tables who.pid) reply is)
-    (λ table there. told call constants (tick S) (whole (tick S)) who table there)
+    (λ reply is. refusal_reported (tick S) who.pid call (get S.tables who.pid) reply is)
+    (λ table there. reported call constants (tick S) (whole (tick S)) who table there)
 
 -- ---- the open that was made is still there after the release
 
@@ -98,10 +98,10 @@ step_row : (constants : Constants) (S : State) (who : Who) (call : Call) (given 
     → row_of T who.pid ≡ answered_row (last_made T who.pid) (row_of S who.pid) call given
 step_row constants S who call given T (inl done) =
     let U = unreleased constants S who call in
-    let told : row_of U who.pid ≡ answered_row (last_made U who.pid) (row_of S who.pid) call (step_answer constants S who call) =
-    outcome_told constants S who call in
+    let reported : row_of U who.pid ≡ answered_row (last_made U who.pid) (row_of S who.pid) call (step_answer constants S who call) =
+    outcome_reported constants S who call in
     subst (λ (V : State). row_of V who.pid ≡ answered_row (last_made V who.pid) (row_of S who.pid) call given) (sym done.1)
-    (told ∙ answered_stays U who.pid (row_of S who.pid) call (step_answer constants S who call) told
+    (reported ∙ answered_stays U who.pid (row_of S who.pid) call (step_answer constants S who call) reported
     ∙ ap (answered_row (last_made (release U) who.pid) (row_of S who.pid) call) (sym done.0))
 step_row constants S who call given T (inr lacking) =
     ap (λ (U : State). row_of U who.pid) lacking.2 ∙ ap (answered_row (last_made T who.pid) (row_of S who.pid) call) (sym lacking.1)

@@ -1,4 +1,4 @@
--- What the ledger tells of every legal history: the statements that are the contracts of the functions of src/laws.rt.
+-- What the ledger says of every legal history: the statements that are the contracts of the functions of src/laws.rt.
 use Rattle.std.specs.Prelude.{◌≡◌, ◌≢◌, ◌⊎◌, ℕ, bit_and, true, List, [], ◌∷◌, ◌++◌, None, Some, IsSome}
 use Rattle.std.specs.FinMap.{get}
 use Rattle.abi_base.specs.declared.errno.Errno.TheVariants.{Success}
@@ -51,17 +51,17 @@ LedgerGoesOn =
 abbrev pub Holds : State → ℕ → ℕ → Descriptor → Type 0
 Holds S p n d = (get S.statuses p ≡ Some Live) × (table : Table) × (get S.tables p ≡ Some table) × (get table n ≡ Some d)
 
--- The ledger tells who holds what in this state: a process's table has under each number what the ledger says, what the
+-- The ledger says who holds what in this state: a process's table has under each number what the ledger says, what the
 -- ledger says is held stands in the table of a live process, and a process that is not live holds nothing.
-pub record Tells (S : State) (l : Ledger) : Type 0 where
+pub record Reports (S : State) (l : Ledger) : Type 0 where
   pub tables : (p : ℕ) (table : Table) → get S.tables p ≡ Some table → (n : ℕ) → get table n ≡ l.held p n
   pub held : (p n : ℕ) (d : Descriptor) → l.held p n ≡ Some d → Holds S p n d
   pub ended : (p : ℕ) → get S.statuses p ≢ Some Live → (n : ℕ) → l.held p n ≡ None
 
--- The ledger of a legal history tells who holds what in its world.
-abbrev pub LedgerTells : Type 0
-LedgerTells =
-    (launch : Launch) (history : List Entry) → MayBegin launch.tree launch.grants → Legal launch history → Tells (world launch history).state (ledger launch history)
+-- The ledger of a legal history says who holds what in its world.
+abbrev pub LedgerReports : Type 0
+LedgerReports =
+    (launch : Launch) (history : List Entry) → MayBegin launch.tree launch.grants → Legal launch history → Reports (world launch history).state (ledger launch history)
 
 -- ---- where descriptors come from
 
@@ -167,10 +167,10 @@ SightIsRecorded =
 
 -- ---- all of it, at each point of a history
 
--- after these entries the ledger tells who holds what, all that is held comes from one of the launch's grants, and what a call may
+-- after these entries the ledger says who holds what, all that is held comes from one of the launch's grants, and what a call may
 -- read is reached by it
 pub record IsRecordedAt (launch : Launch) (front : List Entry) : Type 0 where
-  pub tells : Tells (world launch front).state (ledger launch front)
+  pub reports : Reports (world launch front).state (ledger launch front)
   pub granted : AllComeFromGrants launch.tree launch.grants (ledger launch front)
   pub sees : SeesByHeld (world launch front).state (ledger launch front) launch.tree launch.grants
 

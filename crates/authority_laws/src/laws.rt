@@ -1,5 +1,5 @@
 //! Laws of the ledger. The statements are in `specs/Laws.antt`, and each holds of every launch and history.
-ghost use Rattle.authority_laws.specs.Laws.{LedgerBegins, LedgerGoesOn, LedgerTells, RightsNeverGrow, EntryChangesOne, DuplicatesAreEqual, ReplacementsAreEqual, RightsAreLowered, OpensAreBounded, HeldIsGranted, TablesAreRecorded, SightIsRecorded, LegalIsRecorded};
+ghost use Rattle.authority_laws.specs.Laws.{LedgerBegins, LedgerGoesOn, LedgerReports, RightsNeverGrow, EntryChangesOne, DuplicatesAreEqual, ReplacementsAreEqual, RightsAreLowered, OpensAreBounded, HeldIsGranted, TablesAreRecorded, SightIsRecorded, LegalIsRecorded};
 
 /// The ledger of no entry is the launch's, and that of one more entry is the ledger before it with the entry noted.
 pub fn ledger_goes_on()
@@ -7,11 +7,11 @@ pub fn ledger_goes_on()
     ensures more { LedgerGoesOn }
 {}
 
-/// Who holds what is told by the recorded entries: in the world of a legal history of a launch with proper grants, each
+/// Who holds what is shown by the recorded entries: in the world of a legal history of a launch with proper grants, each
 /// process's table has under each number what the ledger says, what the ledger says is held stands in the table of a live
 /// process, and a process that is not live holds nothing.
-pub fn ledger_tells()
-    ensures { LedgerTells }
+pub fn ledger_reports()
+    ensures { LedgerReports }
 {}
 
 /// Rights never grow: each descriptor that a process holds after an entry of a legal history names the open of one that the

@@ -1,5 +1,5 @@
--- What registers and memory say of the call that they spell.
---     args_spelled      it is what is read under its number, or a refusal with an error that is listed
+-- What registers and memory say of the call that they encode.
+--     args_encoded      it is what is read under its number, or a refusal with an error that is listed
 --     args_refusals      each error with which a call is refused is listed
 use Rattle.std.proofs.Common.{◌≡◌, Option, Some, None, Result, Ok, Err, refl, sym, subst}
 use Rattle.std.specs.Result.{result_ok}
@@ -34,30 +34,30 @@ abbrev IsReadUnder : Pages → Registers → Call → Option CallNumber → Type
 IsReadUnder m r call (Some it) = built_reading m r it ≡ Ok call
 IsReadUnder m r call None = ⊥
 
--- what the registers and the memory say of a call that they spell
-abbrev pub IsSpelledBy : Pages → Registers → Call → Type 0
-IsSpelledBy m r (Refused it errno) = IsListedRefusal errno
-IsSpelledBy m r (Unknown it) = Unit {0}
-IsSpelledBy m r call = IsReadUnder m r call (read_under call)
+-- what the registers and the memory say of a call that they encode
+abbrev pub IsEncodedBy : Pages → Registers → Call → Type 0
+IsEncodedBy m r (Refused it errno) = IsListedRefusal errno
+IsEncodedBy m r (Unknown it) = Unit {0}
+IsEncodedBy m r call = IsReadUnder m r call (read_under call)
 
-under_number : (m : Pages) (r : Registers) (it : CallNumber) (call : Call) → read_under call ≡ Some it → built_reading m r it ≡ Ok call → IsSpelledBy m r call
+under_number : (m : Pages) (r : Registers) (it : CallNumber) (call : Call) → read_under call ≡ Some it → built_reading m r it ≡ Ok call → IsEncodedBy m r call
 under_number m r it (Refused other errno) e is = absurd (cc)
 under_number m r it (Unknown other) e is = tt
 under_number m r it call e is = subst (IsReadUnder m r call) (sym e) is
 
 refused_or_read : (m : Pages) (r : Registers) (it : CallNumber) (reading : Result Call Errno) → built_reading m r it ≡ reading
-    → Gives (λ call. read_under call ≡ Some it) reading → IsSpelledBy m r (or_refused it reading)
+    → Gives (λ call. read_under call ≡ Some it) reading → IsEncodedBy m r (or_refused it reading)
 refused_or_read m r it (Ok call) is gives = under_number m r it call (gives.value call refl) is
 refused_or_read m r it (Err errno) is gives = gives.refused errno refl
 
-asked_for : (m : Pages) (r : Registers) (it : Option CallNumber) → IsSpelledBy m r (or_unknown r (λ known. or_refused known (built_reading m r known)) it)
+asked_for : (m : Pages) (r : Registers) (it : Option CallNumber) → IsEncodedBy m r (or_unknown r (λ known. or_refused known (built_reading m r known)) it)
 asked_for m r (Some it) = refused_or_read m r it (built_reading m r it) refl (reading_gives m r it)
 asked_for m r None = tt
 
-pub args_spelled : (m : Pages) (r : Registers) → IsSpelledBy m r (args_of m r)
+pub args_encoded : (m : Pages) (r : Registers) → IsEncodedBy m r (args_of m r)
 unfolding args_of
-args_spelled m r = asked_for m r (asked r)
+args_encoded m r = asked_for m r (asked r)
 
 -- each error with which a call is refused is listed
 pub args_refusals : (m : Pages) (r : Registers) (it : CallNumber) (errno : Errno) → args_of m r ≡ Refused it errno → IsListedRefusal errno
-args_refusals m r it errno refused = subst (IsSpelledBy m r) refused (args_spelled m r)
+args_refusals m r it errno refused = subst (IsEncodedBy m r) refused (args_encoded m r)

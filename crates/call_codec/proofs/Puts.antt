@@ -1,4 +1,4 @@
--- What registers and memory are like that spell a call.
+-- What registers and memory are like that encode a call.
 --     call_suits      what a call gives has its room; a mapping goes where it may; mem_protect and mem_unmap are of a page's
 --                     address, and mem_protect's pages are there
 --     memory_is      what the calls about pages that are there answer
@@ -30,19 +30,19 @@ use Rattle.guest_memory.specs.Ranges.{IsPageAddress, in_range}
 use Rattle.guest_memory.proofs.Changes.{are_there, gap_of_lowest, protected_is, unmapped_is, without_free, without_none}
 use Rattle.guest_memory.proofs.PageRanges.{first_true, second_true, inside, is_inside, not_both, no_page_unless, none_changed}
 use Rattle.codec_arguments.specs.Reading.{◌>>=◌, refuse_when}
-use Rattle.call_codec.proofs.Calls.{IsSpelledBy, args_spelled}
+use Rattle.call_codec.proofs.Calls.{IsEncodedBy, args_encoded}
 use Rattle.call_codec.proofs.Readings.{not_refused, passed, test_false}
 use Rattle.codec_calls.specs.DescriptorCalls.{has_many}
 use Rattle.codec_arguments.specs.Arguments.{argument, low}
 use Rattle.call_codec.specs.Arguments.{args_of, read_of}
 use Rattle.call_codec.specs.MemoryCalls.{has_bits, is_aligned, is_guests, is_range, is_sync, pages_in, if_mapped, mem_map_of, may_map, placed_map, place_at, place_in, place_in_gap, place_of, writes_and_executes, has_one, MayMapAt, MayMapThere}
 
--- what these registers and this memory are like where they spell the call
+-- what these registers and this memory are like where they encode the call
 abbrev pub Suits : Pages → Registers → Call → Type 0
 Suits m r (MemMap place length prot flags fd offset) = MayMapThere m place (pages_in length)
 Suits m r (Memory it errno) =
     IsPageAddress (argument r 0) × (it ≡ number.MemProtect → errno ≡ Success → AreThere m (argument r 0 / 4096) (pages_in (argument r 1)))
-Suits m r call = IsSpelledBy m r call
+Suits m r call = IsEncodedBy m r call
 
 aligned_is : (a : ℕ) → is_aligned a ≡ true → IsPageAddress a
 aligned_is a h = elim (eqb_tells (a % 4096) 0) [
@@ -71,7 +71,7 @@ and_not false b h e = cc
 -- ---- calls about pages that are there
 
 -- mem_advise, mem_protect, mem_sync and mem_unmap have a page's address; all but mem_unmap answer by the pages
-pub memory_is : (m : Pages) (r : Registers) (it : CallNumber) (errno : Errno) → IsSpelledBy m r (Memory it errno)
+pub memory_is : (m : Pages) (r : Registers) (it : CallNumber) (errno : Errno) → IsEncodedBy m r (Memory it errno)
     → (is_aligned (argument r 0) ≡ true) × ((if_mapped m (argument r 0) (argument r 1) ≡ errno) ⊎ ((it ≡ number.MemUnmap) × (errno ≡ Success)))
 unfolding read_of
 memory_is m r number.MemAdvise errno is =
@@ -96,7 +96,7 @@ memory_is m r number.MemUnmap errno is =
     (not_false (is_aligned (argument r 0)) page.0, inr (refl, cc some.1))
 memory_is m r it errno is = absurd is
 
-memory_suits : (m : Pages) (r : Registers) (it : CallNumber) (errno : Errno) → IsSpelledBy m r (Memory it errno) → Suits m r (Memory it errno)
+memory_suits : (m : Pages) (r : Registers) (it : CallNumber) (errno : Errno) → IsEncodedBy m r (Memory it errno) → Suits m r (Memory it errno)
 memory_suits m r it errno is =
     let of_pages = memory_is m r it errno is in (
       aligned_is (argument r 0) of_pages.0,
@@ -171,14 +171,14 @@ map_suits m r call is =
 
 -- ---- all of them
 
-suits : (m : Pages) (r : Registers) (call : Call) → IsSpelledBy m r call → Suits m r call
+suits : (m : Pages) (r : Registers) (call : Call) → IsEncodedBy m r call → Suits m r call
 unfolding read_of
 suits m r (MemMap place length prot flags fd offset) is = map_suits m r (MemMap place length prot flags fd offset) is
 suits m r (Memory it errno) is = memory_suits m r it errno is
 suits m r call is = is
 
 pub call_suits : (m : Pages) (r : Registers) (call : Call) → call ≡ args_of m r → Suits m r call
-call_suits m r call spelled = suits m r call (subst (IsSpelledBy m r) (sym spelled) (args_spelled m r))
+call_suits m r call encoded = suits m r call (subst (IsEncodedBy m r) (sym encoded) (args_encoded m r))
 
 -- ---- iovec arrays
 
@@ -186,11 +186,11 @@ call_suits m r call spelled = suits m r call (subst (IsSpelledBy m r) (sym spell
 few_iovecs : (count : ℕ) (rest : Unit {0} → Result Call Errno) (call : Call) → (refuse_when (has_many count) Inval >>= rest) ≡ Ok call → count ≤ 1024
 few_iovecs count rest call is = let few = not_refused (has_many count) Inval rest call is in ltb-false 1024 count few.0
 
-pub few_of_pread : (m : Pages) (r : Registers) (fd length offset : ℕ) → IsSpelledBy m r (FdPread fd length offset) → argument r 2 ≤ 1024
+pub few_of_pread : (m : Pages) (r : Registers) (fd length offset : ℕ) → IsEncodedBy m r (FdPread fd length offset) → argument r 2 ≤ 1024
 unfolding read_of
 few_of_pread m r fd length offset is = few_iovecs (argument r 2) _ (FdPread fd length offset) is
 
-pub few_of_read : (m : Pages) (r : Registers) (fd length : ℕ) → IsSpelledBy m r (FdRead fd length) → argument r 2 ≤ 1024
+pub few_of_read : (m : Pages) (r : Registers) (fd length : ℕ) → IsEncodedBy m r (FdRead fd length) → argument r 2 ≤ 1024
 unfolding read_of
 few_of_read m r fd length is = few_iovecs (argument r 2) _ (FdRead fd length) is
 

@@ -1,5 +1,5 @@
 -- Where a memory has room for segments.
---     not_unprotected, only_want      what keeps a page from being protected, or from being mapped
+--     not_unprotected, only_memory      what keeps a page from being protected, or from being mapped
 --     next_page      a segment's pages, one after another
 --     HasRoom, fit_room, room_behind      room for segments, one after another
 --     fit_more, ends_before      one segment more
@@ -41,13 +41,13 @@ not_unprotected m n page PageLimit there h = h
 not_unprotected m n page (Overlaps a) there h = h
 not_unprotected m n page NoMemory there h = h
 
--- where a page may be mapped, only want of memory keeps it from that
-pub only_want : (m : Pages) (n k : ℕ) (fault : MemFault) → MayMap m n k → MapFails m n k fault → fault ≡ NoMemory
-only_want m n k (NotMapped a) may h = absurd h
-only_want m n k (NoRight a) may h = absurd h
-only_want m n k PageLimit may h = absurd (omega (arith, may.fits, h.1))
-only_want m n k (Overlaps a) may h = absurd (some_not_none (get m (a / 4096)) h.holds (may.free (a / 4096) h.within))
-only_want m n k NoMemory may h = refl
+-- where a page may be mapped, mapping it fails only where memory runs out
+pub only_memory : (m : Pages) (n k : ℕ) (fault : MemFault) → MayMap m n k → MapFails m n k fault → fault ≡ NoMemory
+only_memory m n k (NotMapped a) may h = absurd h
+only_memory m n k (NoRight a) may h = absurd h
+only_memory m n k PageLimit may h = absurd (omega (arith, may.fits, h.1))
+only_memory m n k (Overlaps a) may h = absurd (some_not_none (get m (a / 4096)) h.holds (may.free (a / 4096) h.within))
+only_memory m n k NoMemory may h = refl
 
 -- ---- a segment's pages
 

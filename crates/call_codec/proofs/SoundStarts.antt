@@ -103,9 +103,9 @@ module _ (elf : Elf) (argdata canary : List ℕ) (pid tid : ℕ) (may : MayStart
     pub stack_has_room : MayMap m (first_page s) (page_count s)
     stack_has_room = subst (λ (t : Segment). MayMap m (first_page t) (page_count t)) (sym is_stack) loaded_room.1
 
-    module _ (n : Pages) (b : Segment) (bytes : List ℕ) (second : n ≡ with_segment m s) (spelled : bytes ≡ block_bytes elf argdata canary pid tid) (is_block : b ≡ block_of bytes) where
+    module _ (n : Pages) (b : Segment) (bytes : List ℕ) (second : n ≡ with_segment m s) (encoded : bytes ≡ block_bytes elf argdata canary pid tid) (is_block : b ≡ block_of bytes) where
       same_block : b ≡ block
-      same_block = is_block ∙ ap block_of spelled
+      same_block = is_block ∙ ap block_of encoded
 
       block_room : HasRoom n (block ∷ [])
       block_room = subst (λ (x : Pages). HasRoom x (block ∷ [])) (sym (second ∙ ap (with_segment m) is_stack)) loaded_room.2

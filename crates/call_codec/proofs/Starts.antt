@@ -14,9 +14,9 @@ segments-append m (x ∷ xs) ys = segments-append (with_segment m x) xs ys
 pub started : (elf : Elf) (argdata canary : List ℕ) (pid tid : ℕ) (m1 m2 m3 : Pages) (segments : List Segment) (s b : Segment) (bytes : List ℕ) → segments ≡ elf.segments → m1 ≡ with_segments empty segments
     → s ≡ stack → m2 ≡ with_segment m1 s → bytes ≡ block_bytes elf argdata canary pid tid → b ≡ block_of bytes → m3 ≡ with_segment m2 b → m3 ≡ start_pages elf argdata canary pid tid
 unfolding start_pages
-started elf argdata canary pid tid m1 m2 m3 segments s b bytes image loaded is_stack second spelled is_block third =
+started elf argdata canary pid tid m1 m2 m3 segments s b bytes image loaded is_stack second encoded is_block third =
     third
-    ∙ ap (with_segment m2) (is_block ∙ ap block_of spelled)
+    ∙ ap (with_segment m2) (is_block ∙ ap block_of encoded)
     ∙ ap (λ (m : Pages). with_segment m (block_of (block_bytes elf argdata canary pid tid))) (second ∙ ap (with_segment m1) is_stack ∙ ap (λ (m : Pages). with_segment m stack) (loaded ∙ ap (with_segments empty) image))
     ∙ sym (segments-append empty elf.segments (stack ∷ block_of (block_bytes elf argdata canary pid tid) ∷ []))
 

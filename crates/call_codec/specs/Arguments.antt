@@ -1,4 +1,4 @@
--- The call that a thread's registers and memory spell as it stands at an ECALL: the call's number is in a7, and its
+-- The call that a thread's registers and memory encode as it stands at an ECALL: the call's number is in a7, and its
 -- arguments are in a0 and the registers after it (x17, and x10 on: RISC-V ELF psABI, integer register convention).
 use Rattle.std.specs.Prelude.{ℕ, Bool, true, false, IsTrue, Option, Some, None, MatchOption, Result, Ok, Err, slice_get, slice_index, if◌then◌else◌}
 use Rattle.abi_base.specs.declared.errno.Errno.{Errno}
@@ -21,7 +21,7 @@ use Rattle.codec_files.specs.ByPath.{file_create_of, file_link_of, file_open_of,
 use Rattle.codec_poll.specs.Poll.{poll_of}
 use Rattle.guest_memory.specs.Page.{Pages}
 
--- what registers and memory spell under a call's number, of a process with so many turns left
+-- what registers and memory encode under a call's number, of a process with so many turns left
 unfoldable pub read_of : Pages → Registers → ℕ → CallNumber → Result Call Errno
 read_of m r left number.ClockResGet = clock_res_get_of r
 read_of m r left number.ClockTimeGet = clock_time_get_of r
@@ -130,17 +130,17 @@ or_refused number (Err errno) = Refused number errno
 
 -- a number that no call has is its own call
 abbrev pub or_unknown : Registers → (CallNumber → Call) → Option CallNumber → Call
-or_unknown r spelled (Some number) = spelled number
-or_unknown r spelled None = Unknown (slice_index r.x 17)
+or_unknown r encoded (Some number) = encoded number
+or_unknown r encoded None = Unknown (slice_index r.x 17)
 
--- the call that the registers and the memory of a process spell that has so many turns left
-abbrev pub spelled_of : Pages → Registers → ℕ → Call
-spelled_of m r left = or_unknown r (λ number. or_refused number (read_of m r left number)) (asked r)
+-- the call that the registers and the memory of a process encode that has so many turns left
+abbrev pub encoded_call : Pages → Registers → ℕ → Call
+encoded_call m r left = or_unknown r (λ number. or_refused number (read_of m r left number)) (asked r)
 
 -- The same of a program that runs: NOSYS for a call that isn't built. The turns left are 0, since no built call has them.
 abbrev pub built_reading : Pages → Registers → CallNumber → Result Call Errno
 built_reading m r number = if is_built number then read_of m r 0 number else Err Nosys
 
--- the call that the registers and the memory of a program that runs spell
+-- the call that the registers and the memory of a program that runs encode
 unfoldable pub args_of : Pages → Registers → Call
 args_of m r = or_unknown r (λ number. or_refused number (built_reading m r number)) (asked r)

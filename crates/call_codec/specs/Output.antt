@@ -1,5 +1,5 @@
 -- What a call that succeeded writes into the caller's memory: the bytes that were read, or the state of a descriptor or of a file.
--- Where the bytes of a write can't be written, the memory stays as it is. For registers that spelled the call this never comes,
+-- Where the bytes of a write can't be written, the memory stays as it is. For registers that encoded the call this never comes,
 -- since they are refused where a place for output can't be written.
 use Rattle.std.specs.Prelude.{ℕ, List, [], ◌∷◌, take, drop, replicate, Result, Ok, Err}
 use Rattle.abi_base.specs.Registers.{Registers}

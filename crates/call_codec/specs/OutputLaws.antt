@@ -1,4 +1,4 @@
--- What registers and memory that spell a call say of its output: each byte of it is written.
+-- What registers and memory that encode a call say of its output: each byte of it is written.
 use Rattle.std.specs.Prelude.{◌≡◌, ◌≤◌, ◌<◌, ◌+◌, ◌*◌, ◌/◌, ◌%◌, ℕ, true, false, List, [], ◌∷◌, take, drop, length, min, slice_index, Ok, IsOk, Option, Some, option_map}
 use Rattle.std.specs.FinMap.{get}
 use Rattle.abi_base.specs.declared.address_space.TheConstants.{PAGE_SIZE}
@@ -35,14 +35,14 @@ TakesBytes m r most =
     (ranges : List Iovec) × (ranges_at m (argument r 1) (argument r 2) ≡ Ok ranges)
     × ((bytes : List ℕ) → length bytes ≤ most → AreWrittenInto m ranges bytes)
 
--- Where fd_pread or fd_read is spelled, as many bytes as it asks for at most are written.
+-- Where fd_pread or fd_read is encoded, as many bytes as it asks for at most are written.
 abbrev pub PreadIsWritten : Type 0
 PreadIsWritten = (m : Pages) (r : Registers) (fd most offset : ℕ) → args_of m r ≡ FdPread fd most offset → TakesBytes m r most
 
 abbrev pub ReadIsWritten : Type 0
 ReadIsWritten = (m : Pages) (r : Registers) (fd most : ℕ) → args_of m r ≡ FdRead fd most → TakesBytes m r most
 
--- Where fd_stat_get is spelled, a descriptor's state is written.
+-- Where fd_stat_get is encoded, a descriptor's state is written.
 abbrev pub StateIsWritten : Type 0
 StateIsWritten =
     (m : Pages) (r : Registers) (fd : ℕ) (stat : FdStat) → args_of m r ≡ FdStatGet fd → IsOk (write_of m (argument r 1) (fdstat_bytes stat))
@@ -51,12 +51,12 @@ StateIsWritten =
 abbrev pub TakesUpTo : Pages → ℕ → ℕ → Type 0
 TakesUpTo m a room = (bytes : List ℕ) → length bytes ≤ min room MOST_TRANSFERRED → IsOk (write_of m a bytes)
 
--- Where file_readdir is spelled, as many bytes of entries as it has room for are written.
+-- Where file_readdir is encoded, as many bytes of entries as it has room for are written.
 abbrev pub EntriesAreWritten : Type 0
 EntriesAreWritten =
     (m : Pages) (r : Registers) (fd room cookie : ℕ) → args_of m r ≡ FileReaddir fd room cookie → TakesUpTo m (argument r 1) room
 
--- Where file_readlink is spelled, as many bytes of the text as it has room for are written.
+-- Where file_readlink is encoded, as many bytes of the text as it has room for are written.
 abbrev pub LinkIsWritten : Type 0
 LinkIsWritten =
     (m : Pages) (r : Registers) (fd : ℕ) (path : List ℕ) (room : ℕ) → args_of m r ≡ FileReadlink fd path room
@@ -66,7 +66,7 @@ LinkIsWritten =
 abbrev pub TakesFileState : Pages → ℕ → Type 0
 TakesFileState m a = (stat : FileStat) → (length (filestat_bytes stat) ≡ 56) × IsOk (write_of m a (filestat_bytes stat))
 
--- Where file_stat_fget or file_stat_get is spelled, a file's state is written.
+-- Where file_stat_fget or file_stat_get is encoded, a file's state is written.
 abbrev pub OpenStateIsWritten : Type 0
 OpenStateIsWritten = (m : Pages) (r : Registers) (fd : ℕ) → args_of m r ≡ FileStatFget fd → TakesFileState m (argument r 1)
 
@@ -86,7 +86,7 @@ pub record AreFilled (m : Pages) (a k : ℕ) (prot : Prot) (bytes : List ℕ) (a
   pub stands : (i : ℕ) → i < PAGE_SIZE * k → standing after (a + i) ≡ Some (slice_index bytes i)
   pub others : (q : ℕ) → in_range (a / PAGE_SIZE) k q ≡ false → get after q ≡ get m q
 
--- Where mem_map is spelled, the bytes that it gives stand in its pages, whatever their rights are.
+-- Where mem_map is encoded, the bytes that it gives stand in its pages, whatever their rights are.
 abbrev pub MappingIsFilled : Type 0
 MappingIsFilled =
     (m : Pages) (r : Registers) (a size prot flags fd offset : ℕ) (payload : Payload) → args_of m r ≡ MemMap (At a) size prot flags fd offset

@@ -1,7 +1,7 @@
 //! From registers and memory to a call.
 ghost use Rattle.std.specs.Prelude.{◌≡◌, ◌&&◌, IfOk, IsTrue, OnErr};
 ghost use Rattle.codec_arguments.specs.Reading.{LacksMemory, Reads};
-ghost use Rattle.call_codec.specs.Arguments.{AsksFor, args_of, is_built, is_copied, or_refused, read_of, spelled_of};
+ghost use Rattle.call_codec.specs.Arguments.{AsksFor, args_of, is_built, is_copied, or_refused, read_of, encoded_call};
 
 use crate::memory_calls::{mem_advise, mem_map, mem_protect, mem_sync, mem_unmap};
 use abi_types::{Call, CallNumber, Errno, Regs};
@@ -21,7 +21,7 @@ use codec_poll::poll;
 use guest_memory::GuestMemory;
 use std::alloc::{AllocError, Global};
 
-/// The call that the registers and the memory of a program that runs spell as a thread stands at an ECALL. A call that its
+/// The call that the registers and the memory of a program that runs encode as a thread stands at an ECALL. A call that its
 /// arguments refuse is `Refused`, with its number and its error; so is one that isn't built, with NOSYS.
 #[tactic(auto, unfolding(crate::specs::Arguments::args_of))]
 pub fn args(alloc: Global, regs: &Regs, memory: &GuestMemory) -> Result<Call, AllocError>
@@ -47,7 +47,7 @@ pub fn read_call(
     memory: &GuestMemory,
     left: u64,
 ) -> Result<Call, AllocError>
-    ensures ok { IfOk result (λ call. call ≡ spelled_of memory.now regs.now left) }
+    ensures ok { IfOk result (λ call. call ≡ encoded_call memory.now regs.now left) }
     ensures only { OnErr result (AsksFor is_copied regs.now) }
 {
     let asked = regs.get(17);

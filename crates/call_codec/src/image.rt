@@ -75,7 +75,7 @@ fn map_segment_page(
     }
 }
 
-/// Maps a segment's pages, where none is yet. Only want of memory keeps it from that.
+/// Maps a segment's pages, where none is yet. It fails only where memory runs out.
 pub fn map_segment(
     alloc: Global,
     memory: &mut GuestMemory,
@@ -92,7 +92,7 @@ pub fn map_segment(
     Ok(())
 }
 
-/// The memory of an image's segments, which have no page in common. Only want of memory keeps it from that.
+/// The memory of an image's segments, which have no page in common. It fails only where memory runs out.
 pub fn load(alloc: Global, segments: &[Segment]) -> Result<GuestMemory, MemFault>
     requires { FitTogether segments.now }
     ensures ok { IfOk result (λ memory. memory ≡ with_segments map.empty segments.now) }

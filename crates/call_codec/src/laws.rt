@@ -20,7 +20,7 @@ pub fn start_block_stands()
     ensures argdata { ArgdataStands }
 {}
 
-/// The output of a call that registers and memory spell is written whole: no write of bytes that were read, as many as the call
+/// The output of a call that registers and memory encode is written whole: no write of bytes that were read, as many as the call
 /// asks for or has room for at most, and none of the state of a descriptor or of a file is refused. The pages that mem_map makes
 /// have the bytes that it gives, and zeros behind them.
 pub fn output_is_written()

@@ -1,5 +1,5 @@
 //! Calls between registers, memory and the kernel: the memory that a program starts with, the call that registers and
-//! memory spell, and the registers and memory after an answer.
+//! memory encode, and the registers and memory after an answer.
 #![tactic(auto)]
 
 pub use arguments::{args, read_call};

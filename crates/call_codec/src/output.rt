@@ -31,7 +31,7 @@ fn scatter(memory: &mut GuestMemory, ranges: &[Iovec], bytes: &[u8])
 }
 
 /// Writes the bytes of the payload, if it has some, into the ranges of the iovec array that the registers name: a1 has its
-/// address, and a2 its count. The whole array is read first. Want of memory changes nothing.
+/// address, and a2 its count. The whole array is read first. Where memory runs out, nothing changes.
 pub fn put_content(
     alloc: Global,
     regs: &Regs,

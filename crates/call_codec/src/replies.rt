@@ -19,8 +19,8 @@ use codec_arguments::low;
 use guest_memory::GuestMemory;
 use std::alloc::{AllocError, Global};
 
-/// What an answer leaves of the registers and the memory that spelled the call. Want of memory, which only fd_pread, fd_read
-/// and mem_map meet, changes nothing.
+/// What an answer leaves of the registers and the memory that encoded the call. Where memory runs out, which only fd_pread,
+/// fd_read and mem_map meet, nothing changes.
 pub fn put_answer(
     alloc: Global,
     regs: &mut Regs,

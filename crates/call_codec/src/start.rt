@@ -109,7 +109,7 @@ fn first_registers(entry: u64) -> Regs
 }
 
 // The only fault that keeps a start from its memory: each other one would be a mistake of the loader.
-fn want_of_memory(fault: MemFault) -> AllocError
+fn out_of_memory(fault: MemFault) -> AllocError
     requires { fault ≡ MemFault.NoMemory }
 {
     match fault {
@@ -119,7 +119,7 @@ fn want_of_memory(fault: MemFault) -> AllocError
 }
 
 /// The memory and the registers that a process's first thread starts with: the image, a stack of 256 pages, and the start
-/// block with a vector of 12 entries, the canary and the argument data. Only want of memory keeps it from that.
+/// block with a vector of 12 entries, the canary and the argument data. It fails only where memory runs out.
 pub fn start_memory(
     alloc: Global,
     elf: &Elf,
@@ -134,8 +134,8 @@ pub fn start_memory(
 {
     let stack = stack(alloc);
     let block = start_block(block_bytes(alloc, elf, argdata, canary, pid, tid)?);
-    let mut memory = load(alloc, elf.segments.as_slice()).map_err(want_of_memory)?;
-    map_segment(alloc, &mut memory, &stack).map_err(want_of_memory)?;
-    map_segment(alloc, &mut memory, &block).map_err(want_of_memory)?;
+    let mut memory = load(alloc, elf.segments.as_slice()).map_err(out_of_memory)?;
+    map_segment(alloc, &mut memory, &stack).map_err(out_of_memory)?;
+    map_segment(alloc, &mut memory, &block).map_err(out_of_memory)?;
     Ok((memory, first_registers(elf.entry)))
 }

@@ -1,6 +1,6 @@
 //! The inputs of the program: files by their paths, and standard input as `-`.
 ghost use Rattle.std.specs.Prelude.{◌≡◌, ◌≤◌, ⊤, length, IfOk};
-ghost use Rattle.input_output.specs.Source.{Untold};
+ghost use Rattle.input_output.specs.Source.{Unknown};
 
 use input_output::{Failed, Source};
 use std::alloc::Global;
@@ -34,7 +34,7 @@ struct OpenedFile<F> {
     stream: Stream<F>,
 }
 
-/// Files and standard input. It tells nothing of their bytes. Standard input is read in its order: a read at another
+/// Files and standard input. It shows nothing of their bytes. Standard input is read in its order: a read at another
 /// place than where the last one ended is a fault. The file that was read last is kept open.
 #[derive(Drop)]
 pub struct FileSource<'a, R: Files + Input> {
@@ -98,7 +98,7 @@ impl<'a, R: Files + Input> FileSource<'a, R> {
 }
 
 impl<R: Files + Input> Source for FileSource<'_, R> {
-    ghost told = { λ s name. Untold };
+    ghost content = { λ s name. Unknown };
 
     ghost may_read = { λ s name. ⊤ };
 

@@ -3,7 +3,7 @@ ghost use Rattle.std.specs.Prelude.{◌≡◌, None};
 
 use input_output::{Failed, Sink};
 
-/// Standard output, without a buffer. It tells nothing of what was written. A write that takes nothing of a piece that
+/// Standard output, without a buffer. It shows nothing of what was written. A write that takes nothing of a piece that
 /// isn't empty is a fault.
 #[derive(Drop)]
 pub struct OutSink<'a, R> {

@@ -1,4 +1,4 @@
-//! The call that a thread's registers and memory spell, or the error that refuses it: a function for each call, named after
+//! The call that a thread's registers and memory encode, or the error that refuses it: a function for each call, named after
 //! it, and beside it in specs/ its definition, whose name ends in `_of`. Arguments of 32 bits are low halves of registers.
 //!
 //! Errors are refusals that the arguments alone show. What registers show comes first, then FAULT for memory that can't be

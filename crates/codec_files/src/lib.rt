@@ -1,4 +1,4 @@
-//! The calls about files that a thread's registers and memory spell, or the error that refuses one: a function for each call,
+//! The calls about files that a thread's registers and memory encode, or the error that refuses one: a function for each call,
 //! named after it, and beside it in specs/ its definition, whose name ends in `_of`.
 //!
 //! Errors are refusals that the arguments alone show. What registers show comes first, then FAULT for memory that can't be

@@ -1,4 +1,4 @@
--- The poll that registers and memory spell.
+-- The poll that registers and memory encode.
 use Rattle.std.specs.Prelude.{◌*◌, not, ◌&&◌, nat_le, Result, Ok}
 use Rattle.abi_base.specs.declared.errno.Errno.{Errno}
 use Rattle.abi_base.specs.declared.errno.Errno.TheVariants.{Inval}

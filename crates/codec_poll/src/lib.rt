@@ -1,4 +1,4 @@
-//! The poll that a thread's registers and memory spell: what it waits for, with the words of the locks and condition
+//! The poll that a thread's registers and memory encode: what it waits for, with the words of the locks and condition
 //! variables, or the error that refuses it.
 #![tactic(auto)]
 

@@ -1,4 +1,4 @@
-//! The poll that registers and memory spell.
+//! The poll that registers and memory encode.
 ghost use Rattle.std.specs.Prelude.{◌≡◌};
 ghost use Rattle.codec_arguments.specs.Reading.{Reads};
 ghost use Rattle.codec_poll.specs.Poll.{poll_of};

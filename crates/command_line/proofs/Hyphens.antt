@@ -1,4 +1,4 @@
--- Words before `--` that are `-` spell nothing, whether or not `-` is read as a plain word.
+-- Words before `--` that are `-` stand for nothing, whether or not `-` is read as a plain word.
 use Rattle.std.proofs.Common.{◌≡◌, ◌∙◌, ℕ, replicate, Bool, true, false, cond, not, ◌||◌, List, [], ◌∷◌, ◌++◌, map, Option, Some, None, is_some, codes, refl, sym, ap, ap₂, subst, option_and_then, option_map, true≢false, IfSome}
 use Rattle.std.specs.List.{find, list_all, list_any}
 use Rattle.std.specs.Str.{bytes_eq}

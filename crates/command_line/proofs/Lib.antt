@@ -7,7 +7,7 @@ pub mod LawProofs
 pub mod Loose
 pub mod Named
 pub mod Rules
-pub mod Spelling
+pub mod Meanings
 pub mod Steps
 pub mod Taking
 pub mod Walking

@@ -320,8 +320,8 @@ module _ (word : Word) (words : List Word) (claims : Claims words) where
     short_fails : (waiting : Waiting) (h : Held) (position : ℕ) (first : ℕ) (rest : Word) → word ≡ 45 ∷ first ∷ rest → is_separator word ≡ false → long_of word ≡ None
         → short_of word ≡ Some (first ∷ rest) → Fails shape (record { held = record h { skip = 0 }; waiting = waiting; position = position; is_trailing = false; stopped = None }) word
     short_fails waiting h position first rest is separator long short =
-        let spelled = chars_of_rest first rest (subst IsUtf8 is text) in
-        fails_short shape waiting h position word first rest spelled.0 spelled.1 separator long short spelled.2 refl
+        let meant = chars_of_rest first rest (subst IsUtf8 is text) in
+        fails_short shape waiting h position word first rest meant.0 meant.1 separator long short meant.2 refl
 
     idle_reads : (pieces : List Piece) (rows : List Row) (pending : Option (Word × List Word)) → IsAlive pieces rows pending → is_separator word ≡ false → Reading word
         → outcome (idle_at (held rows pending) (position_of pieces)) (word ∷ words) ≡ cond (passes (settling shape (held rows pending))) (taken pieces all_pieces (word ∷ words)) None

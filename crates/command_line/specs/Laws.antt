@@ -25,7 +25,7 @@ defaults program = record {
 abbrev pub SeparatorEndsOptions : Type 0
 SeparatorEndsOptions = (own word : Word) → is_file word ≡ true → words_of (own ∷ codes "--" ∷ word ∷ []) ≡ Some (defaults word)
 
--- `--name value` and `--name=value` spell the same.
+-- `--name value` and `--name=value` mean the same.
 abbrev pub FormsAgree : Type 0
 FormsAgree = (own name value : Word) (before after : List Word) → list_any is_separator before ≡ false → list_any (λ option. bytes_eq option name) option_names ≡ true → starts_with_minus value ≡ false
     → words_of (own ∷ (before ++ (codes "--" ++ name) ∷ value ∷ after)) ≡ words_of (own ∷ (before ++ (codes "--" ++ name ++ codes "=" ++ value) ∷ after))

@@ -21,7 +21,7 @@ given_by pieces = record {
 abbrev pub settings_in : List Piece → Option Settings
 settings_in pieces = if are_distinct (map label pieces) then settings_of (given_by pieces) else None
 
--- The settings that words spell, or nothing. The first word is the running program's own name and is not looked at.
+-- The settings that words stand for, or nothing. The first word is the running program's own name and is not looked at.
 unfoldable pub words_of : List Word → Option Settings
 words_of [] = None
 words_of (own ∷ words) = option_and_then settings_in (pieces_of words)

@@ -1,4 +1,4 @@
-//! The words that a run is called with, and the settings that they spell.
+//! The words that a run is called with, and the settings that they stand for.
 #![tactic(auto)]
 
 pub use laws::{forms_agree, help_is_refused, separator_ends_options};

@@ -18,7 +18,7 @@ pub enum CommandLineFault {
     /// The words are not in the grammar.
     #[error("the words are not those of a run")]
     Refused,
-    /// Memory is wanting.
+    /// Memory ran out.
     #[error("there is no memory left")]
     NoMemory,
 }
@@ -53,10 +53,10 @@ fn matches_in<'a>(
     }
 }
 
-/// The settings that the words spell. The first word is the running program's own name and is not looked at; the others
+/// The settings that the words stand for. The first word is the running program's own name and is not looked at; the others
 /// are `[--tree FILE] [--stdin FILE] [--workers N] [--turns N] [--key HEX] [--epoch NS] [--history] PROGRAM`. An option
 /// stands at most once, in any place before `--`, with its value in the next word or after `=`; behind `--` each word is
-/// just a word. `Refused` exactly for words that spell no settings, and `NoMemory` only where memory ran out.
+/// just a word. `Refused` exactly for words that stand for no settings, and `NoMemory` only where memory ran out.
 pub fn read_words<'a>(
     alloc: Global,
     words: &'a [String],

@@ -9,7 +9,7 @@ ghost use Rattle.command_line.specs.Values.{file_of, is_file, key_of, number_of}
 use crate::values::{file_name, key, number_within};
 use clap::ArgMatches;
 
-/// The settings that the words of a run spell.
+/// The settings that the words of a run stand for.
 #[derive(Clone, Copy, PartialEq)]
 pub struct LaunchSettings<'a> {
     /// The name of the program's file; neither empty nor `-`.

@@ -150,11 +150,11 @@ Passes (Ok given) found = found ≡ None
 Passes (Err given) found = found ≡ Some given
 
 -- A reading answers the fault that is found, and where there is none a value.
-abbrev pub Tells : {A : Type 0} → Result A ElfFault → Option ElfFault → A → Type 0
-Tells (Ok given) found value = (found ≡ None) × (given ≡ value)
-Tells (Err given) found value = found ≡ Some given
+abbrev pub Reports : {A : Type 0} → Result A ElfFault → Option ElfFault → A → Type 0
+Reports (Ok given) found value = (found ≡ None) × (given ≡ value)
+Reports (Err given) found value = found ≡ Some given
 
--- A reading of a whole file answers the same, or that memory is wanting where no fault is found.
+-- A reading of a whole file answers the same, or that memory ran out where no fault is found.
 abbrev pub Reads : {A : Type 0} → Result A ElfFault → Option ElfFault → A → Type 0
 Reads (Ok given) found value = (found ≡ None) × (given ≡ value)
 Reads (Err given) found value = (found ≡ Some given) ⊎ ((found ≡ None) × (given ≡ fault.NoMemory))

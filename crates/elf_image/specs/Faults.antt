@@ -76,6 +76,6 @@ pub record IsFirstFault (bytes : List ℕ) (found : ElfFault) : Type 0 where
 abbrev pub HasNoFault : List ℕ → Type 0
 HasNoFault bytes = (any : ElfFault) → HasFault bytes any → ⊥
 
--- a refusal is right: it names the first fault, or memory was wanting for a file that has none
+-- a refusal is right: it names the first fault, or memory ran out for a file that has none
 abbrev pub IsRefusal : List ℕ → ElfFault → Type 0
 IsRefusal bytes found = IsFirstFault bytes found ⊎ ((found ≡ fault.NoMemory) × HasNoFault bytes)

@@ -41,7 +41,7 @@ pub enum ElfFault {
     /// The program would begin at no instruction of an executable segment.
     #[error("the entry is no multiple of 4 in an executable segment")]
     Entry,
-    /// Memory is wanting.
+    /// Memory ran out.
     #[error("there is no memory left")]
     NoMemory,
 }

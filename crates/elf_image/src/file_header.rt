@@ -1,6 +1,6 @@
 //! The ELF header.
 ghost use Rattle.std.specs.Prelude.{◌≡◌, ◌≤◌, IfOk, OnOk, length};
-ghost use Rattle.elf_image.specs.Checks.{IsTable, Passes, Tells, file_header, is_class, is_magic, is_table, field_fault, header_fault};
+ghost use Rattle.elf_image.specs.Checks.{IsTable, Passes, Reports, file_header, is_class, is_magic, is_table, field_fault, header_fault};
 
 use crate::fault::ElfFault;
 use crate::fields::{half_at, word_at, xword_at};
@@ -113,7 +113,7 @@ fn check_fields(size: usize, header: FileHeader) -> Result<(), ElfFault>
 
 /// The header of a file, if the first 64 bytes are right and the program headers lie within the file.
 pub(crate) fn read_file_header(bytes: &[u8]) -> Result<FileHeader, ElfFault>
-    ensures header { Tells result (header_fault bytes.now) (file_header bytes.now) }
+    ensures header { Reports result (header_fault bytes.now) (file_header bytes.now) }
     ensures table { IfOk result (λ header. IsTable (length bytes.now) header) }
 {
     if bytes.len() < FILE_HEADER_SIZE {

@@ -16,7 +16,7 @@ abbrev pub failure_of : (TreeFault → Errno) → TreeFault → Failure
 failure_of errno_of fault.NoMemory = NoMemory
 failure_of errno_of f = Refused (path_fault.Errno (errno_of f))
 
--- it fails so: it is refused as the definition says, or memory is wanting
+-- it fails so: it is refused as the definition says, or memory runs out
 abbrev pub FailsAs : NameOutcome → Failure → Type 0
 FailsAs comes (Refused (path_fault.Errno errno)) = comes ≡ Refuses errno
 FailsAs comes (Refused (path_fault.Outside component)) = comes ≡ LeadsOut component
@@ -30,4 +30,4 @@ IsDone comes old new (Err failure) = FailsAs comes failure × (new ≡ old)
 -- the number of a node that is made, where one is, is none in the tree
 abbrev pub IsNew : ℕ → Tree → ℕ → Type 0
 IsNew zero t new = ⊤
-IsNew (suc makes) t new = is_absent t new ≡ true
+IsNew (suc new_nodes) t new = is_absent t new ≡ true

@@ -1,4 +1,4 @@
--- The last name of a path as its place tells it.
+-- The last name of a path as its place gives it.
 use Rattle.std.specs.Prelude.{ℕ, List, Result, Ok, Err}
 use Rattle.file_calls.specs.declared.path_fault.PathFault.{PathFault}
 use Rattle.file_calls.specs.declared.path_fault.PathFault.TheVariants as path_fault

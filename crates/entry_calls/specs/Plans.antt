@@ -27,14 +27,14 @@ change_of (File n false) path now new t = no_change t
 change_of (Directory n) path now new t = no_change t
 change_of (New place) path now new t = with_node (node.File []) now new t place.dir (name_at path place.from place.len)
 
-abbrev pub makes_of : OpenPlan → ℕ
-makes_of (File n truncates) = 0
-makes_of (Directory n) = 0
-makes_of (New place) = 1
+abbrev pub new_nodes_of : OpenPlan → ℕ
+new_nodes_of (File n truncates) = 0
+new_nodes_of (Directory n) = 0
+new_nodes_of (New place) = 1
 
 -- what the call comes to whose plan this is
 abbrev pub opened_by : OpenPlan → List ℕ → Tree → ℕ → ℕ → ℕ → Opened
-opened_by plan path t flags now new = Opens (kind_of plan flags new) (change_of plan path now new t) (makes_of plan)
+opened_by plan path t flags now new = Opens (kind_of plan flags new) (change_of plan path now new t) (new_nodes_of plan)
 
 abbrev pub opened_of : Result OpenPlan PathFault → List ℕ → Tree → ℕ → ℕ → ℕ → Opened
 opened_of (Ok plan) path t flags now new = opened_by plan path t flags now new

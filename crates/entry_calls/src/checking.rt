@@ -5,7 +5,7 @@ ghost use Rattle.abi_types.specs.declared.node.NodeKind.{NodeKind};
 ghost use Rattle.abi_types.specs.declared.open_kind.OpenKind.{OpenKind};
 ghost use Rattle.kernel_model.specs.Families.EntryCalls as model;
 ghost use Rattle.kernel_model.specs.Families.NameMaking.{making};
-ghost use Rattle.entry_calls.specs.Checks.{IsTold};
+ghost use Rattle.entry_calls.specs.Checks.{IsReported};
 
 use crate::failure::errno_of;
 use crate::making::text_error;
@@ -16,7 +16,7 @@ use file_tree::Tree;
 
 // Why no node is made by the path from this open, whatever its kind.
 fn check_path(tree: &Tree, here: &OpenKind, path: &[u8]) -> Result<(), PathFault>
-    ensures { (kind : NodeKind) (now new : ℕ) (there : Option OpenKind) → IsTold ((making kind path.now).effect now new tree.now (Some here.now) there) result }
+    ensures { (kind : NodeKind) (now new : ℕ) (there : Option OpenKind) → IsReported ((making kind path.now).effect now new tree.now (Some here.now) there) result }
 {
     let place = last_name(tree, path, here)?;
     match tree.check_make(place.dir, name_at(path, place.from, place.len)) {
@@ -28,8 +28,8 @@ fn check_path(tree: &Tree, here: &OpenKind, path: &[u8]) -> Result<(), PathFault
 /// Why a call that makes a node is refused, whatever the number of the node: `Ok` where it would make one, and where the call
 /// makes none. Nothing changes.
 pub fn check_entries(tree: &Tree, here: &OpenKind, call: EntryCall<'_>) -> Result<(), PathFault>
-    ensures { (model.name_meaning (call_of_entry call.entry)).makes ≡ 1 → (now new : ℕ) (there : Option OpenKind)
-        → IsTold ((model.name_meaning (call_of_entry call.entry)).effect now new tree.now (Some here.now) there) result }
+    ensures { (model.name_meaning (call_of_entry call.entry)).new_nodes ≡ 1 → (now new : ℕ) (there : Option OpenKind)
+        → IsReported ((model.name_meaning (call_of_entry call.entry)).effect now new tree.now (Some here.now) there) result }
 {
     match call {
         EntryCall::FileCreate { path, .. } => check_path(tree, here, path),
@@ -37,8 +37,7 @@ pub fn check_entries(tree: &Tree, here: &OpenKind, call: EntryCall<'_>) -> Resul
             Some(errno) => Err(PathFault::Errno(errno)),
             None => check_path(tree, here, path),
         },
-        EntryCall::FileLink { .. } | EntryCall::FileRename { .. } | EntryCall::FileUnlink { .. } => {
-            Ok(())
-        }
+        EntryCall::FileLink { .. } | EntryCall::FileRename { .. } | EntryCall::FileUnlink { .. } =>
+            { Ok(()) }
     }
 }

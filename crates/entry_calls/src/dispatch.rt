@@ -13,12 +13,13 @@ use file_tree::Tree;
 use std::alloc::Global;
 
 /// How many nodes the call makes: 0 or 1.
-pub fn makes(call: EntryCall<'_>) -> u32
-    ensures { result ≡ (model.name_meaning (call_of_entry call.entry)).makes }
+pub fn new_nodes(call: EntryCall<'_>) -> u32
+    ensures { result ≡ (model.name_meaning (call_of_entry call.entry)).new_nodes }
 {
     match call {
         EntryCall::FileCreate { .. } | EntryCall::FileSymlink { .. } => 1,
-        EntryCall::FileLink { .. } | EntryCall::FileRename { .. } | EntryCall::FileUnlink { .. } => 0,
+        EntryCall::FileLink { .. } | EntryCall::FileRename { .. } | EntryCall::FileUnlink { .. } =>
+            0,
     }
 }
 
@@ -33,7 +34,7 @@ pub fn on_entries(
     new: ObjId,
     call: EntryCall<'_>,
 ) -> Result<(), Failure>
-    requires { IsNew (model.name_meaning (call_of_entry call)).makes tree.old new }
+    requires { IsNew (model.name_meaning (call_of_entry call)).new_nodes tree.old new }
     ensures { IsDone ((model.name_meaning (call_of_entry call.entry)).effect now new tree.old (Some here.now) (option_copied there.entry)) tree.old tree.new result }
 {
     match call {
@@ -43,31 +44,13 @@ pub fn on_entries(
             path,
             new_path,
             ..
-        } => file_link(
-            tree,
-            here,
-            there,
-            now,
-            lookup.flags,
-            path,
-            new_path,
-        ),
+        } => file_link(tree, here, there, now, lookup.flags, path, new_path),
         EntryCall::FileRename { path, new_path, .. } => {
             file_rename(tree, here, there, now, path, new_path)
         }
         EntryCall::FileSymlink { text, path, .. } => {
-            file_symlink(
-                alloc,
-                tree,
-                here,
-                now,
-                new,
-                text,
-                path,
-            )
+            file_symlink(alloc, tree, here, now, new, text, path)
         }
-        EntryCall::FileUnlink { path, flags, .. } => {
-            file_unlink(tree, here, now, path, flags)
-        }
+        EntryCall::FileUnlink { path, flags, .. } => { file_unlink(tree, here, now, path, flags) }
     }
 }

@@ -15,7 +15,7 @@ use tree_model::TreeFault;
 pub enum Failure {
     /// It is refused.
     Refused(PathFault),
-    /// Memory is wanting.
+    /// Memory ran out.
     NoMemory,
 }
 
@@ -42,7 +42,7 @@ pub fn refused_with(errno: Errno) -> Failure
     Failure::Refused(PathFault::Errno(errno))
 }
 
-/// The error for a fault of the tree. Want of memory is none, and has that of a node that isn't there.
+/// The error for a fault of the tree. Lack of memory is none, and has that of a node that isn't there.
 pub fn errno_of(fault: TreeFault) -> Errno
     ensures { result ≡ making.errno_of fault }
 {

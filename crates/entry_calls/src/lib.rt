@@ -6,7 +6,7 @@
 #![tactic(auto)]
 
 pub use checking::check_entries;
-pub use dispatch::{makes, on_entries};
+pub use dispatch::{new_nodes, on_entries};
 pub use failure::Failure;
 pub use open_plan::plan_open;
 pub use places::NamePlace;

@@ -6,7 +6,7 @@ ghost use Rattle.kernel_model.specs.Families.FileChanges.{sized};
 ghost use Rattle.kernel_model.specs.Families.LastNames.{name_at};
 ghost use Rattle.kernel_model.specs.Families.NameMaking.{with_node};
 ghost use Rattle.entry_calls.specs.Done.{IsNew};
-ghost use Rattle.entry_calls.specs.Plans.{change_of, kind_of, makes_of};
+ghost use Rattle.entry_calls.specs.Plans.{change_of, kind_of, new_nodes_of};
 
 use crate::making::make_in;
 use crate::places::{NamePlace, name_at};
@@ -47,8 +47,8 @@ impl OpenPlan {
     }
 
     /// How many nodes are made: 0 or 1.
-    pub fn makes(&self) -> u32
-        ensures { result ≡ makes_of self.now }
+    pub fn new_nodes(&self) -> u32
+        ensures { result ≡ new_nodes_of self.now }
     {
         match self {
             OpenPlan::File { .. } | OpenPlan::Directory { .. } => 0,
@@ -97,7 +97,7 @@ fn make_file(
 }
 
 /// Does to the tree what the plan of this path says, at this time in nanoseconds since 1970. A node that is made has the
-/// number `new`. `Err` changes nothing; it comes for want of memory, and of a plan that was made for another tree.
+/// number `new`. `Err` changes nothing; it comes where memory runs out, and for a plan that was made for another tree.
 pub fn apply_plan(
     alloc: Global,
     tree: &mut Tree,
@@ -106,7 +106,7 @@ pub fn apply_plan(
     now: u64,
     new: ObjId,
 ) -> Result<(), AllocError>
-    requires { IsNew (makes_of plan.now) tree.old new }
+    requires { IsNew (new_nodes_of plan.now) tree.old new }
     ensures ok { OnOk result (tree.new ≡ (change_of plan.now path.now now new tree.old).tree) }
     ensures err { OnErr result (tree.new ≡ tree.old) }
 {

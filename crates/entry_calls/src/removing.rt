@@ -34,7 +34,7 @@ fn is_directory(tree: &Tree, node: ObjId) -> bool
     }
 }
 
-// Why a name isn't taken away. Names in a directory are told only where it might go.
+// Why a name isn't taken away. Names in a directory are reported only where it might go.
 fn unlink_failed(flags: u32, fault: TreeFault) -> Failure
     ensures { result ≡ failure_of (model.unlink_errno flags) fault }
 {

@@ -6,7 +6,7 @@ use std::alloc::AllocError;
 pub enum InsertFault {
     /// Each number is taken.
     Full,
-    /// Memory is wanting.
+    /// Memory ran out.
     NoMemory,
 }
 
@@ -15,7 +15,7 @@ pub enum InsertFault {
 pub enum PickFault {
     /// This number, the first such in the list, has no descriptor.
     Absent(u32),
-    /// Memory is wanting.
+    /// Memory ran out.
     NoMemory,
 }
 

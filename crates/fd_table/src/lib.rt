@@ -2,7 +2,7 @@
 //! descriptors.
 //!
 //! [`FdTable`] is that map. `specs/Table.antt` has the words that its contracts cite, and `specs/Sizes.antt` says what
-//! the size of such a map tells of its free numbers.
+//! follows from the size of such a map for its free numbers.
 #![tactic(auto)]
 
 pub use faults::{InsertFault, PickFault};

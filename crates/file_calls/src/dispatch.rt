@@ -32,9 +32,7 @@ pub fn on_open(
 {
     match call {
         FileCall::FdPread { length, offset, .. } => fd_pread(alloc, tree, kind, length, offset),
-        FileCall::FdPwrite { bytes, offset, .. } => {
-            fd_pwrite(tree, kind, now, offset, bytes)
-        }
+        FileCall::FdPwrite { bytes, offset, .. } => { fd_pwrite(tree, kind, now, offset, bytes) }
         FileCall::FileAllocate { offset, length, .. } => {
             file_allocate(tree, kind, now, offset, length)
         }

@@ -87,18 +87,18 @@ fn object_stat(number: u64, kind: u8) -> FileStat
     }
 }
 
-fn told(stat: FileStat) -> Reply
-    ensures { replies result ≡ looks.told stat }
+fn reported(stat: FileStat) -> Reply
+    ensures { replies result ≡ looks.reported stat }
 {
     success_with(0, Payload::FileStat(stat))
 }
 
 // What the node of this number is.
-fn tell_node(tree: &Tree, id: ObjId) -> Reply
-    ensures { replies result ≡ looks.tell_in tree.now id }
+fn report_node(tree: &Tree, id: ObjId) -> Reply
+    ensures { replies result ≡ looks.report_in tree.now id }
 {
     match tree.node(id) {
-        Some(node) => told(node_stat(id, node)),
+        Some(node) => reported(node_stat(id, node)),
         None => refused(Errno::Badf),
     }
 }
@@ -114,10 +114,10 @@ fn stream_number(which: u32) -> u64
 /// What the open is of.
 pub(crate) fn file_stat_fget(tree: &Tree, kind: &OpenKind) -> Reply
     requires { IsThere tree.now kind.now }
-    ensures { replies result ≡ looks.tell_open tree.now (Some kind.now) }
+    ensures { replies result ≡ looks.report_open tree.now (Some kind.now) }
 {
     match kind {
-        OpenKind::File { node, .. } | OpenKind::Directory { node, .. } => tell_node(tree, *node),
+        OpenKind::File { node, .. } | OpenKind::Directory { node, .. } => report_node(tree, *node),
         OpenKind::End {
             reads: Some(number),
             ..
@@ -126,9 +126,9 @@ pub(crate) fn file_stat_fget(tree: &Tree, kind: &OpenKind) -> Reply
             reads: None,
             writes: Some(number),
             ..
-        } => told(object_stat(number.0, type_number(kind))),
+        } => reported(object_stat(number.0, type_number(kind))),
         OpenKind::Terminal { which, .. } => {
-            told(object_stat(stream_number(*which), type_number(kind)))
+            reported(object_stat(stream_number(*which), type_number(kind)))
         }
         OpenKind::End {
             reads: None,
@@ -142,10 +142,10 @@ pub(crate) fn file_stat_fget(tree: &Tree, kind: &OpenKind) -> Reply
 /// What the file at the path is.
 pub(crate) fn file_stat_get(tree: &Tree, kind: &OpenKind, flags: u32, path: &[u8]) -> Reply
     ensures { replies result
-        ≡ model.at_walked (looks.tell_in tree.now) (model.walked tree.now (model.lookup_mode flags) path.now (Some kind.now)) }
+        ≡ model.at_walked (looks.report_in tree.now) (model.walked tree.now (model.lookup_mode flags) path.now (Some kind.now)) }
 {
     match found(tree, lookup_mode(flags), path, kind) {
-        Ok(node) => tell_node(tree, node),
+        Ok(node) => report_node(tree, node),
         Err(refusal) => reply_of(refusal),
     }
 }

@@ -13,7 +13,7 @@ use right_rules::{refused, success};
 use std::alloc::AllocError;
 use tree_model::MOST_FILE_BYTES;
 
-/// Writes bytes to a file from this place on, as many as it has room for, at this time in nanoseconds since 1970, and tells
+/// Writes bytes to a file from this place on, as many as it has room for, at this time in nanoseconds since 1970, and says
 /// how many. `Err` changes nothing.
 pub fn overwrite(
     tree: &mut Tree,

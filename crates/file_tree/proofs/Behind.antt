@@ -1,4 +1,4 @@
--- What a reference in a `Some` tells, and what holds at an error since it holds anyway.
+-- What a reference in a `Some` says, and what holds at an error since it holds anyway.
 use Rattle.std.proofs.Common.{◌≡◌, true, Option, Some, None, IsSome, Result, Ok, Err, OnErr, Bor, MutBor, option_copied}
 use Rattle.std.proofs.lemmas.Bool.{false≢true}
 use Rattle.std.specs.Option.{option_copied_mut}

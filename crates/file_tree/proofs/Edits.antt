@@ -41,7 +41,7 @@ module _ (m : Slots) (n : ℕ) (s new : Slot) (there : get m n ≡ Some s) (name
   edited_entry : (d : ℕ) (name : List ℕ) → entry_of (tree_of (insert m n new)) d name ≡ entry_of (tree_of m) d name
   edited_entry d name = ap (λ tables. get (names_in (get tables d)) name) edited_tables
 
-  -- where the slot tells the same directory and counts as many names, what was kept is kept
+  -- where the slot names the same directory and counts as many names, what was kept is kept
   pub edited_kept : (nameless : Numbers) → new.parent ≡ s.parent → new.node.links ≡ s.node.links → IsKept m nameless → IsTree (tree_of (insert m n new))
       → IsKept (insert m n new) nameless
   edited_kept nameless parent links kept tree = record {

@@ -13,7 +13,7 @@ use Rattle.tree_model.specs.Faults.{CanLink, can_link}
 use Rattle.tree_model.specs.Keeps.{linked-tree}
 use Rattle.tree_model.specs.Outcomes.{linked-name, linked-other_names}
 use Rattle.file_tree.specs.declared.slot.Slot.{Slot}
-use Rattle.file_tree.specs.Kept.{Slots, Numbers, tree_of, is_directory_slot, parent_in, TellsParent, IsKept, links_in_slot, links_at, changed_slot, one_more_name, with_entry}
+use Rattle.file_tree.specs.Kept.{Slots, Numbers, tree_of, is_directory_slot, parent_in, ReportsParent, IsKept, links_in_slot, links_at, changed_slot, one_more_name, with_entry}
 use Rattle.file_tree.proofs.Edits.{edited_view}
 use Rattle.file_tree.proofs.NewNames.{directory_slot, node_slot, entered_at, entered_other, entered_view}
 use Rattle.file_tree.proofs.Stays.{same_names_but, parent_stays, listed_at, listed_all, is_nameless_slot}
@@ -80,25 +80,25 @@ module _ (m : Slots) (d : ℕ) (name : List ℕ) (n : ℕ) (s : Slot) (there : g
       (λ other. ap is_some (get-remove-other nameless n q other) ∙ listed_at m nameless kept.listed q ∙ sym (linked_at (is_nameless_slot q) refl q other))
 
   module _ (can : CanLink (tree_of m) d name n) (view : tree_of (linked_slots m d name n) ≡ linked (tree_of m) d name n) where
-    linked_parent_at : (q : ℕ) → q ≢ n → TellsParent (parent_in (get m q)) (tree_of m) q
-        → TellsParent (parent_in (get (linked_slots m d name n) q)) (tree_of (linked_slots m d name n)) q
-    linked_parent_at q other tells =
-        parent_stays (tree_of m) (tree_of (linked_slots m d name n)) (parent_in (get m q)) _ q tells (linked_at parent_in refl q other)
+    linked_parent_at : (q : ℕ) → q ≢ n → ReportsParent (parent_in (get m q)) (tree_of m) q
+        → ReportsParent (parent_in (get (linked_slots m d name n) q)) (tree_of (linked_slots m d name n)) q
+    linked_parent_at q other reports =
+        parent_stays (tree_of m) (tree_of (linked_slots m d name n)) (parent_in (get m q)) _ q reports (linked_at parent_in refl q other)
         (same_names_but (tree_of m) (tree_of (linked_slots m d name n)) d name q
         (λ d' name' away. (λ i. entry_of (view i) d' name') ∙ linked-other_names (tree_of m) d name n d' name' away)
         (λ before. none-some q (sym can.new ∙ before))
         (λ after. other (sym (same_Some n q (sym ((λ i. entry_of (view i) d name) ∙ linked-name (tree_of m) d name n) ∙ after)))))
 
-    -- the node is no directory, of which alone it is told
-    linked_parents : ((q : ℕ) → is_directory (tree_of m) q ≡ true → TellsParent (parent_in (get m q)) (tree_of m) q)
+    -- the node is no directory, and only a directory's slot has to name one
+    linked_parents : ((q : ℕ) → is_directory (tree_of m) q ≡ true → ReportsParent (parent_in (get m q)) (tree_of m) q)
         → (q : ℕ) → is_directory (tree_of (linked_slots m d name n)) q ≡ true
-        → TellsParent (parent_in (get (linked_slots m d name n) q)) (tree_of (linked_slots m d name n)) q
+        → ReportsParent (parent_in (get (linked_slots m d name n) q)) (tree_of (linked_slots m d name n)) q
     linked_parents parents q =
         let no_directory : is_directory (tree_of (linked_slots m d name n)) n ≡ false =
         directory_found (linked_slots m d name n) n ∙ counted_here (with_entry m d name n) n own still is_directory_slot
         ∙ ap is_directory_slot (sym here) ∙ sym (directory_found m n) ∙ can.kind in
         here_or_other (λ x. is_directory (tree_of (linked_slots m d name n)) x ≡ true
-        → TellsParent (parent_in (get (linked_slots m d name n) x)) (tree_of (linked_slots m d name n)) x) n q
+        → ReportsParent (parent_in (get (linked_slots m d name n) x)) (tree_of (linked_slots m d name n)) x) n q
         (λ is. absurd (false≢true (sym no_directory ∙ is)))
         (λ other is.
         let was = directory_found m q ∙ sym (linked_at is_directory_slot refl q other) ∙ sym (directory_found (linked_slots m d name n) q) ∙ is in

@@ -13,7 +13,7 @@ use Rattle.tree_model.specs.Faults.{CanMake, can_make}
 use Rattle.tree_model.specs.Keeps.{made-tree}
 use Rattle.tree_model.specs.Outcomes.{made-name, made-other_names}
 use Rattle.file_tree.specs.declared.slot.Slot.{Slot}
-use Rattle.file_tree.specs.Kept.{Slots, Numbers, names_of_slots, tree_of, is_directory_slot, parent_in, TellsParent, IsKept, first_slot, with_entry}
+use Rattle.file_tree.specs.Kept.{Slots, Numbers, names_of_slots, tree_of, is_directory_slot, parent_in, ReportsParent, IsKept, first_slot, with_entry}
 use Rattle.file_tree.proofs.NewNames.{directory_slot, no_slot_there, entered_at, entered_view}
 use Rattle.file_tree.proofs.Stays.{same_names_but, parent_is, parent_stays, listed_at, listed_all, is_nameless_slot}
 use Rattle.file_tree.proofs.Views.{names_found, names_at, directory_found}
@@ -84,26 +84,26 @@ module _ (m : Slots) (d : ℕ) (name : List ℕ) (n : ℕ) (node : Node) (gone :
           | inr before ↦ absurd (no_name_of_absent (tree_of m) tree n none d' other (sym (entry_of-new_node (tree_of m) n node bare d' other) ∙ before.1))
         ]
 
-    made_parent_here : TellsParent (parent_in (get (made_slots m d name n node) n)) (tree_of (made_slots m d name n node)) n
+    made_parent_here : ReportsParent (parent_in (get (made_slots m d name n node) n)) (tree_of (made_slots m d name n node)) n
     made_parent_here =
         parent_is (tree_of (made_slots m d name n node)) _ n d name (made_here parent_in refl)
         ((λ i. entry_of (view i) d name) ∙ made-name (tree_of m) d name n node) made_only
 
-    made_parent_at : (q : ℕ) → q ≢ n → TellsParent (parent_in (get m q)) (tree_of m) q
-        → TellsParent (parent_in (get (made_slots m d name n node) q)) (tree_of (made_slots m d name n node)) q
-    made_parent_at q other tells =
-        parent_stays (tree_of m) (tree_of (made_slots m d name n node)) (parent_in (get m q)) _ q tells (made_at parent_in refl q other)
+    made_parent_at : (q : ℕ) → q ≢ n → ReportsParent (parent_in (get m q)) (tree_of m) q
+        → ReportsParent (parent_in (get (made_slots m d name n node) q)) (tree_of (made_slots m d name n node)) q
+    made_parent_at q other reports =
+        parent_stays (tree_of m) (tree_of (made_slots m d name n node)) (parent_in (get m q)) _ q reports (made_at parent_in refl q other)
         (same_names_but (tree_of m) (tree_of (made_slots m d name n node)) d name q
         (λ d' name' away. (λ i. entry_of (view i) d' name') ∙ made-other_names (tree_of m) d name n node tree new d' name' away)
         (λ before. none-some q (sym can.new ∙ before))
         (λ after. other (sym (same_Some n q (sym ((λ i. entry_of (view i) d name) ∙ made-name (tree_of m) d name n node) ∙ after)))))
 
-    made_parents : ((q : ℕ) → is_directory (tree_of m) q ≡ true → TellsParent (parent_in (get m q)) (tree_of m) q)
+    made_parents : ((q : ℕ) → is_directory (tree_of m) q ≡ true → ReportsParent (parent_in (get m q)) (tree_of m) q)
         → (q : ℕ) → is_directory (tree_of (made_slots m d name n node)) q ≡ true
-        → TellsParent (parent_in (get (made_slots m d name n node) q)) (tree_of (made_slots m d name n node)) q
+        → ReportsParent (parent_in (get (made_slots m d name n node) q)) (tree_of (made_slots m d name n node)) q
     made_parents parents q =
         here_or_other (λ x. is_directory (tree_of (made_slots m d name n node)) x ≡ true
-        → TellsParent (parent_in (get (made_slots m d name n node) x)) (tree_of (made_slots m d name n node)) x) n q
+        → ReportsParent (parent_in (get (made_slots m d name n node) x)) (tree_of (made_slots m d name n node)) x) n q
         (λ _. made_parent_here)
         (λ other is.
         let was = directory_found m q ∙ sym (made_at is_directory_slot refl q other) ∙ sym (directory_found (made_slots m d name n node) q) ∙ is in

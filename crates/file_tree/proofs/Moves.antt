@@ -16,7 +16,7 @@ use Rattle.tree_model.specs.Entries.{IsElsewhere, KeepsNodes-without_old, here_o
 use Rattle.tree_model.specs.Facts.{no_name_of_nameless}
 use Rattle.tree_model.specs.Renames.{CanRename, KeepsNodes-renamed, can_rename, renamed-links, renamed-name, renamed-old_name, renamed-other_names, renamed-tree}
 use Rattle.file_tree.specs.declared.slot.Slot.{Slot}
-use Rattle.file_tree.specs.Kept.{Slots, Numbers, tree_of, is_directory_slot, parent_in, TellsParent, IsKept, links_at, names_at, names_in_any, with_entry, without_entry, with_parent, without_name, listed_if_lost}
+use Rattle.file_tree.specs.Kept.{Slots, Numbers, tree_of, is_directory_slot, parent_in, ReportsParent, IsKept, links_at, names_at, names_in_any, with_entry, without_entry, with_parent, without_name, listed_if_lost}
 use Rattle.file_tree.proofs.Views as views
 use Rattle.file_tree.proofs.Views.{names_found, directory_found}
 use Rattle.file_tree.proofs.Stays.{parent_is, parent_none, parent_stays, same_names, listed_all, is_nameless_slot}
@@ -65,9 +65,9 @@ either_order w from name to new n off =
 
 -- ---- a name is moved
 
-told_here : (to : ℕ) (o : Option Slot) → IsSome o → parent_in (option_map {T = Slot} (λ s. record s { parent = Some to }) o) ≡ Some to
-told_here to None there = absurd (false≢true there)
-told_here to (Some s) there = refl
+reported_here : (to : ℕ) (o : Option Slot) → IsSome o → parent_in (option_map {T = Slot} (λ s. record s { parent = Some to }) o) ≡ Some to
+reported_here to None there = absurd (false≢true there)
+reported_here to (Some s) there = refl
 
 module _ (m : Slots) (nameless : Numbers) (kept : IsKept m nameless) (from : ℕ) (name : List ℕ) (to : ℕ) (new : List ℕ) (n : ℕ)
     (named : HasName (tree_of m) from name n) (free : first_fault (rename_faults (tree_of m) from name to new) ≡ None)
@@ -138,7 +138,7 @@ module _ (m : Slots) (nameless : Numbers) (kept : IsKept m nameless) (from : ℕ
 
   -- ---- what is kept
 
-  -- but for names and what a slot tells of the directory above, slots are found as after the loss
+  -- but for names and what a slot says of the directory above, slots are found as after the loss
   dropped_alike : {A : Type 0} (f : Option Slot → A) → ((s : Slot) → f (Some (record s { names = remove s.names name })) ≡ f (Some s))
       → ((s : Slot) → f (Some (record s { names = insert s.names new n })) ≡ f (Some s)) → (q : ℕ) → f (get dropped q) ≡ f (get lost q)
   dropped_alike f less more q =
@@ -151,44 +151,44 @@ module _ (m : Slots) (nameless : Numbers) (kept : IsKept m nameless) (from : ℕ
   dropped_there : (q : ℕ) → IsSome (get m q) → IsSome (get dropped q)
   dropped_there q there = dropped_alike is_some (λ _. refl) (λ _. refl) q ∙ lost_alike m is_some (λ _. refl) (λ _. refl) old q ∙ there
 
-  -- the node that was moved is told its new place
-  node_parent : is_directory after n ≡ true → TellsParent (parent_in (get moved n)) after n
+  -- the slot of the node that was moved names its new place
+  node_parent : is_directory after n ≡ true → ReportsParent (parent_in (get moved n)) after n
   node_parent is =
       parent_is after _ n to new
       (ap parent_in (found_same (λ s. record s { parent = Some to }) dropped n)
-      ∙ told_here to (get dropped n) (dropped_there n (slot_of_name m kept.tree from name n named)))
+      ∙ reported_here to (get dropped n) (dropped_there n (slot_of_name m kept.tree from name n named)))
       named_now
       (λ d other has. (single_name after after_tree n is d other to new has named_now).0)
 
-  -- each other one is told what it was after the loss
-  told_still : (q : ℕ) → q ≢ n → parent_in (get moved q) ≡ parent_in (get lost q)
-  told_still q other =
+  -- each other one names what it named after the loss
+  reported_still : (q : ℕ) → q ≢ n → parent_in (get moved q) ≡ parent_in (get lost q)
+  reported_still q other =
       ap parent_in (found_other (λ s. record s { parent = Some to }) dropped n q other) ∙ dropped_alike parent_in (λ _. refl) (λ _. refl) q
 
   -- a directory that lost its name has no other one
-  lost_name : (q : ℕ) → q ≢ n → old ≡ Some q → is_directory after q ≡ true → TellsParent (parent_in (get moved q)) after q
+  lost_name : (q : ℕ) → q ≢ n → old ≡ Some q → is_directory after q ≡ true → ReportsParent (parent_in (get moved q)) after q
   lost_name q other e is =
       let counts = renamed-links before from name to new kept.tree n named q in
       let gone : weight (one_for q) (replaced before from name to new) ≡ 1 =
       ap (λ b. weight (one_for q) (if b then None else old)) differ ∙ ap (weight (one_for q)) e ∙ one_for-same q in
       let most = kept.tree.single q (was_directory q is) in
       parent_none after _ q
-      (told_still q other ∙ ap (λ o. parent_in (get (without_name m o) q)) e ∙ lost_parent m q)
+      (reported_still q other ∙ ap (λ o. parent_in (get (without_name m o) q)) e ∙ lost_parent m q)
       (no_name_of_nameless after after_tree q (omega arith))
 
   -- each other one has the names that it had
-  other_parent : (q : ℕ) → q ≢ n → old ≢ Some q → is_directory after q ≡ true → TellsParent (parent_in (get moved q)) after q
+  other_parent : (q : ℕ) → q ≢ n → old ≢ Some q → is_directory after q ≡ true → ReportsParent (parent_in (get moved q)) after q
   other_parent q other off is =
       parent_stays before after (parent_in (get m q)) _ q (kept.parents q (was_directory q is))
-      (told_still q other ∙ ap parent_in (lost_other m old q off))
+      (reported_still q other ∙ ap parent_in (lost_other m old q off))
       (same_names before after from name to new q (renamed-other_names before from name to new)
       (λ e. other (same_Some q n (sym e ∙ named)), λ e. none-some q (sym (renamed-old_name before from name to new n named differ) ∙ e))
       (off, λ e. other (same_Some q n (sym e ∙ named_now))))
 
-  renamed_parents : (q : ℕ) → is_directory after q ≡ true → TellsParent (parent_in (get moved q)) after q
+  renamed_parents : (q : ℕ) → is_directory after q ≡ true → ReportsParent (parent_in (get moved q)) after q
   renamed_parents q =
-      here_or_other (λ x. is_directory after x ≡ true → TellsParent (parent_in (get moved x)) after x) n q node_parent
-      (λ other. elim old as (λ o. old ≡ o → is_directory after q ≡ true → TellsParent (parent_in (get moved q)) after q) [
+      here_or_other (λ x. is_directory after x ≡ true → ReportsParent (parent_in (get moved x)) after x) n q node_parent
+      (λ other. elim old as (λ o. old ≡ o → is_directory after q ≡ true → ReportsParent (parent_in (get moved q)) after q) [
         | None ↦ λ none. other_parent q other (λ e. none-some q (sym none ∙ e))
         | Some x ↦ λ some. elim (eqb_tells x q) [
           | inl same ↦ lost_name q other (some ∙ ap Some same.1)
@@ -204,7 +204,7 @@ module _ (m : Slots) (nameless : Numbers) (kept : IsKept m nameless) (from : ℕ
   moved_kept = record {
     tree = rw moved_view after_tree;
     parents = λ q is.
-        subst (λ u. TellsParent (parent_in (get moved q)) u q) (sym moved_view) (renamed_parents q (sym (λ i. is_directory (moved_view i) q) ∙ is));
+        subst (λ u. ReportsParent (parent_in (get moved q)) u q) (sym moved_view) (renamed_parents q (sym (λ i. is_directory (moved_view i) q) ∙ is));
     listed = listed_all moved (listed_if_lost m nameless old) (λ q.
         lost_listed m nameless kept.listed old
         (if_old (λ x. (1 ≤ links_at m x) × (x ≢ ROOT)) (λ x has. (links_of_name m kept.tree to new x has, not_the_root m kept.tree to new x has))) q
@@ -276,10 +276,10 @@ module _ (m : Slots) (nameless : Numbers) (kept : IsKept m nameless) (t : Tree) 
             ∙ found_alike (λ s. record s { names = remove s.names name }) put from is_some (λ _. refl) n
             ∙ put_there n (slot_of_name m kept.tree from name n seen_named)
 
-        module _ (moved : Slots) (told : moved ≡ with_parent dropped n (Some to)) where
+        module _ (moved : Slots) (reported : moved ≡ with_parent dropped n (Some to)) where
           moved_is : moved ≡ with_parent (without_entry (with_entry (without_name m (entry_of (tree_of m) to new)) to new n) from name) n (Some to)
           moved_is =
-              told
+              reported
               ∙ ap (λ x. with_parent x n (Some to)) less
               ∙ ap (λ x. with_parent (without_entry x from name) n (Some to)) given
               ∙ ap (λ o. with_parent (without_entry (with_entry (without_name m o) to new n) from name) n (Some to)) entry_is

@@ -55,7 +55,7 @@ module _ (g : Slot → Slot) (m : Slots) (n : ℕ) where
 node_there : (m : Slots) (n : ℕ) (s : Slot) → get m n ≡ Some s → get (nodes_of m) n ≡ Some s.node
 node_there m n s there = node_found m n ∙ ap (option_map (λ s. s.node)) there
 
--- what a slot tells of the directory above is not seen
+-- what a slot says of the directory above is not seen
 pub with_parent-view : (m : Slots) (n : ℕ) (parent : Option ℕ) → tree_of (with_parent m n parent) ≡ tree_of m
 with_parent-view m n parent =
     elim (get m n) as (λ o. get m n ≡ o → tree_of (changed_slot (λ s. record s { parent = parent }) m n o) ≡ tree_of m) [

@@ -7,7 +7,7 @@ use Rattle.tree_model.specs.declared.limits.TheConstants.{ROOT}
 use Rattle.tree_model.specs.Tree.{Tree, HasName, entry_of}
 use Rattle.tree_model.specs.Entries.{IsElsewhere, same_place_or_not}
 use Rattle.file_tree.specs.declared.slot.Slot.{Slot}
-use Rattle.file_tree.specs.Kept.{Slots, Numbers, nodes_of, TellsParent, IsListed, is_nameless}
+use Rattle.file_tree.specs.Kept.{Slots, Numbers, nodes_of, ReportsParent, IsListed, is_nameless}
 use Rattle.file_tree.proofs.Views.{node_found}
 
 -- ---- the directory above
@@ -45,24 +45,24 @@ pub same_names_but : (t u : Tree) (d : ℕ) (name : List ℕ) (n : ℕ)
 same_names_but t u d name n alike before after =
     same_names t u d name d name n (λ d' name' off _. alike d' name' off) (before, after) (before, after)
 
-module _ (t u : Tree) (told new : Option ℕ) (n : ℕ) where
-  pub parent_stays : TellsParent told t n → new ≡ told → SameNames t u n → TellsParent new u n
-  parent_stays tells same names d = (
-    λ is. let name = (tells d).0 (sym same ∙ is) in (name.0, (names d name.0).1 name.1),
-    λ name. same ∙ (tells d).1 (name.0, (names d name.0).0 name.1),
+module _ (t u : Tree) (reported new : Option ℕ) (n : ℕ) where
+  pub parent_stays : ReportsParent reported t n → new ≡ reported → SameNames t u n → ReportsParent new u n
+  parent_stays reports same names d = (
+    λ is. let name = (reports d).0 (sym same ∙ is) in (name.0, (names d name.0).1 name.1),
+    λ name. same ∙ (reports d).1 (name.0, (names d name.0).0 name.1),
   )
 
-module _ (t : Tree) (told : Option ℕ) (n : ℕ) where
-  -- a node that has names in one directory alone, which is told
-  pub parent_is : (to : ℕ) (name : List ℕ) → told ≡ Some to → HasName t to name n
-      → ((d : ℕ) (other : List ℕ) → HasName t d other n → d ≡ to) → TellsParent told t n
+module _ (t : Tree) (reported : Option ℕ) (n : ℕ) where
+  -- a node that has names in one directory alone, which is the one reported
+  pub parent_is : (to : ℕ) (name : List ℕ) → reported ≡ Some to → HasName t to name n
+      → ((d : ℕ) (other : List ℕ) → HasName t d other n → d ≡ to) → ReportsParent reported t n
   parent_is to name is named only d = (
     λ e. (name, ap (λ x. entry_of t x name) (sym (same_Some to d (sym is ∙ e))) ∙ named),
     λ other. is ∙ ap Some (sym (only d other.0 other.1)),
   )
 
-  -- a node without a name, of which no directory is told
-  pub parent_none : told ≡ None → ((d : ℕ) (name : List ℕ) → HasName t d name n → ⊥) → TellsParent told t n
+  -- a node without a name, for which no directory is reported
+  pub parent_none : reported ≡ None → ((d : ℕ) (name : List ℕ) → HasName t d name n → ⊥) → ReportsParent reported t n
   parent_none is none d = (λ e. absurd (none-some d (sym is ∙ e)), λ name. absurd (none d name.0 name.1))
 
 -- ---- the nodes without a name

@@ -11,7 +11,7 @@ use Rattle.tree_model.specs.Faults.{can_unlink}
 use Rattle.tree_model.specs.Keeps.{unlinked-tree}
 use Rattle.tree_model.specs.Outcomes.{unlinked-counts, unlinked-name, unlinked-other_names}
 use Rattle.file_tree.specs.declared.slot.Slot.{Slot}
-use Rattle.file_tree.specs.Kept.{Slots, Numbers, tree_of, parent_in, TellsParent, IsKept, links_at, one_name_less, with_parent, without_entry, without_name, listed_if_last}
+use Rattle.file_tree.specs.Kept.{Slots, Numbers, tree_of, parent_in, ReportsParent, IsKept, links_at, one_name_less, with_parent, without_entry, without_name, listed_if_last}
 use Rattle.file_tree.proofs.Stays.{parent_none, parent_stays, same_names_but, listed_all, is_nameless_slot}
 use Rattle.file_tree.proofs.SlotChanges.{found_alike, links_of_name, lost_alike, lost_listed, lost_other, lost_parent, not_the_root, slot_of_directory, slot_of_name, without_entry-view, without_name-view}
 
@@ -56,7 +56,7 @@ module _ (m : Slots) (nameless : Numbers) (kept : IsKept m nameless) (d : ℕ) (
   was_directory q is = sym ((KeepsNodes-without_old before (entry_of before d name)).kinds q) ∙ is
 
   -- a directory that lost its name has no other one
-  node_parent : is_directory after n ≡ true → TellsParent (parent_in (get left n)) after n
+  node_parent : is_directory after n ≡ true → ReportsParent (parent_in (get left n)) after n
   node_parent is =
       let counts = unlinked-counts before d name kept.tree n named n in
       let one = one_for-same n in
@@ -64,7 +64,7 @@ module _ (m : Slots) (nameless : Numbers) (kept : IsKept m nameless) (d : ℕ) (
       parent_none after _ n (left_alike parent_in (λ _. refl) n ∙ lost_parent m n) (no_name_of_nameless after after_tree n (omega arith))
 
   -- each other one has the names that it had
-  other_parent : (q : ℕ) → q ≢ n → is_directory after q ≡ true → TellsParent (parent_in (get left q)) after q
+  other_parent : (q : ℕ) → q ≢ n → is_directory after q ≡ true → ReportsParent (parent_in (get left q)) after q
   other_parent q other is =
       parent_stays before after (parent_in (get m q)) _ q (kept.parents q (was_directory q is))
       (left_alike parent_in (λ _. refl) q ∙ ap parent_in (lost_other m (Some n) q (λ same. other (sym (same_Some n q same)))))
@@ -72,14 +72,14 @@ module _ (m : Slots) (nameless : Numbers) (kept : IsKept m nameless) (d : ℕ) (
       (λ e. other (same_Some q n (sym e ∙ named)))
       (λ e. none-some q (sym (unlinked-name before d name) ∙ e)))
 
-  unlinked_parents : (q : ℕ) → is_directory after q ≡ true → TellsParent (parent_in (get left q)) after q
-  unlinked_parents q = here_or_other (λ x. is_directory after x ≡ true → TellsParent (parent_in (get left x)) after x) n q node_parent (other_parent q)
+  unlinked_parents : (q : ℕ) → is_directory after q ≡ true → ReportsParent (parent_in (get left q)) after q
+  unlinked_parents q = here_or_other (λ x. is_directory after x ≡ true → ReportsParent (parent_in (get left x)) after x) n q node_parent (other_parent q)
 
   left_kept : IsKept left (listed_if_last m nameless n)
   left_kept = record {
     tree = rw left_view after_tree;
     parents = λ q is.
-        subst (λ u. TellsParent (parent_in (get left q)) u q) (sym left_view) (unlinked_parents q (sym (λ i. is_directory (left_view i) q) ∙ is));
+        subst (λ u. ReportsParent (parent_in (get left q)) u q) (sym left_view) (unlinked_parents q (sym (λ i. is_directory (left_view i) q) ∙ is));
     listed = listed_all left (listed_if_last m nameless n) (λ q.
         lost_listed m nameless kept.listed (Some n) (links_of_name m kept.tree d name n named, not_the_root m kept.tree d name n named) q
         ∙ sym (left_alike (is_nameless_slot q) (λ _. refl) q));

@@ -40,13 +40,13 @@ abbrev pub parent_in : Option Slot → Option ℕ
 parent_in None = None
 parent_in (Some s) = s.parent
 
--- what is told of the directory above a node: a directory exactly where that one has a name of it
-abbrev pub TellsParent : Option ℕ → Tree → ℕ → Type 0
-TellsParent told t n = (d : ℕ) → (told ≡ Some d) ↔ ((name : List ℕ) × HasName t d name n)
+-- what is reported of the directory above a node: a directory exactly where that one has a name of it
+abbrev pub ReportsParent : Option ℕ → Tree → ℕ → Type 0
+ReportsParent reported t n = (d : ℕ) → (reported ≡ Some d) ↔ ((name : List ℕ) × HasName t d name n)
 
--- each directory's slot tells the directory above it
+-- each directory's slot names the directory above it
 abbrev pub HasParents : Slots → Type 0
-HasParents m = (n : ℕ) → is_directory (tree_of m) n ≡ true → TellsParent (parent_in (get m n)) (tree_of m) n
+HasParents m = (n : ℕ) → is_directory (tree_of m) n ≡ true → ReportsParent (parent_in (get m n)) (tree_of m) n
 
 -- a set of numbers
 abbrev pub Numbers : Type 0

@@ -1,7 +1,7 @@
 pub mod SlotNames
 pub mod SlotBytes
 pub mod Slots
-pub mod Lending
+pub mod Borrowing
 pub mod Listing
 pub mod Kept
 pub mod Checks

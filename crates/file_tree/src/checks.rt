@@ -57,7 +57,7 @@ impl Tree {
         }
     }
 
-    /// That a new node may get this name. Tells what `make` would be refused for, and changes nothing.
+    /// That a new node may get this name. Says what `make` would be refused for, and changes nothing.
     pub fn check_make(&self, dir: ObjId, name: &[u8]) -> Result<(), TreeFault>
         ensures { Checks (make_faults self.now dir name.now) result }
     {
@@ -88,7 +88,7 @@ impl Tree {
         Ok(())
     }
 
-    /// That a name may go; its node. Tells what `unlink` would be refused for, and changes nothing.
+    /// That a name may go; its node. Says what `unlink` would be refused for, and changes nothing.
     pub fn check_unlink(&self, dir: ObjId, name: &[u8]) -> Result<ObjId, TreeFault>
         ensures checks { Checks (unlink_faults self.now dir name.now) result }
         ensures node { IfOk result (λ node. entry_of self.now dir name.now ≡ Some node) }

@@ -54,7 +54,7 @@ pub fn count_less(slots: &mut Slots, id: ObjId)
     slots.get_mut(id).node.links -= 1;
 }
 
-/// Tells a slot the directory that has a name of its node.
+/// Puts into a slot the directory that has a name of its node.
 pub fn set_parent(slots: &mut Slots, id: ObjId, parent: Option<ObjId>)
     requires { IsSome (map.get slots.old id) }
     ensures { slots.new ≡ with_parent slots.old id parent }
@@ -69,7 +69,7 @@ pub fn drop_slot(slots: &mut Slots, id: ObjId)
     slots.remove(id);
 }
 
-/// A new node with its first name in a directory, which it is told as the one above.
+/// A new node with its first name in a directory, which its slot names as the one above.
 pub fn add_node(
     slots: &mut Slots,
     alloc: Global,
@@ -92,8 +92,8 @@ pub fn add_node(
     Ok(())
 }
 
-/// A node counts one name less, and its slot tells no directory. Where it was its last name, the node comes to the list of
-/// those without one, for which alone memory may be wanting.
+/// A node counts one name less, and its slot names no directory. Where it was its last name, the node comes to the list of
+/// those without one, for which alone memory may run out.
 pub fn lose_name(slots: &mut Slots, nameless: &mut NumMap<()>, id: ObjId) -> Result<(), AllocError>
     requires there { IsSome (map.get slots.old id) }
     requires some { 1 ≤ links_at slots.old id }
@@ -119,7 +119,7 @@ fn is_last(slots: &Slots, id: ObjId) -> bool
     }
 }
 
-/// A name in a directory, where another node loses it if there is one. Memory may be wanting for one thing alone: for a new
+/// A name in a directory, where another node loses it if there is one. Memory may run out for one thing alone: for a new
 /// name, or to list a node that lost its last one.
 pub fn give_entry(
     slots: &mut Slots,

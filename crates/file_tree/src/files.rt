@@ -21,7 +21,7 @@ impl Tree {
     }
 
     /// A copy of so many bytes of a file from this place on, or of as many as there are. Of what is no file there are none.
-    /// It fails for want of memory alone.
+    /// It fails only where memory runs out.
     pub fn read_at(&self, id: ObjId, at: u64, n: u32) -> Result<Bytes, TreeFault>
         ensures ok { IfOk result (λ bytes. bytes ≡ read_bytes (bytes_of self.now id) at n) }
         ensures err { IfErr result (λ fault. fault ≡ NoMemory) }
@@ -29,7 +29,7 @@ impl Tree {
         Ok(Bytes::of(self.alloc, piece(self.bytes(id), at, n))?)
     }
 
-    /// Puts bytes into a file from this place on, as many as a file has room for there, and tells how many. A gap before them
+    /// Puts bytes into a file from this place on, as many as a file has room for there, and says how many. A gap before them
     /// is filled by zeros. No bytes change nothing. `TooLarge` where there is no room for any.
     pub fn write_at(&mut self, id: ObjId, at: u64, bytes: &[u8]) -> Result<u32, TreeFault>
         requires file { is_file self.old id ≡ true }

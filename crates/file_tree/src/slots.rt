@@ -4,7 +4,7 @@ ghost use Rattle.std.specs.FinMap as map;
 ghost use Rattle.std.specs.Borrow.{sem};
 ghost use Rattle.maps.specs.Maps.{least_key};
 ghost use Rattle.tree_model.specs.Changes.{is_above};
-ghost use Rattle.file_tree.specs.Lending.{LendsSlot};
+ghost use Rattle.file_tree.specs.Borrowing.{LendsSlot};
 
 use crate::numbers::least;
 use crate::slot::Slot;

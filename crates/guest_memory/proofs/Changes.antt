@@ -1,7 +1,7 @@
 -- What the relations of Mapping.antt say is what the functions of Changes.antt give.
 --     are_unmapped, are_mapped, are_protected      what the functions give is so related
 --     unmapped_is, mapped_is, protected_is      and nothing else is
---     there_is, free_is      what the tests tell
+--     there_is, free_is      what the tests say
 --     lowest_gap_is, no_gap_is, gap_of_lowest      the lowest gap
 --     without_none, without_one, without_free, len-without_one      pages that go, one by one
 --     counted_none, counted_next, counted_all      pages that are counted

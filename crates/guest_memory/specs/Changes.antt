@@ -61,7 +61,7 @@ abbrev pub ProtectedIsFunction : Type 0
 ProtectedIsFunction =
     (m after : Pages) (n k : ℕ) (prot : Prot) → AreProtected m n k prot after → after ≡ protected m n k prot
 
--- the test tells whether the pages are there
+-- the test says whether the pages are there
 abbrev pub ThereIsTested : Type 0
 ThereIsTested = (m : Pages) (n k : ℕ) → (all_there m n k ≡ true) ↔ AreThere m n k
 

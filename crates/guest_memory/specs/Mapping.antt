@@ -42,7 +42,7 @@ pub record MayMap (m : Pages) (n k : ℕ) : Type 0 where
   pub fits : len m + k ≤ PAGE_LIMIT
 
 -- Why k pages from n on aren't mapped: the first of them that is there already; else that there would be too many; and
--- want of memory only where neither is so.
+-- lack of memory only where neither is so.
 abbrev pub MapFails : Pages → ℕ → ℕ → MemFault → Type 0
 MapFails m n k (Overlaps a) = IsFirstPage (λ q. IsSome (get m q)) n k a
 MapFails m n k PageLimit = AreFree m n k × (PAGE_LIMIT < len m + k)

@@ -13,7 +13,7 @@ use std::alloc::{AllocError, Global};
 
 impl GuestMemory {
     /// Maps pages of zeros with these rights from a page's address on, in the guest's part of the address space, in
-    /// place of the pages that are there. Want of memory changes nothing.
+    /// place of the pages that are there. Where memory runs out, nothing changes.
     pub fn map_fixed(
         &mut self,
         alloc: Global,
@@ -36,7 +36,7 @@ impl GuestMemory {
     }
 }
 
-// Puts a page at each number of the range that has none. Want of memory changes nothing.
+// Puts a page at each number of the range that has none. Where memory runs out, nothing changes.
 fn fill_pages(
     pages: &mut PageTable,
     alloc: Global,

@@ -39,7 +39,7 @@ impl GuestMemory {
         }
     }
 
-    /// An equal memory. Only want of memory keeps it from that.
+    /// An equal memory, unless memory runs out.
     pub fn copy(&self, alloc: Global) -> Result<Self, AllocError>
         ensures { IfOk result (λ made. made ≡ self.now) }
     {

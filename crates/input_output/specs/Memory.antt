@@ -2,7 +2,7 @@
 use Rattle.std.specs.Prelude.{ℕ, ◌+◌, ◌-◌, ◌^◌, min, List, [], ◌∷◌, Option, None, Some, unwrap_or, if◌then◌else◌}
 use Rattle.std.specs.Str.{bytes_eq}
 use Rattle.input_output.specs.declared.inputs.Input.{Input}
-use Rattle.input_output.specs.Source.{Told, Lacking, Content}
+use Rattle.input_output.specs.Source.{InputContent, Lacking, Content}
 
 -- the bytes given for a name: those given last stand first
 abbrev pub given : List Input → List ℕ → Option (List ℕ)
@@ -14,12 +14,12 @@ abbrev pub bytes_of : List Input → List ℕ → List ℕ
 bytes_of inputs name = unwrap_or (given inputs name) []
 
 -- a name that wasn't given is lacking
-abbrev pub content_or_lacking : Option (List ℕ) → Told
+abbrev pub content_or_lacking : Option (List ℕ) → InputContent
 content_or_lacking None = Lacking
 content_or_lacking (Some bytes) = Content bytes
 
 -- a name that wasn't given has no bytes
-abbrev pub content_or_empty : Option (List ℕ) → Told
+abbrev pub content_or_empty : Option (List ℕ) → InputContent
 content_or_empty None = Content []
 content_or_empty (Some bytes) = Content bytes
 
@@ -38,13 +38,13 @@ pub record SourceState : Type 0 where
   pub inputs : List Input
   pub counts : CallCounts
 
--- what a source tells that lacks the names that it wasn't given
-abbrev pub told_in_memory : SourceState → List ℕ → Told
-told_in_memory source name = content_or_lacking (given source.inputs name)
+-- the content of a source that lacks the names that it wasn't given
+abbrev pub content_in_memory : SourceState → List ℕ → InputContent
+content_in_memory source name = content_or_lacking (given source.inputs name)
 
--- what a source tells that lacks no name
-abbrev pub told_steadily : List Input → List ℕ → Told
-told_steadily inputs name = content_or_empty (given inputs name)
+-- the content of a source that lacks no name
+abbrev pub content_steadily : List Input → List ℕ → InputContent
+content_steadily inputs name = content_or_empty (given inputs name)
 
 -- what a sink holds, and its calls
 pub record SinkState : Type 0 where

@@ -1,7 +1,7 @@
--- What a write adds to the bytes that a sink tells of.
+-- What a write adds to the bytes that a sink shows.
 use Rattle.std.specs.Prelude.{ℕ, ◌≡◌, List, ◌++◌, take, Option, None, Some}
 
--- what was written, where it is told, with more bytes at its end
+-- what was written, where it is known, with more bytes at its end
 abbrev pub grown : Option (List ℕ) → List ℕ → Option (List ℕ)
 grown None more = None
 grown (Some bytes) more = Some (bytes ++ more)

@@ -7,7 +7,7 @@ use crate::source::Failed;
 
 /// An output, written in pieces.
 pub trait Sink {
-    // All bytes written, or nothing, where the sink doesn't tell them.
+    // All bytes written, or nothing, where the sink doesn't show them.
     ghost written: { Self → Option (List ℕ) };
 
     // How many writes failed. It never falls.

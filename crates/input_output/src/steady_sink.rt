@@ -7,7 +7,7 @@ use std::alloc::{AllocError, Global};
 use std::marker::Model;
 
 /// An output that takes every piece whole and never fails. It holds the first bytes written, as many as it has room
-/// for, and lets those after them go: so as a sink it tells nothing of what was written.
+/// for, and lets those after them go: so as a sink it shows nothing of what was written.
 #[derive(Drop)]
 pub struct SteadySink {
     bytes: Vec<u8>,

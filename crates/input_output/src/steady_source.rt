@@ -2,7 +2,7 @@
 ghost use Rattle.std.specs.Prelude.{◌≡◌, ◌<◌, ◌∷◌, ◌-◌, ⊤, min, if◌then◌else◌, ℕ, List, [], length, IfOk, IsOk, OnOk, OnErr};
 ghost use Rattle.input_output.specs.Source.{Content, IsReadAt, EndsBy};
 ghost use Rattle.std.specs.Str.{bytes_eq};
-ghost use Rattle.input_output.specs.Memory.{bytes_of, told_steadily};
+ghost use Rattle.input_output.specs.Memory.{bytes_of, content_steadily};
 
 use crate::inputs::{Inputs, copy_from};
 use crate::source::{Failed, Source};
@@ -27,7 +27,7 @@ impl Model for SteadySource {
 impl SteadySource {
     /// No input yet.
     pub fn new(alloc: Global) -> Self
-        ensures told { (n : List ℕ) → told_steadily result n ≡ Content [] }
+        ensures content { (n : List ℕ) → content_steadily result n ≡ Content [] }
         ensures inputs { result ≡ [] }
     {
         SteadySource {
@@ -37,7 +37,7 @@ impl SteadySource {
 
     /// Gives a name its bytes, in place of those that it had.
     pub fn add(&mut self, name: &str, bytes: &[u8]) -> Result<(), AllocError>
-        ensures told { OnOk result ((n : List ℕ) → told_steadily self.new n ≡ (if bytes_eq name.now n then Content bytes.now else told_steadily self.old n)) }
+        ensures content { OnOk result ((n : List ℕ) → content_steadily self.new n ≡ (if bytes_eq name.now n then Content bytes.now else content_steadily self.old n)) }
         ensures ok { OnOk result (self.new ≡ record { name = name.now; bytes = bytes.now } ∷ self.old) }
         ensures err { OnErr result (self.new ≡ self.old) }
     {
@@ -46,7 +46,7 @@ impl SteadySource {
 }
 
 impl Source for SteadySource {
-    ghost told = { told_steadily };
+    ghost content = { content_steadily };
 
     ghost may_read = { λ s name. ⊤ };
 
@@ -54,8 +54,8 @@ impl Source for SteadySource {
 
     fn read_at(&mut self, name: &str, at: u64, buf: &mut [u8]) -> Result<usize, Failed>
         ensures count { IfOk result (λ count. count ≡ min (length buf.old) (length (bytes_of self.old name.now) - at)) }
-        ensures content { IfOk result (λ count. IsReadAt (told_steadily self.old name.now) at count buf.new) }
-        ensures end { IfOk result (λ count. count ≡ 0 → 0 < length buf.old → EndsBy (told_steadily self.old name.now) at) }
+        ensures content { IfOk result (λ count. IsReadAt (content_steadily self.old name.now) at count buf.new) }
+        ensures end { IfOk result (λ count. count ≡ 0 → 0 < length buf.old → EndsBy (content_steadily self.old name.now) at) }
         ensures steady { IsOk result }
         ensures inputs { self.new ≡ self.old }
     {

@@ -22,7 +22,7 @@ pub enum ReadFault {
     Failed,
     /// The input has more than `INPUT_LIMIT` bytes.
     TooLong,
-    /// Memory is wanting.
+    /// Memory ran out.
     NoMemory,
 }
 
@@ -46,14 +46,14 @@ impl From<AllocError> for ReadFault {
 /// source that never ends comes to `TooLong`.
 pub fn read_whole<S: Source>(alloc: Global, source: &mut S, name: &str) -> Result<Bytes, ReadFault>
     requires { S.may_read source.old name.now }
-    ensures told_stays { (n : List ℕ) → S.told source.new n ≡ S.told source.old n }
+    ensures content_stays { (n : List ℕ) → S.content source.new n ≡ S.content source.old n }
     ensures may_read_stays { (n : List ℕ) → S.may_read source.old n → S.may_read source.new n }
     ensures faults_never_fall { S.faults source.old ≤ S.faults source.new }
     ensures within_limit { IfOk result (λ bytes. length bytes ≤ INPUT_LIMIT) }
-    ensures ok { IfOk result (λ bytes. IsWhole (S.told source.old name.now) bytes) }
-    ensures lacking { S.told source.old name.now ≡ Lacking → IsErr result × (result ≢ Err ReadFault.TooLong) }
+    ensures ok { IfOk result (λ bytes. IsWhole (S.content source.old name.now) bytes) }
+    ensures lacking { S.content source.old name.now ≡ Lacking → IsErr result × (result ≢ Err ReadFault.TooLong) }
     ensures failed { result ≡ Err ReadFault.Failed → Rose (S.faults source.old) (S.faults source.new) }
-    ensures too_long { result ≡ Err ReadFault.TooLong → IsLongerThan INPUT_LIMIT (S.told source.old name.now) }
+    ensures too_long { result ≡ Err ReadFault.TooLong → IsLongerThan INPUT_LIMIT (S.content source.old name.now) }
 {
     let mut buffer = [0u8; PIECE];
     let mut bytes = Bytes::new(alloc);

@@ -2,7 +2,7 @@
 --     opened_is, opened_kind_is      the open of a descriptor
 --     open_there      that of a descriptor that is there
 --     entries_does      a call means what its outcome is
---     entries_take_memory, first_is_named      memory may be wanting for it;  its first descriptor is there
+--     entries_take_memory, first_is_named      memory may run out in it;  its first descriptor is there
 --     next_is_new      nothing in the tree has the number of the node that it makes
 --     entries_valid, entries_after      what it leaves is nearly valid;  the state after it
 use Rattle.std.proofs.Common.{◌≡◌, ◌≢◌, ℕ, zero, suc, Bool, true, false, cond, ◌++◌, List, Option, None, Some, Err, IsSome, is_none, is_some, refl, sym, ap, subst, ◌∙◌, arith}
@@ -50,7 +50,7 @@ use Rattle.kernel_model.proofs.NameMoving.{renaming_well}
 use Rattle.kernel_model.proofs.NameRemoving.{unlinking_well}
 use Rattle.kernel_model.proofs.ObjectNumbers.{fewer_fit, next_is_absent, numbers_fit}
 use Rattle.kernel_model.proofs.Tests.{none_is_no, not_true, same_some}
-use Rattle.entry_calls.specs.Checks.{IsTold}
+use Rattle.entry_calls.specs.Checks.{IsReported}
 use Rattle.entry_calls.specs.Done.{FailsAs, IsNew}
 use Rattle.entry_calls.specs.declared.failure.Failure.TheVariants.{Refused}
 use Rattle.kernel_core.specs.Entries.{entry_outcome, entries_come}
@@ -100,7 +100,7 @@ module _ (constants : Constants) (S : State) (p : ℕ) (table : Table) (called :
   -- what it comes to by these opens
   abbrev by_opens : Option OpenKind → Option OpenKind → Outcome
   by_opens here there =
-      outcome_of p (get S.processes p) (name_meaning called).makes
+      outcome_of p (get S.processes p) (name_meaning called).new_nodes
       ((name_meaning called).effect (real_time constants S.clock) (next_object p (get S.processes p) 1) (tree_of S) here there)
 
   by_one : (n fd : ℕ) (other : Option ℕ) → Some (fds_of n None) ≡ Some (fds_of fd other)
@@ -151,11 +151,11 @@ first_is_named table unnamed fd other is all = absurd (none_is_no (fd, other) is
 -- ---- the node that it makes
 
 -- the number of the last object that a process makes is none in the tree
-pub next_is_new : (S : State) (p makes : ℕ) → can_number p makes (get S.processes p) ≡ true → IsNearlyValid S → IsNew makes (tree_of S) (next_object p (get S.processes p) makes)
+pub next_is_new : (S : State) (p new_nodes : ℕ) → can_number p new_nodes (get S.processes p) ≡ true → IsNearlyValid S → IsNew new_nodes (tree_of S) (next_object p (get S.processes p) new_nodes)
 next_is_new S p zero can v = tt
-next_is_new S p (suc makes) can v =
-    let fits = numbers_fit p makes (get S.processes p) can in
-    ap is_none (next_is_absent S p (suc makes) v fits.0 (omega arith) fits.1).1
+next_is_new S p (suc new_nodes) can v =
+    let fits = numbers_fit p new_nodes (get S.processes p) can in
+    ap is_none (next_is_absent S p (suc new_nodes) v fits.0 (omega arith) fits.1).1
 
 -- ---- the state after it
 
@@ -169,20 +169,20 @@ module _ (constants : Constants) (S : State) (p : ℕ) (table : Table) (fd : ℕ
       subst (λ (o : Outcome). IsNearlyValid (put_all o.updates S)) (entries_does constants S who table called fd other is)
       ((proper called).valid constants S who table has v)
 
-  names_good : IsNearlyValid S → can_number p (name_meaning called).makes (get S.processes p) ≡ true
-      → IsGood (tree_of S) (next_object p (get S.processes p) 1) (name_meaning called).makes (entries_come constants S p table fd other called)
+  names_good : IsNearlyValid S → can_number p (name_meaning called).new_nodes (get S.processes p) ≡ true
+      → IsGood (tree_of S) (next_object p (get S.processes p) 1) (name_meaning called).new_nodes (entries_come constants S p table fd other called)
   names_good v can =
       (entries_well called some_named).good (real_time constants S.clock) (next_object p (get S.processes p) 1) S (open_in S.opens (get table fd)) (open_at S.opens table other)
       (behind_in S (get table fd) v) (behind_at S table other v) v.tree (λ some.
-      let fits = fewer_fit p 1 (name_meaning called).makes (get S.processes p) (omega arith) (omega (arith, some)) can in
+      let fits = fewer_fit p 1 (name_meaning called).new_nodes (get S.processes p) (omega arith) (omega (arith, some)) can in
       (next_is_absent S p 1 v fits.0 (omega arith) fits.1).1)
 
   module _ (own new : ProcessState) (there : get S.processes p ≡ Some own) (v : IsValid S) (u : Tree) (reply : Reply)
-      (done : IsLeftBy p (name_meaning called).makes own new (tree_of S) u (entries_come constants S p table fd other called) reply) where
+      (done : IsLeftBy p (name_meaning called).new_nodes own new (tree_of S) u (entries_come constants S p table fd other called) reply) where
     -- what was done, before anything is released
     done_is : put_all (entry_outcome constants S p table fd other called).updates S ≡ record S { processes = insert S.processes p new; nodes = u.nodes; names = u.names }
     done_is =
-        left_of S p own there (name_meaning called).makes (entries_come constants S p table fd other called) (names_good v.nearly) v.nearly
+        left_of S p own there (name_meaning called).new_nodes (entries_come constants S p table fd other called) (names_good v.nearly) v.nearly
         ∙ (λ i. record S { processes = insert S.processes p (sym done.numbered i); nodes = (sym done.changed i).nodes; names = (sym done.changed i).names })
 
     pub entries_tree : get S.tables p ≡ Some table → IsTree u
@@ -196,4 +196,4 @@ module _ (constants : Constants) (S : State) (p : ℕ) (table : Table) (fd : ℕ
 
     pub entries_answer : answer.Reply reply ≡ (entry_outcome constants S p table fd other called).answer
     entries_answer =
-        done.answered ∙ sym (ap (λ o. (outcome_of p o (name_meaning called).makes (entries_come constants S p table fd other called)).answer) there)
+        done.answered ∙ sym (ap (λ o. (outcome_of p o (name_meaning called).new_nodes (entries_come constants S p table fd other called)).answer) there)

@@ -2,7 +2,7 @@
 --     change_is, state_is, file_is, offset_is, entries_is, open_is, exit_is, zeros_is, answered_is, unbuilt_is      the call of a view
 --     file_on, offset_on, entries_on      the descriptors of a view are those on whose opens its call works
 --     change_does, zeros_does, answered_does, unbuilt_does      what such a call does
---     change_replaces, change_takes_memory      a number that is replaced is there;  memory may be wanting for a new number
+--     change_replaces, change_takes_memory      a number that is replaced is there;  memory may run out for a new number
 --     all_named      where a call isn't refused each descriptor that it names is there
 --     on_err_both      what follows where there is an error
 use Rattle.std.proofs.Common.{◌≡◌, ℕ, Bool, true, false, cond, ◌∷◌, [], Option, None, Some, IsSome, Result, Ok, Err, OnErr, refl, sym, ap, subst, ◌∙◌}

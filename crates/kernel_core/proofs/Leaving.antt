@@ -48,37 +48,37 @@ counted_is S p count own there = ap (λ o. put_all (process_updates p count o) S
 
 -- ---- what a call on names leaves
 
-module _ (S : State) (p : ℕ) (own : ProcessState) (there : get S.processes p ≡ Some own) (makes : ℕ) where
+module _ (S : State) (p : ℕ) (own : ProcessState) (there : get S.processes p ≡ Some own) (new_nodes : ℕ) where
   abbrev pub left : NameOutcome → State
   left comes =
-      let u : Tree = tree_left p makes own (tree_of S) comes in
-      record S { processes = insert S.processes p (process_left p makes own comes); nodes = u.nodes; names = u.names }
+      let u : Tree = tree_left p new_nodes own (tree_of S) comes in
+      record S { processes = insert S.processes p (process_left p new_nodes own comes); nodes = u.nodes; names = u.names }
 
   -- what a change leaves, by whether the process can make so many
   abbrev change_left : Change → Bool → Type 0
   change_left c b =
       let u : Tree = cond b c.tree (tree_of S) in
-      put_all (cond b (record { answer = answer.Reply (success 0 0); updates = process_updates p makes (Some own) ++ change_updates c }) (replies (refused Again))).updates S
-      ≡ record S { processes = insert S.processes p (cond b (made_more makes own) own); nodes = u.nodes; names = u.names }
+      put_all (cond b (record { answer = answer.Reply (success 0 0); updates = process_updates p new_nodes (Some own) ++ change_updates c }) (replies (refused Again))).updates S
+      ≡ record S { processes = insert S.processes p (cond b (made_more new_nodes own) own); nodes = u.nodes; names = u.names }
 
-  change_left_is : (c : Change) (b : Bool) → can_number p makes (Some own) ≡ b
-      → (can_number p makes (get S.processes p) ≡ true → IsChangeOf (tree_of S) (next_object p (get S.processes p) 1) makes c) → IsNearlyValid S → change_left c b
+  change_left_is : (c : Change) (b : Bool) → can_number p new_nodes (Some own) ≡ b
+      → (can_number p new_nodes (get S.processes p) ≡ true → IsChangeOf (tree_of S) (next_object p (get S.processes p) 1) new_nodes c) → IsNearlyValid S → change_left c b
   change_left_is c true can good v =
-      let here : can_number p makes (get S.processes p) ≡ true = ap (can_number p makes) there ∙ can in
-      ap (λ o. put_all (process_updates p makes o ++ change_updates c) S) (sym there)
-      ∙ put_counted S p makes (next_object p (get S.processes p) 1) makes c here (good here) (λ _. refl) (omega arith) v
-      ∙ ap (with_tree c.tree) (counted_is S p makes own there)
+      let here : can_number p new_nodes (get S.processes p) ≡ true = ap (can_number p new_nodes) there ∙ can in
+      ap (λ o. put_all (process_updates p new_nodes o ++ change_updates c) S) (sym there)
+      ∙ put_counted S p new_nodes (next_object p (get S.processes p) 1) new_nodes c here (good here) (λ _. refl) (omega arith) v
+      ∙ ap (with_tree c.tree) (counted_is S p new_nodes own there)
   change_left_is c false can good v = sym (process_again S p own there)
 
-  left_by : (comes : NameOutcome) → (can_number p makes (get S.processes p) ≡ true → IsGood (tree_of S) (next_object p (get S.processes p) 1) makes comes) → IsNearlyValid S
-      → put_all (outcome_of p (Some own) makes comes).updates S ≡ left comes
+  left_by : (comes : NameOutcome) → (can_number p new_nodes (get S.processes p) ≡ true → IsGood (tree_of S) (next_object p (get S.processes p) 1) new_nodes comes) → IsNearlyValid S
+      → put_all (outcome_of p (Some own) new_nodes comes).updates S ≡ left comes
   left_by (Refuses errno) good v = sym (process_again S p own there)
   left_by (LeadsOut component) good v = sym (process_again S p own there)
-  left_by (Changes c) good v = change_left_is c (can_number p makes (Some own)) refl good v
+  left_by (Changes c) good v = change_left_is c (can_number p new_nodes (Some own)) refl good v
 
-  pub left_of : (comes : NameOutcome) → (can_number p makes (get S.processes p) ≡ true → IsGood (tree_of S) (next_object p (get S.processes p) 1) makes comes) → IsNearlyValid S
-      → put_all (outcome_of p (get S.processes p) makes comes).updates S ≡ left comes
-  left_of comes good v = ap (λ o. put_all (outcome_of p o makes comes).updates S) there ∙ left_by comes good v
+  pub left_of : (comes : NameOutcome) → (can_number p new_nodes (get S.processes p) ≡ true → IsGood (tree_of S) (next_object p (get S.processes p) 1) new_nodes comes) → IsNearlyValid S
+      → put_all (outcome_of p (get S.processes p) new_nodes comes).updates S ≡ left comes
+  left_of comes good v = ap (λ o. put_all (outcome_of p o new_nodes comes).updates S) there ∙ left_by comes good v
 
 -- ---- holders
 

@@ -1,5 +1,5 @@
 -- Calls that move the open of a descriptor: what their meanings come to by the table, and the state after them.
---     offset_does      a call means what its outcome is;  offset_takes_memory      memory may be wanting for it
+--     offset_does      a call means what its outcome is;  offset_takes_memory      memory may run out in it
 --     lacking_answers      without a descriptor or an open it answers BADF, and leaves the state
 --     stream_is, stream_valid, stream_answers      on a standard stream;  the state after it is valid, and that of its outcome
 --     offset_is, offset_keeps      on any other open: it moves the open and changes the file tree;  it keeps what stands behind the open
@@ -57,7 +57,7 @@ use Rattle.kernel_core.proofs.Streams.{written_valid}
 -- ---- what the calls mean
 
 -- the descriptor of which a call that seeks needs something
-seek_fd : (n : ℕ) (tells : Bool) → (cond tells (either_row n FD_TELL FD_SEEK) (base_row n FD_SEEK)).fd ≡ n
+seek_fd : (n : ℕ) (reports : Bool) → (cond reports (either_row n FD_TELL FD_SEEK) (base_row n FD_SEEK)).fd ≡ n
 seek_fd n true = refl
 seek_fd n false = refl
 

@@ -45,7 +45,7 @@ use Rattle.kernel_model.proofs.Opened.{OpensWell}
 use Rattle.kernel_model.proofs.Opening.{file_open_is_proper, rest_beside, walk_well}
 use Rattle.kernel_model.proofs.TreeUpdates.{put_counted, with_tree}
 use Rattle.entry_calls.specs.Done.{IsNew}
-use Rattle.entry_calls.specs.Plans.{change_of, kind_of, makes_of, opened_by, opened_of}
+use Rattle.entry_calls.specs.Plans.{change_of, kind_of, new_nodes_of, opened_by, opened_of}
 use Rattle.entry_calls.specs.declared.plans.OpenPlan.{OpenPlan}
 use Rattle.kernel_parts.specs.Entries.{open_in}
 use Rattle.kernel_core.specs.Opening.{IsOpening, open_outcome, opened_at}
@@ -83,17 +83,17 @@ module _ (now : ℕ) (S : State) (p : ℕ) (table : Table) (lookup : Lookup) (pa
   -- what is set where it can number the open and the node
   abbrev sets : ℕ → OpenPlan → Outcome
   sets fd plan =
-      let o : ℕ = next_object p (get S.processes p) (makes_of plan + 1) in
+      let o : ℕ = next_object p (get S.processes p) (new_nodes_of plan + 1) in
       let kind : OpenKind = kind_of plan stat.flags first_new in
       record {
         answer = answer.Reply (success fd 0);
         updates = set_open o kind ∷ set_table p (insert table fd (opened_descriptor o kind stat))
-            ∷ (process_updates p (makes_of plan + 1) (get S.processes p) ++ change_updates (change_of plan path now first_new (tree_of S)));
+            ∷ (process_updates p (new_nodes_of plan + 1) (get S.processes p) ++ change_updates (change_of plan path now first_new (tree_of S)));
       }
 
   pub uncounted_opens_none : (fd : ℕ) (plan : OpenPlan) → IsLowestFree table fd
       → opened_at now first_new S table lookup path oflags stat ≡ opened_by plan path (tree_of S) stat.flags now first_new
-      → can_number p (makes_of plan + 1) (get S.processes p) ≡ false → reply ≡ refused Again → open_outcome now S p table lookup path oflags stat ≡ replies reply
+      → can_number p (new_nodes_of plan + 1) (get S.processes p) ≡ false → reply ≡ refused Again → open_outcome now S p table lookup path oflags stat ≡ replies reply
   uncounted_opens_none fd plan free opened cannot is =
       at_number fd (opened_by plan path (tree_of S) stat.flags now first_new) free opened
       ∙ ap (λ b. cond b (sets fd plan) (replies (refused Again))) cannot ∙ ap replies (sym is)
@@ -107,8 +107,8 @@ opens_from now new S table lookup path oflags stat here is =
     ap (λ k. open_walked oflags stat.flags path now new (tree_of S) (walked (tree_of S) (open_mode oflags lookup.flags) path k)) (sym is)
 
 -- the number of the first object, by that of the last
-pub first_number : (p makes id taken : ℕ) (own : Option ProcessState) → id ≡ next_object p own (makes + 1) → taken ≡ makes → id - taken ≡ next_object p own 1
-first_number p makes id taken own is same = omega (arith, is, same)
+pub first_number : (p new_nodes id taken : ℕ) (own : Option ProcessState) → id ≡ next_object p own (new_nodes + 1) → taken ≡ new_nodes → id - taken ≡ next_object p own 1
+first_number p new_nodes id taken own is same = omega (arith, is, same)
 
 -- ---- a plan for the state as it is kept
 
@@ -121,38 +121,38 @@ planned_before P S T p q table same number at planned =
 
 module _ (S : State) (p : ℕ) (table : Table) (lookup : Lookup) (path : List ℕ) (oflags : ℕ) (stat : FdStat) (o : Opening)
     (planned : IsOpening S p table lookup path oflags stat o) (v : IsValid S) where
-  abbrev makes : ℕ
-  makes = makes_of o.plan
+  abbrev new_nodes : ℕ
+  new_nodes = new_nodes_of o.plan
 
   abbrev first : ℕ
   first = next_object p (get S.processes p) 1
 
   abbrev last : ℕ
-  last = next_object p (get S.processes p) (makes_of o.plan + 1)
+  last = next_object p (get S.processes p) (new_nodes_of o.plan + 1)
 
   id_is : o.descriptor.id ≡ last
   id_is = ap (λ (d : Descriptor). d.id) planned.descriptor
 
-  pub open_fits : (p < 0xffffffff) × ((counts_in (get S.processes p)).objects + (makes_of o.plan + 1) < 2 ^ 32)
-  open_fits = fewer_fit p (makes + 1) (makes + 1) (get S.processes p) (omega arith) (omega arith) planned.can
+  pub open_fits : (p < 0xffffffff) × ((counts_in (get S.processes p)).objects + (new_nodes_of o.plan + 1) < 2 ^ 32)
+  open_fits = fewer_fit p (new_nodes + 1) (new_nodes + 1) (get S.processes p) (omega arith) (omega arith) planned.can
 
   pub open_is_new : get S.opens o.descriptor.id ≡ None
-  open_is_new = ap (get S.opens) id_is ∙ (next_is_absent S p (makes + 1) v.nearly open_fits.0 (omega arith) open_fits.1).0
+  open_is_new = ap (get S.opens) id_is ∙ (next_is_absent S p (new_nodes + 1) v.nearly open_fits.0 (omega arith) open_fits.1).0
 
   pub none_holds_it : holders S o.descriptor.id ≡ 0
   none_holds_it = none_holds S o.descriptor.id open_is_new v.nearly
 
   first_absent : get S.nodes first ≡ None
   first_absent =
-      let fits = fewer_fit p 1 (makes + 1) (get S.processes p) (omega arith) (omega arith) planned.can in
+      let fits = fewer_fit p 1 (new_nodes + 1) (get S.processes p) (omega arith) (omega arith) planned.can in
       (next_is_absent S p 1 v.nearly fits.0 (omega arith) fits.1).1
 
   new_first : (count : ℕ) → IsNew count (tree_of S) first
   new_first zero = tt
   new_first (suc count) = ap is_none first_absent
 
-  pub node_is_new : IsNew (makes_of o.plan) (tree_of S) o.new
-  node_is_new = subst (IsNew makes (tree_of S)) (sym planned.new) (new_first makes)
+  pub node_is_new : IsNew (new_nodes_of o.plan) (tree_of S) o.new
+  node_is_new = subst (IsNew new_nodes (tree_of S)) (sym planned.new) (new_first new_nodes)
 
   module _ (now : ℕ) where
     -- the change of the tree
@@ -165,7 +165,7 @@ module _ (S : State) (p : ℕ) (table : Table) (lookup : Lookup) (path : List �
         (walk_well oflags stat.flags path now first (tree_of S) (walked (tree_of S) (open_mode oflags lookup.flags) path (open_in S.opens (get table lookup.fd)))
         v.nearly.tree first_absent)
 
-    pub open_changes : IsChangeOf (tree_of S) (next_object p (get S.processes p) 1) (makes_of o.plan) (change_of o.plan path now (next_object p (get S.processes p) 1) (tree_of S))
+    pub open_changes : IsChangeOf (tree_of S) (next_object p (get S.processes p) 1) (new_nodes_of o.plan) (change_of o.plan path now (next_object p (get S.processes p) 1) (tree_of S))
     open_changes = well.1
 
     -- the kind of the open
@@ -179,7 +179,7 @@ module _ (S : State) (p : ℕ) (table : Table) (lookup : Lookup) (path : List �
     descriptor_is = ap (λ k. opened_descriptor last k stat) kind_is ∙ sym planned.descriptor
 
     abbrev rest : List Update
-    rest = process_updates p (makes_of o.plan + 1) (get S.processes p) ++ change_updates change
+    rest = process_updates p (new_nodes_of o.plan + 1) (get S.processes p) ++ change_updates change
 
     abbrev opens : Outcome
     opens = record {
@@ -202,7 +202,7 @@ module _ (S : State) (p : ℕ) (table : Table) (lookup : Lookup) (path : List �
         let u : Tree = (change_of o.plan path now (next_object p (get S.processes p) 1) (tree_of S)).tree in
         record S {
           tables = insert S.tables p (insert table o.fd o.descriptor);
-          processes = insert S.processes p (made_more (makes_of o.plan + 1) own);
+          processes = insert S.processes p (made_more (new_nodes_of o.plan + 1) own);
           opens = insert S.opens o.descriptor.id o.kind;
           nodes = u.nodes;
           names = u.names;
@@ -211,11 +211,11 @@ module _ (S : State) (p : ℕ) (table : Table) (lookup : Lookup) (path : List �
     pub open_left : (own : ProcessState) → get S.processes p ≡ Some own → put_all (open_outcome now S p table lookup path oflags stat).updates S ≡ opened_state own
     open_left own there =
         let new_table : Table = insert table o.fd (opened_descriptor last kind stat) in
-        let counted_tree : put_all rest S ≡ with_tree change.tree (record S { processes = insert S.processes p (made_more (makes_of o.plan + 1) own) }) =
-        put_counted S p (makes_of o.plan + 1) first (makes_of o.plan) change planned.can open_changes (λ _. refl) (omega arith) v.nearly
-        ∙ ap (with_tree change.tree) (counted_is S p (makes_of o.plan + 1) own there) in
+        let counted_tree : put_all rest S ≡ with_tree change.tree (record S { processes = insert S.processes p (made_more (new_nodes_of o.plan + 1) own) }) =
+        put_counted S p (new_nodes_of o.plan + 1) first (new_nodes_of o.plan) change planned.can open_changes (λ _. refl) (omega arith) v.nearly
+        ∙ ap (with_tree change.tree) (counted_is S p (new_nodes_of o.plan + 1) own there) in
         ap (λ (x : Outcome). put_all x.updates S) outcome_is
-        ∙ put_last last kind p new_table rest S (rest_beside p (makes_of o.plan + 1) (get S.processes p) change)
+        ∙ put_last last kind p new_table rest S (rest_beside p (new_nodes_of o.plan + 1) (get S.processes p) change)
         ∙ ap (λ (T : State). put_one (set_table p new_table) (put_one (set_open last kind) T)) counted_tree
         ∙ (λ i. record (opened_state own) {
           tables = insert S.tables p (insert table o.fd (descriptor_is i));

@@ -20,7 +20,7 @@ pub step_refused : (constants : Constants) (S T : State) (who : Who) (call : Cal
 step_refused constants S T who call given reply v step is fails =
     error_keeps constants S who call reply T (subst (λ (a : Answer). IsStep constants S who call a T) is step) v fails
 
--- where memory isn't wanting, a call whose path leads outside is denied for that
+-- where memory doesn't run out, a call whose path leads outside is denied for that
 pub denied_outside : (constants : Constants) (S : State) (who : Who) (call : Call) (given : Answer) (T : State) (component : ℕ)
     → outside S who call ≡ Some component → given ≢ answer.Reply (refused Nomem) → IsStep constants S who call given T
     → given ≡ answer.Reply (denied (Outside component))

@@ -19,4 +19,4 @@ entries_come constants S p table fd other call =
 
 abbrev pub entry_outcome : Constants → State → ℕ → Table → ℕ → Option ℕ → Call → Outcome
 entry_outcome constants S p table fd other call =
-    outcome_of p (get S.processes p) (name_meaning call).makes (entries_come constants S p table fd other call)
+    outcome_of p (get S.processes p) (name_meaning call).new_nodes (entries_come constants S p table fd other call)

@@ -10,7 +10,7 @@ use Rattle.kernel_model.specs.Families.Numbers.{can_number, next_object}
 use Rattle.kernel_model.specs.Families.Opening.{Opened, open_at, open_mode, open_walked, opened_descriptor}
 use Rattle.kernel_model.specs.Outcome.{Outcome}
 use Rattle.kernel_model.specs.State.{State, Table, tree_of}
-use Rattle.entry_calls.specs.Plans.{kind_of, makes_of, opened_by}
+use Rattle.entry_calls.specs.Plans.{kind_of, new_nodes_of, opened_by}
 use Rattle.kernel_parts.specs.Entries.{open_in}
 use Rattle.kernel_parts.specs.declared.installing.Opening.{Opening}
 
@@ -28,8 +28,8 @@ open_outcome now S p table lookup path oflags stat =
 -- that is opened: under the lowest free number, by a plan for the path, with the numbers that the process makes next
 pub record IsOpening (S : State) (p : ℕ) (table : Table) (lookup : Lookup) (path : List ℕ) (oflags : ℕ) (stat : FdStat) (o : Opening) : Type 0 where
   pub free : IsLowestFree table o.fd
-  pub can : can_number p (makes_of o.plan + 1) (get S.processes p) ≡ true
+  pub can : can_number p (new_nodes_of o.plan + 1) (get S.processes p) ≡ true
   pub new : o.new ≡ next_object p (get S.processes p) 1
   pub kind : o.kind ≡ kind_of o.plan stat.flags o.new
-  pub descriptor : o.descriptor ≡ opened_descriptor (next_object p (get S.processes p) (makes_of o.plan + 1)) o.kind stat
+  pub descriptor : o.descriptor ≡ opened_descriptor (next_object p (get S.processes p) (new_nodes_of o.plan + 1)) o.kind stat
   pub opened : (now new : ℕ) → opened_at now new S table lookup path oflags stat ≡ opened_by o.plan path (tree_of S) stat.flags now new

@@ -70,7 +70,7 @@ fn is_live(status: &Status) -> bool
 
 impl Kernel {
     /// The state that a launch starts from: process 0 is live with thread 1 and the granted descriptors, numbered from 0,
-    /// file tree and standard input are the launch's, and nothing was written yet. `Err` where memory is wanting.
+    /// file tree and standard input are the launch's, and nothing was written yet. `Err` where memory ran out.
     pub fn start(alloc: Global, launch: &Launch) -> Result<Kernel, AllocError>
         requires { MayBegin launch.now.tree launch.now.grants }
         ensures state { IfOk result (λ kernel. kernel ≡ start_state launch.now.tree launch.now.grants launch.now.stdin) }
@@ -117,7 +117,7 @@ impl Kernel {
     }
 
     /// A call of a live process's runnable thread in a run with these constants: the answer, and the state after it. Each
-    /// call takes 1000 nanoseconds. `Errno::Nomem` comes only where memory is wanting, and then only the clock has moved. A
+    /// call takes 1000 nanoseconds. `Errno::Nomem` comes only where memory runs out, and then only the clock has moved. A
     /// call that answers any other error moves only the clock too. `Errno::Notcapable` comes with exactly the rights that
     /// are missing, or with the component at which a path leads outside.
     pub fn step(&mut self, constants: &Constants, who: &Who, call: &Call) -> Answer

@@ -37,10 +37,10 @@ impl Kernel {
             Ok(plan) => plan,
             Err(refusal) => return Err(reply_of(refusal)),
         };
-        let Some(id) = own.numbered(pid, plan.makes() + 1) else {
+        let Some(id) = own.numbered(pid, plan.new_nodes() + 1) else {
             return Err(refused(Errno::Again));
         };
-        let new = ObjId(id.0 - u64::from(plan.makes()));
+        let new = ObjId(id.0 - u64::from(plan.new_nodes()));
         Ok(Opening {
             fd,
             descriptor: plan.descriptor(id, &call.stat),
@@ -80,7 +80,7 @@ impl Kernel {
             call.path,
             now,
         )?;
-        self.processes.get_mut(p).make(opening.plan.makes() + 1);
+        self.processes.get_mut(p).make(opening.plan.new_nodes() + 1);
         forget_nameless(&mut self.tree, &self.objects);
         Ok(Answer::Reply(success(u64::from(opening.fd), 0)))
     }

@@ -19,7 +19,7 @@ use Rattle.kernel_model.specs.Reply.{content, refused, success}
 use Rattle.kernel_model.specs.State.{Tree}
 use Rattle.kernel_model.specs.Families.TreeUpdates.{node_update}
 use Rattle.kernel_model.proofs.Branches.{IsSeen}
-use Rattle.kernel_model.proofs.FileChanges.{IsChange, badf_among_changes, changing_keeps_well, either_change, fbig_among_changes, makes, refuses, succeeds}
+use Rattle.kernel_model.proofs.FileChanges.{IsChange, badf_among_changes, changing_keeps_well, either_change, fbig_among_changes, new_nodes, refuses, succeeds}
 use Rattle.kernel_model.proofs.FileLooks.{Answers, answers_refused, answers_done, looking_keeps_well}
 use Rattle.kernel_model.proofs.FileMeanings.{KeepsWell, file_is_proper}
 use Rattle.kernel_model.proofs.Reworks.{Alike, Reworks, reworks_twice, retimed_alike, retimed_reworks, with_bytes_alike, with_bytes_reworks}
@@ -68,7 +68,7 @@ write_bytes_is : (t : Tree) (node offset flags now at : ℕ) (bytes : List ℕ) 
 write_bytes_is t node offset flags now at [] = succeeds t (Some (File node offset flags)) 0
 write_bytes_is t node offset flags now at (b ∷ bytes) =
     either_change (is_beyond at (b ∷ bytes)) t (Some (File node offset flags)) Fbig _ fbig_among_changes
-    (makes t (Some (File node offset flags)) node (overwritten t node now at (b ∷ bytes)) refl
+    (new_nodes t (Some (File node offset flags)) node (overwritten t node now at (b ∷ bytes)) refl
     (λ file. overwritten_reworks t node now at (b ∷ bytes) file) (written_count at (b ∷ bytes)))
 
 write_is : (bytes : List ℕ) (at now : ℕ) (t : Tree) (kind : Option OpenKind) → IsChange t kind (write_at bytes at now t kind)

@@ -13,7 +13,7 @@ use Rattle.abi_types.specs.Families.{is_anonymous}
 use Rattle.kernel_model.specs.Families.MemoryCalls.{map_row, map_zeros, mapping}
 use Rattle.kernel_model.proofs.FileBytes.{read_keeps_well, write_keeps_well}
 use Rattle.kernel_model.proofs.FileChanges.{allocate_keeps_well, put_open_keeps_well, put_by_path_keeps_well}
-use Rattle.kernel_model.proofs.FileLooks.{list_keeps_well, read_link_keeps_well, tell_in_keeps_well, tell_open_keeps_well}
+use Rattle.kernel_model.proofs.FileLooks.{list_keeps_well, read_link_keeps_well, report_in_keeps_well, report_open_keeps_well}
 use Rattle.kernel_model.proofs.FileMeanings.{KeepsWell}
 use Rattle.kernel_model.proofs.MemoryCalls.{mapping_keeps_well}
 use Rattle.kernel_model.proofs.Tests.{none_is_no, same_some}
@@ -35,10 +35,10 @@ on_open_of (call.FileAllocate n offset length) fd is =
     record { row = _; of = same_some n fd is; means = refl; well = allocate_keeps_well (offset + length) }
 on_open_of (call.FileReaddir n length cookie) fd is = record { row = _; of = same_some n fd is; means = refl; well = list_keeps_well length cookie }
 on_open_of (call.FileReadlink n path length) fd is = record { row = _; of = same_some n fd is; means = refl; well = read_link_keeps_well path length }
-on_open_of (call.FileStatFget n) fd is = record { row = _; of = same_some n fd is; means = refl; well = tell_open_keeps_well }
+on_open_of (call.FileStatFget n) fd is = record { row = _; of = same_some n fd is; means = refl; well = report_open_keeps_well }
 on_open_of (call.FileStatFput n stat flags) fd is = record { row = _; of = same_some n fd is; means = refl; well = put_open_keeps_well flags stat }
 on_open_of (call.FileStatGet lookup path) fd is =
-    record { row = _; of = same_some lookup.fd fd is; means = refl; well = tell_in_keeps_well (lookup_mode lookup.flags) path }
+    record { row = _; of = same_some lookup.fd fd is; means = refl; well = report_in_keeps_well (lookup_mode lookup.flags) path }
 on_open_of (call.FileStatPut lookup path stat flags) fd is =
     record { row = _; of = same_some lookup.fd fd is; means = refl; well = put_by_path_keeps_well (lookup_mode lookup.flags) path flags stat }
 on_open_of (call.FdPread n length offset) fd is = record { row = _; of = same_some n fd is; means = refl; well = read_keeps_well length offset }

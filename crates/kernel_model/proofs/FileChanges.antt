@@ -147,8 +147,8 @@ succeeds t kind result = ((refl, inl refl), inl refl)
 module _ (t : Tree) (kind : Option OpenKind) (node : ℕ) (w : Tree) (part : node_part t kind ≡ at_node node ∷ [])
     (works : IsFileThere t kind → Reworks t w node) where
   -- with a result
-  pub makes : (result : ℕ) → IsChange t kind (record { answer = answer.Reply (success result 0); updates = node_update node (get w.nodes node) })
-  makes result = ((refl, inl refl), inr (node, w, refl, part, works))
+  pub new_nodes : (result : ℕ) → IsChange t kind (record { answer = answer.Reply (success result 0); updates = node_update node (get w.nodes node) })
+  new_nodes result = ((refl, inl refl), inr (node, w, refl, part, works))
 
   remakes : IsChange t kind (becomes_in node w)
   remakes = (

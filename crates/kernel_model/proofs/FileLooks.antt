@@ -17,7 +17,7 @@ use Rattle.path_lookup.specs.declared.ends.WalkMode.TheVariants.{NoFollow}
 use Rattle.tree_model.specs.Below.{below_self}
 use Rattle.tree_model.specs.Finds.{HasSameBelow, named_alike}
 use Rattle.tree_model.specs.Tree.{names_in}
-use Rattle.kernel_model.specs.Families.FileLooks.{tell_node, tell_in, tell_open, looking, file_advise, file_stat_fget, file_stat_get, read_link, read_node, read_link_in, file_readlink, room_of, entry_bytes, entries_bytes, list_names, list_open, file_readdir}
+use Rattle.kernel_model.specs.Families.FileLooks.{report_node, report_in, report_open, looking, file_advise, file_stat_fget, file_stat_get, read_link, read_node, read_link_in, file_readlink, room_of, entry_bytes, entries_bytes, list_names, list_open, file_readdir}
 use Rattle.kernel_model.specs.Families.FilePaths.{by_path, lookup_mode, outside_of, path_errors, walked}
 use Rattle.kernel_model.specs.Outcome.{Outcome, replies}
 use Rattle.kernel_model.specs.Proper.{IsIn, IsPlain, IsProper, IsUnset}
@@ -111,45 +111,45 @@ file_advise_is_proper fd = needing_is_proper fd _
 
 -- ---- file_stat_fget and file_stat_get
 
-tell_answers : (errors : List Errno) → IsIn Badf errors → (n : ℕ) (o : Option Node) → Answers errors (tell_node n o)
-tell_answers errors badf n None = answers_refused errors Badf badf
-tell_answers errors badf n (Some node) = answers_done errors _ refl refl
+report_answers : (errors : List Errno) → IsIn Badf errors → (n : ℕ) (o : Option Node) → Answers errors (report_node n o)
+report_answers errors badf n None = answers_refused errors Badf badf
+report_answers errors badf n (Some node) = answers_done errors _ refl refl
 
-tell_alike : GoesAlike tell_in
-tell_alike t u n same = ap (tell_node n) (sym same)
+report_alike : GoesAlike report_in
+report_alike t u n same = ap (report_node n) (sym same)
 
-tell_open_alike : (t u : Tree) (kind : Option OpenKind) → IsSeen t u kind → tell_open u kind ≡ tell_open t kind
-tell_open_alike t u None seen = refl
-tell_open_alike t u (Some (File node offset flags)) seen = tell_alike t u node seen
-tell_open_alike t u (Some (Directory node flags)) seen = tell_alike t u node (seen.nodes node (below_self t node))
-tell_open_alike t u (Some (End (Some reads) writes flags)) seen = refl
-tell_open_alike t u (Some (End None (Some writes) flags)) seen = refl
-tell_open_alike t u (Some (End None None flags)) seen = refl
-tell_open_alike t u (Some (Terminal which flags)) seen = refl
-tell_open_alike t u (Some (Process p)) seen = refl
+report_open_alike : (t u : Tree) (kind : Option OpenKind) → IsSeen t u kind → report_open u kind ≡ report_open t kind
+report_open_alike t u None seen = refl
+report_open_alike t u (Some (File node offset flags)) seen = report_alike t u node seen
+report_open_alike t u (Some (Directory node flags)) seen = report_alike t u node (seen.nodes node (below_self t node))
+report_open_alike t u (Some (End (Some reads) writes flags)) seen = refl
+report_open_alike t u (Some (End None (Some writes) flags)) seen = refl
+report_open_alike t u (Some (End None None flags)) seen = refl
+report_open_alike t u (Some (Terminal which flags)) seen = refl
+report_open_alike t u (Some (Process p)) seen = refl
 
-tell_open_answers : (t : Tree) (kind : Option OpenKind) → Answers (Badf ∷ []) (tell_open t kind)
-tell_open_answers t None = answers_refused (Badf ∷ []) Badf ([], [], refl)
-tell_open_answers t (Some (File node offset flags)) = tell_answers (Badf ∷ []) ([], [], refl) node (get t.nodes node)
-tell_open_answers t (Some (Directory node flags)) = tell_answers (Badf ∷ []) ([], [], refl) node (get t.nodes node)
-tell_open_answers t (Some (End (Some reads) writes flags)) = answers_done (Badf ∷ []) _ refl refl
-tell_open_answers t (Some (End None (Some writes) flags)) = answers_done (Badf ∷ []) _ refl refl
-tell_open_answers t (Some (End None None flags)) = answers_refused (Badf ∷ []) Badf ([], [], refl)
-tell_open_answers t (Some (Terminal which flags)) = answers_done (Badf ∷ []) _ refl refl
-tell_open_answers t (Some (Process p)) = answers_refused (Badf ∷ []) Badf ([], [], refl)
+report_open_answers : (t : Tree) (kind : Option OpenKind) → Answers (Badf ∷ []) (report_open t kind)
+report_open_answers t None = answers_refused (Badf ∷ []) Badf ([], [], refl)
+report_open_answers t (Some (File node offset flags)) = report_answers (Badf ∷ []) ([], [], refl) node (get t.nodes node)
+report_open_answers t (Some (Directory node flags)) = report_answers (Badf ∷ []) ([], [], refl) node (get t.nodes node)
+report_open_answers t (Some (End (Some reads) writes flags)) = answers_done (Badf ∷ []) _ refl refl
+report_open_answers t (Some (End None (Some writes) flags)) = answers_done (Badf ∷ []) _ refl refl
+report_open_answers t (Some (End None None flags)) = answers_refused (Badf ∷ []) Badf ([], [], refl)
+report_open_answers t (Some (Terminal which flags)) = answers_done (Badf ∷ []) _ refl refl
+report_open_answers t (Some (Process p)) = answers_refused (Badf ∷ []) Badf ([], [], refl)
 
-pub tell_open_keeps_well : KeepsWell (looking tell_open)
-tell_open_keeps_well = looking_keeps_well tell_open tell_open_alike tell_open_answers
+pub report_open_keeps_well : KeepsWell (looking report_open)
+report_open_keeps_well = looking_keeps_well report_open report_open_alike report_open_answers
 
 pub file_stat_fget_is_proper : (fd : ℕ) → IsProper (file_stat_fget fd)
-file_stat_fget_is_proper fd = file_is_proper (looking tell_open) tell_open_keeps_well _
+file_stat_fget_is_proper fd = file_is_proper (looking report_open) report_open_keeps_well _
 
-pub tell_in_keeps_well : (mode : WalkMode) (path : List ℕ) → KeepsWell (by_path mode path (λ now. tell_in))
-tell_in_keeps_well mode path = by_path_keeps_well mode path tell_in tell_alike (λ t n. tell_answers path_errors badf_among n (get t.nodes n))
+pub report_in_keeps_well : (mode : WalkMode) (path : List ℕ) → KeepsWell (by_path mode path (λ now. report_in))
+report_in_keeps_well mode path = by_path_keeps_well mode path report_in report_alike (λ t n. report_answers path_errors badf_among n (get t.nodes n))
 
 pub file_stat_get_is_proper : (lookup : Lookup) (path : List ℕ) → IsProper (file_stat_get lookup path)
 file_stat_get_is_proper lookup path =
-    file_is_proper (by_path (lookup_mode lookup.flags) path (λ now. tell_in)) (tell_in_keeps_well (lookup_mode lookup.flags) path) _
+    file_is_proper (by_path (lookup_mode lookup.flags) path (λ now. report_in)) (report_in_keeps_well (lookup_mode lookup.flags) path) _
 
 -- ---- file_readlink
 

@@ -224,6 +224,6 @@ at_walked_plain goes plain (Ends end) h = at_end_plain goes plain end
 at_walked_plain goes plain (Fails errno) h = (refl, inr (refl, h))
 at_walked_plain goes plain (LeadsOutside component) h = refl
 
--- none of them is want of memory
+-- none of them is lack of memory
 pub path_errors_lack : AllByRecursion (λ errno. errno ≢ Nomem) path_errors
 path_errors_lack = ((λ e. cc), ((λ e. cc), ((λ e. cc), ((λ e. cc), ((λ e. cc), ((λ e. cc), ((λ e. cc), tt)))))))

@@ -59,7 +59,7 @@ map_answers place length offset t (Some (End reads writes flags)) = answers_refu
 map_answers place length offset t (Some (Terminal which flags)) = answers_refused (map_errors place) Badf ([], _, refl)
 map_answers place length offset t (Some (Process p)) = answers_refused (map_errors place) Badf ([], _, refl)
 
--- memory may be wanting where the mapping has a place, and its one error is then another
+-- memory may run out where the mapping has a place, and its one error is then another
 map_lacks : (place : Place) → has_place place ≡ true → AllByRecursion (λ errno. errno ≢ Nomem) (map_errors place)
 map_lacks (At address) takes = ((λ e. cc), tt)
 map_lacks (place.Refused errno) takes = absurd (not_true takes)

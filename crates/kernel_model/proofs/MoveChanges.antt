@@ -29,11 +29,11 @@ use Rattle.kernel_model.proofs.TreeChanges.{FilesStay, files-changed, files-one_
 -- ---- one more name of a node
 
 module _ (t : Tree) (d : ℕ) (name : List ℕ) (n : ℕ) (tree : IsTree t) (free : first_fault (link_faults t d name n) ≡ None) where
-  pub linked_change : (new makes : ℕ) (ns ds : List ℕ) → member n ns ≡ true → member d ds ≡ true
-      → IsChangeOf t new makes (record { tree = linked t d name n; nodes = ns; directories = ds })
-  linked_change new makes ns ds has_node has_directory =
+  pub linked_change : (new new_nodes : ℕ) (ns ds : List ℕ) → member n ns ≡ true → member d ds ≡ true
+      → IsChangeOf t new new_nodes (record { tree = linked t d name n; nodes = ns; directories = ds })
+  linked_change new new_nodes ns ds has_node has_directory =
       let first = KeepsNodes-one_more t n in
-      kept_change t new makes (record { tree = linked t d name n; nodes = ns; directories = ds }) (linked-tree t d name n tree free)
+      kept_change t new new_nodes (record { tree = linked t d name n; nodes = ns; directories = ds }) (linked-tree t d name n tree free)
       (KeepsNodes-twice t (one_more t n) (linked t d name n) first
       (KeepsNodes-put_name (one_more t n) d name n (first.tables d ∙ table_of_directory t tree d (can_link t d name n free).directory)))
       (files-one_more t n)
@@ -41,14 +41,14 @@ module _ (t : Tree) (d : ℕ) (name : List ℕ) (n : ℕ) (tree : IsTree t) (fre
       (λ q lacks.
       get-insert-other (one_more t n).names d _ q (not_member_apart d q ds has_directory lacks) ∙ ap (λ m. get m q) (one_more-changes t n).names)
 
-  pub with_link_change : (now new makes : ℕ) → IsChangeOf t new makes (with_link now t n d name)
-  with_link_change now new makes =
+  pub with_link_change : (now new new_nodes : ℕ) → IsChangeOf t new new_nodes (with_link now t n d name)
+  with_link_change now new new_nodes =
       let ns : List ℕ = d ∷ n ∷ [] in
       let has : member n ns ≡ true = later_is_member n d (n ∷ []) (first_is_member n []) in
       let dir : member d ns ≡ true = first_is_member d (n ∷ []) in
       let start : Change = record { tree = linked t d name n; nodes = ns; directories = d ∷ [] } in
-      retimed_change t new makes (record start { tree = with_new_names now (linked t d name n) d }) n (recounted now) has
-      (retimed_change t new makes start d (modified now) dir (linked_change new makes ns (d ∷ []) has (first_is_member d [])))
+      retimed_change t new new_nodes (record start { tree = with_new_names now (linked t d name n) d }) n (recounted now) has
+      (retimed_change t new new_nodes start d (modified now) dir (linked_change new new_nodes ns (d ∷ []) has (first_is_member d [])))
 
 -- ---- a name that moves
 
@@ -113,11 +113,11 @@ module _ (t : Tree) (from : ℕ) (name : List ℕ) (to : ℕ) (new : List ℕ) w
       ] refl
 
   module _ (tree : IsTree t) (free : first_fault (rename_faults t from name to new) ≡ None) where
-    pub renamed_change : (number makes : ℕ)
-        → IsChangeOf t number makes (record { tree = renamed t from name to new; nodes = moved_nodes; directories = from ∷ to ∷ [] })
-    renamed_change number makes =
+    pub renamed_change : (number new_nodes : ℕ)
+        → IsChangeOf t number new_nodes (record { tree = renamed t from name to new; nodes = moved_nodes; directories = from ∷ to ∷ [] })
+    renamed_change number new_nodes =
         let can = can_rename t from name to new free in
-        kept_change t number makes (record { tree = renamed t from name to new; nodes = moved_nodes; directories = from ∷ to ∷ [] })
+        kept_change t number new_nodes (record { tree = renamed t from name to new; nodes = moved_nodes; directories = from ∷ to ∷ [] })
         (renamed-tree t from name to new tree free)
         (KeepsNodes-renamed t from name to new tree can)
         (renamed_files can.node can.named)
@@ -126,25 +126,25 @@ module _ (t : Tree) (from : ℕ) (name : List ℕ) (to : ℕ) (new : List ℕ) w
         renamed_names q (not_member_apart from q (from ∷ to ∷ []) (first_is_member from (to ∷ [])) lacks)
         (not_member_apart to q (from ∷ to ∷ []) (later_is_member to from (to ∷ []) (first_is_member to [])) lacks))
 
-    counted_change : (now number makes : ℕ) (c : Change) (o : Option ℕ) → ((m : ℕ) → o ≡ Some m → member m c.nodes ≡ true)
-        → IsChangeOf t number makes c → IsChangeOf t number makes (record c { tree = with_new_count_of now c.tree o })
-    counted_change now number makes c None has is = is
-    counted_change now number makes c (Some m) has is = retimed_change t number makes c m (recounted now) (has m refl) is
+    counted_change : (now number new_nodes : ℕ) (c : Change) (o : Option ℕ) → ((m : ℕ) → o ≡ Some m → member m c.nodes ≡ true)
+        → IsChangeOf t number new_nodes c → IsChangeOf t number new_nodes (record c { tree = with_new_count_of now c.tree o })
+    counted_change now number new_nodes c None has is = is
+    counted_change now number new_nodes c (Some m) has is = retimed_change t number new_nodes c m (recounted now) (has m refl) is
 
-    pub with_move_change : (now number makes : ℕ) → IsChangeOf t number makes (with_move now t from name to new)
-    with_move_change now number makes =
+    pub with_move_change : (now number new_nodes : ℕ) → IsChangeOf t number new_nodes (with_move now t from name to new)
+    with_move_change now number new_nodes =
         let after : Tree = renamed t from name to new in
         let start : Change = record { tree = after; nodes = moved_nodes; directories = from ∷ to ∷ [] } in
         let source : Change = record start { tree = with_new_names now after from } in
         let target : Change = record start { tree = with_new_names now (with_new_names now after from) to } in
-        counted_change now number makes target (replaced t from name to new) replaced_named
-        (retimed_change t number makes source to (modified now) target_named
-        (retimed_change t number makes start from (modified now) source_named (renamed_change number makes)))
+        counted_change now number new_nodes target (replaced t from name to new) replaced_named
+        (retimed_change t number new_nodes source to (modified now) target_named
+        (retimed_change t number new_nodes start from (modified now) source_named (renamed_change number new_nodes)))
 
-    pub move_change : (now number makes : ℕ) → IsChangeOf t number makes (move_or_stay now t from name to new)
-    move_change now number makes =
+    pub move_change : (now number new_nodes : ℕ) → IsChangeOf t number new_nodes (move_or_stay now t from name to new)
+    move_change now number new_nodes =
         elim (is_same (entry_of t from name) (entry_of t to new)) as
-        (λ b. IsChangeOf t number makes (if b then no_change t else with_move now t from name to new)) [
-          | true ↦ kept_change t number makes (no_change t) tree (KeepsNodes-itself t) (λ q file. file) (λ q _. refl) (λ q _. refl)
-          | false ↦ with_move_change now number makes
+        (λ b. IsChangeOf t number new_nodes (if b then no_change t else with_move now t from name to new)) [
+          | true ↦ kept_change t number new_nodes (no_change t) tree (KeepsNodes-itself t) (λ q file. file) (λ q _. refl) (λ q _. refl)
+          | false ↦ with_move_change now number new_nodes
         ]

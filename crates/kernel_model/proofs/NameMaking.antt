@@ -93,13 +93,13 @@ new_table kind.Directory now new t d q lacks =
     (not_member_apart new q (d ∷ new ∷ []) (later_is_member new d (new ∷ []) (first_is_member new [])) lacks)
 new_table (kind.Link text) now new t d q lacks = refl
 
-pub with_node_change : (kind : NodeKind) (now new : ℕ) (t : Tree) (d : ℕ) (name : List ℕ) (makes : ℕ) → IsTree t → first_fault (make_faults t d name) ≡ None
-    → get t.nodes new ≡ None → makes ≢ 0 → IsChangeOf t new makes (with_node kind now new t d name)
-with_node_change kind now new t d name makes tree free none some =
-    retimed_change t new makes
+pub with_node_change : (kind : NodeKind) (now new : ℕ) (t : Tree) (d : ℕ) (name : List ℕ) (new_nodes : ℕ) → IsTree t → first_fault (make_faults t d name) ≡ None
+    → get t.nodes new ≡ None → new_nodes ≢ 0 → IsChangeOf t new new_nodes (with_node kind now new t d name)
+with_node_change kind now new t d name new_nodes tree free none some =
+    retimed_change t new new_nodes
     (record { tree = made t d name new (node_of kind now); nodes = d ∷ new ∷ []; directories = d ∷ new_directories kind new }) d (modified now)
     (first_is_member d (new ∷ []))
-    (made_change t d name new (node_of kind now) none makes (d ∷ new ∷ []) (d ∷ new_directories kind new) tree free some
+    (made_change t d name new (node_of kind now) none new_nodes (d ∷ new ∷ []) (d ∷ new_directories kind new) tree free some
     (later_is_member new d (new ∷ []) (first_is_member new [])) (first_is_member d (new_directories kind new)) (new_table kind now new t d))
 
 -- what is set in two maps is alike there, and elsewhere where they are

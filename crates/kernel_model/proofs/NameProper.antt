@@ -80,90 +80,90 @@ new_node_unset p (suc count) own q h = first_is_new p count own q h
 
 -- ---- outcomes, by what such a call comes to
 
-alike_outcome : (p makes : ℕ) (own : Option ProcessState) (a b : NameOutcome) → SetsAlike a b → outcome_of p own makes a ≡ outcome_of p own makes b
-alike_outcome p makes own (Refuses errno) b h = ap (outcome_of p own makes) (sym h)
-alike_outcome p makes own (LeadsOut component) b h = ap (outcome_of p own makes) (sym h)
-alike_outcome p makes own (Changes c) b h =
-    (λ i. cond (can_number p makes own) (record { answer = answer.Reply (success 0 0); updates = process_updates p makes own ++ h.2 i }) (replies (refused Again)))
-    ∙ ap (outcome_of p own makes) (sym h.1)
+alike_outcome : (p new_nodes : ℕ) (own : Option ProcessState) (a b : NameOutcome) → SetsAlike a b → outcome_of p own new_nodes a ≡ outcome_of p own new_nodes b
+alike_outcome p new_nodes own (Refuses errno) b h = ap (outcome_of p own new_nodes) (sym h)
+alike_outcome p new_nodes own (LeadsOut component) b h = ap (outcome_of p own new_nodes) (sym h)
+alike_outcome p new_nodes own (Changes c) b h =
+    (λ i. cond (can_number p new_nodes own) (record { answer = answer.Reply (success 0 0); updates = process_updates p new_nodes own ++ h.2 i }) (replies (refused Again)))
+    ∙ ap (outcome_of p own new_nodes) (sym h.1)
 
 -- what holds of a refusal, and of what a change sets where the process can make so many, holds of what such a change comes to
-change_holds : (P : Outcome → Type 0) (p makes : ℕ) (own : Option ProcessState) (c : Change)
-    → (can_number p makes own ≡ false → P (replies (refused Again)))
-    → (can_number p makes own ≡ true → P (record { answer = answer.Reply (success 0 0); updates = process_updates p makes own ++ change_updates c }))
-    → P (outcome_of p own makes (Changes c))
-change_holds P p makes own c refuses sets =
-    elim (can_number p makes own) as (λ b. can_number p makes own ≡ b
-    → P (cond b (record { answer = answer.Reply (success 0 0); updates = process_updates p makes own ++ change_updates c }) (replies (refused Again)))) [
+change_holds : (P : Outcome → Type 0) (p new_nodes : ℕ) (own : Option ProcessState) (c : Change)
+    → (can_number p new_nodes own ≡ false → P (replies (refused Again)))
+    → (can_number p new_nodes own ≡ true → P (record { answer = answer.Reply (success 0 0); updates = process_updates p new_nodes own ++ change_updates c }))
+    → P (outcome_of p own new_nodes (Changes c))
+change_holds P p new_nodes own c refuses sets =
+    elim (can_number p new_nodes own) as (λ b. can_number p new_nodes own ≡ b
+    → P (cond b (record { answer = answer.Reply (success 0 0); updates = process_updates p new_nodes own ++ change_updates c }) (replies (refused Again)))) [
       | true ↦ sets
       | false ↦ refuses
     ] refl
 
-outcome_unset : (p makes : ℕ) (own : Option ProcessState) (comes : NameOutcome) (q : Part) → has_part (process_parts p) q ≡ false → IsUnsetBy comes q
-    → IsUnset (outcome_of p own makes comes) q
-outcome_unset p makes own (Refuses errno) q h unset = refl
-outcome_unset p makes own (LeadsOut component) q h unset = refl
-outcome_unset p makes own (Changes c) q h unset =
-    change_holds (λ o. IsUnset o q) p makes own c (λ _. refl)
-    (λ _. both_unset (process_updates p makes own) (change_updates c) q (process_unset p makes own q h) unset)
+outcome_unset : (p new_nodes : ℕ) (own : Option ProcessState) (comes : NameOutcome) (q : Part) → has_part (process_parts p) q ≡ false → IsUnsetBy comes q
+    → IsUnset (outcome_of p own new_nodes comes) q
+outcome_unset p new_nodes own (Refuses errno) q h unset = refl
+outcome_unset p new_nodes own (LeadsOut component) q h unset = refl
+outcome_unset p new_nodes own (Changes c) q h unset =
+    change_holds (λ o. IsUnset o q) p new_nodes own c (λ _. refl)
+    (λ _. both_unset (process_updates p new_nodes own) (change_updates c) q (process_unset p new_nodes own q h) unset)
 
-outcome_others : (p makes : ℕ) (own : Option ProcessState) (comes : NameOutcome) (q : ℕ) → q ≢ p
-    → IsUnset (outcome_of p own makes comes) (at_proc q) × IsUnset (outcome_of p own makes comes) (at_status q)
-outcome_others p makes own (Refuses errno) q apart = (refl, refl)
-outcome_others p makes own (LeadsOut component) q apart = (refl, refl)
-outcome_others p makes own (Changes c) q apart =
-    let mine = process_others p makes own q apart in
+outcome_others : (p new_nodes : ℕ) (own : Option ProcessState) (comes : NameOutcome) (q : ℕ) → q ≢ p
+    → IsUnset (outcome_of p own new_nodes comes) (at_proc q) × IsUnset (outcome_of p own new_nodes comes) (at_status q)
+outcome_others p new_nodes own (Refuses errno) q apart = (refl, refl)
+outcome_others p new_nodes own (LeadsOut component) q apart = (refl, refl)
+outcome_others p new_nodes own (Changes c) q apart =
+    let mine = process_others p new_nodes own q apart in
     let tree = tree_unset (change_updates c) q (change_of_tree c) in
-    change_holds (λ o. IsUnset o (at_proc q) × IsUnset o (at_status q)) p makes own c (λ _. (refl, refl))
+    change_holds (λ o. IsUnset o (at_proc q) × IsUnset o (at_status q)) p new_nodes own c (λ _. (refl, refl))
     (λ _. (
-      both_unset (process_updates p makes own) (change_updates c) (at_proc q) mine.0 tree.0,
-      both_unset (process_updates p makes own) (change_updates c) (at_status q) mine.1 tree.1,
+      both_unset (process_updates p new_nodes own) (change_updates c) (at_proc q) mine.0 tree.0,
+      both_unset (process_updates p new_nodes own) (change_updates c) (at_status q) mine.1 tree.1,
     ))
 
-outcome_threads : (S : State) (p makes : ℕ) (comes : NameOutcome) → threads_of (put_all (outcome_of p (get S.processes p) makes comes).updates S) p ≡ threads_of S p
-outcome_threads S p makes (Refuses errno) = refl
-outcome_threads S p makes (LeadsOut component) = refl
-outcome_threads S p makes (Changes c) =
-    change_holds (λ (o : Outcome). threads_of (put_all o.updates S) p ≡ threads_of S p) p makes (get S.processes p) c (λ _. refl)
-    (λ _. ap (λ (T : State). threads_of T p) (put_both (process_updates p makes (get S.processes p)) (change_updates c) S)
-    ∙ tree_threads (change_updates c) (counted p makes S) p (change_of_tree c) ∙ counted_threads S p makes p)
+outcome_threads : (S : State) (p new_nodes : ℕ) (comes : NameOutcome) → threads_of (put_all (outcome_of p (get S.processes p) new_nodes comes).updates S) p ≡ threads_of S p
+outcome_threads S p new_nodes (Refuses errno) = refl
+outcome_threads S p new_nodes (LeadsOut component) = refl
+outcome_threads S p new_nodes (Changes c) =
+    change_holds (λ (o : Outcome). threads_of (put_all o.updates S) p ≡ threads_of S p) p new_nodes (get S.processes p) c (λ _. refl)
+    (λ _. ap (λ (T : State). threads_of T p) (put_both (process_updates p new_nodes (get S.processes p)) (change_updates c) S)
+    ∙ tree_threads (change_updates c) (counted p new_nodes S) p (change_of_tree c) ∙ counted_threads S p new_nodes p)
 
 process_tables : (S : State) (p count : ℕ) (own : Option ProcessState) → (put_all (process_updates p count own) S).tables ≡ S.tables
 process_tables S p zero own = refl
 process_tables S p (suc count) None = refl
 process_tables S p (suc count) (Some own) = refl
 
-pub outcome_tables : (S : State) (p makes : ℕ) (own : Option ProcessState) (comes : NameOutcome) → (put_all (outcome_of p own makes comes).updates S).tables ≡ S.tables
-outcome_tables S p makes own (Refuses errno) = refl
-outcome_tables S p makes own (LeadsOut component) = refl
-outcome_tables S p makes own (Changes c) =
-    change_holds (λ (o : Outcome). (put_all o.updates S).tables ≡ S.tables) p makes own c (λ _. refl)
-    (λ _. ap (λ (T : State). T.tables) (put_both (process_updates p makes own) (change_updates c) S)
-    ∙ tree_tables (change_updates c) (put_all (process_updates p makes own) S) (change_of_tree c) ∙ process_tables S p makes own)
+pub outcome_tables : (S : State) (p new_nodes : ℕ) (own : Option ProcessState) (comes : NameOutcome) → (put_all (outcome_of p own new_nodes comes).updates S).tables ≡ S.tables
+outcome_tables S p new_nodes own (Refuses errno) = refl
+outcome_tables S p new_nodes own (LeadsOut component) = refl
+outcome_tables S p new_nodes own (Changes c) =
+    change_holds (λ (o : Outcome). (put_all o.updates S).tables ≡ S.tables) p new_nodes own c (λ _. refl)
+    (λ _. ap (λ (T : State). T.tables) (put_both (process_updates p new_nodes own) (change_updates c) S)
+    ∙ tree_tables (change_updates c) (put_all (process_updates p new_nodes own) S) (change_of_tree c) ∙ process_tables S p new_nodes own)
 
 -- where it can make no more it makes something
-makes_some : (P : Type 0) (p makes : ℕ) (own : Option ProcessState) → can_number p makes own ≡ false → (makes ≡ 0) ⊎ P → P
-makes_some P p makes own none (inl is) = absurd (not_true (sym none ∙ ap (λ n. can_number p n own) is))
-makes_some P p makes own none (inr some) = some
+makes_some : (P : Type 0) (p new_nodes : ℕ) (own : Option ProcessState) → can_number p new_nodes own ≡ false → (new_nodes ≡ 0) ⊎ P → P
+makes_some P p new_nodes own none (inl is) = absurd (not_true (sym none ∙ ap (λ n. can_number p n own) is))
+makes_some P p new_nodes own none (inr some) = some
 
-outcome_plain : (errors : List Errno) (p makes : ℕ) (own : Option ProcessState) (outside : Option ℕ) (comes : NameOutcome) → (makes ≡ 0) ⊎ IsIn Again errors
-    → IsPlainly errors outside comes → IsDeniedOutside errors outside (outcome_of p own makes comes)
-outcome_plain errors p makes own (Some component) comes again h = ap (outcome_of p own makes) h
-outcome_plain errors p makes own None (Refuses errno) again h = (refl, inr (refl, h))
-outcome_plain errors p makes own None (LeadsOut component) again h = absurd h
-outcome_plain errors p makes own None (Changes c) again h =
-    change_holds (IsDeniedOutside errors None) p makes own c
-    (λ none. (refl, inr (refl, makes_some (IsIn Again errors) p makes own none again))) (λ _. (refl, inl refl))
+outcome_plain : (errors : List Errno) (p new_nodes : ℕ) (own : Option ProcessState) (outside : Option ℕ) (comes : NameOutcome) → (new_nodes ≡ 0) ⊎ IsIn Again errors
+    → IsPlainly errors outside comes → IsDeniedOutside errors outside (outcome_of p own new_nodes comes)
+outcome_plain errors p new_nodes own (Some component) comes again h = ap (outcome_of p own new_nodes) h
+outcome_plain errors p new_nodes own None (Refuses errno) again h = (refl, inr (refl, h))
+outcome_plain errors p new_nodes own None (LeadsOut component) again h = absurd h
+outcome_plain errors p new_nodes own None (Changes c) again h =
+    change_holds (IsDeniedOutside errors None) p new_nodes own c
+    (λ none. (refl, inr (refl, makes_some (IsIn Again errors) p new_nodes own none again))) (λ _. (refl, inl refl))
 
-outcome_valid : (S : State) (p makes : ℕ) (comes : NameOutcome) → IsNearlyValid S
-    → (can_number p makes (get S.processes p) ≡ true → IsGood (tree_of S) (next_object p (get S.processes p) 1) makes comes)
-    → IsNearlyValid (put_all (outcome_of p (get S.processes p) makes comes).updates S)
-outcome_valid S p makes (Refuses errno) v good = v
-outcome_valid S p makes (LeadsOut component) v good = v
-outcome_valid S p makes (Changes c) v good =
-    change_holds (λ (o : Outcome). IsNearlyValid (put_all o.updates S)) p makes (get S.processes p) c (λ _. v) (λ can.
-    subst IsNearlyValid (sym (put_counted S p makes (next_object p (get S.processes p) 1) makes c can (good can) (λ _. refl) (omega arith) v))
-    (change_nearly_valid S p makes (next_object p (get S.processes p) 1) makes c can (good can) (λ _. refl) (omega arith) v))
+outcome_valid : (S : State) (p new_nodes : ℕ) (comes : NameOutcome) → IsNearlyValid S
+    → (can_number p new_nodes (get S.processes p) ≡ true → IsGood (tree_of S) (next_object p (get S.processes p) 1) new_nodes comes)
+    → IsNearlyValid (put_all (outcome_of p (get S.processes p) new_nodes comes).updates S)
+outcome_valid S p new_nodes (Refuses errno) v good = v
+outcome_valid S p new_nodes (LeadsOut component) v good = v
+outcome_valid S p new_nodes (Changes c) v good =
+    change_holds (λ (o : Outcome). IsNearlyValid (put_all o.updates S)) p new_nodes (get S.processes p) c (λ _. v) (λ can.
+    subst IsNearlyValid (sym (put_counted S p new_nodes (next_object p (get S.processes p) 1) new_nodes c can (good can) (λ _. refl) (omega arith) v))
+    (change_nearly_valid S p new_nodes (next_object p (get S.processes p) 1) new_nodes c can (good can) (λ _. refl) (omega arith) v))
 
 -- ---- by the opens of two descriptors, of which one may be none
 
@@ -174,17 +174,17 @@ module _ (m : NameMeaning) (well : NamesWell m) where
 
   both_read : (now : ℕ) (S : State) (p : ℕ) (rest : List Part) (a b : Option Descriptor)
       → HasReached S (process_parts p ++ rest) a → HasReached S (process_parts p ++ rest) b
-      → outcome_of p ((restrict S (process_parts p ++ rest)).process p) m.makes
+      → outcome_of p ((restrict S (process_parts p ++ rest)).process p) m.new_nodes
       (m.effect now (next_object p ((restrict S (process_parts p ++ rest)).process p) 1) (restrict S (process_parts p ++ rest)).branch
       (open_of (restrict S (process_parts p ++ rest)) a) (open_of (restrict S (process_parts p ++ rest)) b))
-      ≡ outcome_of p (get S.processes p) m.makes (comes_to now S p a b)
+      ≡ outcome_of p (get S.processes p) m.new_nodes (comes_to now S p a b)
   both_read now S p rest a b here there =
       let parts : List Part = process_parts p ++ rest in
       let own : (restrict S parts).process p ≡ get S.processes p = first_seen p (has_part rest (at_proc p)) (get S.processes p) in
       let first = sees_open S parts a here in
       let second = sees_open S parts b there in
-      (λ i. outcome_of p (own i) m.makes (m.effect now (next_object p (own i) 1) (restrict S parts).branch (first i) (second i)))
-      ∙ alike_outcome p m.makes (get S.processes p)
+      (λ i. outcome_of p (own i) m.new_nodes (m.effect now (next_object p (own i) 1) (restrict S parts).branch (first i) (second i)))
+      ∙ alike_outcome p m.new_nodes (get S.processes p)
       (m.effect now (next_object p (get S.processes p) 1) (restrict S parts).branch (open_of (whole S) a) (open_of (whole S) b)) (comes_to now S p a b)
       (well.reads now (next_object p (get S.processes p) 1) (tree_of S) (restrict S parts).branch (open_of (whole S) a) (open_of (whole S) b)
       (sees_behind S parts a here) (sees_behind S parts b there))
@@ -199,17 +199,17 @@ module _ (m : NameMeaning) (well : NamesWell m) where
       ∙ well.walks (tree_of S) (restrict S parts).branch (open_of (whole S) a) (open_of (whole S) b) (sees_behind S parts a here) (sees_behind S parts b there)
 
   both_unset_by : (now : ℕ) (S : State) (p : ℕ) (a b : Option Descriptor) (q : Part)
-      → has_part (process_parts p ++ (new_parts p m.makes (get S.processes p) ++ m.touched (tree_of S) (open_of (whole S) a) (open_of (whole S) b))) q ≡ false
-      → IsUnset (outcome_of p (get S.processes p) m.makes (comes_to now S p a b)) q
+      → has_part (process_parts p ++ (new_parts p m.new_nodes (get S.processes p) ++ m.touched (tree_of S) (open_of (whole S) a) (open_of (whole S) b))) q ≡ false
+      → IsUnset (outcome_of p (get S.processes p) m.new_nodes (comes_to now S p a b)) q
   both_unset_by now S p a b q h =
-      let made : List Part = new_parts p m.makes (get S.processes p) in
+      let made : List Part = new_parts p m.new_nodes (get S.processes p) in
       let changed : List Part = m.touched (tree_of S) (open_of (whole S) a) (open_of (whole S) b) in
-      let node : List Part = new_node_parts m.makes (next_object p (get S.processes p) 1) in
+      let node : List Part = new_node_parts m.new_nodes (next_object p (get S.processes p) 1) in
       let apart = beyond_process p (made ++ changed) q h in
       let each = either_false (has_part made q) (has_part changed q) (sym (has_of_both made changed q) ∙ apart.1) in
-      outcome_unset p m.makes (get S.processes p) (comes_to now S p a b) q apart.0
+      outcome_unset p m.new_nodes (get S.processes p) (comes_to now S p a b) q apart.0
       (well.sets now (next_object p (get S.processes p) 1) (tree_of S) (open_of (whole S) a) (open_of (whole S) b) q
-      (has_of_both node changed q ∙ ap (λ c. c || has_part changed q) (new_node_unset p m.makes (get S.processes p) q each.0) ∙ each.1))
+      (has_of_both node changed q ∙ ap (λ c. c || has_part changed q) (new_node_unset p m.new_nodes (get S.processes p) q each.0) ∙ each.1))
 
   -- what it changes is reached by one of both
   both_reach : (S : State) (a b : Option Descriptor) (q : Part) → has_part (m.touched (tree_of S) (open_of (whole S) a) (open_of (whole S) b)) q ≡ true
@@ -224,12 +224,12 @@ module _ (m : NameMeaning) (well : NamesWell m) where
       ]
 
   both_valid : (now : ℕ) (S : State) (p : ℕ) (a b : Option Descriptor) → IsNearlyValid S
-      → IsNearlyValid (put_all (outcome_of p (get S.processes p) m.makes (comes_to now S p a b)).updates S)
+      → IsNearlyValid (put_all (outcome_of p (get S.processes p) m.new_nodes (comes_to now S p a b)).updates S)
   both_valid now S p a b v =
-      outcome_valid S p m.makes (comes_to now S p a b) v (λ can.
+      outcome_valid S p m.new_nodes (comes_to now S p a b) v (λ can.
       well.good now (next_object p (get S.processes p) 1) S (open_of (whole S) a) (open_of (whole S) b)
       (λ k is. open_has_behind S a v k is) (λ k is. open_has_behind S b v k is) v.tree (λ some.
-      let fits = fewer_fit p 1 m.makes (get S.processes p) (omega arith) (omega (arith, some)) can in
+      let fits = fewer_fit p 1 m.new_nodes (get S.processes p) (omega arith) (omega (arith, some)) can in
       (next_is_absent S p 1 v fits.0 (omega arith) fits.1).1))
 
   -- ---- both kinds of calls
@@ -255,12 +255,12 @@ module _ (m : NameMeaning) (well : NamesWell m) where
     plain = λ constants v who table.
         let here = open_of v (get table row.fd) in
         let new : ℕ = next_object who.pid (v.process who.pid) 1 in
-        outcome_plain m.errors who.pid m.makes (v.process who.pid) (m.outside v.branch here None)
+        outcome_plain m.errors who.pid m.new_nodes (v.process who.pid) (m.outside v.branch here None)
         (m.effect (real_time constants v.clock) new v.branch here None) well.again
         (well.plain (real_time constants v.clock) new v.branch here None);
     lacks = λ _. well.lacks;
-    others = λ constants v who table q apart. outcome_others who.pid m.makes (v.process who.pid) _ q apart;
-    threads = λ constants S who table live. outcome_threads S who.pid m.makes (comes_to (real_time constants S.clock) S who.pid (get table row.fd) None);
+    others = λ constants v who table q apart. outcome_others who.pid m.new_nodes (v.process who.pid) _ q apart;
+    threads = λ constants S who table live. outcome_threads S who.pid m.new_nodes (comes_to (real_time constants S.clock) S who.pid (get table row.fd) None);
     valid = λ constants S who table there nearly. both_valid (real_time constants S.clock) S who.pid (get table row.fd) None nearly;
   }
 
@@ -300,13 +300,13 @@ module _ (m : NameMeaning) (well : NamesWell m) where
         let here = open_of v (get table first.fd) in
         let there = open_of v (get table second.fd) in
         let new : ℕ = next_object who.pid (v.process who.pid) 1 in
-        outcome_plain m.errors who.pid m.makes (v.process who.pid) (m.outside v.branch here there)
+        outcome_plain m.errors who.pid m.new_nodes (v.process who.pid) (m.outside v.branch here there)
         (m.effect (real_time constants v.clock) new v.branch here there) well.again
         (well.plain (real_time constants v.clock) new v.branch here there);
     lacks = λ _. well.lacks;
-    others = λ constants v who table q apart. outcome_others who.pid m.makes (v.process who.pid) _ q apart;
+    others = λ constants v who table q apart. outcome_others who.pid m.new_nodes (v.process who.pid) _ q apart;
     threads = λ constants S who table live.
-        outcome_threads S who.pid m.makes (comes_to (real_time constants S.clock) S who.pid (get table first.fd) (get table second.fd));
+        outcome_threads S who.pid m.new_nodes (comes_to (real_time constants S.clock) S who.pid (get table first.fd) (get table second.fd));
     valid = λ constants S who table there nearly.
         both_valid (real_time constants S.clock) S who.pid (get table first.fd) (get table second.fd) nearly;
   }

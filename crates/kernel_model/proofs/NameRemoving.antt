@@ -103,13 +103,13 @@ module _ (P : NameOutcome → Type 0) (flags now : ℕ) (t : Tree) (d : ℕ) (na
 
 -- ---- a name that goes
 
-pub without_name_change : (now : ℕ) (t : Tree) (d : ℕ) (name : List ℕ) (n new makes : ℕ) → IsTree t → HasName t d name n
-    → first_fault (unlink_faults t d name) ≡ None → IsChangeOf t new makes (without_name now t d name n)
-without_name_change now t d name n new makes tree named free =
+pub without_name_change : (now : ℕ) (t : Tree) (d : ℕ) (name : List ℕ) (n new new_nodes : ℕ) → IsTree t → HasName t d name n
+    → first_fault (unlink_faults t d name) ≡ None → IsChangeOf t new new_nodes (without_name now t d name n)
+without_name_change now t d name n new new_nodes tree named free =
     let has_node = later_is_member n d (n ∷ []) (first_is_member n []) in
-    retimed_change t new makes (record { tree = with_new_names now (unlinked t d name) d; nodes = d ∷ n ∷ []; directories = d ∷ [] }) n (recounted now) has_node
-    (retimed_change t new makes (record { tree = unlinked t d name; nodes = d ∷ n ∷ []; directories = d ∷ [] }) d (modified now) (first_is_member d (n ∷ []))
-    (unlinked_change t d name n named new makes (d ∷ n ∷ []) (d ∷ []) tree free has_node (first_is_member d [])))
+    retimed_change t new new_nodes (record { tree = with_new_names now (unlinked t d name) d; nodes = d ∷ n ∷ []; directories = d ∷ [] }) n (recounted now) has_node
+    (retimed_change t new new_nodes (record { tree = unlinked t d name; nodes = d ∷ n ∷ []; directories = d ∷ [] }) d (modified now) (first_is_member d (n ∷ []))
+    (unlinked_change t d name n named new new_nodes (d ∷ n ∷ []) (d ∷ []) tree free has_node (first_is_member d [])))
 
 pub one_less_alike : (t u : Tree) (n q : ℕ) → get t.nodes n ≡ get u.nodes n → get t.nodes q ≡ get u.nodes q
     → get (one_less t n).nodes q ≡ get (one_less u n).nodes q

@@ -52,7 +52,7 @@ use Rattle.kernel_model.proofs.TreeChanges.{first_is_member, kept_change, not_me
 abbrev pub OpensAlike : Opened → Opened → Type 0
 OpensAlike (NotOpened errno) o = o ≡ NotOpened errno
 OpensAlike (OpenedOutside component) o = o ≡ OpenedOutside component
-OpensAlike (Opens kind c makes) o = (d : Change) × (o ≡ Opens kind d makes) × (change_updates c ≡ change_updates d)
+OpensAlike (Opens kind c new_nodes) o = (d : Change) × (o ≡ Opens kind d new_nodes) × (change_updates c ≡ change_updates d)
 
 either_opens : (b : Bool) (x y v w : Opened) → OpensAlike x y → OpensAlike v w → OpensAlike (cond b x v) (cond b y w)
 either_opens true x y v w first second = first
@@ -167,7 +167,7 @@ module _ (oflags flags : ℕ) (path : List ℕ) (now new : ℕ) (t : Tree) (P : 
     (refuses : (end : PathEnd) (errno : Errno) → IsAmong errno open_errors → P end (NotOpened errno))
     (file : (n : ℕ) → is_file t n ≡ true → P (end.Found n) (Opens (File n 0 flags) (truncated oflags now t n) 0))
     (directory : (n : ℕ) → is_directory t n ≡ true → P (end.Found n) (Opens (Directory n flags) (no_change t) 0))
-    (makes : (d from len : ℕ) → creates oflags ≡ true → first_fault (make_faults t d (name_at path from len)) ≡ None
+    (new_nodes : (d from len : ℕ) → creates oflags ≡ true → first_fault (make_faults t d (name_at path from len)) ≡ None
     → P (end.Absent d from len) (Opens (File new 0 flags) (with_node (kind.File []) now new t d (name_at path from len)) 1)) where
   either_holds : (end : PathEnd) (b : Bool) (x y : Opened) → P end x → P end y → P end (cond b x y)
   either_holds end true x y first second = first
@@ -189,7 +189,7 @@ module _ (oflags flags : ℕ) (path : List ℕ) (now new : ℕ) (t : Tree) (P : 
 
   made_holds : (d from len : ℕ) → creates oflags ≡ true → (fault : Option TreeFault) → first_fault (make_faults t d (name_at path from len)) ≡ fault
       → FaultAmong fault → P (end.Absent d from len) (make_file flags now new t d (name_at path from len) fault)
-  made_holds d from len made None free among = makes d from len made free
+  made_holds d from len made None free among = new_nodes d from len made free
   made_holds d from len made (Some fault) is among = refuses (end.Absent d from len) (errno_of fault) among
 
   absent_holds : (d from len : ℕ) (b : Bool) → creates oflags ≡ b
@@ -210,7 +210,7 @@ module _ (oflags flags : ℕ) (path : List ℕ) (now new : ℕ) (t : Tree) (P : 
 abbrev pub OpensPlainly : Opened → Type 0
 OpensPlainly (NotOpened errno) = IsAmong errno open_errors
 OpensPlainly (OpenedOutside component) = ⊥
-OpensPlainly (Opens kind c makes) = ⊤
+OpensPlainly (Opens kind c new_nodes) = ⊤
 
 pub opens_plainly : (oflags flags : ℕ) (path : List ℕ) (now new : ℕ) (t : Tree) (end : PathEnd) → OpensPlainly (open_end oflags flags path now new t end)
 opens_plainly oflags flags path now new t end =
@@ -224,13 +224,13 @@ Unset us q = has_part (map part_of us) q ≡ false
 
 -- at most one node is made
 abbrev pub IsFew : ℕ → Type 0
-IsFew makes = (makes ≡ 0) ⊎ (makes ≡ 1)
+IsFew new_nodes = (new_nodes ≡ 0) ⊎ (new_nodes ≡ 1)
 
 -- where something is opened, the change of the tree sets other parts than this
 abbrev pub OpensBeside : Part → Opened → Type 0
 OpensBeside q (NotOpened errno) = ⊤
 OpensBeside q (OpenedOutside component) = ⊤
-OpensBeside q (Opens kind c makes) = IsFew makes × Unset (change_updates c) q
+OpensBeside q (Opens kind c new_nodes) = IsFew new_nodes × Unset (change_updates c) q
 
 -- what it may change, by the path's end
 abbrev pub end_changes : ℕ → PathEnd → List Part
@@ -276,7 +276,7 @@ IsThere t _ = ⊥
 abbrev pub OpensWell : Tree → ℕ → Opened → Type 0
 OpensWell t new (NotOpened errno) = ⊤
 OpensWell t new (OpenedOutside component) = ⊤
-OpensWell t new (Opens kind c makes) = IsFew makes × IsChangeOf t new makes c × IsThere c.tree kind
+OpensWell t new (Opens kind c new_nodes) = IsFew new_nodes × IsChangeOf t new new_nodes c × IsThere c.tree kind
 
 file_is_some : (o : Option Node) → is_file_node o ≡ true → is_some o ≡ true
 file_is_some None file = file
@@ -291,20 +291,20 @@ module _ (t u : Tree) (n : ℕ) (works : Reworks t u n) (file : is_file t n ≡ 
     tables = λ q. ap (λ m. is_some (get m q)) works.names;
   }
 
-  reworked_change : (new makes : ℕ) → IsTree t → IsChangeOf t new makes (record { tree = u; nodes = n ∷ []; directories = [] })
-  reworked_change new makes tree =
-      kept_change t new makes (record { tree = u; nodes = n ∷ []; directories = [] }) (works.tree tree) reworked_keeps
+  reworked_change : (new new_nodes : ℕ) → IsTree t → IsChangeOf t new new_nodes (record { tree = u; nodes = n ∷ []; directories = [] })
+  reworked_change new new_nodes tree =
+      kept_change t new new_nodes (record { tree = u; nodes = n ∷ []; directories = [] }) (works.tree tree) reworked_keeps
       (λ q is. here_or_other (λ k. is_file u k ≡ is_file t k) n q works.file (λ other. ap is_file_node (works.others q other)) ∙ is)
       (λ q lacks. works.others q (not_member_apart n q (n ∷ []) (first_is_member n []) lacks)) (λ q lacks. ap (λ m. get m q) works.names)
 
-either_well : (b : Bool) (t : Tree) (new makes : ℕ) (kind : OpenKind) (c d : Change) → IsChangeOf t new makes c × IsThere c.tree kind
-    → IsChangeOf t new makes d × IsThere d.tree kind → IsChangeOf t new makes (cond b c d) × IsThere (cond b c d).tree kind
-either_well true t new makes kind c d first second = first
-either_well false t new makes kind c d first second = second
+either_well : (b : Bool) (t : Tree) (new new_nodes : ℕ) (kind : OpenKind) (c d : Change) → IsChangeOf t new new_nodes c × IsThere c.tree kind
+    → IsChangeOf t new new_nodes d × IsThere d.tree kind → IsChangeOf t new new_nodes (cond b c d) × IsThere (cond b c d).tree kind
+either_well true t new new_nodes kind c d first second = first
+either_well false t new new_nodes kind c d first second = second
 
-unchanged : (t : Tree) (new makes : ℕ) → IsTree t → IsChangeOf t new makes (no_change t)
-unchanged t new makes tree =
-    kept_change t new makes (no_change t) tree (KeepsNodes-itself t) (λ q is. is) (λ q lacks. refl) (λ q lacks. refl)
+unchanged : (t : Tree) (new new_nodes : ℕ) → IsTree t → IsChangeOf t new new_nodes (no_change t)
+unchanged t new new_nodes tree =
+    kept_change t new new_nodes (no_change t) tree (KeepsNodes-itself t) (λ q is. is) (λ q lacks. refl) (λ q lacks. refl)
 
 module _ (flags now new : ℕ) (t : Tree) (tree : IsTree t) where
   truncated_well : (oflags n : ℕ) → is_file t n ≡ true

@@ -57,13 +57,13 @@ use Rattle.kernel_model.proofs.TreeUpdates.{both_unset, change_nearly_valid, cha
 
 -- the updates, before those of the tree
 abbrev open_updates : ℕ → Option ProcessState → Table → FdStat → ℕ → OpenKind → ℕ → List Update → List Update
-open_updates p own table stat fd kind makes us =
-    set_open (next_object p own (makes + 1)) kind
-    ∷ set_table p (insert table fd (opened_descriptor (next_object p own (makes + 1)) kind stat))
-    ∷ (process_updates p (makes + 1) own ++ us)
+open_updates p own table stat fd kind new_nodes us =
+    set_open (next_object p own (new_nodes + 1)) kind
+    ∷ set_table p (insert table fd (opened_descriptor (next_object p own (new_nodes + 1)) kind stat))
+    ∷ (process_updates p (new_nodes + 1) own ++ us)
 
 abbrev opening : ℕ → Option ProcessState → Table → FdStat → ℕ → OpenKind → ℕ → List Update → Outcome
-opening p own table stat fd kind makes us = record { answer = answer.Reply (success fd 0); updates = open_updates p own table stat fd kind makes us }
+opening p own table stat fd kind new_nodes us = record { answer = answer.Reply (success fd 0); updates = open_updates p own table stat fd kind new_nodes us }
 
 -- what holds of a refusal, and of the outcome where the test is true
 either_outcome : (Q : Outcome → Type 0) (b : Bool) (x y : Outcome) → (b ≡ true → Q x) → Q y → Q (cond b x y)
@@ -74,18 +74,18 @@ module _ (p : ℕ) (own : Option ProcessState) (table : Table) (stat : FdStat) w
   -- what holds of each reply with nothing set, and of what is set where something is opened, holds of the outcome
   module _ (Q : Outcome → Type 0) (answers : (reply : Reply) → Q (replies reply)) where
     opened_by : (fd : ℕ) (o : Opened)
-        → ((kind : OpenKind) (c : Change) (makes : ℕ) → o ≡ Opens kind c makes → can_number p (makes + 1) own ≡ true
-        → Q (opening p own table stat fd kind makes (change_updates c)))
+        → ((kind : OpenKind) (c : Change) (new_nodes : ℕ) → o ≡ Opens kind c new_nodes → can_number p (new_nodes + 1) own ≡ true
+        → Q (opening p own table stat fd kind new_nodes (change_updates c)))
         → Q (opened_outcome p own table stat fd o)
     opened_by fd (NotOpened errno) opens = answers _
     opened_by fd (OpenedOutside component) opens = answers _
-    opened_by fd (Opens kind c makes) opens =
-        either_outcome Q (can_number p (makes + 1) own) (opening p own table stat fd kind makes (change_updates c)) _
-        (opens kind c makes refl) (answers _)
+    opened_by fd (Opens kind c new_nodes) opens =
+        either_outcome Q (can_number p (new_nodes + 1) own) (opening p own table stat fd kind new_nodes (change_updates c)) _
+        (opens kind c new_nodes refl) (answers _)
 
     open_by : (free : Option ℕ) (o : Opened)
-        → ((fd : ℕ) (kind : OpenKind) (c : Change) (makes : ℕ) → o ≡ Opens kind c makes → can_number p (makes + 1) own ≡ true
-        → Q (opening p own table stat fd kind makes (change_updates c)))
+        → ((fd : ℕ) (kind : OpenKind) (c : Change) (new_nodes : ℕ) → o ≡ Opens kind c new_nodes → can_number p (new_nodes + 1) own ≡ true
+        → Q (opening p own table stat fd kind new_nodes (change_updates c)))
         → Q (open_at p own table stat o free)
     open_by None o opens = answers _
     open_by (Some fd) o opens = opened_by fd o (opens fd)
@@ -95,8 +95,8 @@ module _ (p : ℕ) (own : Option ProcessState) (table : Table) (stat : FdStat) w
   outcome_alike : (fd : ℕ) (x y : Opened) → OpensAlike x y → opened_outcome p own table stat fd x ≡ opened_outcome p own table stat fd y
   outcome_alike fd (NotOpened errno) y same = ap (opened_outcome p own table stat fd) (sym same)
   outcome_alike fd (OpenedOutside component) y same = ap (opened_outcome p own table stat fd) (sym same)
-  outcome_alike fd (Opens kind c makes) y same =
-      ap (λ us. cond (can_number p (makes + 1) own) (opening p own table stat fd kind makes us) (replies (refused Again))) same.2
+  outcome_alike fd (Opens kind c new_nodes) y same =
+      ap (λ us. cond (can_number p (new_nodes + 1) own) (opening p own table stat fd kind new_nodes us) (replies (refused Again))) same.2
       ∙ ap (opened_outcome p own table stat fd) (sym same.1)
 
   at_alike : (free : Option ℕ) (x y : Opened) → OpensAlike x y → open_at p own table stat x free ≡ open_at p own table stat y free
@@ -108,8 +108,8 @@ module _ (p : ℕ) (own : Option ProcessState) (table : Table) (stat : FdStat) w
   opened_plain : (fd : ℕ) (o : Opened) → OpensPlainly o → IsPlain open_errors (opened_outcome p own table stat fd o)
   opened_plain fd (NotOpened errno) plain = (refl, inr (refl, plain))
   opened_plain fd (OpenedOutside component) plain = absurd plain
-  opened_plain fd (Opens kind c makes) plain =
-      either_outcome (IsPlain open_errors) (can_number p (makes + 1) own) (opening p own table stat fd kind makes (change_updates c)) _
+  opened_plain fd (Opens kind c new_nodes) plain =
+      either_outcome (IsPlain open_errors) (can_number p (new_nodes + 1) own) (opening p own table stat fd kind new_nodes (change_updates c)) _
       (λ _. (refl, inl refl)) (refl, inr (refl, again_among))
 
   walk_plain : (oflags flags : ℕ) (path : List ℕ) (now new : ℕ) (t : Tree) (fd : ℕ) (w : Walked) → FailsPlainly w
@@ -130,13 +130,13 @@ process_unset p zero own q apart = refl
 process_unset p (suc count) None q apart = refl
 process_unset p (suc count) (Some own) q apart = ap (λ b. b || false) apart
 
-opening_unset : (p : ℕ) (own : Option ProcessState) (table : Table) (stat : FdStat) (fd : ℕ) (kind : OpenKind) (makes : ℕ) (us : List Update) (q : Part)
-    → same_part (at_open (next_object p own (makes + 1))) q ≡ false → same_part (at_proc p) q ≡ false → Unset us q
-    → IsUnset (opening p own table stat fd kind makes us) q
-opening_unset p own table stat fd kind makes us q apart proc change =
-    let rest : List Update = process_updates p (makes + 1) own ++ us in
+opening_unset : (p : ℕ) (own : Option ProcessState) (table : Table) (stat : FdStat) (fd : ℕ) (kind : OpenKind) (new_nodes : ℕ) (us : List Update) (q : Part)
+    → same_part (at_open (next_object p own (new_nodes + 1))) q ≡ false → same_part (at_proc p) q ≡ false → Unset us q
+    → IsUnset (opening p own table stat fd kind new_nodes us) q
+opening_unset p own table stat fd kind new_nodes us q apart proc change =
+    let rest : List Update = process_updates p (new_nodes + 1) own ++ us in
     ap (λ b. b || (same_part (at_proc p) q || has_part (map part_of rest) q)) apart ∙ ap (λ b. b || has_part (map part_of rest) q) proc
-    ∙ both_unset (process_updates p (makes + 1) own) us q (process_unset p (makes + 1) own q proc) change
+    ∙ both_unset (process_updates p (new_nodes + 1) own) us q (process_unset p (new_nodes + 1) own q proc) change
 
 open_apart : (o : ℕ) (q : Part) → has_part (object_parts o) q ≡ false → same_part (at_open o) q ≡ false
 open_apart o q h = (outside_cons (at_open o) (at_node o ∷ at_names o ∷ []) q h).0
@@ -150,10 +150,10 @@ apart_from_new p own q h =
     (of_first first [] q (of_second second (first ++ []) q h), of_first second (first ++ []) q h)
 
 -- so it is none of the open's that comes behind at most one node
-few_apart : (p : ℕ) (own : Option ProcessState) (q : Part) (makes : ℕ) → IsFew makes → has_part (object_parts (next_object p own 1)) q ≡ false
-    → has_part (object_parts (next_object p own 2)) q ≡ false → has_part (object_parts (next_object p own (makes + 1))) q ≡ false
-few_apart p own q makes (inl is) first second = subst (λ m. has_part (object_parts (next_object p own (m + 1))) q ≡ false) (sym is) first
-few_apart p own q makes (inr is) first second = subst (λ m. has_part (object_parts (next_object p own (m + 1))) q ≡ false) (sym is) second
+few_apart : (p : ℕ) (own : Option ProcessState) (q : Part) (new_nodes : ℕ) → IsFew new_nodes → has_part (object_parts (next_object p own 1)) q ≡ false
+    → has_part (object_parts (next_object p own 2)) q ≡ false → has_part (object_parts (next_object p own (new_nodes + 1))) q ≡ false
+few_apart p own q new_nodes (inl is) first second = subst (λ m. has_part (object_parts (next_object p own (m + 1))) q ≡ false) (sym is) first
+few_apart p own q new_nodes (inr is) first second = subst (λ m. has_part (object_parts (next_object p own (m + 1))) q ≡ false) (sym is) second
 
 -- what it may change, by where the path leads
 abbrev open_changes : ℕ → Walked → List Part
@@ -176,20 +176,20 @@ open_unset p own table stat free oflags path now t w q h =
     let apart = apart_from_new p own q (of_first (new_parts p 2 own) (open_changes oflags w) q rest) in
     let beside = walk_beside oflags stat.flags path now (next_object p own 1) t q apart.0 w (of_second (new_parts p 2 own) (open_changes oflags w) q rest) in
     open_by p own table stat (λ o. IsUnset o q) (λ reply. refl) free (open_walked oflags stat.flags path now (next_object p own 1) t w)
-    (λ fd kind c makes is can. (
-    let sets : OpensBeside q (Opens kind c makes) = subst (OpensBeside q) is beside in
-    opening_unset p own table stat fd kind makes (change_updates c) q
-    (open_apart (next_object p own (makes + 1)) q (few_apart p own q makes sets.0 apart.0 apart.1)) proc.0 sets.1))
+    (λ fd kind c new_nodes is can. (
+    let sets : OpensBeside q (Opens kind c new_nodes) = subst (OpensBeside q) is beside in
+    opening_unset p own table stat fd kind new_nodes (change_updates c) q
+    (open_apart (next_object p own (new_nodes + 1)) q (few_apart p own q new_nodes sets.0 apart.0 apart.1)) proc.0 sets.1))
 
 -- nothing that another process has
 open_others : (p : ℕ) (own : Option ProcessState) (table : Table) (stat : FdStat) (free : Option ℕ) (o : Opened) (q : ℕ) → q ≢ p
     → IsUnset (open_at p own table stat o free) (at_proc q) × IsUnset (open_at p own table stat o free) (at_status q)
 open_others p own table stat free o q apart =
     open_by p own table stat (λ o. IsUnset o (at_proc q) × IsUnset o (at_status q)) (λ reply. (refl, refl)) free o
-    (λ fd kind c makes is can. (
+    (λ fd kind c new_nodes is can. (
     let tree = tree_unset (change_updates c) q (change_of_tree c) in (
-      opening_unset p own table stat fd kind makes (change_updates c) (at_proc q) refl (number_apart p q apart) tree.0,
-      opening_unset p own table stat fd kind makes (change_updates c) (at_status q) refl refl tree.1,
+      opening_unset p own table stat fd kind new_nodes (change_updates c) (at_proc q) refl (number_apart p q apart) tree.0,
+      opening_unset p own table stat fd kind new_nodes (change_updates c) (at_status q) refl refl tree.1,
     )))
 
 -- ---- what it changes it sees
@@ -296,11 +296,11 @@ open_threads : (S : State) (p : ℕ) (table : Table) (stat : FdStat) (free : Opt
     → KeepsThreads S p (open_at p (get S.processes p) table stat o free)
 open_threads S p table stat free o =
     open_by p (get S.processes p) table stat (KeepsThreads S p) (λ reply _. refl) free o
-    (λ fd kind c makes is can _. (
-    let us : List Update = process_updates p (makes + 1) (get S.processes p) ++ change_updates c in
-    ap (λ (T : State). threads_of T p) (put_last (next_object p (get S.processes p) (makes + 1)) kind p _ us S (rest_beside p (makes + 1) (get S.processes p) c))
-    ∙ ap (λ (T : State). threads_of T p) (put_both (process_updates p (makes + 1) (get S.processes p)) (change_updates c) S)
-    ∙ tree_threads (change_updates c) (counted p (makes + 1) S) p (change_of_tree c) ∙ counted_threads S p (makes + 1) p))
+    (λ fd kind c new_nodes is can _. (
+    let us : List Update = process_updates p (new_nodes + 1) (get S.processes p) ++ change_updates c in
+    ap (λ (T : State). threads_of T p) (put_last (next_object p (get S.processes p) (new_nodes + 1)) kind p _ us S (rest_beside p (new_nodes + 1) (get S.processes p) c))
+    ∙ ap (λ (T : State). threads_of T p) (put_both (process_updates p (new_nodes + 1) (get S.processes p)) (change_updates c) S)
+    ∙ tree_threads (change_updates c) (counted p (new_nodes + 1) S) p (change_of_tree c) ∙ counted_threads S p (new_nodes + 1) p))
 
 there_behind : (S : State) (u : Tree) (kind : OpenKind) → IsThere u kind → HasBehind (with_tree u S) kind
 there_behind S u (File n offset flags) h = h
@@ -310,44 +310,44 @@ there_behind S u (Terminal which flags) h = absurd h
 there_behind S u (Process q) h = absurd h
 
 -- a process has opened this, and changed the tree for it
-module _ (S : State) (p : ℕ) (table : Table) (has_table : get S.tables p ≡ Some table) (v : IsNearlyValid S) (kind : OpenKind) (c : Change) (makes : ℕ)
-    (can : can_number p (makes + 1) (get S.processes p) ≡ true) (change : IsChangeOf (tree_of S) (next_object p (get S.processes p) 1) makes c)
+module _ (S : State) (p : ℕ) (table : Table) (has_table : get S.tables p ≡ Some table) (v : IsNearlyValid S) (kind : OpenKind) (c : Change) (new_nodes : ℕ)
+    (can : can_number p (new_nodes + 1) (get S.processes p) ≡ true) (change : IsChangeOf (tree_of S) (next_object p (get S.processes p) 1) new_nodes c)
     (there : IsThere c.tree kind) where
   -- the state before the open is there
   abbrev changed : State
-  changed = with_tree c.tree (counted p (makes + 1) S)
+  changed = with_tree c.tree (counted p (new_nodes + 1) S)
 
   abbrev new_open : ℕ
-  new_open = next_object p (get S.processes p) (makes + 1)
+  new_open = next_object p (get S.processes p) (new_nodes + 1)
 
   changed_valid : IsNearlyValid changed
-  changed_valid = change_nearly_valid S p (makes + 1) (next_object p (get S.processes p) 1) makes c can change (λ _. refl) (omega arith) v
+  changed_valid = change_nearly_valid S p (new_nodes + 1) (next_object p (get S.processes p) 1) new_nodes c can change (λ _. refl) (omega arith) v
 
-  counted_opens : (counted p (makes + 1) S).opens ≡ S.opens
-  counted_opens = counted_holds (λ (T : State). T.opens ≡ S.opens) S p (makes + 1) refl (λ own _. refl)
+  counted_opens : (counted p (new_nodes + 1) S).opens ≡ S.opens
+  counted_opens = counted_holds (λ (T : State). T.opens ≡ S.opens) S p (new_nodes + 1) refl (λ own _. refl)
 
-  counted_tables : (counted p (makes + 1) S).tables ≡ S.tables
-  counted_tables = counted_holds (λ (T : State). T.tables ≡ S.tables) S p (makes + 1) refl (λ own _. refl)
+  counted_tables : (counted p (new_nodes + 1) S).tables ≡ S.tables
+  counted_tables = counted_holds (λ (T : State). T.tables ≡ S.tables) S p (new_nodes + 1) refl (λ own _. refl)
 
-  fit : (p < 0xffffffff) × ((counts_in (get S.processes p)).objects + (makes + 1) < 2 ^ 32)
-  fit = fewer_fit p (makes + 1) (makes + 1) (get S.processes p) (omega arith) (omega arith) can
+  fit : (p < 0xffffffff) × ((counts_in (get S.processes p)).objects + (new_nodes + 1) < 2 ^ 32)
+  fit = fewer_fit p (new_nodes + 1) (new_nodes + 1) (get S.processes p) (omega arith) (omega arith) can
 
   new_open_absent : get changed.opens new_open ≡ None
-  new_open_absent = ap (λ m. get m new_open) counted_opens ∙ (next_is_absent S p (makes + 1) v fit.0 (omega arith) fit.1).0
+  new_open_absent = ap (λ m. get m new_open) counted_opens ∙ (next_is_absent S p (new_nodes + 1) v fit.0 (omega arith) fit.1).0
 
   -- its number is none that a process has yet to make
   new_open_apart : (q k : ℕ) → q < 0xffffffff → (counts_in (get changed.processes q)).objects < k → k < 2 ^ 32 → object_of q k ≢ new_open
   new_open_apart q k small beyond fits is =
       let made : ℕ = (counts_in (get S.processes p)).objects in
-      let at = one_object p q (made + (makes + 1)) k is fits fit.1 in
-      let number : k ≡ made + (makes + 1) = at.1 in
-      let total : (counts_in (get changed.processes p)).objects ≡ made + (makes + 1) = counted_more S p (makes + 1) can in
+      let at = one_object p q (made + (new_nodes + 1)) k is fits fit.1 in
+      let number : k ≡ made + (new_nodes + 1) = at.1 in
+      let total : (counts_in (get changed.processes p)).objects ≡ made + (new_nodes + 1) = counted_more S p (new_nodes + 1) can in
       let past : (counts_in (get changed.processes p)).objects < k = subst (λ r. (counts_in (get changed.processes r)).objects < k) at.0 beyond in
       absurd (omega (arith, number, total, past))
 
   opened_valid : IsNearlyValid (put_one (set_open new_open kind) changed)
   opened_valid =
-      new_open_nearly_valid changed new_open kind new_open_absent changed_valid (there_behind (counted p (makes + 1) S) c.tree kind there) new_open_apart
+      new_open_nearly_valid changed new_open kind new_open_absent changed_valid (there_behind (counted p (new_nodes + 1) S) c.tree kind there) new_open_apart
 
   new_descriptor_named : (stat : FdStat) → IsNamed (get (insert changed.opens new_open kind) new_open) (opened_descriptor new_open kind stat)
   new_descriptor_named stat =
@@ -355,13 +355,13 @@ module _ (S : State) (p : ℕ) (table : Table) (has_table : get S.tables p ≡ S
       (met_within (fits kind) stat.base.0, met_within (fits_inheriting kind) stat.inheriting.0)
 
   opening_valid : (stat : FdStat) (fd n : ℕ) (d : Descriptor) → get table n ≡ Some d
-      → IsNearlyValid (put_all (opening p (get S.processes p) table stat fd kind makes (change_updates c)).updates S)
+      → IsNearlyValid (put_all (opening p (get S.processes p) table stat fd kind new_nodes (change_updates c)).updates S)
   opening_valid stat fd n d here =
       let new_table : Table = insert table fd (opened_descriptor new_open kind stat) in
-      let us : List Update = process_updates p (makes + 1) (get S.processes p) ++ change_updates c in
-      let state : put_all us S ≡ changed = put_counted S p (makes + 1) (next_object p (get S.processes p) 1) makes c can change (λ _. refl) (omega arith) v in
+      let us : List Update = process_updates p (new_nodes + 1) (get S.processes p) ++ change_updates c in
+      let state : put_all us S ≡ changed = put_counted S p (new_nodes + 1) (next_object p (get S.processes p) 1) new_nodes c can change (λ _. refl) (omega arith) v in
       subst IsNearlyValid
-      (sym (put_last new_open kind p new_table us S (rest_beside p (makes + 1) (get S.processes p) c)
+      (sym (put_last new_open kind p new_table us S (rest_beside p (new_nodes + 1) (get S.processes p) c)
       ∙ ap (λ (T : State). put_one (set_table p new_table) (put_one (set_open new_open kind) T)) state))
       (new_descriptor_nearly_valid (put_one (set_open new_open kind) changed) p table (ap (λ m. get m p) counted_tables ∙ has_table) opened_valid fd
       (opened_descriptor new_open kind stat) (new_descriptor_named stat) n d here)
@@ -378,20 +378,20 @@ open_valid : (S : State) (p : ℕ) (table : Table) (stat : FdStat) (oflags : ℕ
 open_valid S p table stat oflags mode path now free fd None there here v =
     open_by p (get S.processes p) table stat (λ (x : Outcome). IsNearlyValid (put_all x.updates S)) (λ reply. v) free
     (opened_from p stat oflags mode path now (get S.processes p) (tree_of S) None)
-    (λ number kind c makes is can. absurd (not_opened kind c makes is)) where
-      not_opened : (kind : OpenKind) (c : Change) (makes : ℕ) → NotOpened Badf ≢ Opens kind c makes
-      not_opened kind c makes e = cc
+    (λ number kind c new_nodes is can. absurd (not_opened kind c new_nodes is)) where
+      not_opened : (kind : OpenKind) (c : Change) (new_nodes : ℕ) → NotOpened Badf ≢ Opens kind c new_nodes
+      not_opened kind c new_nodes e = cc
 open_valid S p table stat oflags mode path now free fd (Some d) there here v =
     let new : ℕ = next_object p (get S.processes p) 1 in
     let w : Walked = walked (tree_of S) mode path (get S.opens d.id) in
     open_by p (get S.processes p) table stat (λ (x : Outcome). IsNearlyValid (put_all x.updates S)) (λ reply. v) free
     (opened_from p stat oflags mode path now (get S.processes p) (tree_of S) (get S.opens d.id))
-    (λ number kind c makes is can. (
-    let fit = fewer_fit p 1 (makes + 1) (get S.processes p) (omega arith) (omega arith) can in
+    (λ number kind c new_nodes is can. (
+    let fit = fewer_fit p 1 (new_nodes + 1) (get S.processes p) (omega arith) (omega arith) can in
     let none = (next_is_absent S p 1 v fit.0 (omega arith) fit.1).1 in
-    let well : OpensWell (tree_of S) new (Opens kind c makes) =
+    let well : OpensWell (tree_of S) new (Opens kind c new_nodes) =
     subst (OpensWell (tree_of S) new) is (walk_well oflags stat.flags path now new (tree_of S) w v.tree none) in
-    opening_valid S p table there v kind c makes can well.1 well.2 stat number fd d here))
+    opening_valid S p table there v kind c new_nodes can well.1 well.2 stat number fd d here))
 
 -- ---- file_open
 

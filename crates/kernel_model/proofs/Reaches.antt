@@ -156,7 +156,7 @@ touch_is_seen S who call q h =
     elim (around own (made_by S who call) touched q h) [
       | inl seen ↦ inl (has_of_both own rest q
           ∙ either_of (has_part own q) (has_part touched q) (has_part rest q) (changed_is_reached S call (get S.tables who.pid) q) seen)
-      | inr makes ↦ inr makes
+      | inr new_nodes ↦ inr new_nodes
     ]
 
 -- ---- what is made

@@ -1,4 +1,4 @@
--- Why a call is refused: the denial of the first descriptor that lacks a right, that want of memory stands in place of no
+-- Why a call is refused: the denial of the first descriptor that lacks a right, that lack of memory stands in place of no
 -- refusal, and that an error changes nothing.
 use Rattle.std.proofs.Common.{◌≡◌, ◌≢◌, ◌⊎◌, ℕ, Bool, true, false, cond, T, List, [], Option, Some, None, IsSome, is_some, inl, inr, refl, sym, ap, subst, ◌∙◌}
 use Rattle.std.specs.List.{AllByRecursion}
@@ -42,7 +42,7 @@ refused_of_lack call table row d all first =
     ap (λ b. cond b (Some (refused Badf)) (denied_by (first_lack table (need call)))) (present_all table (named call) all)
     ∙ ap denied_by (first_lack_is table (need call) row d first)
 
--- a call that is refused for want of a descriptor or of a right answers so
+-- a call that is refused for lack of a descriptor or of a right answers so
 refused_step_answer : (constants : Constants) (S : State) (who : Who) (call : Call) (table : Table) (reply : Reply) → get S.tables who.pid ≡ Some table
     → refusal table call ≡ Some reply → step_answer constants S who call ≡ answer.Reply reply
 refused_step_answer constants S who call table reply own refuses =
@@ -171,7 +171,7 @@ step_denial constants S who call given T reply denial (inl done) is denies =
 step_denial constants S who call given T reply denial (inr lacking) is denies =
     absurd (none_is_no denial (ap (λ (r : Reply). r.denial) (same_reply (refused Nomem) reply (sym lacking.1 ∙ is)) ∙ denies))
 
--- ---- want of memory
+-- ---- lack of memory
 
 -- a call that is refused may not lack memory
 refused_first : (S : State) (who : Who) (call : Call) (table : Table) (reply : Reply) → get S.tables who.pid ≡ Some table → refusal table call ≡ Some reply
@@ -272,7 +272,7 @@ notcapable_is_denied constants S who call reply early is errno =
       ]
     ]
 
--- ---- no answer but the allowed one is want of memory
+-- ---- no answer but the allowed one is lack of memory
 
 success_is_no_lack : Success ≢ Nomem
 success_is_no_lack e = cc
@@ -280,7 +280,7 @@ success_is_no_lack e = cc
 notcapable_is_no_lack : Notcapable ≢ Nomem
 notcapable_is_no_lack e = cc
 
--- none of the errors that the call answers of its own is want of memory
+-- none of the errors that the call answers of its own is lack of memory
 abbrev pub IsNoLackOf : Call → Type 0
 IsNoLackOf call = AllByRecursion (λ errno. errno ≢ Nomem) (errors_of call)
 

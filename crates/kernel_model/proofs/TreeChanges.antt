@@ -73,10 +73,10 @@ kept_there : (t u : Tree) (q : ℕ) (node : Node) → is_some (get u.nodes q) �
     → (old : Node) × (get t.nodes q ≡ Some old)
 kept_there t u q node same there = some_there (get t.nodes q) (sym same ∙ ap is_some there)
 
-pub kept_change : (t : Tree) (new makes : ℕ) (c : Change) → IsTree c.tree → KeepsNodes t c.tree → FilesStay t c.tree
+pub kept_change : (t : Tree) (new new_nodes : ℕ) (c : Change) → IsTree c.tree → KeepsNodes t c.tree → FilesStay t c.tree
     → ((q : ℕ) → member q c.nodes ≡ false → get c.tree.nodes q ≡ get t.nodes q)
-    → ((q : ℕ) → member q c.directories ≡ false → get c.tree.names q ≡ get t.names q) → IsChangeOf t new makes c
-kept_change t new makes c tree keeps files nodes names = record {
+    → ((q : ℕ) → member q c.directories ≡ false → get c.tree.names q ≡ get t.names q) → IsChangeOf t new new_nodes c
+kept_change t new new_nodes c tree keeps files nodes names = record {
   tree = tree;
   nodes = nodes;
   names = names;
@@ -106,10 +106,10 @@ module _ (t : Tree) (d : ℕ) (name : List ℕ) (n : ℕ) (node : Node) (none : 
       here_or_other (λ k. get t.nodes k ≡ None → get (made t d name n node).nodes k ≡ Some other → k ≡ n) n q (λ _ _. refl)
       (λ apart absent there. absurd (none_is_no other (sym absent ∙ sym (get-new_node-other t n node q apart) ∙ there)))
 
-  pub made_change : (makes : ℕ) (ns ds : List ℕ) → IsTree t → first_fault (make_faults t d name) ≡ None → makes ≢ 0
+  pub made_change : (new_nodes : ℕ) (ns ds : List ℕ) → IsTree t → first_fault (make_faults t d name) ≡ None → new_nodes ≢ 0
       → member n ns ≡ true → member d ds ≡ true → ((q : ℕ) → member q ds ≡ false → get (new_node t n node).names q ≡ get t.names q)
-      → IsChangeOf t n makes (record { tree = made t d name n node; nodes = ns; directories = ds })
-  made_change makes ns ds tree free some has_node has_directory table = record {
+      → IsChangeOf t n new_nodes (record { tree = made t d name n node; nodes = ns; directories = ds })
+  made_change new_nodes ns ds tree free some has_node has_directory table = record {
     tree = made-tree t d name n node tree free (ap is_none none);
     nodes = λ q lacks. get-new_node-other t n node q (not_member_apart n q ns has_node lacks);
     names = λ q lacks. get-insert-other (new_node t n node).names d _ q (not_member_apart d q ds has_directory lacks) ∙ table q lacks;
@@ -135,10 +135,10 @@ module _ (t : Tree) (d : ℕ) (name : List ℕ) (n : ℕ) (named : entry_of t d 
       KeepsNodes-twice t (without_old t (entry_of t d name)) (unlinked t d name) first
       (KeepsNodes-drop_name (without_old t (entry_of t d name)) d name (first.tables d ∙ table_of_directory t tree d is))
 
-  pub unlinked_change : (new makes : ℕ) (ns ds : List ℕ) → IsTree t → first_fault (unlink_faults t d name) ≡ None
-      → member n ns ≡ true → member d ds ≡ true → IsChangeOf t new makes (record { tree = unlinked t d name; nodes = ns; directories = ds })
-  unlinked_change new makes ns ds tree free has_node has_directory =
-      kept_change t new makes (record { tree = unlinked t d name; nodes = ns; directories = ds }) (unlinked-tree t d name tree free)
+  pub unlinked_change : (new new_nodes : ℕ) (ns ds : List ℕ) → IsTree t → first_fault (unlink_faults t d name) ≡ None
+      → member n ns ≡ true → member d ds ≡ true → IsChangeOf t new new_nodes (record { tree = unlinked t d name; nodes = ns; directories = ds })
+  unlinked_change new new_nodes ns ds tree free has_node has_directory =
+      kept_change t new new_nodes (record { tree = unlinked t d name; nodes = ns; directories = ds }) (unlinked-tree t d name tree free)
       (unlinked_keeps (can_unlink t d name free).directory tree)
       (files-without_old t (entry_of t d name))
       (λ q lacks. unlinked_nodes q (not_member_apart n q ns has_node lacks))
@@ -151,9 +151,9 @@ retimed_there : (t : Tree) (n : ℕ) (times : Times → Times) (o : Option Node)
 retimed_there t n times None q = refl
 retimed_there t n times (Some node) q = node_there-changed t _ n _ (with_times-changes t n (times node.times)) q
 
-pub retimed_change : (t : Tree) (new makes : ℕ) (c : Change) (n : ℕ) (times : Times → Times) → member n c.nodes ≡ true → IsChangeOf t new makes c
-    → IsChangeOf t new makes (record c { tree = retimed c.tree n times })
-retimed_change t new makes c n times has is =
+pub retimed_change : (t : Tree) (new new_nodes : ℕ) (c : Change) (n : ℕ) (times : Times → Times) → member n c.nodes ≡ true → IsChangeOf t new new_nodes c
+    → IsChangeOf t new new_nodes (record c { tree = retimed c.tree n times })
+retimed_change t new new_nodes c n times has is =
     let works = retimed_reworks c.tree n times in
     let there = λ (q : ℕ). retimed_there c.tree n times (get c.tree.nodes n) q in
     record {

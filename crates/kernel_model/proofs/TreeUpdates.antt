@@ -141,19 +141,19 @@ no_some None h = refl
 no_some (Some x) h = absurd (h refl)
 
 -- a tree's names after a change are there where they were
-names_stay : (t : Tree) (new makes : ℕ) (c : Change) → IsTree t → IsChangeOf t new makes c → (d : ℕ) → get c.tree.names d ≡ None → get t.names d ≡ None
-names_stay t new makes c tree change d none =
+names_stay : (t : Tree) (new new_nodes : ℕ) (c : Change) → IsTree t → IsChangeOf t new new_nodes c → (d : ℕ) → get c.tree.names d ≡ None → get t.names d ≡ None
+names_stay t new new_nodes c tree change d none =
     no_some (get t.names d) (λ there.
     not_true (sym (ap is_some none) ∙ (change.tree.directories d).1 (change.directories d ((tree.directories d).0 there))))
 
-pub put_change : (S : State) (new makes : ℕ) (c : Change) → IsTree (tree_of S) → IsChangeOf (tree_of S) new makes c
+pub put_change : (S : State) (new new_nodes : ℕ) (c : Change) → IsTree (tree_of S) → IsChangeOf (tree_of S) new new_nodes c
     → put_all (change_updates c) S ≡ with_tree c.tree S
-put_change S new makes c tree change =
+put_change S new new_nodes c tree change =
     let nodes : put_from c.tree.nodes c.nodes S.nodes ≡ c.tree.nodes =
     put_from_is c.tree.nodes c.nodes S.nodes (record { same = λ q apart. sym (change.nodes q apart); none = change.stays }) in
     let names : put_from c.tree.names c.directories S.names ≡ c.tree.names =
     put_from_is c.tree.names c.directories S.names
-    (record { same = λ q apart. sym (change.names q apart); none = names_stay (tree_of S) new makes c tree change }) in
+    (record { same = λ q apart. sym (change.names q apart); none = names_stay (tree_of S) new new_nodes c tree change }) in
     put_node_updates c.tree c.nodes (names_updates c.tree c.directories) S
     ∙ put_names_updates c.tree c.directories (record S { nodes = put_from c.tree.nodes c.nodes S.nodes })
     ∙ (λ i. record S { nodes = nodes i; names = names i })
@@ -282,13 +282,13 @@ counted_more S p (suc count) can =
 pub one_object : (p q j k : ℕ) → object_of q k ≡ object_of p j → k < 2 ^ 32 → j < 2 ^ 32 → (q ≡ p) × (k ≡ j)
 one_object p q j k same small fits = (omega (arith, same, small, fits), omega (arith, same, small, fits))
 
-module _ (S : State) (p count new makes : ℕ) (c : Change) (can : can_number p count (get S.processes p) ≡ true) (change : IsChangeOf (tree_of S) new makes c)
-    (is_next : makes ≢ 0 → new ≡ next_object p (get S.processes p) 1) (enough : makes ≤ count) (v : IsNearlyValid S) where
-  counted_change : IsChangeOf (tree_of (counted p count S)) new makes c
-  counted_change = subst (λ t. IsChangeOf t new makes c) (sym (counted_tree S p count)) change
+module _ (S : State) (p count new new_nodes : ℕ) (c : Change) (can : can_number p count (get S.processes p) ≡ true) (change : IsChangeOf (tree_of S) new new_nodes c)
+    (is_next : new_nodes ≢ 0 → new ≡ next_object p (get S.processes p) 1) (enough : new_nodes ≤ count) (v : IsNearlyValid S) where
+  counted_change : IsChangeOf (tree_of (counted p count S)) new new_nodes c
+  counted_change = subst (λ t. IsChangeOf t new new_nodes c) (sym (counted_tree S p count)) change
 
   -- the new node is one of those that the process has made now
-  new_is_counted : (q k : ℕ) → (counts_in (get (counted p count S).processes q)).objects < k → k < 2 ^ 32 → object_of q k ≡ new → makes ≢ 0 → ⊥
+  new_is_counted : (q k : ℕ) → (counts_in (get (counted p count S).processes q)).objects < k → k < 2 ^ 32 → object_of q k ≡ new → new_nodes ≢ 0 → ⊥
   new_is_counted q k beyond small is some =
       let one : 1 ≤ count = omega (arith, some, enough) in
       let fits = fewer_fit p 1 count (get S.processes p) (omega arith) one can in
@@ -317,4 +317,4 @@ module _ (S : State) (p count new makes : ℕ) (c : Change) (can : can_number p 
   pub put_counted : put_all (process_updates p count (get S.processes p) ++ change_updates c) S ≡ with_tree c.tree (counted p count S)
   put_counted =
       put_both (process_updates p count (get S.processes p)) (change_updates c) S
-      ∙ put_change (counted p count S) new makes c (counted_nearly_valid S p count v).tree counted_change
+      ∙ put_change (counted p count S) new new_nodes c (counted_nearly_valid S p count v).tree counted_change

@@ -91,7 +91,7 @@ seen call = (meaning_of call).seen
 abbrev pub errors_of : Call → List Errno
 errors_of call = (meaning_of call).errors
 
--- whether memory may be wanting for it
+-- whether memory may run out in it
 abbrev pub takes_memory : Call → Bool
 takes_memory call = (meaning_of call).takes_memory
 

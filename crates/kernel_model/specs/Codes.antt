@@ -1,4 +1,4 @@
--- The code of a state, by which proofs tell states apart: the tuple of its fields.
+-- The code of a state, by which proofs distinguish states: the tuple of its fields.
 use Rattle.std.specs.Prelude.{ℕ, List, refl}
 use Rattle.std.specs.Ordering.{nat_cmp}
 use Rattle.std.specs.FinMap.{FinMap, code}

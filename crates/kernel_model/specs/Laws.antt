@@ -139,7 +139,7 @@ EndKeeps =
     (S : State) (p : ℕ) (status : Status) (q : Part) → has_part (process_parts p) q ≡ false
     → is_released (end_unreleased S p status) q ≡ false → Agree (end_state S p status) S q
 
--- A call that answers an error, want of memory among them, changes only the clock of a valid state.
+-- A call that answers an error, lack of memory among them, changes only the clock of a valid state.
 abbrev pub ErrorKeeps : Type 0
 ErrorKeeps =
     (constants : Constants) (S : State) (who : Who) (call : Call) (reply : Reply) (T : State) → IsStep constants S who call (answer.Reply reply) T
@@ -230,10 +230,10 @@ NotcapableIsDenied =
     (constants : Constants) (S : State) (who : Who) (call : Call) (reply : Reply) → IsNotDeniedEarly call
     → step_answer constants S who call ≡ answer.Reply reply → reply.errno ≡ Notcapable → IsSome reply.denial
 
--- ---- which errors a call answers, and where memory is wanting
+-- ---- which errors a call answers, and where memory runs out
 
--- A reply is a success, the refusal for want of a descriptor or of rights, the denial of a path that leads outside, one of the
--- call's own errors, or want of memory, and that only of a call that takes memory and isn't refused.
+-- A reply is a success, the refusal for lack of a descriptor or of rights, the denial of a path that leads outside, one of the
+-- call's own errors, or lack of memory, and that only of a call that takes memory and isn't refused.
 abbrev pub IsListed : State → Who → Call → Reply → Type 0
 IsListed S who call reply =
     (reply.errno ≡ Success) ⊎ (refusal_of call (get S.tables who.pid) ≡ Some reply)
@@ -245,21 +245,21 @@ RepliesAreListed =
     (constants : Constants) (S : State) (who : Who) (call : Call) (reply : Reply) (T : State) → IsStep constants S who call (answer.Reply reply) T
     → IsListed S who call reply
 
--- A call that takes no memory has its answer and leaves its state: want of memory stands in place of neither.
+-- A call that takes no memory has its answer and leaves its state: lack of memory stands in place of neither.
 abbrev pub NoMemoryIsExact : Type 0
 NoMemoryIsExact =
     (constants : Constants) (S : State) (who : Who) (call : Call) (given : Answer) (T : State) → takes_memory call ≡ false
     → IsStep constants S who call given T → (given ≡ step_answer constants S who call) × (T ≡ step_state constants S who call)
 
--- Where a descriptor that the call names is absent, the answer is BADF, whether memory is wanting or not.
+-- Where a descriptor that the call names is absent, the answer is BADF, whether memory runs out or not.
 abbrev pub AbsentIsBadf : Type 0
 AbsentIsBadf =
     (constants : Constants) (S : State) (who : Who) (call : Call) (given : Answer) (T : State) (table : Table) (fd : ℕ)
     → IsStep constants S who call given T → get S.tables who.pid ≡ Some table → IsIn fd (named call) → get table fd ≡ None
     → given ≡ answer.Reply (refused Badf)
 
--- Where each descriptor that the call names is there and some lacks a right, the answer is the denial, whether memory is
--- wanting or not.
+-- Where each descriptor that the call names is there and some lacks a right, the answer is the denial, whether memory runs
+-- out or not.
 abbrev pub LackIsDenied : Type 0
 LackIsDenied =
     (constants : Constants) (S : State) (who : Who) (call : Call) (given : Answer) (T : State) (table : Table) (row : Needed) (d : Descriptor)

@@ -19,7 +19,7 @@ pub record Meaning : Type 0 where
   -- the descriptors whose opens it sees, with what stands behind these
   pub seen : List ℕ
   -- what it does once no descriptor and no right is missing, by what it sees, and by its process's table. It is total: where
-  -- a valid state has a part, it answers BADF for want of it.
+  -- a valid state has a part, it answers BADF for lack of it.
   pub effect : Constants → View → Who → Table → Outcome
   -- The component at which a path of the call leads outside the directory where it begins, if it does, by the same. The path
   -- says it alone: the call is then denied for it, whatever it does else.
@@ -30,7 +30,7 @@ pub record Meaning : Type 0 where
   pub numbers : ℕ
   -- the errors that it answers of its own, with nothing changed
   pub errors : List Errno
-  -- whether memory may be wanting
+  -- whether memory may run out
   pub takes_memory : Bool
 
 -- a call that needs nothing, and that answers this

@@ -1,4 +1,4 @@
--- The refusals for want of a descriptor or of rights. They come before what a call does, and are the same for all calls.
+-- The refusals for lack of a descriptor or of rights. They come before what a call does, and are the same for all calls.
 use Rattle.std.specs.Prelude.{ℕ, ◌==◌, ◌&&◌, ◌||◌, not, Bool, false, List, [], ◌∷◌, Option, None, Some, if◌then◌else◌}
 use Rattle.std.specs.FinMap.{get, contains_key}
 use Rattle.abi_types.specs.declared.reply.Reply.{Reply}
@@ -54,6 +54,6 @@ abbrev pub denied_by : Option Denial → Option Reply
 denied_by None = None
 denied_by (Some denial) = Some (denied denial)
 
--- the refusal for want of one of the descriptors that are named, and where all are there for want of rights
+-- the refusal for lack of one of the descriptors that are named, and where all are there for lack of rights
 abbrev pub refusal : Table → List ℕ → List Needed → Option Reply
 refusal table named rows = if some_absent table named then Some (refused Badf) else denied_by (first_lack table rows)

@@ -64,7 +64,7 @@ pub record IsProper (m : Meaning) : Type 0 where
       → IsUnset (m.effect constants (whole (tick S)) who table) part
   pub touched : (S : State) (table : Table) (part : Part) → has_part (m.touched S table) part ≡ true → has_part (reached S table m.seen) part ≡ true
   -- where its path leads outside it is denied for that alone; else its reply is a success, or one of its errors with nothing
-  -- set; and of these none is want of memory where that may be
+  -- set; and of these none is lack of memory where that may be
   pub plain : (constants : Constants) (v : View) (who : Who) (table : Table)
       → IsDeniedOutside m.errors (m.outside v table) (m.effect constants v who table)
   pub lacks : m.takes_memory ≡ true → AllByRecursion (λ errno. errno ≢ Nomem) m.errors

@@ -19,6 +19,6 @@ content bytes = record (success (length bytes) 0) { payload = Content bytes }
 abbrev pub refused : Errno → Reply
 refused errno = record { errno = errno; r1 = 0; r2 = 0; payload = Nothing; writes = Zero; denial = None }
 
--- the call is refused for want of rights
+-- the call is refused for lack of rights
 abbrev pub denied : Denial → Reply
 denied denial = record (refused Notcapable) { denial = Some denial }

@@ -108,7 +108,7 @@ step_answer constants S who call = (outcome constants S who call).answer
 abbrev pub step_state : Constants → State → Who → Call → State
 step_state constants S who call = release (unreleased constants S who call)
 
--- a call may answer want of memory: it takes memory, and no descriptor and no right is missing
+-- a call may answer that memory ran out: it takes memory, and no descriptor and no right is missing
 abbrev pub MayLackMemory : State → Who → Call → Type 0
 MayLackMemory S who call = (takes_memory call ≡ true) × (refusal_of call (get S.tables who.pid) ≡ None)
 
@@ -116,7 +116,7 @@ MayLackMemory S who call = (takes_memory call ≡ true) × (refusal_of call (get
 abbrev pub failed : State → Who → State
 failed S who = tick S
 
--- the call has its answer and leaves its state, or it answers want of memory and only the clock has moved
+-- the call has its answer and leaves its state, or it answers that memory ran out and only the clock has moved
 abbrev pub IsStep : Constants → State → Who → Call → Answer → State → Type 0
 IsStep constants S who call given T =
     ((given ≡ step_answer constants S who call) × (T ≡ step_state constants S who call))

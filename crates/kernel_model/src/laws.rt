@@ -64,7 +64,7 @@ pub fn ends_are_least()
     ensures { EndsAreLeast }
 {}
 
-/// A call that answers an error, want of memory among them, changes only the clock of a valid state.
+/// A call that answers an error, lack of memory among them, changes only the clock of a valid state.
 pub fn error_keeps()
     ensures { ErrorKeeps }
 {}
@@ -80,14 +80,14 @@ pub fn refusal_names_lack()
     ensures denied { NotcapableIsDenied }
 {}
 
-/// A reply is a success, the refusal for want of a descriptor or of rights, the denial of a path that leads outside, one of
-/// the errors that the call answers of its own, or want of memory, and that only of a call that takes memory and is not
+/// A reply is a success, the refusal for lack of a descriptor or of rights, the denial of a path that leads outside, one of
+/// the errors that the call answers of its own, or lack of memory, and that only of a call that takes memory and is not
 /// refused.
 pub fn replies_are_listed()
     ensures { RepliesAreListed }
 {}
 
-/// Want of memory stands in place of no other answer of a call that takes no memory, and of no refusal: an absent
+/// Lack of memory stands in place of no other answer of a call that takes no memory, and of no refusal: an absent
 /// descriptor is `Badf`, and the first lack of rights is denied.
 pub fn refusals_come_first()
     ensures exact { NoMemoryIsExact }

@@ -1,7 +1,7 @@
 -- Nodes without a name go one after another, where they are not open.
 --     IsForgetting kinds old t last      of the tree old nodes are gone that aren't used, and those that are left up to the last are used
 --     forgetting_starts, forgetting_goes_on, forgetting_ends      at first;  one node further;  where there is no node further
---     ahead, fewer_ahead      how many nodes are left to look at;  behind the next one fewer;  others_stay      only that one may go
+--     nodes_left, fewer_nodes_left      how many nodes are left to look at;  behind the next one fewer;  others_stay      only that one may go
 use Rattle.std.proofs.Common.{◌≡◌, ◌≢◌, ℕ, cond, ◌<◌, ◌≤◌, ◌==◌, ◌&&◌, ◌||◌, Bool, true, false, not, inl, inr, Option, Some, None, IsSome, is_some, refl, sym, ap, subst, ◌∙◌, arith}
 use Rattle.std.proofs.lemmas.Bool.{lt-ltb, ltb-true}
 use Rattle.std.proofs.lemmas.Bool.Decides.{eqb_tells}
@@ -135,8 +135,8 @@ forgetting_ends kinds old t last none f =
 
 -- ---- how many nodes are left to look at
 
-abbrev pub ahead : Tree → Option ℕ → ℕ
-ahead t last = total (λ (node : Node). 1) (retain_keys t.nodes (is_above last))
+abbrev pub nodes_left : Tree → Option ℕ → ℕ
+nodes_left t last = total (λ (node : Node). 1) (retain_keys t.nodes (is_above last))
 
 first_holds : (a b : Bool) → (a && b) ≡ true → a ≡ true
 first_holds true b h = refl
@@ -158,9 +158,9 @@ no_more true false o keeps = absurd (not_true (keeps refl))
 itself_not_above : (n : ℕ) → nat_lt n n ≡ false
 itself_not_above n = not_passed (nat_lt n n) (λ above. (let less : n < n = ltb-true n n above in absurd (omega (arith, less))))
 
-pub fewer_ahead : (t u : Tree) (last : Option ℕ) (node : ℕ) → nameless_after t last ≡ Some node → ((q : ℕ) → q ≢ node → get u.nodes q ≡ get t.nodes q)
-    → ahead u (Some node) < ahead t last
-fewer_ahead t u last node next others =
+pub fewer_nodes_left : (t u : Tree) (last : Option ℕ) (node : ℕ) → nameless_after t last ≡ Some node → ((q : ℕ) → q ≢ node → get u.nodes q ≡ get t.nodes q)
+    → nodes_left u (Some node) < nodes_left t last
+fewer_nodes_left t u last node next others =
     let entry = least_key-entry (is_nameless last) t.nodes node next in
     let above : is_above last node ≡ true = first_holds (is_above last node) _ entry.2 in
     let m : FinMap nat_cmp Node = retain_keys t.nodes (is_above last) in

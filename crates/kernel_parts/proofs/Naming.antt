@@ -29,7 +29,7 @@ use Rattle.kernel_model.specs.Reply.{refused, success}
 use Rattle.kernel_model.specs.State.{ProcessState, Tree}
 use Rattle.kernel_model.specs.Families.TreeUpdates.{Change, change_updates}
 use Rattle.kernel_model.proofs.Tests.{none_is_no, not_true, same_some}
-use Rattle.entry_calls.specs.Checks.{IsTold}
+use Rattle.entry_calls.specs.Checks.{IsReported}
 use Rattle.entry_calls.specs.Done.{FailsAs}
 use Rattle.entry_calls.specs.declared.failure.Failure.TheVariants.{Refused}
 use Rattle.kernel_parts.specs.Entries.{IsLeftBy, number_of}
@@ -44,27 +44,27 @@ entries_have_fds (entry.FileRename fd path new_fd new_path) = refl
 entries_have_fds (entry.FileSymlink text fd path) = refl
 entries_have_fds (entry.FileUnlink fd path flags) = refl
 
-text_makes_one : (o : Option Errno) (path : List ℕ) (node : NodeKind) → (making_unless o (making node path)).makes ≡ 1
+text_makes_one : (o : Option Errno) (path : List ℕ) (node : NodeKind) → (making_unless o (making node path)).new_nodes ≡ 1
 text_makes_one None path node = refl
 text_makes_one (Some errno) path node = refl
 
-pub one_new : (called : Call) → IsSome (entry_fds called) → (name_meaning called).makes ≢ 0 → (name_meaning called).makes ≡ 1
-one_new (call.FileCreate fd path type) some makes = refl
-one_new (call.FileLink lookup path new_fd new_path) some makes = absurd (makes refl)
-one_new (call.FileRename fd path new_fd new_path) some makes = absurd (makes refl)
-one_new (call.FileSymlink text fd path) some makes = text_makes_one (text_error text) path (kind.Link text)
-one_new (call.FileUnlink fd path flags) some makes = absurd (makes refl)
-one_new unnamed some makes = absurd (not_true some)
+pub one_new : (called : Call) → IsSome (entry_fds called) → (name_meaning called).new_nodes ≢ 0 → (name_meaning called).new_nodes ≡ 1
+one_new (call.FileCreate fd path type) some new_nodes = refl
+one_new (call.FileLink lookup path new_fd new_path) some new_nodes = absurd (new_nodes refl)
+one_new (call.FileRename fd path new_fd new_path) some new_nodes = absurd (new_nodes refl)
+one_new (call.FileSymlink text fd path) some new_nodes = text_makes_one (text_error text) path (kind.Link text)
+one_new (call.FileUnlink fd path flags) some new_nodes = absurd (new_nodes refl)
+one_new unnamed some new_nodes = absurd (not_true some)
 
 -- a call that can't number what it makes makes one node
-pub unnumbered_is_one : (called : Call) → IsSome (entry_fds called) → (p : ℕ) (own : Option ProcessState) → can_number p (name_meaning called).makes own ≡ false
-    → (name_meaning called).makes ≡ 1
+pub unnumbered_is_one : (called : Call) → IsSome (entry_fds called) → (p : ℕ) (own : Option ProcessState) → can_number p (name_meaning called).new_nodes own ≡ false
+    → (name_meaning called).new_nodes ≡ 1
 unnumbered_is_one called some p own cannot =
     one_new called some (λ zero. let bad : true ≡ false = subst (λ k. can_number p k own ≡ false) zero cannot in absurd (cc))
 
 -- the number of the last node that it makes serves as well as that of the first
 pub new_again : (called : Call) → IsSome (entry_fds called) → (p now : ℕ) (own : Option ProcessState) (t : Tree) (here there : Option OpenKind)
-    → (name_meaning called).effect now (next_object p own (name_meaning called).makes) t here there ≡ (name_meaning called).effect now (next_object p own 1) t here there
+    → (name_meaning called).effect now (next_object p own (name_meaning called).new_nodes) t here there ≡ (name_meaning called).effect now (next_object p own 1) t here there
 new_again (call.FileCreate fd path type) some p now own t here there = refl
 new_again (call.FileLink lookup path new_fd new_path) some p now own t here there = refl
 new_again (call.FileRename fd path new_fd new_path) some p now own t here there = refl
@@ -99,37 +99,37 @@ pub failed_is : (comes : NameOutcome) (why : PathFault) → FailsAs comes (Refus
 failed_is comes (path_fault.Errno errno) is = is
 failed_is comes (path_fault.Outside component) is = is
 
-pub told_is : (A : Type 0) (comes : NameOutcome) (why : PathFault) → IsTold {A = A} comes (Err why) → comes ≡ comes_of why
-told_is A comes (path_fault.Errno errno) is = is
-told_is A comes (path_fault.Outside component) is = is
+pub reported_is : (A : Type 0) (comes : NameOutcome) (why : PathFault) → IsReported {A = A} comes (Err why) → comes ≡ comes_of why
+reported_is A comes (path_fault.Errno errno) is = is
+reported_is A comes (path_fault.Outside component) is = is
 
-module _ (p makes : ℕ) (own new : ProcessState) (t u : Tree) (comes : NameOutcome) (reply : Reply) where
-  refused_so : (why : PathFault) → new ≡ own → u ≡ t → reply ≡ reply_of why → IsLeftBy p makes own new t u (comes_of why) reply
+module _ (p new_nodes : ℕ) (own new : ProcessState) (t u : Tree) (comes : NameOutcome) (reply : Reply) where
+  refused_so : (why : PathFault) → new ≡ own → u ≡ t → reply ≡ reply_of why → IsLeftBy p new_nodes own new t u (comes_of why) reply
   refused_so (path_fault.Errno errno) own_is tree_is is = record { answered = ap answer.Reply is; numbered = own_is; changed = tree_is }
   refused_so (path_fault.Outside component) own_is tree_is is = record { answered = ap answer.Reply is; numbered = own_is; changed = tree_is }
 
-  pub refused_left : (why : PathFault) → comes ≡ comes_of why → new ≡ own → u ≡ t → reply ≡ reply_of why → IsLeftBy p makes own new t u comes reply
-  refused_left why comes_is own_is tree_is is = subst (λ k. IsLeftBy p makes own new t u k reply) (sym comes_is) (refused_so why own_is tree_is is)
+  pub refused_left : (why : PathFault) → comes ≡ comes_of why → new ≡ own → u ≡ t → reply ≡ reply_of why → IsLeftBy p new_nodes own new t u comes reply
+  refused_left why comes_is own_is tree_is is = subst (λ k. IsLeftBy p new_nodes own new t u k reply) (sym comes_is) (refused_so why own_is tree_is is)
 
   -- a change, by whether the process can make so many
-  change_so : (c : Change) → new ≡ cond (can_number p makes (Some own)) (made_more makes own) own → u ≡ cond (can_number p makes (Some own)) c.tree t
-      → answer.Reply reply ≡ (outcome_of p (Some own) makes (Changes c)).answer → IsLeftBy p makes own new t u (Changes c) reply
+  change_so : (c : Change) → new ≡ cond (can_number p new_nodes (Some own)) (made_more new_nodes own) own → u ≡ cond (can_number p new_nodes (Some own)) c.tree t
+      → answer.Reply reply ≡ (outcome_of p (Some own) new_nodes (Changes c)).answer → IsLeftBy p new_nodes own new t u (Changes c) reply
   change_so c own_is tree_is is = record { answered = is; numbered = own_is; changed = tree_is }
 
   abbrev outcome_by : Change → Bool → Outcome
   outcome_by c b =
-      cond b (record { answer = answer.Reply (success 0 0); updates = process_updates p makes (Some own) ++ change_updates c }) (replies (refused Again))
+      cond b (record { answer = answer.Reply (success 0 0); updates = process_updates p new_nodes (Some own) ++ change_updates c }) (replies (refused Again))
 
-  pub counted_out : (c : Change) → comes ≡ Changes c → can_number p makes (Some own) ≡ false → new ≡ own → u ≡ t → reply ≡ refused Again
-      → IsLeftBy p makes own new t u comes reply
+  pub counted_out : (c : Change) → comes ≡ Changes c → can_number p new_nodes (Some own) ≡ false → new ≡ own → u ≡ t → reply ≡ refused Again
+      → IsLeftBy p new_nodes own new t u comes reply
   counted_out c comes_is cannot own_is tree_is is =
-      subst (λ k. IsLeftBy p makes own new t u k reply) (sym comes_is)
-      (change_so c (own_is ∙ sym (ap (λ b. cond b (made_more makes own) own) cannot)) (tree_is ∙ sym (ap (λ b. cond b c.tree t) cannot))
+      subst (λ k. IsLeftBy p new_nodes own new t u k reply) (sym comes_is)
+      (change_so c (own_is ∙ sym (ap (λ b. cond b (made_more new_nodes own) own) cannot)) (tree_is ∙ sym (ap (λ b. cond b c.tree t) cannot))
       (ap answer.Reply is ∙ sym (ap (λ b. (outcome_by c b).answer) cannot)))
 
-  pub changed_left : (c : Change) → comes ≡ Changes c → can_number p makes (Some own) ≡ true → new ≡ made_more makes own → u ≡ c.tree → reply ≡ success 0 0
-      → IsLeftBy p makes own new t u comes reply
+  pub changed_left : (c : Change) → comes ≡ Changes c → can_number p new_nodes (Some own) ≡ true → new ≡ made_more new_nodes own → u ≡ c.tree → reply ≡ success 0 0
+      → IsLeftBy p new_nodes own new t u comes reply
   changed_left c comes_is can own_is tree_is is =
-      subst (λ k. IsLeftBy p makes own new t u k reply) (sym comes_is)
-      (change_so c (own_is ∙ sym (ap (λ b. cond b (made_more makes own) own) can)) (tree_is ∙ sym (ap (λ b. cond b c.tree t) can))
+      subst (λ k. IsLeftBy p new_nodes own new t u k reply) (sym comes_is)
+      (change_so c (own_is ∙ sym (ap (λ b. cond b (made_more new_nodes own) own) can)) (tree_is ∙ sym (ap (λ b. cond b c.tree t) can))
       (ap answer.Reply is ∙ sym (ap (λ b. (outcome_by c b).answer) can)))

@@ -42,18 +42,18 @@ kind_with opens (Some table) fd = open_at opens table fd
 
 -- what the process has of its own once that is done, where it makes so many nodes
 abbrev pub process_left : ℕ → ℕ → ProcessState → NameOutcome → ProcessState
-process_left p makes own (Refuses errno) = own
-process_left p makes own (LeadsOut component) = own
-process_left p makes own (Changes change) = if can_number p makes (Some own) then made_more makes own else own
+process_left p new_nodes own (Refuses errno) = own
+process_left p new_nodes own (LeadsOut component) = own
+process_left p new_nodes own (Changes change) = if can_number p new_nodes (Some own) then made_more new_nodes own else own
 
 -- and the tree
 abbrev pub tree_left : ℕ → ℕ → ProcessState → Tree → NameOutcome → Tree
-tree_left p makes own t (Refuses errno) = t
-tree_left p makes own t (LeadsOut component) = t
-tree_left p makes own t (Changes change) = if can_number p makes (Some own) then change.tree else t
+tree_left p new_nodes own t (Refuses errno) = t
+tree_left p new_nodes own t (LeadsOut component) = t
+tree_left p new_nodes own t (Changes change) = if can_number p new_nodes (Some own) then change.tree else t
 
 -- a call that comes to this is done: its reply, and what the process has of its own and the tree after it
-pub record IsLeftBy (p makes : ℕ) (own new : ProcessState) (t u : Tree) (comes : NameOutcome) (reply : Reply) : Type 0 where
-  pub answered : answer.Reply reply ≡ (outcome_of p (Some own) makes comes).answer
-  pub numbered : new ≡ process_left p makes own comes
-  pub changed : u ≡ tree_left p makes own t comes
+pub record IsLeftBy (p new_nodes : ℕ) (own new : ProcessState) (t u : Tree) (comes : NameOutcome) (reply : Reply) : Type 0 where
+  pub answered : answer.Reply reply ≡ (outcome_of p (Some own) new_nodes comes).answer
+  pub numbered : new ≡ process_left p new_nodes own comes
+  pub changed : u ≡ tree_left p new_nodes own t comes

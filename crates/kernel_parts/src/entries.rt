@@ -9,7 +9,7 @@ ghost use Rattle.entry_calls.specs.Done.{IsNew};
 
 use crate::process::ProcessState;
 use abi_types::{EntryCall, Errno, OpenKind, Pid, Reply};
-use entry_calls::{Failure, check_entries, makes, on_entries};
+use entry_calls::{Failure, check_entries, new_nodes, on_entries};
 use file_calls::reply_of;
 use file_tree::Tree;
 use right_rules::{refused, success};
@@ -35,14 +35,14 @@ pub fn change_entries(
     there: Option<&OpenKind>,
     call: EntryCall<'_>,
 ) -> Result<Reply, AllocError>
-    requires new { can_number caller.now.pid (model.name_meaning (call_of_entry call)).makes (Some own.old) ≡ true
-        → IsNew (model.name_meaning (call_of_entry call)).makes tree.old (next_object caller.now.pid (Some own.old) (model.name_meaning (call_of_entry call)).makes) }
-    ensures done { IfOk result (IsLeftBy caller.now.pid (model.name_meaning (call_of_entry call.entry)).makes own.old own.new tree.old tree.new
+    requires new { can_number caller.now.pid (model.name_meaning (call_of_entry call)).new_nodes (Some own.old) ≡ true
+        → IsNew (model.name_meaning (call_of_entry call)).new_nodes tree.old (next_object caller.now.pid (Some own.old) (model.name_meaning (call_of_entry call)).new_nodes) }
+    ensures done { IfOk result (IsLeftBy caller.now.pid (model.name_meaning (call_of_entry call.entry)).new_nodes own.old own.new tree.old tree.new
         ((model.name_meaning (call_of_entry call.entry)).effect caller.now.time (next_object caller.now.pid (Some own.old) 1) tree.old (Some here.now) (option_copied there.entry))) }
     ensures same_process { OnErr result (own.new ≡ own.old) }
     ensures same_tree { OnErr result (tree.new ≡ tree.old) }
 {
-    let count = makes(call);
+    let count = new_nodes(call);
     let Some(new) = own.numbered(caller.pid, count) else {
         return match check_entries(tree, here, call) {
             Ok(()) => Ok(refused(Errno::Again)),

@@ -5,7 +5,7 @@ ghost use Rattle.maps.specs.Maps.{number};
 ghost use Rattle.kernel_parts.specs.Changes.{IsMoved};
 ghost use Rattle.abi_base.specs.declared.limits.TheConstants.{MOST_DESCRIPTORS};
 ghost use Rattle.entry_calls.specs.Done.{IsNew};
-ghost use Rattle.entry_calls.specs.Plans.{change_of, makes_of};
+ghost use Rattle.entry_calls.specs.Plans.{change_of, new_nodes_of};
 
 use abi_types::{Descriptor, ObjId, OpenKind};
 use entry_calls::{OpenPlan, apply_plan};
@@ -73,7 +73,7 @@ pub fn put_opening(
     requires free { map.get table.old opening.now.fd ≡ None }
     requires new { map.get objects.old.kinds opening.now.descriptor.id ≡ None }
     requires unheld { number (map.get objects.old.counts opening.now.descriptor.id) ≡ 0 }
-    requires made { IsNew (makes_of opening.now.plan) tree.old opening.now.new }
+    requires made { IsNew (new_nodes_of opening.now.plan) tree.old opening.now.new }
     ensures table { OnOk result (table.new ≡ map.insert table.old opening.now.fd opening.now.descriptor) }
     ensures kinds { OnOk result (objects.new.kinds ≡ map.insert objects.old.kinds opening.now.descriptor.id opening.now.kind) }
     ensures counts { OnOk result (IsMoved table.old table.new objects.old.counts objects.new.counts) }

@@ -121,8 +121,8 @@ fn stat_put(table: &mut FdTable, objects: &mut Objects, fd: u32, stat: &FdStat, 
     success(0, 0)
 }
 
-/// Makes the change. The counts of holders change with the table; an open that nothing holds any more stays. Want of
-/// memory, which only `Dup` meets, changes nothing.
+/// Makes the change. The counts of holders change with the table; an open that nothing holds any more stays. Where
+/// memory runs out, which only `Dup` meets, nothing changes.
 pub fn change_table(
     table: &mut FdTable,
     objects: &mut Objects,

@@ -4,7 +4,7 @@ use Rattle.base64.specs.Engines.{standard}
 use Rattle.base64.specs.GeneralPurpose.{encode_of}
 use Rattle.launch_values.specs.Documents.{IsSound, IsSoundContent, AreSoundItems, AreSoundPairs}
 use Rattle.launch_values.specs.Shape.{Shape, Content, Shapes, Pairs, node, null, boolean, integer, text, binary, mapping, sequence, no_items, item, no_pairs, pair, content_of}
-use Rattle.launch_laws.specs.Printed.{in_quotes, printed, printed_value, behind_tag, printed_items, further_items, printed_pairs, further_pairs, IsTagName, IsKey, IsSpellable, IsSpellableRoot, IsSpellableValue, AreSpellableItems, AreSpellablePairs}
+use Rattle.launch_laws.specs.Printed.{in_quotes, printed, printed_value, behind_tag, printed_items, further_items, printed_pairs, further_pairs, IsTagName, IsKey, IsEncodable, IsEncodableRoot, IsEncodableValue, AreEncodableItems, AreEncodablePairs}
 use Rattle.launch_laws.proofs.CleanTexts.{IsClean, clean_nil, clean_append, clean_visible, clean_text}
 use Rattle.launch_laws.proofs.PrintedTexts.{clean_quotes}
 use Rattle.launch_laws.proofs.PrintedScalars.{base64_text, scalar_clean}
@@ -30,38 +30,38 @@ tagged_clean in_flow name value h inner =
     (clean_append name (behind_tag value (printed_value value)) (clean_text name h.0 h.1) (behind_clean value (printed_value value) inner))
 
 mutual
-  node_clean : (x : Shape) → IsSound x → IsSpellable true x → IsClean (printed x)
-  node_clean (node line None value) sound spells = value_clean value sound spells.1
-  node_clean (node line (Some name) value) sound spells = tagged_clean true name value spells.0.0 (value_clean value sound spells.1)
+  node_clean : (x : Shape) → IsSound x → IsEncodable true x → IsClean (printed x)
+  node_clean (node line None value) sound encodes = value_clean value sound encodes.1
+  node_clean (node line (Some name) value) sound encodes = tagged_clean true name value encodes.0.0 (value_clean value sound encodes.1)
 
-  value_clean : (c : Content) → IsSoundContent c → IsSpellableValue true c → IsClean (printed_value c)
-  value_clean null sound spells = scalar_clean null refl sound
-  value_clean (boolean b) sound spells = scalar_clean (boolean b) refl sound
-  value_clean (integer i) sound spells = scalar_clean (integer i) refl sound
-  value_clean (text bytes) sound spells = scalar_clean (text bytes) refl sound
-  value_clean (binary bytes) sound spells =
-      clean_append (codes "!!binary ") (in_quotes (encode_of standard bytes)) (clean_visible (codes "!!binary ") refl) (clean_quotes (encode_of standard bytes) (base64_text bytes spells))
-  value_clean (mapping ps) sound spells =
+  value_clean : (c : Content) → IsSoundContent c → IsEncodableValue true c → IsClean (printed_value c)
+  value_clean null sound encodes = scalar_clean null refl sound
+  value_clean (boolean b) sound encodes = scalar_clean (boolean b) refl sound
+  value_clean (integer i) sound encodes = scalar_clean (integer i) refl sound
+  value_clean (text bytes) sound encodes = scalar_clean (text bytes) refl sound
+  value_clean (binary bytes) sound encodes =
+      clean_append (codes "!!binary ") (in_quotes (encode_of standard bytes)) (clean_visible (codes "!!binary ") refl) (clean_quotes (encode_of standard bytes) (base64_text bytes encodes))
+  value_clean (mapping ps) sound encodes =
       clean_append (123 ∷ []) (printed_pairs ps ++ codes "}") (clean_visible (123 ∷ []) refl)
-      (clean_append (printed_pairs ps) (codes "}") (pairs_clean ps sound spells.1).0 (clean_visible (codes "}") refl))
-  value_clean (sequence xs) sound spells =
+      (clean_append (printed_pairs ps) (codes "}") (pairs_clean ps sound encodes.1).0 (clean_visible (codes "}") refl))
+  value_clean (sequence xs) sound encodes =
       clean_append (91 ∷ []) (printed_items xs ++ codes "]") (clean_visible (91 ∷ []) refl)
-      (clean_append (printed_items xs) (codes "]") (items_clean xs sound spells).0 (clean_visible (codes "]") refl))
+      (clean_append (printed_items xs) (codes "]") (items_clean xs sound encodes).0 (clean_visible (codes "]") refl))
 
-  items_clean : (xs : Shapes) → AreSoundItems xs → AreSpellableItems true xs → IsClean (printed_items xs) × IsClean (further_items xs)
-  items_clean no_items sound spells = (clean_nil, clean_nil)
-  items_clean (item x xs) sound spells =
-      let all = clean_append (printed x) (further_items xs) (node_clean x sound.0 spells.0) (items_clean xs sound.1 spells.1).1 in
+  items_clean : (xs : Shapes) → AreSoundItems xs → AreEncodableItems true xs → IsClean (printed_items xs) × IsClean (further_items xs)
+  items_clean no_items sound encodes = (clean_nil, clean_nil)
+  items_clean (item x xs) sound encodes =
+      let all = clean_append (printed x) (further_items xs) (node_clean x sound.0 encodes.0) (items_clean xs sound.1 encodes.1).1 in
       (all, clean_append (44 ∷ 32 ∷ []) (printed x ++ further_items xs) (clean_visible (44 ∷ 32 ∷ []) refl) all)
 
-  pairs_clean : (ps : Pairs) → AreSoundPairs ps → AreSpellablePairs true ps → IsClean (printed_pairs ps) × IsClean (further_pairs ps)
-  pairs_clean no_pairs sound spells = (clean_nil, clean_nil)
-  pairs_clean (pair k v ps) sound spells =
-      let values = clean_append (printed v) (further_pairs ps) (node_clean v sound.1 spells.1) (pairs_clean ps sound.2 spells.2).1 in
-      let all = clean_append (printed k) (58 ∷ 32 ∷ printed v ++ further_pairs ps) (key_clean k spells.0 sound.0)
+  pairs_clean : (ps : Pairs) → AreSoundPairs ps → AreEncodablePairs true ps → IsClean (printed_pairs ps) × IsClean (further_pairs ps)
+  pairs_clean no_pairs sound encodes = (clean_nil, clean_nil)
+  pairs_clean (pair k v ps) sound encodes =
+      let values = clean_append (printed v) (further_pairs ps) (node_clean v sound.1 encodes.1) (pairs_clean ps sound.2 encodes.2).1 in
+      let all = clean_append (printed k) (58 ∷ 32 ∷ printed v ++ further_pairs ps) (key_clean k encodes.0 sound.0)
       (clean_append (58 ∷ 32 ∷ []) (printed v ++ further_pairs ps) (clean_visible (58 ∷ 32 ∷ []) refl) values) in
       (all, clean_append (44 ∷ 32 ∷ []) (printed k ++ (58 ∷ 32 ∷ printed v ++ further_pairs ps)) (clean_visible (44 ∷ 32 ∷ []) refl) all)
 
-pub root_clean : (x : Shape) → IsSound x → IsSpellableRoot x → IsClean (printed x)
-root_clean (node line None value) sound spells = value_clean value sound spells.1
-root_clean (node line (Some name) value) sound spells = tagged_clean false name value spells.0.0 (value_clean value sound spells.1)
+pub root_clean : (x : Shape) → IsSound x → IsEncodableRoot x → IsClean (printed x)
+root_clean (node line None value) sound encodes = value_clean value sound encodes.1
+root_clean (node line (Some name) value) sound encodes = tagged_clean false name value encodes.0.0 (value_clean value sound encodes.1)

@@ -89,7 +89,7 @@ clean_visible (b ∷ bs) h =
 
 -- ---- characters
 
--- what holds of both, where the test tells which
+-- what holds of both, where the test says which
 pub either : (P : List ℕ → Type 0) (t : Bool) (xs ys : List ℕ) → (t ≡ true → P xs) → (t ≡ false → P ys) → P (cond t xs ys)
 either P true xs ys h k = h refl
 either P false xs ys h k = k refl

@@ -210,15 +210,15 @@ abbrev Kept : ℕ → Option Fault → Option Fault → Type 0
 Kept n None whole = IsFrom n whole
 Kept n (Some a) whole = (a.line < n) × (whole ≡ Some a)
 
-abbrev told : Fault → Option Fault
-told e = Some e
+abbrev reported : Fault → Option Fault
+reported e = Some e
 
 both_kept : (n : ℕ) (a b c d : Option Fault) → OfSome (Before n) a → IsFrom n b → OfSome (Before n) c → IsFrom n d → Kept n (first_fault a c) (first_fault (or_else a b) (or_else c d))
 both_kept n None b None d h k l m = both_from n b d k m
 both_kept n None None (Some c) d h k l m = (l, refl)
-both_kept n None (Some b) (Some c) d h k l m = (l, ap told (earlier_second b c (omega (arith, k, l))))
+both_kept n None (Some b) (Some c) d h k l m = (l, ap reported (earlier_second b c (omega (arith, k, l))))
 both_kept n (Some a) b None None h k l m = (h, refl)
-both_kept n (Some a) b None (Some d) h k l m = (h, ap told (earlier_first a d (omega (arith, h, m))))
+both_kept n (Some a) b None (Some d) h k l m = (h, ap reported (earlier_first a d (omega (arith, h, m))))
 both_kept n (Some a) b (Some c) d h k l m = (one_of_both (Before n) a c h l, refl)
 
 plain_kept : (ls ms : List (List ℕ)) → Kept (1 + length ls) (plain_fault ls) (plain_fault (ls ++ ms))

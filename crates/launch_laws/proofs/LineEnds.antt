@@ -11,7 +11,7 @@ use Rattle.launch_lines.specs.Faults.{comes_before, beside}
 use Rattle.launch_lines.specs.Lines.{without_mark, onto_first, pieces, without_return, without_returns, lines_of, lines, plain_fault}
 use Rattle.launch_lines.specs.Rows.{Row, indentation, unless_nothing, row_of, rows_from}
 use Rattle.launch_yaml.specs.Document.{document_of, parse_at}
-use Rattle.launch_laws.specs.Laws.{LinesAreTold, MarkChangesNothing, with_returns, HasNoReturn, ReturnsChangeNothing, place_of, EmptyLinesAreNoRows}
+use Rattle.launch_laws.specs.Laws.{LinesAreReported, MarkChangesNothing, with_returns, HasNoReturn, ReturnsChangeNothing, place_of, EmptyLinesAreNoRows}
 
 -- ---- what is read of lines
 
@@ -25,22 +25,22 @@ mark_changes_nothing text e = lines_alike (0xef ∷ 0xbb ∷ 0xbf ∷ text) text
 
 -- ---- faults of lines
 
-first_is_told : (f : Fault) (read : Result Shape Fault) → (g : Fault) × (beside (Some f) read ≡ Err g) × ((g ≡ f) ⊎ (comes_before g f ≡ true))
-first_is_told f (Ok x) = (f, refl, inl refl)
-first_is_told f (Err b) = by_test (comes_before b f) refl
+first_is_reported : (f : Fault) (read : Result Shape Fault) → (g : Fault) × (beside (Some f) read ≡ Err g) × ((g ≡ f) ⊎ (comes_before g f ≡ true))
+first_is_reported f (Ok x) = (f, refl, inl refl)
+first_is_reported f (Err b) = by_test (comes_before b f) refl
   where
-    told : Fault → Result Shape Fault
-    told e = Err e
+    reported : Fault → Result Shape Fault
+    reported e = Err e
 
-    by_test : (t : Bool) → comes_before b f ≡ t → (g : Fault) × (told (if t then b else f) ≡ Err g) × ((g ≡ f) ⊎ (comes_before g f ≡ true))
+    by_test : (t : Bool) → comes_before b f ≡ t → (g : Fault) × (reported (if t then b else f) ≡ Err g) × ((g ≡ f) ⊎ (comes_before g f ≡ true))
     by_test true is = (b, refl, inr is)
     by_test false is = (f, refl, inl refl)
 
-pub lines_are_told : LinesAreTold
+pub lines_are_reported : LinesAreReported
 unfolding parse_at
-lines_are_told text f e =
+lines_are_reported text f e =
     let read = document_of (rows_from 1 (lines text)) in
-    subst (λ (p : Option Fault). (g : Fault) × (beside p read ≡ Err g) × ((g ≡ f) ⊎ (comes_before g f ≡ true))) (sym e) (first_is_told f read)
+    subst (λ (p : Option Fault). (g : Fault) × (beside p read ≡ Err g) × ((g ≡ f) ⊎ (comes_before g f ≡ true))) (sym e) (first_is_reported f read)
 
 -- ---- carriage returns
 

@@ -15,7 +15,7 @@ use Rattle.launch_lines.specs.Rows.{Row, indentation, unless_nothing, row_of, ro
 use Rattle.launch_yaml.specs.Document.{document_of}
 use Rattle.launch_yaml.specs.Renumbering.{renumber, renumber_fault, renumber_row, renumbered, one_more}
 use Rattle.launch_laws.specs.Laws.{EmptyLinesChangeNumbers}
-use Rattle.launch_laws.proofs.BlockNumbers.{Keeps, told, first_told, document_told}
+use Rattle.launch_laws.proofs.BlockNumbers.{Keeps, reported, first_reported, document_reported}
 
 -- ---- the numbers
 
@@ -65,8 +65,8 @@ keeps_order k a b = elim (cases_Bool (nat_le a k)) [
 abbrev renumber_rows : (ℕ → ℕ) → List Row → List Row
 renumber_rows f rows = map (renumber_row f) rows
 
-row_told : (f : ℕ → ℕ) (n : ℕ) (line : List ℕ) → row_of (f n) line ≡ renumber_rows f (row_of n line)
-row_told f n line = by_content (drop (indentation line) line)
+row_reported : (f : ℕ → ℕ) (n : ℕ) (line : List ℕ) → row_of (f n) line ≡ renumber_rows f (row_of n line)
+row_reported f n line = by_content (drop (indentation line) line)
   where
     by_first : (t : Bool) (b : ℕ) (bs : List ℕ)
         → (if t then [] else record { number = f n; column = indentation line; content = b ∷ bs } ∷ []) ≡ renumber_rows f (if t then [] else record { number = n; column = indentation line; content = b ∷ bs } ∷ [])
@@ -78,14 +78,14 @@ row_told f n line = by_content (drop (indentation line) line)
     by_content (b ∷ bs) = by_first (b == 35) b bs
 
 still_none : (m n : ℕ) (line : List ℕ) → row_of m line ≡ [] → row_of n line ≡ []
-still_none m n line e = row_told (λ x. n) m line ∙ ap (renumber_rows (λ x. n)) e
+still_none m n line e = row_reported (λ x. n) m line ∙ ap (renumber_rows (λ x. n)) e
 
 rows_behind : (k m : ℕ) (ls : List (List ℕ)) → k < m → rows_from (suc m) ls ≡ renumber_rows (one_more k) (rows_from m ls)
 rows_behind k m [] h = refl
 rows_behind k m (l ∷ ls) h =
     let f = one_more k in
     ap (λ (n : ℕ). row_of n l ++ rows_from (suc (suc m)) ls) (sym (moves k m h))
-    ∙ ap (λ (xs : List Row). xs ++ rows_from (suc (suc m)) ls) (row_told f m l)
+    ∙ ap (λ (xs : List Row). xs ++ rows_from (suc (suc m)) ls) (row_reported f m l)
     ∙ ap (λ (xs : List Row). renumber_rows f (row_of m l) ++ xs) (rows_behind k (suc m) ls (omega (arith, h)))
     ∙ sym (map-append (renumber_row f) (row_of m l) (rows_from (suc m) ls))
 
@@ -97,7 +97,7 @@ rows_more k n (l ∷ front) back line h e =
     let f = one_more k in
     let more : suc n + length front ≡ suc k = omega (arith, h) in
     ap (λ (m : ℕ). row_of m l ++ rows_from (suc n) (front ++ line ∷ back)) (sym (stays k n (omega (arith, h))))
-    ∙ ap (λ (xs : List Row). xs ++ rows_from (suc n) (front ++ line ∷ back)) (row_told f n l)
+    ∙ ap (λ (xs : List Row). xs ++ rows_from (suc n) (front ++ line ∷ back)) (row_reported f n l)
     ∙ ap (λ (xs : List Row). renumber_rows f (row_of n l) ++ xs) (rows_more k (suc n) front back line more e)
     ∙ sym (map-append (renumber_row f) (row_of n l) (rows_from (suc n) (front ++ back)))
 
@@ -106,9 +106,9 @@ rows_more k n (l ∷ front) back line h e =
 abbrev renumber_found : (ℕ → ℕ) → Option Fault → Option Fault
 renumber_found f e = option_map (renumber_fault f) e
 
-further_told : (f : ℕ → ℕ) (n : ℕ) (kind : YamlKind) (e : Option Fault) (found : Option ℕ) → or_further (f n) kind (renumber_found f e) found ≡ renumber_found f (or_further n kind e found)
-further_told f n kind e None = refl
-further_told f n kind e (Some column) = refl
+further_reported : (f : ℕ → ℕ) (n : ℕ) (kind : YamlKind) (e : Option Fault) (found : Option ℕ) → or_further (f n) kind (renumber_found f e) found ≡ renumber_found f (or_further n kind e found)
+further_reported f n kind e None = refl
+further_reported f n kind e (Some column) = refl
 
 found_behind : (find : List ℕ → Option ℕ) (kind : YamlKind) (k m : ℕ) (ls : List (List ℕ)) → k < m
     → first_line find kind (suc m) ls ≡ renumber_found (one_more k) (first_line find kind m ls)
@@ -117,7 +117,7 @@ found_behind find kind k m (l ∷ ls) h =
     let f = one_more k in
     ap (λ (n : ℕ). or_further n kind (first_line find kind (suc (suc m)) ls) (find l)) (sym (moves k m h))
     ∙ ap (λ (e : Option Fault). or_further (f m) kind e (find l)) (found_behind find kind k (suc m) ls (omega (arith, h)))
-    ∙ further_told f m kind (first_line find kind (suc m) ls) (find l)
+    ∙ further_reported f m kind (first_line find kind (suc m) ls) (find l)
 
 found_more : (find : List ℕ → Option ℕ) (kind : YamlKind) (k n : ℕ) (front back : List (List ℕ)) (line : List ℕ) → n + length front ≡ suc k → find line ≡ None
     → first_line find kind n (front ++ line ∷ back) ≡ renumber_found (one_more k) (first_line find kind n (front ++ back))
@@ -128,12 +128,12 @@ found_more find kind k n (l ∷ front) back line h e =
     let more : suc n + length front ≡ suc k = omega (arith, h) in
     ap (λ (m : ℕ). or_further m kind (first_line find kind (suc n) (front ++ line ∷ back)) (find l)) (sym (stays k n (omega (arith, h))))
     ∙ ap (λ (x : Option Fault). or_further (f n) kind x (find l)) (found_more find kind k (suc n) front back line more e)
-    ∙ further_told f n kind (first_line find kind (suc n) (front ++ back)) (find l)
+    ∙ further_reported f n kind (first_line find kind (suc n) (front ++ back)) (find l)
 
-first_fault_told : (f : ℕ → ℕ) → Keeps f → (a b : Option Fault) → first_fault (renumber_found f a) (renumber_found f b) ≡ renumber_found f (first_fault a b)
-first_fault_told f keeps None b = refl
-first_fault_told f keeps (Some a) None = refl
-first_fault_told f keeps (Some a) (Some b) = ap (λ (e : Fault). Some e) (first_told f keeps a b)
+first_fault_reported : (f : ℕ → ℕ) → Keeps f → (a b : Option Fault) → first_fault (renumber_found f a) (renumber_found f b) ≡ renumber_found f (first_fault a b)
+first_fault_reported f keeps None b = refl
+first_fault_reported f keeps (Some a) None = refl
+first_fault_reported f keeps (Some a) (Some b) = ap (λ (e : Fault). Some e) (first_reported f keeps a b)
 
 -- a line without such a fault
 none_of_line : (line : List ℕ) → plain_fault (line ∷ []) ≡ None → (bad_at line ≡ None) × (tab_at line ≡ None)
@@ -146,32 +146,32 @@ none_of_line line e = by_both (bad_at line) (tab_at line) e
     by_both (Some m) None h = absurd cc
     by_both (Some m) (Some n) h = absurd cc
 
-plain_told : (k : ℕ) (front back : List (List ℕ)) (line : List ℕ) → 1 + length front ≡ suc k → plain_fault (line ∷ []) ≡ None
+plain_reported : (k : ℕ) (front back : List (List ℕ)) (line : List ℕ) → 1 + length front ≡ suc k → plain_fault (line ∷ []) ≡ None
     → plain_fault (front ++ line ∷ back) ≡ renumber_found (one_more k) (plain_fault (front ++ back))
 unfolding plain_fault
-plain_told k front back line h e =
+plain_reported k front back line h e =
     let none = none_of_line line e in
     let f = one_more k in
     ap (λ (x : Option Fault). first_fault x (first_line tab_at kinds.Tab 1 (front ++ line ∷ back))) (found_more bad_at kinds.Character k 1 front back line h none.0)
     ∙ ap (first_fault (renumber_found f (first_line bad_at kinds.Character 1 (front ++ back)))) (found_more tab_at kinds.Tab k 1 front back line h none.1)
-    ∙ first_fault_told f (keeps_order k) (first_line bad_at kinds.Character 1 (front ++ back)) (first_line tab_at kinds.Tab 1 (front ++ back))
+    ∙ first_fault_reported f (keeps_order k) (first_line bad_at kinds.Character 1 (front ++ back)) (first_line tab_at kinds.Tab 1 (front ++ back))
 
 -- ---- documents
 
-beside_told : (f : ℕ → ℕ) → Keeps f → (p : Option Fault) (r : Result Shape Fault) → beside (renumber_found f p) (told f (renumber f) r) ≡ renumbered f (beside p r)
-beside_told f keeps None (Ok x) = refl
-beside_told f keeps None (Err e) = refl
-beside_told f keeps (Some a) (Ok x) = refl
-beside_told f keeps (Some a) (Err b) =
+beside_reported : (f : ℕ → ℕ) → Keeps f → (p : Option Fault) (r : Result Shape Fault) → beside (renumber_found f p) (reported f (renumber f) r) ≡ renumbered f (beside p r)
+beside_reported f keeps None (Ok x) = refl
+beside_reported f keeps None (Err e) = refl
+beside_reported f keeps (Some a) (Ok x) = refl
+beside_reported f keeps (Some a) (Err b) =
     let failed : Fault → Result Shape Fault = λ x. Err x in
-    ap failed (first_told f keeps a b)
+    ap failed (first_reported f keeps a b)
 
 pub empty_lines_change_numbers : EmptyLinesChangeNumbers
 empty_lines_change_numbers front back line some empty good =
     let k = length front in
     let f = one_more k in
     let start : 1 + length front ≡ suc k = omega arith in
-    ap (λ (p : Option Fault). beside p (document_of (rows_from 1 (front ++ line ∷ back)))) (plain_told k front back line start good)
+    ap (λ (p : Option Fault). beside p (document_of (rows_from 1 (front ++ line ∷ back)))) (plain_reported k front back line start good)
     ∙ ap (λ (rows : List Row). beside (renumber_found f (plain_fault (front ++ back))) (document_of rows)) (rows_more k 1 front back line start empty)
-    ∙ ap (beside (renumber_found f (plain_fault (front ++ back)))) (document_told f (keeps_order k) (stays k 1 some) (rows_from 1 (front ++ back)))
-    ∙ beside_told f (keeps_order k) (plain_fault (front ++ back)) (document_of (rows_from 1 (front ++ back)))
+    ∙ ap (beside (renumber_found f (plain_fault (front ++ back)))) (document_reported f (keeps_order k) (stays k 1 some) (rows_from 1 (front ++ back)))
+    ∙ beside_reported f (keeps_order k) (plain_fault (front ++ back)) (document_of (rows_from 1 (front ++ back)))

@@ -1,4 +1,4 @@
--- Flow values that are spelled are read.
+-- Flow values that are encoded are read.
 use Rattle.std.proofs.Common.{◌≡◌, ℕ, suc, ◌<◌, ◌==◌, inl, inr, Bool, true, false, ◌||◌, if◌then◌else◌, List, [], ◌∷◌, ◌++◌, length, drop, codes, Option, Some, None, Result, Ok, refl, sym, ap, subst, ◌∙◌, append_assoc}
 use Rattle.std.specs.Prelude.{nat_eq}
 use Rattle.std.specs.Cmp.Lexicographic.{same_text}
@@ -22,7 +22,7 @@ use Rattle.launch_values.specs.KeySets.{IsScalarKey}
 use Rattle.launch_values.specs.Resolution.{scalar_value}
 use Rattle.launch_values.specs.Shape.{Shape, Content, node, null, boolean, integer, text, binary, mapping, sequence}
 use Rattle.launch_values.specs.Tags.{Tag, named, bytes_in_base64, ends_name, name_length, is_name, is_binary, tag_with, tag_at}
-use Rattle.launch_laws.specs.Printed.{in_quotes, printed, printed_value, IsTagName, IsTagOn, IsSpellableValue}
+use Rattle.launch_laws.specs.Printed.{in_quotes, printed, printed_value, IsTagName, IsTagOn, IsEncodableValue}
 use Rattle.launch_yaml.specs.Renumbering.{renumber, renumber_value}
 use Rattle.launch_laws.proofs.CleanTexts.{clean_text, bad_none}
 use Rattle.launch_laws.proofs.PrintedScalars.{IsNone, IsEnd, Starts, outside, no_scalar, starts_with, quotes_start, scalar_starts, scalar_read, verbatim_read, bytes_read}
@@ -210,28 +210,28 @@ is_collection (sequence xs) = true
 
 pub node_from : (coll : Values) (line : ℕ) (tag : Option (List ℕ)) (value : Content) (rest : List ℕ)
     → (is_collection value ≡ true → coll (printed_value value ++ rest) ≡ read_value (renumber_value one value) rest)
-    → IsSoundContent value → IsTagOn true tag value → IsSpellableValue true value → Follows rest
+    → IsSoundContent value → IsTagOn true tag value → IsEncodableValue true value → Follows rest
     → node_with coll 1 (printed (node line tag value) ++ rest) ≡ read_node (renumber one (node line tag value)) rest
-node_from coll line None null rest inner sound tag spells follows = scalar_node coll null rest refl sound follows
-node_from coll line None (boolean b) rest inner sound tag spells follows = scalar_node coll (boolean b) rest refl sound follows
-node_from coll line None (integer i) rest inner sound tag spells follows = scalar_node coll (integer i) rest refl sound follows
-node_from coll line None (text bytes) rest inner sound tag spells follows = scalar_node coll (text bytes) rest refl sound follows
-node_from coll line None (binary bytes) rest inner sound tag spells follows = binary_node coll bytes rest spells
-node_from coll line None (mapping ps) rest inner sound tag spells follows = ap (in_node 1 None) (inner refl)
-node_from coll line None (sequence xs) rest inner sound tag spells follows = ap (in_node 1 None) (inner refl)
-node_from coll line (Some name) null rest inner sound tag spells follows =
+node_from coll line None null rest inner sound tag encodes follows = scalar_node coll null rest refl sound follows
+node_from coll line None (boolean b) rest inner sound tag encodes follows = scalar_node coll (boolean b) rest refl sound follows
+node_from coll line None (integer i) rest inner sound tag encodes follows = scalar_node coll (integer i) rest refl sound follows
+node_from coll line None (text bytes) rest inner sound tag encodes follows = scalar_node coll (text bytes) rest refl sound follows
+node_from coll line None (binary bytes) rest inner sound tag encodes follows = binary_node coll bytes rest encodes
+node_from coll line None (mapping ps) rest inner sound tag encodes follows = ap (in_node 1 None) (inner refl)
+node_from coll line None (sequence xs) rest inner sound tag encodes follows = ap (in_node 1 None) (inner refl)
+node_from coll line (Some name) null rest inner sound tag encodes follows =
     tag_node coll name [] rest tag.0 follows.unnamed
     ∙ ap (tagged_with coll 1 (suc (length ((name ++ []) ++ rest))) (named name)) follows.ungapped
     ∙ cond-true (is_absent rest) (read_node (node 1 (Some name) null) rest) _ follows.absent
-node_from coll line (Some name) (boolean b) rest inner sound tag spells follows = cc (tag.1)
-node_from coll line (Some name) (integer i) rest inner sound tag spells follows = cc (tag.1)
-node_from coll line (Some name) (text bytes) rest inner sound tag spells follows =
+node_from coll line (Some name) (boolean b) rest inner sound tag encodes follows = cc (tag.1)
+node_from coll line (Some name) (integer i) rest inner sound tag encodes follows = cc (tag.1)
+node_from coll line (Some name) (text bytes) rest inner sound tag encodes follows =
     tag_node coll name (32 ∷ in_quotes bytes) rest tag.0 refl
     ∙ text_behind coll name bytes rest (suc (length ((name ++ 32 ∷ in_quotes bytes) ++ rest))) sound
-node_from coll line (Some name) (binary bytes) rest inner sound tag spells follows = cc (tag.1)
-node_from coll line (Some name) (mapping ps) rest inner sound tag spells follows =
+node_from coll line (Some name) (binary bytes) rest inner sound tag encodes follows = cc (tag.1)
+node_from coll line (Some name) (mapping ps) rest inner sound tag encodes follows =
     tag_node coll name (32 ∷ printed_value (mapping ps)) rest tag.0 refl ∙ ap (in_node 1 (Some name)) (inner refl)
-node_from coll line (Some name) (sequence xs) rest inner sound tag spells follows =
+node_from coll line (Some name) (sequence xs) rest inner sound tag encodes follows =
     tag_node coll name (32 ∷ printed_value (sequence xs)) rest tag.0 refl ∙ ap (in_node 1 (Some name)) (inner refl)
 
 pub node_starts : (x : Shape) → IsSound x → Starts outside (printed x)

@@ -1,4 +1,4 @@
--- Flow sequences and maps that are spelled are read, with all that stands in them.
+-- Flow sequences and maps that are encoded are read, with all that stands in them.
 use Rattle.std.proofs.Common.{◌≡◌, ℕ, zero, suc, ◌<◌, ◌≤◌, Bool, true, false, if◌then◌else◌, ◌||◌, List, [], ◌∷◌, ◌++◌, length, drop, codes, Some, None, Result, Ok, refl, sym, ap, subst, ◌∙◌, append_assoc, arith}
 use Rattle.std.specs.Cmp.{bool_eq_equiv}
 use Rattle.std.specs.List.{AllByRecursion, IsDistinct, list_any}
@@ -17,7 +17,7 @@ use Rattle.launch_values.specs.KeySets.{IsScalarKey}
 use Rattle.launch_values.specs.Keys.{same_key, unless_there}
 use Rattle.launch_values.specs.Resolution.{scalar_value}
 use Rattle.launch_values.specs.Shape.{Shape, Content, Shapes, Pairs, node, null, boolean, integer, text, binary, mapping, sequence, no_items, item, no_pairs, pair, of_list, of_pairs, to_list, to_pairs, content_of, depth_of, depth_of_content, depth_of_items, depth_of_pairs}
-use Rattle.launch_laws.specs.Printed.{printed, printed_value, printed_items, further_items, printed_pairs, further_pairs, IsKey, keys_of, IsSpellable, IsSpellableValue, AreSpellableItems, AreSpellablePairs}
+use Rattle.launch_laws.specs.Printed.{printed, printed_value, printed_items, further_items, printed_pairs, further_pairs, IsKey, keys_of, IsEncodable, IsEncodableValue, AreEncodableItems, AreEncodablePairs}
 use Rattle.launch_yaml.specs.Renumbering.{renumber, renumber_value, renumber_items, renumber_pairs}
 use Rattle.launch_laws.proofs.PrintedScalars.{Starts, outside, no_scalar, scalar_starts, scalar_read}
 use Rattle.launch_laws.proofs.PrintedFlow.{Nodes, read_value, read_node, one, isnt, among_none, wider, gap_drops, no_gap, begins_other, is_there, Follows, comma_follows, bracket_follows, brace_follows, is_collection, node_from, node_starts}
@@ -170,21 +170,21 @@ key_starts k key sound =
     let both = key_sound k key sound in
     subst (Starts outside) (sym (key_text k key).0) (wider (printed_value (content_of k)) (scalar_starts (content_of k) both.0 both.1))
 
-pairs_go_on : (depth fuel : ℕ) (p : Shape × Shape) (keys : List Content) (ps : Pairs) (rest : List ℕ) → PairsAreRead depth ps → AreSoundPairs ps → AreSpellablePairs true ps → count_pairs ps < fuel → AreNew keys ps
+pairs_go_on : (depth fuel : ℕ) (p : Shape × Shape) (keys : List Content) (ps : Pairs) (rest : List ℕ) → PairsAreRead depth ps → AreSoundPairs ps → AreEncodablePairs true ps → count_pairs ps < fuel → AreNew keys ps
     → goes_on 125 (pairs_with (nodes_at depth) 1 keys fuel) p (further_pairs ps ++ 125 ∷ rest) ≡ read_pairs (p ∷ to_pairs (renumber_pairs one ps)) rest
-pairs_go_on depth fuel p keys no_pairs rest read sound spells enough new = refl
-pairs_go_on depth fuel p keys (pair k v ps) rest read sound spells enough new =
+pairs_go_on depth fuel p keys no_pairs rest read sound encodes enough new = refl
+pairs_go_on depth fuel p keys (pair k v ps) rest read sound encodes enough new =
     let gap = ap (λ (bs : List ℕ). after_gap (32 ∷ bs)) (pair_text k v ps rest)
-    ∙ gap_drops (printed k) (58 ∷ 32 ∷ printed v ++ (further_pairs ps ++ 125 ∷ rest)) (key_starts k spells.0 sound.0)
+    ∙ gap_drops (printed k) (58 ∷ 32 ∷ printed v ++ (further_pairs ps ++ 125 ∷ rest)) (key_starts k encodes.0 sound.0)
     ∙ sym (pair_text k v ps rest) in
     ap (λ (r : Result (List (Shape × Shape) × List ℕ) LineFault). r >>= onto_pairs p) (read keys fuel (32 ∷ printed_pairs (pair k v ps) ++ 125 ∷ rest) rest gap enough new)
 
 pairs_step : (depth fuel : ℕ) (k v : Shape) (ps : Pairs) (keys : List Content) (bytes rest : List ℕ) → IsKey k → IsSound k
     → Starts outside (printed v) → ((behind : List ℕ) → Follows behind → nodes_at depth (printed v ++ behind) ≡ read_node (renumber one v) behind)
-    → PairsAreRead depth ps → AreSoundPairs ps → AreSpellablePairs true ps
+    → PairsAreRead depth ps → AreSoundPairs ps → AreEncodablePairs true ps
     → after_gap bytes ≡ printed_pairs (pair k v ps) ++ 125 ∷ rest → suc (count_pairs ps) < suc fuel → AreNew keys (pair k v ps)
     → pairs_with (nodes_at depth) 1 keys (suc fuel) bytes ≡ read_pairs (to_pairs (renumber_pairs one (pair k v ps))) rest
-pairs_step depth fuel k v ps keys bytes rest key key_is starts reads more sound spells gap enough new =
+pairs_step depth fuel k v ps keys bytes rest key key_is starts reads more sound encodes gap enough new =
     let behind : List ℕ = further_pairs ps ++ 125 ∷ rest in
     let follows = pairs_follow ps rest in
     let is = key_text k key in
@@ -198,15 +198,15 @@ pairs_step depth fuel k v ps keys bytes rest key key_is starts reads more sound 
     ∙ ap (λ (bs : List ℕ). pair_with (nodes_at depth) 1 keys (bs ++ (58 ∷ 32 ∷ printed v ++ behind)) >>= next) is.0
     ∙ ap (λ (r : Result ((Shape × Shape) × List ℕ) LineFault). r >>= next) (pair_is depth c v keys behind both.0 both.1 new.0 starts (reads behind follows))
     ∙ ap (goes_on 125 (pairs_with (nodes_at depth) 1 (c ∷ keys) fuel) (node 1 None c, renumber one v)) follows.ungapped
-    ∙ pairs_go_on depth fuel (node 1 None c, renumber one v) (c ∷ keys) ps rest more sound spells (omega (arith, enough)) new.1
+    ∙ pairs_go_on depth fuel (node 1 None c, renumber one v) (c ∷ keys) ps rest more sound encodes (omega (arith, enough)) new.1
     ∙ ap (λ (x : Shape). read_pairs ((x, renumber one v) ∷ to_pairs (renumber_pairs one ps)) rest) (sym is.1)
 
 pairs_from : (depth : ℕ) (k v : Shape) (ps : Pairs) → IsKey k → IsSound k
     → Starts outside (printed v) → ((behind : List ℕ) → Follows behind → nodes_at depth (printed v ++ behind) ≡ read_node (renumber one v) behind)
-    → PairsAreRead depth ps → AreSoundPairs ps → AreSpellablePairs true ps → PairsAreRead depth (pair k v ps)
-pairs_from depth k v ps key key_is starts reads more sound spells keys zero bytes rest gap enough new = absurd (omega (arith, enough))
-pairs_from depth k v ps key key_is starts reads more sound spells keys (suc fuel) bytes rest gap enough new =
-    pairs_step depth fuel k v ps keys bytes rest key key_is starts reads more sound spells gap enough new
+    → PairsAreRead depth ps → AreSoundPairs ps → AreEncodablePairs true ps → PairsAreRead depth (pair k v ps)
+pairs_from depth k v ps key key_is starts reads more sound encodes keys zero bytes rest gap enough new = absurd (omega (arith, enough))
+pairs_from depth k v ps key key_is starts reads more sound encodes keys (suc fuel) bytes rest gap enough new =
+    pairs_step depth fuel k v ps keys bytes rest key key_is starts reads more sound encodes gap enough new
 
 no_pairs_from : (depth : ℕ) → PairsAreRead depth no_pairs
 no_pairs_from depth keys zero bytes rest gap enough new = absurd (omega (arith, enough))
@@ -282,10 +282,10 @@ items_ungapped (item x xs) rest sound =
     ap after_gap (append_assoc (printed x) (further_items xs) (93 ∷ rest)) ∙ no_gap (printed x) (further_items xs ++ 93 ∷ rest) (node_starts x sound.0)
     ∙ sym (append_assoc (printed x) (further_items xs) (93 ∷ rest))
 
-pairs_ungapped : (ps : Pairs) (rest : List ℕ) → AreSoundPairs ps → AreSpellablePairs true ps → after_gap (printed_pairs ps ++ 125 ∷ rest) ≡ printed_pairs ps ++ 125 ∷ rest
-pairs_ungapped no_pairs rest sound spells = refl
-pairs_ungapped (pair k v ps) rest sound spells =
-    ap after_gap (pair_text k v ps rest) ∙ no_gap (printed k) (58 ∷ 32 ∷ printed v ++ (further_pairs ps ++ 125 ∷ rest)) (key_starts k spells.0 sound.0)
+pairs_ungapped : (ps : Pairs) (rest : List ℕ) → AreSoundPairs ps → AreEncodablePairs true ps → after_gap (printed_pairs ps ++ 125 ∷ rest) ≡ printed_pairs ps ++ 125 ∷ rest
+pairs_ungapped no_pairs rest sound encodes = refl
+pairs_ungapped (pair k v ps) rest sound encodes =
+    ap after_gap (pair_text k v ps rest) ∙ no_gap (printed k) (58 ∷ 32 ∷ printed v ++ (further_pairs ps ++ 125 ∷ rest)) (key_starts k encodes.0 sound.0)
     ∙ sym (pair_text k v ps rest)
 
 sequence_from : (depth : ℕ) (xs : Shapes) (rest : List ℕ) → ItemsAreRead depth xs → AreSoundItems xs
@@ -298,14 +298,14 @@ sequence_from depth xs rest read sound =
     (read (suc (length bytes)) bytes rest (items_ungapped xs rest sound) (all_items_fit xs rest))
     ∙ ap (λ (ys : Shapes). read_value (sequence ys) rest) (listed (renumber_items one xs))
 
-mapping_from : (depth : ℕ) (ps : Pairs) (rest : List ℕ) → PairsAreRead depth ps → AreSoundPairs ps → AreSpellablePairs true ps → IsDistinct same_key (keys_of ps)
+mapping_from : (depth : ℕ) (ps : Pairs) (rest : List ℕ) → PairsAreRead depth ps → AreSoundPairs ps → AreEncodablePairs true ps → IsDistinct same_key (keys_of ps)
     → collection_at (suc depth) 1 (printed_value (mapping ps) ++ rest) ≡ read_value (mapping (renumber_pairs one ps)) rest
 unfolding collection_at pairs_of
-mapping_from depth ps rest read sound spells distinct =
+mapping_from depth ps rest read sound encodes distinct =
     let bytes : List ℕ = printed_pairs ps ++ 125 ∷ rest in
     ap (λ (bs : List ℕ). collection_at (suc depth) 1 (123 ∷ bs)) (append_assoc (printed_pairs ps) (codes "}") rest)
     ∙ ap (λ (r : Result (List (Shape × Shape) × List ℕ) LineFault). r >>= λ pairs. read_value (mapping (of_pairs pairs.0)) pairs.1)
-    (read [] (suc (length bytes)) bytes rest (pairs_ungapped ps rest sound spells) (all_pairs_fit ps rest) (new_keys ps [] distinct (all_new (keys_of ps))))
+    (read [] (suc (length bytes)) bytes rest (pairs_ungapped ps rest sound encodes) (all_pairs_fit ps rest) (new_keys ps [] distinct (all_new (keys_of ps))))
     ∙ ap (λ (qs : Pairs). read_value (mapping qs) rest) (listed_pairs (renumber_pairs one ps))
 
 -- what holds below a depth that isn't 0
@@ -314,32 +314,32 @@ in_depth P below zero deep h = absurd (omega (arith, deep))
 in_depth P below (suc d) deep h = h d (omega (arith, deep))
 
 mutual
-  pub node_read : (x : Shape) (depth : ℕ) (rest : List ℕ) → depth_of x ≤ depth → IsSound x → IsSpellable true x → Follows rest → nodes_at depth (printed x ++ rest) ≡ read_node (renumber one x) rest
-  node_read (node line tag value) depth rest deep sound spells follows =
-      node_from (collection_at depth 1) line tag value rest (λ h. value_read value depth rest deep sound spells.1 h) sound spells.0 spells.1 follows
+  pub node_read : (x : Shape) (depth : ℕ) (rest : List ℕ) → depth_of x ≤ depth → IsSound x → IsEncodable true x → Follows rest → nodes_at depth (printed x ++ rest) ≡ read_node (renumber one x) rest
+  node_read (node line tag value) depth rest deep sound encodes follows =
+      node_from (collection_at depth 1) line tag value rest (λ h. value_read value depth rest deep sound encodes.1 h) sound encodes.0 encodes.1 follows
 
-  pub value_read : (c : Content) (depth : ℕ) (rest : List ℕ) → depth_of_content c ≤ depth → IsSoundContent c → IsSpellableValue true c → is_collection c ≡ true
+  pub value_read : (c : Content) (depth : ℕ) (rest : List ℕ) → depth_of_content c ≤ depth → IsSoundContent c → IsEncodableValue true c → is_collection c ≡ true
       → collection_at depth 1 (printed_value c ++ rest) ≡ read_value (renumber_value one c) rest
-  value_read null depth rest deep sound spells h = cc (h)
-  value_read (boolean b) depth rest deep sound spells h = cc (h)
-  value_read (integer i) depth rest deep sound spells h = cc (h)
-  value_read (text bytes) depth rest deep sound spells h = cc (h)
-  value_read (binary bytes) depth rest deep sound spells h = cc (h)
-  value_read (mapping ps) depth rest deep sound spells h =
+  value_read null depth rest deep sound encodes h = cc (h)
+  value_read (boolean b) depth rest deep sound encodes h = cc (h)
+  value_read (integer i) depth rest deep sound encodes h = cc (h)
+  value_read (text bytes) depth rest deep sound encodes h = cc (h)
+  value_read (binary bytes) depth rest deep sound encodes h = cc (h)
+  value_read (mapping ps) depth rest deep sound encodes h =
       in_depth (λ d. collection_at d 1 (printed_value (mapping ps) ++ rest) ≡ read_value (mapping (renumber_pairs one ps)) rest) (depth_of_pairs ps) depth deep
-      (λ d inner. mapping_from d ps rest (pairs_read ps d inner sound spells.1) sound spells.1 spells.0)
-  value_read (sequence xs) depth rest deep sound spells h =
+      (λ d inner. mapping_from d ps rest (pairs_read ps d inner sound encodes.1) sound encodes.1 encodes.0)
+  value_read (sequence xs) depth rest deep sound encodes h =
       in_depth (λ d. collection_at d 1 (printed_value (sequence xs) ++ rest) ≡ read_value (sequence (renumber_items one xs)) rest) (depth_of_items xs) depth deep
-      (λ d inner. sequence_from d xs rest (items_read xs d inner sound spells) sound)
+      (λ d inner. sequence_from d xs rest (items_read xs d inner sound encodes) sound)
 
-  items_read : (xs : Shapes) (depth : ℕ) → depth_of_items xs ≤ depth → AreSoundItems xs → AreSpellableItems true xs → ItemsAreRead depth xs
-  items_read no_items depth deep sound spells = no_items_from depth
-  items_read (item x xs) depth deep sound spells =
-      items_from depth x xs (node_starts x sound.0) (λ behind follows. node_read x depth behind (omega (arith, deep)) sound.0 spells.0 follows)
-      (items_read xs depth (omega (arith, deep)) sound.1 spells.1) sound.1
+  items_read : (xs : Shapes) (depth : ℕ) → depth_of_items xs ≤ depth → AreSoundItems xs → AreEncodableItems true xs → ItemsAreRead depth xs
+  items_read no_items depth deep sound encodes = no_items_from depth
+  items_read (item x xs) depth deep sound encodes =
+      items_from depth x xs (node_starts x sound.0) (λ behind follows. node_read x depth behind (omega (arith, deep)) sound.0 encodes.0 follows)
+      (items_read xs depth (omega (arith, deep)) sound.1 encodes.1) sound.1
 
-  pairs_read : (ps : Pairs) (depth : ℕ) → depth_of_pairs ps ≤ depth → AreSoundPairs ps → AreSpellablePairs true ps → PairsAreRead depth ps
-  pairs_read no_pairs depth deep sound spells = no_pairs_from depth
-  pairs_read (pair k v ps) depth deep sound spells =
-      pairs_from depth k v ps spells.0 sound.0 (node_starts v sound.1) (λ behind follows. node_read v depth behind (omega (arith, deep)) sound.1 spells.1 follows)
-      (pairs_read ps depth (omega (arith, deep)) sound.2 spells.2) sound.2 spells.2
+  pairs_read : (ps : Pairs) (depth : ℕ) → depth_of_pairs ps ≤ depth → AreSoundPairs ps → AreEncodablePairs true ps → PairsAreRead depth ps
+  pairs_read no_pairs depth deep sound encodes = no_pairs_from depth
+  pairs_read (pair k v ps) depth deep sound encodes =
+      pairs_from depth k v ps encodes.0 sound.0 (node_starts v sound.1) (λ behind follows. node_read v depth behind (omega (arith, deep)) sound.1 encodes.1 follows)
+      (pairs_read ps depth (omega (arith, deep)) sound.2 encodes.2) sound.2 encodes.2

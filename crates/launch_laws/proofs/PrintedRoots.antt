@@ -33,7 +33,7 @@ use Rattle.launch_lines.specs.Faults.{unless}
 use Rattle.launch_lines.specs.Rows.{Row, is_dash, behind_colon, behind_quoted, behind_key, in_row}
 use Rattle.launch_yaml.specs.Blocks.{Tagging, untagged, tagged, in_base64, tagging_of, mode_of, node_of, unless_binary, wrong_in, text_behind, rows_behind, alone, begins_block, value_in, unless_key, value_below, block_at}
 use Rattle.launch_yaml.specs.Document.{root_of}
-use Rattle.launch_laws.specs.Printed.{in_quotes, spelled, printed, printed_value, IsTagName, IsSpellableRoot, IsSpellableValue}
+use Rattle.launch_laws.specs.Printed.{in_quotes, encoded, printed, printed_value, IsTagName, IsEncodableRoot, IsEncodableValue}
 use Rattle.launch_yaml.specs.Renumbering.{renumber, renumber_value}
 use Rattle.launch_laws.proofs.PrintedTexts.{double_read}
 use Rattle.launch_laws.proofs.PrintedScalars.{Starts, outside, no_scalar, are_inner, inner_length, base64_text, digits_inner, not_true, on_digit, quotes_start, scalar_starts, scalar_read, verbatim_read, bytes_read}
@@ -59,7 +59,7 @@ no_key_word b bs quote begins inner =
 no_key_quotes : (bytes : List ℕ) → IsText bytes → behind_key (in_quotes bytes) ≡ None
 unfolding behind_key in_quotes
 no_key_quotes bytes h =
-    let front : List ℕ = flat_map spelled (chars bytes) ++ 34 ∷ [] in
+    let front : List ℕ = flat_map encoded (chars bytes) ++ 34 ∷ [] in
     ap (λ (q : Quoted). behind_quoted q.rest) (ap (quoted 34) (sym (append-nil front)) ∙ double_read bytes [] h)
 
 no_dash_quotes : (bytes : List ℕ) → is_dash (in_quotes bytes) ≡ false
@@ -186,9 +186,9 @@ collection_root mode (binary bytes) h = cc (h)
 collection_root mode (mapping ps) h = refl
 collection_root mode (sequence xs) h = refl
 
-collection_value_root : (mode : Mode) (c : Content) → depth_of_content c ≤ 64 → IsSoundContent c → IsSpellableValue true c → is_collection c ≡ true → value_at 64 1 mode (printed_value c) ≡ read_value (renumber_value one c) []
-collection_value_root mode c deep sound spells h =
-    collection_root mode c h ∙ ap (collection_at 64 1) (sym (append-nil (printed_value c))) ∙ value_read c 64 [] deep sound spells h
+collection_value_root : (mode : Mode) (c : Content) → depth_of_content c ≤ 64 → IsSoundContent c → IsEncodableValue true c → is_collection c ≡ true → value_at 64 1 mode (printed_value c) ≡ read_value (renumber_value one c) []
+collection_value_root mode c deep sound encodes h =
+    collection_root mode c h ∙ ap (collection_at 64 1) (sym (append-nil (printed_value c))) ∙ value_read c 64 [] deep sound encodes h
 
 -- ---- a root without a tag
 
@@ -289,30 +289,30 @@ named_root : (name more behind : List ℕ) (x : Shape) → IsTagName false name 
 named_root name more behind x h end gap key value =
     tagged_root (name ++ more) (named name) more behind x (tag_read false name more h end) gap key value
 
-pub root_read : (x : Shape) → depth_of x ≤ 64 → IsSound x → IsSpellableRoot x → root_of (only_row (printed x) ∷ []) ≡ read_root (renumber one x)
-root_read (node line None null) deep sound spells = scalar_root null refl sound
-root_read (node line None (boolean b)) deep sound spells = scalar_root (boolean b) refl sound
-root_read (node line None (integer i)) deep sound spells = scalar_root (integer i) refl sound
-root_read (node line None (text bytes)) deep sound spells = scalar_root (text bytes) refl sound
-root_read (node line None (binary bytes)) deep sound spells =
+pub root_read : (x : Shape) → depth_of x ≤ 64 → IsSound x → IsEncodableRoot x → root_of (only_row (printed x) ∷ []) ≡ read_root (renumber one x)
+root_read (node line None null) deep sound encodes = scalar_root null refl sound
+root_read (node line None (boolean b)) deep sound encodes = scalar_root (boolean b) refl sound
+root_read (node line None (integer i)) deep sound encodes = scalar_root (integer i) refl sound
+root_read (node line None (text bytes)) deep sound encodes = scalar_root (text bytes) refl sound
+root_read (node line None (binary bytes)) deep sound encodes =
     let quotes : List ℕ = in_quotes (encode_of standard bytes) in
     tagged_root (codes "!binary " ++ quotes) bytes_in_base64 (32 ∷ quotes) quotes (node 1 None (binary bytes)) (binary_tag false quotes)
-    (gap_alone quotes (wider quotes (quotes_start (encode_of standard bytes)))) (no_key_quotes (encode_of standard bytes) (base64_text bytes spells.1))
-    (bytes_behind_tag (printed_value (binary bytes)) _ bytes spells.1)
-root_read (node line None (mapping ps)) deep sound spells =
-    untagged_root 123 _ (renumber_value one (mapping ps)) refl (root_bare (node line None (mapping ps)) sound).block (collection_value_root modes.Resolved (mapping ps) deep sound spells.1 refl)
-root_read (node line None (sequence xs)) deep sound spells =
-    untagged_root 91 _ (renumber_value one (sequence xs)) refl (root_bare (node line None (sequence xs)) sound).block (collection_value_root modes.Resolved (sequence xs) deep sound spells.1 refl)
-root_read (node line (Some name) null) deep sound spells = named_root name [] [] (node 1 (Some name) null) spells.0.0 refl refl no_key_nothing refl
-root_read (node line (Some name) (boolean b)) deep sound spells = cc (spells.0.1)
-root_read (node line (Some name) (integer i)) deep sound spells = cc (spells.0.1)
-root_read (node line (Some name) (text bytes)) deep sound spells =
-    named_root name (32 ∷ in_quotes bytes) (in_quotes bytes) (node 1 (Some name) (text bytes)) spells.0.0 refl (gap_alone (in_quotes bytes) (wider (in_quotes bytes) (quotes_start bytes)))
+    (gap_alone quotes (wider quotes (quotes_start (encode_of standard bytes)))) (no_key_quotes (encode_of standard bytes) (base64_text bytes encodes.1))
+    (bytes_behind_tag (printed_value (binary bytes)) _ bytes encodes.1)
+root_read (node line None (mapping ps)) deep sound encodes =
+    untagged_root 123 _ (renumber_value one (mapping ps)) refl (root_bare (node line None (mapping ps)) sound).block (collection_value_root modes.Resolved (mapping ps) deep sound encodes.1 refl)
+root_read (node line None (sequence xs)) deep sound encodes =
+    untagged_root 91 _ (renumber_value one (sequence xs)) refl (root_bare (node line None (sequence xs)) sound).block (collection_value_root modes.Resolved (sequence xs) deep sound encodes.1 refl)
+root_read (node line (Some name) null) deep sound encodes = named_root name [] [] (node 1 (Some name) null) encodes.0.0 refl refl no_key_nothing refl
+root_read (node line (Some name) (boolean b)) deep sound encodes = cc (encodes.0.1)
+root_read (node line (Some name) (integer i)) deep sound encodes = cc (encodes.0.1)
+root_read (node line (Some name) (text bytes)) deep sound encodes =
+    named_root name (32 ∷ in_quotes bytes) (in_quotes bytes) (node 1 (Some name) (text bytes)) encodes.0.0 refl (gap_alone (in_quotes bytes) (wider (in_quotes bytes) (quotes_start bytes)))
     (no_key_quotes bytes sound) (text_behind_name (33 ∷ name ++ 32 ∷ in_quotes bytes) name bytes sound)
-root_read (node line (Some name) (binary bytes)) deep sound spells = cc (spells.0.1)
-root_read (node line (Some name) (mapping ps)) deep sound spells =
-    named_root name (32 ∷ printed_value (mapping ps)) (printed_value (mapping ps)) (node 1 (Some name) (renumber_value one (mapping ps))) spells.0.0 refl refl (collection_no_key (mapping ps) refl)
-    (behind_name (33 ∷ name ++ 32 ∷ printed_value (mapping ps)) name 123 _ (renumber_value one (mapping ps)) refl (collection_value_root modes.Verbatim (mapping ps) deep sound spells.1 refl))
-root_read (node line (Some name) (sequence xs)) deep sound spells =
-    named_root name (32 ∷ printed_value (sequence xs)) (printed_value (sequence xs)) (node 1 (Some name) (renumber_value one (sequence xs))) spells.0.0 refl refl (collection_no_key (sequence xs) refl)
-    (behind_name (33 ∷ name ++ 32 ∷ printed_value (sequence xs)) name 91 _ (renumber_value one (sequence xs)) refl (collection_value_root modes.Verbatim (sequence xs) deep sound spells.1 refl))
+root_read (node line (Some name) (binary bytes)) deep sound encodes = cc (encodes.0.1)
+root_read (node line (Some name) (mapping ps)) deep sound encodes =
+    named_root name (32 ∷ printed_value (mapping ps)) (printed_value (mapping ps)) (node 1 (Some name) (renumber_value one (mapping ps))) encodes.0.0 refl refl (collection_no_key (mapping ps) refl)
+    (behind_name (33 ∷ name ++ 32 ∷ printed_value (mapping ps)) name 123 _ (renumber_value one (mapping ps)) refl (collection_value_root modes.Verbatim (mapping ps) deep sound encodes.1 refl))
+root_read (node line (Some name) (sequence xs)) deep sound encodes =
+    named_root name (32 ∷ printed_value (sequence xs)) (printed_value (sequence xs)) (node 1 (Some name) (renumber_value one (sequence xs))) encodes.0.0 refl refl (collection_no_key (sequence xs) refl)
+    (behind_name (33 ∷ name ++ 32 ∷ printed_value (sequence xs)) name 91 _ (renumber_value one (sequence xs)) refl (collection_value_root modes.Verbatim (sequence xs) deep sound encodes.1 refl))

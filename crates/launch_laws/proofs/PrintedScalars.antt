@@ -1,4 +1,4 @@
--- Scalars in a line: null, booleans, integers and bytes that are spelled are read.
+-- Scalars in a line: null, booleans, integers and bytes that are encoded are read.
 use Rattle.std.proofs.Common.{◌≡◌, ℕ, ℤ, pos, negsuc, zero, suc, ◌+◌, ◌-◌, ◌*◌, ◌/◌, ◌%◌, ◌^◌, ◌<◌, ◌≤◌, ◌==◌, inl, inr, Bool, true, false, ltb, not, ◌&&◌, ◌||◌, if◌then◌else◌, List, [], ◌∷◌, ◌++◌, length, drop, codes, Option, Some, Result, Ok, refl, ap, ◌∙◌, arith}
 use Rattle.std.specs.Prelude.{IsTrue, neg_ℤ, nat_eq, replicate, slice_index}
 use Rattle.std.specs.Char.{digit_value}

@@ -1,4 +1,4 @@
--- Texts in double quotes: what is spelled is read.
+-- Texts in double quotes: what is encoded is read.
 use Rattle.std.proofs.Common.{◌≡◌, ◌≢◌, ℕ, zero, suc, ◌+◌, ◌-◌, ◌*◌, ◌/◌, ◌%◌, ◌<◌, ◌==◌, inl, inr, Bool, true, false, ltb, not, ◌&&◌, ◌||◌, if◌then◌else◌, List, [], ◌∷◌, ◌++◌, length, take, Option, Some, None, option_map, Result, Ok, refl, sym, ap, subst, ◌∙◌, append_assoc, arith}
 use Rattle.std.specs.Char.{encode_utf8, IsScalar, is_control}
 use Rattle.std.specs.Fmt.{digit_glyph}
@@ -13,12 +13,12 @@ use Rattle.std.proofs.lemmas.Str.{encodes-chars, scalars-chars}
 use Rattle.lists.specs.Results.{◌>>=◌}
 use Rattle.launch_scalars.specs.declared.fault.LineFault.{LineFault}
 use Rattle.launch_scalars.specs.Characters.{bad_at}
-use Rattle.launch_scalars.specs.Quoted.{Quoted, closed, put, digit_of, with_digit, hexadecimal, is_escapable, character_of, escape, escaped, in_double, quoted, told, taken_of}
+use Rattle.launch_scalars.specs.Quoted.{Quoted, closed, put, digit_of, with_digit, hexadecimal, is_escapable, character_of, escape, escaped, in_double, quoted, reported, taken_of}
 use Rattle.launch_scalars.specs.Scalars.{Scalar, unless_at, unless_bad, quoted_scalar, quoted_at, scalar_at}
 use Rattle.launch_scalars.proofs.Escaped.{AreNonzero}
 use Rattle.launch_scalars.proofs.Utf8.{nonzero_left, nonzero_right}
 use Rattle.launch_values.specs.Documents.{IsText}
-use Rattle.launch_laws.specs.Printed.{escape_of, spelled, in_quotes}
+use Rattle.launch_laws.specs.Printed.{escape_of, encoded, in_quotes}
 use Rattle.launch_laws.proofs.CleanTexts.{IsClean, clean_nil, clean_append, clean_byte, clean_visible, clean_character, bad_none, either}
 
 -- ---- hexadecimal digits
@@ -107,34 +107,34 @@ encoded_literal c h k =
 
 -- ---- characters
 
--- a character that is spelled is read, and may stand in a text
-abbrev IsSpelled : ℕ → List ℕ → Type 0
-IsSpelled c bytes = ((rest : List ℕ) → in_double 0 (bytes ++ rest) ≡ put (encode_utf8 c) (in_double 0 rest)) × IsClean bytes
+-- a character that is encoded is read, and may stand in a text
+abbrev IsEncoded : ℕ → List ℕ → Type 0
+IsEncoded c bytes = ((rest : List ℕ) → in_double 0 (bytes ++ rest) ≡ put (encode_utf8 c) (in_double 0 rest)) × IsClean bytes
 
-spelled_quote : IsSpelled 34 (spelled 34)
+encoded_quote : IsEncoded 34 (encoded 34)
 unfolding encode_utf8
-spelled_quote = (λ rest. refl, clean_visible (92 ∷ 34 ∷ []) refl)
+encoded_quote = (λ rest. refl, clean_visible (92 ∷ 34 ∷ []) refl)
 
-spelled_backslash : IsSpelled 92 (spelled 92)
+encoded_backslash : IsEncoded 92 (encoded 92)
 unfolding encode_utf8
-spelled_backslash = (λ rest. refl, clean_visible (92 ∷ 92 ∷ []) refl)
+encoded_backslash = (λ rest. refl, clean_visible (92 ∷ 92 ∷ []) refl)
 
-spelled_other : (c : ℕ) → IsScalar c → 0 < c → c ≢ 34 → c ≢ 92 → IsSpelled c (spelled c)
-spelled_other c scalar some h k =
+encoded_other : (c : ℕ) → IsScalar c → 0 < c → c ≢ 34 → c ≢ 92 → IsEncoded c (encoded c)
+encoded_other c scalar some h k =
     let first = ne_eqb c 34 h in
     let second = ne_eqb c 92 k in
     let neither : ((c == 34) || (c == 92)) ≡ false = rw (first, second) refl in
-    subst (IsSpelled c) (sym (cond-false ((c == 34) || (c == 92)) (92 ∷ c ∷ []) (if is_control c then escape_of c else encode_utf8 c) neither))
-    (either (IsSpelled c) (is_control c) (escape_of c) (encode_utf8 c)
+    subst (IsEncoded c) (sym (cond-false ((c == 34) || (c == 92)) (92 ∷ c ∷ []) (if is_control c then escape_of c else encode_utf8 c) neither))
+    (either (IsEncoded c) (is_control c) (escape_of c) (encode_utf8 c)
     (λ control. let small : c < 256 = grind (arith, nat_tests, control) in (λ rest. control_read c rest some small, clean_escape c small))
     (λ other. (λ rest. literal_read (encode_utf8 c) rest (encoded_literal c h k), clean_character c scalar other)))
 
-spelled_each : (c : ℕ) → IsScalar c → 0 < c → IsSpelled c (spelled c)
-spelled_each c scalar some = elim (cases_eq c 34) [
-  | inl e ↦ subst (λ (n : ℕ). IsSpelled n (spelled n)) (sym e) spelled_quote
+encoded_each : (c : ℕ) → IsScalar c → 0 < c → IsEncoded c (encoded c)
+encoded_each c scalar some = elim (cases_eq c 34) [
+  | inl e ↦ subst (λ (n : ℕ). IsEncoded n (encoded n)) (sym e) encoded_quote
   | inr h ↦ elim (cases_eq c 92) [
-    | inl e ↦ subst (λ (n : ℕ). IsSpelled n (spelled n)) (sym e) spelled_backslash
-    | inr k ↦ spelled_other c scalar some h k
+    | inl e ↦ subst (λ (n : ℕ). IsEncoded n (encoded n)) (sym e) encoded_backslash
+    | inr k ↦ encoded_other c scalar some h k
   ]
 ]
 
@@ -151,26 +151,26 @@ put_twice xs ys q = ap (λ (content : List ℕ). with_content content) (sym (app
     with_content : List ℕ → Quoted
     with_content content = record { content = content; rest = q.rest; wrong = q.wrong }
 
-spelled_text : (cs : List ℕ) → scalars cs ≡ true → AreNonzero (encodes cs)
-    → ((rest : List ℕ) → in_double 0 (flat_map spelled cs ++ rest) ≡ put (encodes cs) (in_double 0 rest)) × IsClean (flat_map spelled cs)
-spelled_text [] e h = (λ rest. refl, clean_nil)
-spelled_text (c ∷ cs) e h =
+encoded_text : (cs : List ℕ) → scalars cs ≡ true → AreNonzero (encodes cs)
+    → ((rest : List ℕ) → in_double 0 (flat_map encoded cs ++ rest) ≡ put (encodes cs) (in_double 0 rest)) × IsClean (flat_map encoded cs)
+encoded_text [] e h = (λ rest. refl, clean_nil)
+encoded_text (c ∷ cs) e h =
     let p = and_parts _ _ e in
-    let one = spelled_each c p.0 (encoded_some c (nonzero_left (encode_utf8 c) (encodes cs) h)) in
-    let more = spelled_text cs p.1 (nonzero_right (encode_utf8 c) (encodes cs) h) in (
+    let one = encoded_each c p.0 (encoded_some c (nonzero_left (encode_utf8 c) (encodes cs) h)) in
+    let more = encoded_text cs p.1 (nonzero_right (encode_utf8 c) (encodes cs) h) in (
       λ rest.
-          ap (in_double 0) (append_assoc (spelled c) (flat_map spelled cs) rest) ∙ one.0 (flat_map spelled cs ++ rest)
+          ap (in_double 0) (append_assoc (encoded c) (flat_map encoded cs) rest) ∙ one.0 (flat_map encoded cs ++ rest)
           ∙ ap (put (encode_utf8 c)) (more.0 rest) ∙ put_twice (encode_utf8 c) (encodes cs) (in_double 0 rest),
-      clean_append (spelled c) (flat_map spelled cs) one.1 more.1,
+      clean_append (encoded c) (flat_map encoded cs) one.1 more.1,
     )
 
 pub clean_quotes : (bytes : List ℕ) → IsText bytes → IsClean (in_quotes bytes)
 unfolding in_quotes
 clean_quotes bytes h =
     let is = encodes-chars bytes h.0 in
-    let inner = spelled_text (chars bytes) (scalars-chars bytes h.0) (subst AreNonzero (sym is) h.1) in
-    clean_append (34 ∷ []) (flat_map spelled (chars bytes) ++ 34 ∷ []) (clean_visible (34 ∷ []) refl)
-    (clean_append (flat_map spelled (chars bytes)) (34 ∷ []) inner.1 (clean_visible (34 ∷ []) refl))
+    let inner = encoded_text (chars bytes) (scalars-chars bytes h.0) (subst AreNonzero (sym is) h.1) in
+    clean_append (34 ∷ []) (flat_map encoded (chars bytes) ++ 34 ∷ []) (clean_visible (34 ∷ []) refl)
+    (clean_append (flat_map encoded (chars bytes)) (34 ∷ []) inner.1 (clean_visible (34 ∷ []) refl))
 
 -- what stands behind the opening quote, and what is read of it
 abbrev quoted_whole : List ℕ → List ℕ → Quoted
@@ -183,24 +183,24 @@ quoted_is : (front rest content : List ℕ) → quoted 34 (front ++ rest) ≡ qu
 quoted_is front rest content is none =
     let whole : List ℕ = front ++ rest in
     let count : length whole - length rest ≡ length front = omega (arith, length-append front rest) in
-    ap (λ (q : Quoted). unless_bad (suc (taken_of (length whole) q.rest)) (34 ∷ whole) (told q >>= λ c. Ok (quoted_scalar c))) is
+    ap (λ (q : Quoted). unless_bad (suc (taken_of (length whole) q.rest)) (34 ∷ whole) (reported q >>= λ c. Ok (quoted_scalar c))) is
     ∙ ap (λ (place : Option ℕ). unless_at (suc (length whole)) place (read_scalar content rest))
     (ap (λ (n : ℕ). bad_at (34 ∷ take n whole)) count ∙ ap (λ (xs : List ℕ). bad_at (34 ∷ xs)) (take-append_seam front rest) ∙ none)
 
-pub double_read : (bytes rest : List ℕ) → IsText bytes → quoted 34 ((flat_map spelled (chars bytes) ++ 34 ∷ []) ++ rest) ≡ quoted_whole bytes rest
+pub double_read : (bytes rest : List ℕ) → IsText bytes → quoted 34 ((flat_map encoded (chars bytes) ++ 34 ∷ []) ++ rest) ≡ quoted_whole bytes rest
 unfolding quoted
 double_read bytes rest h =
     let is = encodes-chars bytes h.0 in
-    let inner = spelled_text (chars bytes) (scalars-chars bytes h.0) (subst AreNonzero (sym is) h.1) in
-    ap (in_double 0) (append_assoc (flat_map spelled (chars bytes)) (34 ∷ []) rest) ∙ inner.0 (34 ∷ rest)
+    let inner = encoded_text (chars bytes) (scalars-chars bytes h.0) (subst AreNonzero (sym is) h.1) in
+    ap (in_double 0) (append_assoc (flat_map encoded (chars bytes)) (34 ∷ []) rest) ∙ inner.0 (34 ∷ rest)
     ∙ ap (λ (content : List ℕ). quoted_whole content rest) (append-nil (encodes (chars bytes)) ∙ is)
 
 -- a text in double quotes is read, whatever stands behind it
 pub text_read : (in_flow : Bool) (bytes rest : List ℕ) → IsText bytes → scalar_at in_flow (in_quotes bytes ++ rest) ≡ Ok (quoted_scalar (bytes, rest))
 unfolding scalar_at in_quotes
 text_read in_flow bytes rest h =
-    let front : List ℕ = flat_map spelled (chars bytes) ++ 34 ∷ [] in
+    let front : List ℕ = flat_map encoded (chars bytes) ++ 34 ∷ [] in
     quoted_is front rest bytes (double_read bytes rest h) (clean_front bytes h)
   where
-    clean_front : (bs : List ℕ) → IsText bs → bad_at (34 ∷ flat_map spelled (chars bs) ++ 34 ∷ []) ≡ None
+    clean_front : (bs : List ℕ) → IsText bs → bad_at (34 ∷ flat_map encoded (chars bs) ++ 34 ∷ []) ≡ None
     clean_front bs k = bad_none (in_quotes bs) (clean_quotes bs k)

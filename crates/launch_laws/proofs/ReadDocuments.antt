@@ -14,8 +14,8 @@ use Rattle.launch_lines.specs.Rows.{Row, rows_from}
 use Rattle.launch_yaml.specs.Document.{after_head, first_column, is_inside, root_of, after_document, body_of, document_of, parse_at}
 use Rattle.launch_yaml.specs.Entries.{after_while}
 use Rattle.launch_yaml.proofs.SoundRows.{parsed_is_document}
-use Rattle.launch_laws.specs.PrintingLaws.{ReadIsSpellable, ReadIsPrintable}
-use Rattle.launch_laws.specs.Printed.{IsTagOn, IsSpellable, IsSpellableRoot, IsSpellableValue, AreSpellableItems, AreSpellablePairs, HasFlowName, HasFlowNamesInside, NodeHasFlowNames, ItemsHaveFlowNames, PairsHaveFlowNames, HasFlowNames}
+use Rattle.launch_laws.specs.PrintingLaws.{ReadIsEncodable, ReadIsPrintable}
+use Rattle.launch_laws.specs.Printed.{IsTagOn, IsEncodable, IsEncodableRoot, IsEncodableValue, AreEncodableItems, AreEncodablePairs, HasFlowName, HasFlowNamesInside, NodeHasFlowNames, ItemsHaveFlowNames, PairsHaveFlowNames, HasFlowNames}
 use Rattle.launch_laws.proofs.ReadRows.{on_unless, NodeRead, root_at_read}
 
 -- ---- documents
@@ -54,10 +54,10 @@ flow_tag None value h k = tt
 flow_tag (Some name) value h k = ((h.0.0, h.0.1, h.0.2, flow_ends name h.0.3 k), h.1)
 
 mutual
-  flow_node : (x : Shape) → IsSpellable false x → NodeHasFlowNames x → IsSpellable true x
+  flow_node : (x : Shape) → IsEncodable false x → NodeHasFlowNames x → IsEncodable true x
   flow_node (node line tag value) h k = (flow_tag tag value h.0 k.0, flow_value value h.1 k.1)
 
-  flow_value : (value : Content) → IsSpellableValue false value → HasFlowNamesInside value → IsSpellableValue true value
+  flow_value : (value : Content) → IsEncodableValue false value → HasFlowNamesInside value → IsEncodableValue true value
   flow_value null h k = tt
   flow_value (boolean b) h k = tt
   flow_value (integer i) h k = tt
@@ -66,24 +66,24 @@ mutual
   flow_value (mapping ps) h k = (h.0, flow_pairs ps h.1 k)
   flow_value (sequence xs) h k = flow_items xs h k
 
-  flow_items : (xs : Shapes) → AreSpellableItems false xs → ItemsHaveFlowNames xs → AreSpellableItems true xs
+  flow_items : (xs : Shapes) → AreEncodableItems false xs → ItemsHaveFlowNames xs → AreEncodableItems true xs
   flow_items no_items h k = tt
   flow_items (item x xs) h k = (flow_node x h.0 k.0, flow_items xs h.1 k.1)
 
-  flow_pairs : (ps : Pairs) → AreSpellablePairs false ps → PairsHaveFlowNames ps → AreSpellablePairs true ps
+  flow_pairs : (ps : Pairs) → AreEncodablePairs false ps → PairsHaveFlowNames ps → AreEncodablePairs true ps
   flow_pairs no_pairs h k = tt
   flow_pairs (pair x v ps) h k = (h.0, flow_node v h.1 k.0, flow_pairs ps h.2 k.1)
 
-flow_root : (x : Shape) → IsSpellable false x → HasFlowNames x → IsSpellableRoot x
+flow_root : (x : Shape) → IsEncodable false x → HasFlowNames x → IsEncodableRoot x
 flow_root (node line tag value) h k = (h.0, flow_value value h.1 k)
 
 -- ---- the whole
 
-pub read_is_spellable : ReadIsSpellable
-read_is_spellable bytes x e = (
+pub read_is_encodable : ReadIsEncodable
+read_is_encodable bytes x e = (
   subst (λ (r : Result Shape Fault). IfOk r IsDocument) e (parsed_is_document bytes),
   subst (λ (r : Result Shape Fault). IfOk r NodeRead) e (document_is_read bytes),
 )
 
 pub read_is_printable : ReadIsPrintable
-read_is_printable bytes x e names = let both = read_is_spellable bytes x e in (both.0, flow_root x both.1 names)
+read_is_printable bytes x e names = let both = read_is_encodable bytes x e in (both.0, flow_root x both.1 names)

@@ -1,4 +1,4 @@
--- What is read in one line can be spelled, but for the names of its tags on rows.
+-- What is read in one line can be encoded, but for the names of its tags on rows.
 use Rattle.std.proofs.Common.{ℕ, zero, suc, ◌==◌, ◌||◌, Bool, true, false, if◌then◌else◌, List, [], ◌∷◌, codes, drop, length, Some, None, Result, Ok, Err, refl}
 use Rattle.std.specs.Prelude.{IfOk}
 use Rattle.std.specs.List.{list_any}
@@ -16,7 +16,7 @@ use Rattle.launch_values.specs.Keys.{same_key, unless_there}
 use Rattle.launch_values.specs.Resolution.{scalar_value}
 use Rattle.launch_values.specs.Shape.{Shape, Content, node, null, mapping, sequence, of_list, of_pairs, content_of}
 use Rattle.launch_values.specs.Tags.{Tag, named, bytes_in_base64, tag_at}
-use Rattle.launch_laws.specs.Printed.{IsTagName, IsSpellable, AreSpellableItems}
+use Rattle.launch_laws.specs.Printed.{IsTagName, IsEncodable, AreEncodableItems}
 use Rattle.launch_laws.proofs.PrintedFlow.{Values, Nodes}
 use Rattle.launch_laws.proofs.ReadNames.{IsReadTag, tag_is_read}
 use Rattle.launch_laws.proofs.ReadKeys.{IsRead, any_mode, scalar_is_read, scalar_is_key, ArePairsRead, IsPairRead, no_pairs_read, more_pairs_read, on_test}
@@ -26,7 +26,7 @@ abbrev pub ValueRead : Mode → Content × List ℕ → Type 0
 ValueRead mode v = IsRead mode v.0
 
 abbrev NodeRead : Shape × List ℕ → Type 0
-NodeRead v = IsSpellable false v.0
+NodeRead v = IsEncodable false v.0
 
 -- what reads maps and sequences
 abbrev ReadsCollections : Values → Type 0
@@ -76,10 +76,10 @@ node_is_read read h line (b ∷ bs) =
 -- ---- sequences
 
 abbrev ItemsRead : List Shape × List ℕ → Type 0
-ItemsRead r = AreSpellableItems false (of_list r.0)
+ItemsRead r = AreEncodableItems false (of_list r.0)
 
 items_on : (closing : ℕ) (further : List ℕ → Result (List Shape × List ℕ) LineFault) (x : Shape) (bytes : List ℕ)
-    → IsSpellable false x → ((rest : List ℕ) → IfOk (further rest) ItemsRead) → IfOk (goes_on closing further x bytes) ItemsRead
+    → IsEncodable false x → ((rest : List ℕ) → IfOk (further rest) ItemsRead) → IfOk (goes_on closing further x bytes) ItemsRead
 items_on closing further x bytes one more = on_any ItemsRead (separator closing bytes) (with_more further x) behind
   where
     behind : (s : Bool × List ℕ) → IfOk (with_more further x s) ItemsRead

@@ -19,7 +19,7 @@ use Rattle.launch_values.specs.KeySets.{IsScalarKey}
 use Rattle.launch_values.specs.Keys.{same_key}
 use Rattle.launch_values.specs.Resolution.{decoded, meaning, number_or_text, resolved, scalar_value}
 use Rattle.launch_values.specs.Shape.{Shape, Content, null, boolean, integer, text, binary, mapping, sequence, content_of, of_pairs}
-use Rattle.launch_laws.specs.Printed.{is_taggable, IsKey, keys_of, IsSpellable, IsSpellableValue, AreSpellablePairs}
+use Rattle.launch_laws.specs.Printed.{is_taggable, IsKey, keys_of, IsEncodable, IsEncodableValue, AreEncodablePairs}
 use Rattle.launch_laws.proofs.PrintedLists.{same_sym}
 use Rattle.launch_laws.proofs.ReadBytes.{AreBytes, decoded_are_bytes}
 
@@ -33,7 +33,7 @@ Fits modes.Base64 value = Unit {0}
 
 -- a value that was read
 abbrev pub IsRead : Mode → Content → Type 0
-IsRead mode value = Fits mode value × IsSpellableValue false value
+IsRead mode value = Fits mode value × IsEncodableValue false value
 
 -- what may stand behind a tag with a name may stand anywhere
 pub any_mode : (mode : Mode) (value : Content) → IsRead modes.Verbatim value → IsRead mode value
@@ -104,11 +104,11 @@ scalar_is_key in_flow bytes = of_scalars IsScalarKey modes.Resolved in_flow byte
 -- pairs that are read, where the map has some keys already
 abbrev pub ArePairsRead : List Content → List (Shape × Shape) → Type 0
 ArePairsRead keys ps =
-    AreSpellablePairs false (of_pairs ps) × IsDistinct same_key (keys_of (of_pairs ps)) × AllByRecursion (λ c. list_any (same_key c) keys ≡ false) (keys_of (of_pairs ps))
+    AreEncodablePairs false (of_pairs ps) × IsDistinct same_key (keys_of (of_pairs ps)) × AllByRecursion (λ c. list_any (same_key c) keys ≡ false) (keys_of (of_pairs ps))
 
 -- a pair that is read, whose key is none of these
 abbrev pub IsPairRead : List Content → Shape × Shape → Type 0
-IsPairRead keys p = IsKey p.0 × IsSpellable false p.1 × (list_any (same_key (content_of p.0)) keys ≡ false)
+IsPairRead keys p = IsKey p.0 × IsEncodable false p.1 × (list_any (same_key (content_of p.0)) keys ≡ false)
 
 pub no_pairs_read : (keys : List Content) → ArePairsRead keys []
 unfolding IsDistinct

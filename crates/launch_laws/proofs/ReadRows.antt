@@ -1,4 +1,4 @@
--- What is read from rows can be spelled, but for the names of its tags on rows.
+-- What is read from rows can be encoded, but for the names of its tags on rows.
 use Rattle.std.proofs.Common.{◌≡◌, ℕ, zero, suc, ◌==◌, ◌&&◌, not, Bool, true, false, if◌then◌else◌, List, [], ◌∷◌, codes, drop, Option, Some, None, is_some, Result, Ok, Err, refl}
 use Rattle.std.specs.Prelude.{IfOk}
 use Rattle.std.specs.List.{list_any}
@@ -19,7 +19,7 @@ use Rattle.launch_lines.specs.Faults.{unless}
 use Rattle.launch_lines.specs.Rows.{Row, is_dash, begins_key, behind_key, after_key, at_row, in_row}
 use Rattle.launch_yaml.specs.Entries.{Entry, map_entries, sequence_entries}
 use Rattle.launch_yaml.specs.Blocks.{Tagging, untagged, tagged, in_base64, is_untagged, tagging_of, mode_of, node_of, binary_place, unless_binary, absent, wrong_in, tagging_at, text_behind, rows_behind, alone, Block, begins_block, value_in, unless_key, tagged_value_in, value_below, value_with, no_entry, behind_dash, item_of, items_of, key_of, wrong_key, new_key, new_key_of, key_at, value_of_entry, pair_of, pairs_of, too_deep, items_at, pairs_at, block_at}
-use Rattle.launch_laws.specs.Printed.{IsTagName, IsSpellable, AreSpellableItems}
+use Rattle.launch_laws.specs.Printed.{IsTagName, IsEncodable, AreEncodableItems}
 use Rattle.launch_laws.proofs.ReadNames.{IsReadTag, tag_is_read}
 use Rattle.launch_laws.proofs.ReadKeys.{IsRead, any_mode, null_is_read, scalar_is_key, ArePairsRead, IsPairRead, no_pairs_read, more_pairs_read, on_test}
 use Rattle.launch_laws.proofs.ReadFlow.{ValueRead, line_is_read}
@@ -37,7 +37,7 @@ on_row P r (Err e) h = tt
 -- ---- tags
 
 abbrev pub NodeRead : Shape → Type 0
-NodeRead x = IsSpellable false x
+NodeRead x = IsEncodable false x
 
 -- what was read before a value
 abbrev pub IsTaggingRead : Tagging → Type 0
@@ -139,7 +139,7 @@ item_is_read depth block h column is_root e =
     (values_read depth block h false true behind e.others behind.content) tt
 
 abbrev ItemsOf : List Shape → Type 0
-ItemsOf xs = AreSpellableItems false (of_list xs)
+ItemsOf xs = AreEncodableItems false (of_list xs)
 
 items_read : (item : Entry → Result Shape Fault) → ((e : Entry) → IfOk (item e) NodeRead) → (es : List Entry) → IfOk (items_of item es) ItemsOf
 items_read item h [] = tt

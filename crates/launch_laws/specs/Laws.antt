@@ -35,8 +35,8 @@ ReturnsChangeNothing = (text : List ℕ) → HasNoReturn text → parse_at (with
 
 -- A text with a character that may stand in no text, or with a tab in indentation, is no document. Its fault is the first of
 -- those, or one that comes before it.
-abbrev pub LinesAreTold : Type 0
-LinesAreTold =
+abbrev pub LinesAreReported : Type 0
+LinesAreReported =
     (text : List ℕ) (f : Fault) → plain_fault (lines text) ≡ Some f
     → (g : Fault) × (parse_at text ≡ Err g) × ((g ≡ f) ⊎ (comes_before g f ≡ true))
 
@@ -70,7 +70,7 @@ abbrev pub with_tag : ℕ → List ℕ → Shape → Shape
 with_tag line name (node l tag value) = node line (Some name) value
 
 -- Before a map or a sequence that is the root, a row with nothing but a tag puts the tag on it, and changes nothing else: what
--- may stand behind the first row of the map or the sequence, and which fault is told of it, stays.
+-- may stand behind the first row of the map or the sequence, and which fault is reported for it, stays.
 abbrev pub TagRowChangesTheTag : Type 0
 TagRowChangesTheTag =
     (name : List ℕ) (t r : Row) (rows : List Row) → IsTagOf name t → t.column ≤ r.column → begins_block r.content ≡ true → is_marker r ≡ false
@@ -78,7 +78,7 @@ TagRowChangesTheTag =
 
 -- ---- lines behind a fault
 
--- what stands in the row ends with `!!binary` and perhaps a comment, and a fault of the kind Tag is told there
+-- what stands in the row ends with `!!binary` and perhaps a comment, and a fault of the kind Tag is reported there
 abbrev pub EndsWithBinary : Row → Fault → Type 0
 EndsWithBinary r e =
     (front behind rest : List ℕ) × (r.content ≡ front ++ 33 ∷ behind) × (tag_at false behind ≡ Ok (bytes_in_base64, rest)) × (after_gap rest ≡ [])

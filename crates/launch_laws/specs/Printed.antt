@@ -1,6 +1,6 @@
 -- Documents as texts: one flow line.
 --     printed x      a document's text
---     IsPrintable x      a flow line can spell the document
+--     IsPrintable x      a flow line can hold the document
 --     HasFlowNames x      the names of the tags inside its maps and sequences can stand in a flow value
 use Rattle.std.specs.Prelude.{ℕ, ◌<◌, ◌≡◌, ◌==◌, ◌||◌, ◌/◌, ◌%◌, if◌then◌else◌, Bool, true, false, IsTrue, List, [], ◌∷◌, ◌++◌, map, codes, Option, Some, None}
 use Rattle.std.specs.Char.{encode_utf8, is_control}
@@ -24,12 +24,12 @@ escape_of c = 92 ∷ 120 ∷ digit_glyph false (c / 16) ∷ digit_glyph false (c
 
 -- A character in double quotes: a quote and a backslash behind a backslash, a control character as its escape, and any other
 -- as it is.
-abbrev pub spelled : ℕ → List ℕ
-spelled c = if (c == 34) || (c == 92) then 92 ∷ c ∷ [] else if is_control c then escape_of c else encode_utf8 c
+abbrev pub encoded : ℕ → List ℕ
+encoded c = if (c == 34) || (c == 92) then 92 ∷ c ∷ [] else if is_control c then escape_of c else encode_utf8 c
 
 -- a text in double quotes
 unfoldable pub in_quotes : List ℕ → List ℕ
-in_quotes bytes = 34 ∷ flat_map spelled (chars bytes) ++ 34 ∷ []
+in_quotes bytes = 34 ∷ flat_map encoded (chars bytes) ++ 34 ∷ []
 
 -- ---- documents
 
@@ -70,7 +70,7 @@ abbrev mutual
   further_pairs no_pairs = []
   further_pairs (pair k v ps) = 44 ∷ 32 ∷ printed k ++ (58 ∷ 32 ∷ printed v ++ further_pairs ps)
 
--- ---- which documents a flow line can spell
+-- ---- which documents a flow line can hold
 
 -- A name that can stand behind `!`. In a flow value a comma, a bracket and a brace end it.
 abbrev pub IsTagName : Bool → List ℕ → Type 0
@@ -103,34 +103,34 @@ keys_of ps = map (λ (p : Shape × Shape). content_of p.0) (to_pairs ps)
 -- The tags and keys can stand where they are. in_flow says whether each name must be one that a flow value can have, or may be one
 -- that only rows can have.
 abbrev mutual
-  pub IsSpellable : Bool → Shape → Type 0
-  IsSpellable in_flow (node line tag value) = IsTagOn in_flow tag value × IsSpellableValue in_flow value
+  pub IsEncodable : Bool → Shape → Type 0
+  IsEncodable in_flow (node line tag value) = IsTagOn in_flow tag value × IsEncodableValue in_flow value
 
-  pub IsSpellableValue : Bool → Content → Type 0
-  IsSpellableValue in_flow null = Unit {0}
-  IsSpellableValue in_flow (boolean b) = Unit {0}
-  IsSpellableValue in_flow (integer i) = Unit {0}
-  IsSpellableValue in_flow (text bytes) = Unit {0}
-  IsSpellableValue in_flow (binary bytes) = AllByRecursion (λ b. b < 256) bytes
-  IsSpellableValue in_flow (mapping ps) = IsDistinct same_key (keys_of ps) × AreSpellablePairs in_flow ps
-  IsSpellableValue in_flow (sequence xs) = AreSpellableItems in_flow xs
+  pub IsEncodableValue : Bool → Content → Type 0
+  IsEncodableValue in_flow null = Unit {0}
+  IsEncodableValue in_flow (boolean b) = Unit {0}
+  IsEncodableValue in_flow (integer i) = Unit {0}
+  IsEncodableValue in_flow (text bytes) = Unit {0}
+  IsEncodableValue in_flow (binary bytes) = AllByRecursion (λ b. b < 256) bytes
+  IsEncodableValue in_flow (mapping ps) = IsDistinct same_key (keys_of ps) × AreEncodablePairs in_flow ps
+  IsEncodableValue in_flow (sequence xs) = AreEncodableItems in_flow xs
 
-  pub AreSpellableItems : Bool → Shapes → Type 0
-  AreSpellableItems in_flow no_items = Unit {0}
-  AreSpellableItems in_flow (item x xs) = IsSpellable in_flow x × AreSpellableItems in_flow xs
+  pub AreEncodableItems : Bool → Shapes → Type 0
+  AreEncodableItems in_flow no_items = Unit {0}
+  AreEncodableItems in_flow (item x xs) = IsEncodable in_flow x × AreEncodableItems in_flow xs
 
-  pub AreSpellablePairs : Bool → Pairs → Type 0
-  AreSpellablePairs in_flow no_pairs = Unit {0}
-  AreSpellablePairs in_flow (pair k v ps) = IsKey k × IsSpellable in_flow v × AreSpellablePairs in_flow ps
+  pub AreEncodablePairs : Bool → Pairs → Type 0
+  AreEncodablePairs in_flow no_pairs = Unit {0}
+  AreEncodablePairs in_flow (pair k v ps) = IsKey k × IsEncodable in_flow v × AreEncodablePairs in_flow ps
 
 -- the same of a document, whose own tag stands in no flow value
-abbrev pub IsSpellableRoot : Shape → Type 0
-IsSpellableRoot (node line tag value) = IsTagOn false tag value × IsSpellableValue true value
+abbrev pub IsEncodableRoot : Shape → Type 0
+IsEncodableRoot (node line tag value) = IsTagOn false tag value × IsEncodableValue true value
 
 -- A document of at most 64 maps and sequences inside each other, with integers in range and texts without a zero byte, in which
 -- the tags and the keys can stand.
 abbrev pub IsPrintable : Shape → Type 0
-IsPrintable x = IsDocument x × IsSpellableRoot x
+IsPrintable x = IsDocument x × IsEncodableRoot x
 
 -- ---- names that can stand in a flow value
 

@@ -1,4 +1,4 @@
--- The lines of a text, and the faults that are told from the lines alone.
+-- The lines of a text, and the faults that are found from the lines alone.
 use Rattle.std.specs.Prelude.{ℕ, suc, ◌==◌, not, Bool, if◌then◌else◌, nat_eq, List, [], ◌∷◌, drop, Option, Some, None, option_map}
 use Rattle.std.specs.List.{starts_with}
 use Rattle.launch_scalars.specs.declared.kind.YamlKind.{YamlKind}

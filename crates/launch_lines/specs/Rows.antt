@@ -16,7 +16,7 @@ pub record Row : Type 0 where
   pub column : ℕ
   pub content : List ℕ
 
--- Tabs are faults that are told from the lines alone. Here they count as indentation, so that a fault of what stands
+-- Tabs are faults that are found from the lines alone. Here they count as indentation, so that a fault of what stands
 -- behind them comes later.
 abbrev pub is_indentation : ℕ → Bool
 is_indentation b = (b == 32) || (b == 9)

@@ -1,4 +1,4 @@
-//! The lines of a text: those in which something stands, and the faults that are told from the lines alone.
+//! The lines of a text: those in which something stands, and the faults that are found from the lines alone.
 ghost use Rattle.std.specs.Prelude.{◌≡◌, ◌<◌, ◌≤◌, ◌-◌, ◌∷◌, ◌^◌, IfOk, IfSome, None, OnOk, length, take, drop, map, option_map, option_to_list};
 ghost use Rattle.std.specs.List.{prefix_len};
 ghost use Rattle.launch_lines.specs.Lines.{is_no_feed, lines_of, lines_behind, without_mark, without_return, tab_at, or_further, plain_fault_in, plain_fault};

@@ -2,7 +2,7 @@
 use Rattle.std.proofs.Common.{◌≡◌, ℕ, ◌<◌, ◌≤◌, Bool, true, false, List, length, nat_lt, if◌then◌else◌, Result, Ok, Err, refl, sym, ap, subst, ◌∙◌}
 use Rattle.std.proofs.lemmas.Bool.{lt-ltb, le-ltb, ltb-false}
 use Rattle.abi_base.specs.declared.grant.Grant.{Grant}
-use Rattle.argdata_codec.specs.Writing.{spelling}
+use Rattle.argdata_codec.specs.Writing.{encoding}
 use Rattle.tree_model.specs.Grants.{AreGrants}
 use Rattle.tree_model.specs.Tree.{Tree}
 use Rattle.launch_values.specs.Shape.{Shape}
@@ -22,45 +22,45 @@ IsPlan tree p = (length p.0 ≤ 65536) × AreGrants tree p.1
 
 pub faulty : (tree : Tree) (x : Shape) (e : PlanFault) → grants_of tree (tagged x) ≡ Err e → plan_of tree x ≡ Err e
 unfolding plan_of
-faulty tree x e h = ap (λ (r : Result (List Grant) PlanFault). r >>= λ grants. if nat_lt 1024 (length grants) then Err faults.TooMany else unless_large (spelling (value_of 0 x)) grants) h
+faulty tree x e h = ap (λ (r : Result (List Grant) PlanFault). r >>= λ grants. if nat_lt 1024 (length grants) then Err faults.TooMany else unless_large (encoding (value_of 0 x)) grants) h
 
 asked : (tree : Tree) (x : Shape) (grants : List Grant) → grants_of tree (tagged x) ≡ Ok grants
-    → plan_of tree x ≡ (if nat_lt 1024 (length grants) then Err faults.TooMany else unless_large (spelling (value_of 0 x)) grants)
+    → plan_of tree x ≡ (if nat_lt 1024 (length grants) then Err faults.TooMany else unless_large (encoding (value_of 0 x)) grants)
 unfolding plan_of
-asked tree x grants h = ap (λ (r : Result (List Grant) PlanFault). r >>= λ gs. if nat_lt 1024 (length gs) then Err faults.TooMany else unless_large (spelling (value_of 0 x)) gs) h
+asked tree x grants h = ap (λ (r : Result (List Grant) PlanFault). r >>= λ gs. if nat_lt 1024 (length gs) then Err faults.TooMany else unless_large (encoding (value_of 0 x)) gs) h
 
 pub too_many : (tree : Tree) (x : Shape) (grants : List Grant) → grants_of tree (tagged x) ≡ Ok grants → 1024 < length grants → plan_of tree x ≡ Err faults.TooMany
-too_many tree x grants h many = asked tree x grants h ∙ ap (λ (b : Bool). if b then Err faults.TooMany else unless_large (spelling (value_of 0 x)) grants) (lt-ltb _ _ many)
+too_many tree x grants h many = asked tree x grants h ∙ ap (λ (b : Bool). if b then Err faults.TooMany else unless_large (encoding (value_of 0 x)) grants) (lt-ltb _ _ many)
 
-few : (tree : Tree) (x : Shape) (grants : List Grant) → grants_of tree (tagged x) ≡ Ok grants → length grants ≤ 1024 → plan_of tree x ≡ unless_large (spelling (value_of 0 x)) grants
-few tree x grants h le = asked tree x grants h ∙ ap (λ (b : Bool). if b then Err faults.TooMany else unless_large (spelling (value_of 0 x)) grants) (le-ltb _ _ le)
+few : (tree : Tree) (x : Shape) (grants : List Grant) → grants_of tree (tagged x) ≡ Ok grants → length grants ≤ 1024 → plan_of tree x ≡ unless_large (encoding (value_of 0 x)) grants
+few tree x grants h le = asked tree x grants h ∙ ap (λ (b : Bool). if b then Err faults.TooMany else unless_large (encoding (value_of 0 x)) grants) (le-ltb _ _ le)
 
 pub too_large : (tree : Tree) (x : Shape) (grants : List Grant) (bytes : List ℕ) → grants_of tree (tagged x) ≡ Ok grants → length grants ≤ 1024
-    → bytes ≡ spelling (value_of 0 x) → 65536 < length bytes → plan_of tree x ≡ Err faults.TooLarge
-too_large tree x grants bytes h le spelled many =
-    few tree x grants h le ∙ ap (λ (b : List ℕ). unless_large b grants) (sym spelled)
+    → bytes ≡ encoding (value_of 0 x) → 65536 < length bytes → plan_of tree x ≡ Err faults.TooLarge
+too_large tree x grants bytes h le encoded many =
+    few tree x grants h le ∙ ap (λ (b : List ℕ). unless_large b grants) (sym encoded)
     ∙ ap (λ (b : Bool). if b then Err faults.TooLarge else Ok (bytes, grants)) (lt-ltb _ _ many)
 
 pub planned : (tree : Tree) (x : Shape) (grants : List Grant) (bytes : List ℕ) → grants_of tree (tagged x) ≡ Ok grants → length grants ≤ 1024
-    → bytes ≡ spelling (value_of 0 x) → length bytes ≤ 65536 → plan_of tree x ≡ Ok (bytes, grants)
-planned tree x grants bytes h le spelled small =
-    few tree x grants h le ∙ ap (λ (b : List ℕ). unless_large b grants) (sym spelled)
+    → bytes ≡ encoding (value_of 0 x) → length bytes ≤ 65536 → plan_of tree x ≡ Ok (bytes, grants)
+planned tree x grants bytes h le encoded small =
+    few tree x grants h le ∙ ap (λ (b : List ℕ). unless_large b grants) (sym encoded)
     ∙ ap (λ (b : Bool). if b then Err faults.TooLarge else Ok (bytes, grants)) (le-ltb _ _ small)
 
 -- ---- what a plan is
 
 either : (x : Shape) (grants : List Grant) (p : List ℕ × List Grant) (many large : Bool)
-    → (if many then Err faults.TooMany else if large then Err faults.TooLarge else Ok (spelling (value_of 0 x), grants)) ≡ plan_ok p
-    → (many ≡ false) × (large ≡ false) × ((spelling (value_of 0 x), grants) ≡ p)
+    → (if many then Err faults.TooMany else if large then Err faults.TooLarge else Ok (encoding (value_of 0 x), grants)) ≡ plan_ok p
+    → (many ≡ false) × (large ≡ false) × ((encoding (value_of 0 x), grants) ≡ p)
 either x grants p true large e = absurd (cc)
 either x grants p false true e = absurd (cc)
 either x grants p false false e = (refl, refl, cc)
 
 of_asked : (tree : Tree) (x : Shape) (p : List ℕ × List Grant) (r : Result (List Grant) PlanFault) → grants_of tree (tagged x) ≡ r
-    → (r >>= λ grants. if nat_lt 1024 (length grants) then Err faults.TooMany else unless_large (spelling (value_of 0 x)) grants) ≡ Ok p → IsPlan tree p
+    → (r >>= λ grants. if nat_lt 1024 (length grants) then Err faults.TooMany else unless_large (encoding (value_of 0 x)) grants) ≡ Ok p → IsPlan tree p
 of_asked tree x p (Err e) is h = absurd (cc)
 of_asked tree x p (Ok grants) is h =
-    let parts = either x grants p (nat_lt 1024 (length grants)) (nat_lt 65536 (length (spelling (value_of 0 x)))) h in
+    let parts = either x grants p (nat_lt 1024 (length grants)) (nat_lt 65536 (length (encoding (value_of 0 x)))) h in
     subst (IsPlan tree) parts.2 (ltb-false _ _ parts.1, (ltb-false _ _ parts.0, asked_are tree (tagged x) grants is))
 
 -- a plan has at most 65,536 bytes of argument data, and at most 1024 descriptors, of what is there

@@ -218,7 +218,7 @@ granted_at line (Some grant) base inheriting = Ok (with_rights grant base inheri
 abbrev pub granted : ℕ → Asked → Result Grant PlanFault
 granted line asked = granted_at line asked.target asked.base asked.inheriting
 
--- the descriptor that a map asks for. What is no such map is told before anything inside it
+-- the descriptor that a map asks for. What is no such map is reported before anything inside it
 abbrev pub map_grant : Tree → ℕ → Pairs → Result Grant PlanFault
 map_grant t line ps =
     if are_parts ps && has_path (parts_of ps) then asked_of t (parts_of ps) >>= granted line

@@ -2,7 +2,7 @@
 use Rattle.std.specs.Prelude.{ℕ, if◌then◌else◌, nat_lt, List, length, Result, Ok, Err}
 use Rattle.abi_base.specs.declared.grant.Grant.{Grant}
 use Rattle.abi_base.specs.declared.limits.TheConstants.{MOST_ARGDATA, MOST_DESCRIPTORS}
-use Rattle.argdata_codec.specs.Writing.{spelling}
+use Rattle.argdata_codec.specs.Writing.{encoding}
 use Rattle.tree_model.specs.Tree.{Tree}
 use Rattle.launch_values.specs.Shape.{Shape}
 use Rattle.launch_plan.specs.declared.fault.PlanFault.{PlanFault}
@@ -21,4 +21,4 @@ unfoldable pub plan_of : Tree → Shape → Result (List ℕ × List Grant) Plan
 plan_of tree document =
     grants_of tree (tagged document) >>= λ grants.
     if nat_lt MOST_DESCRIPTORS (length grants) then Err faults.TooMany
-    else unless_large (spelling (value_of 0 document)) grants
+    else unless_large (encoding (value_of 0 document)) grants

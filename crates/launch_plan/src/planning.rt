@@ -1,6 +1,6 @@
 //! The plan of a launch.
 ghost use Rattle.std.specs.Prelude.{◌≡◌, ◌≤◌, ◌<◌, ◌^◌, IfOk, length};
-ghost use Rattle.argdata_codec.specs.Writing.{spelling};
+ghost use Rattle.argdata_codec.specs.Writing.{encoding};
 ghost use Rattle.launch_values.specs.Documents.{IsDocument};
 ghost use Rattle.launch_values.specs.Views.{shape_of};
 ghost use Rattle.tree_model.specs.Grants.{AreGrants};
@@ -55,7 +55,7 @@ pub fn plan(alloc: Global, doc: &Doc, tree: &Tree) -> Result<Planned, PlanFault>
 fn argdata(alloc: Global, root: &Node) -> Result<Bytes, AllocError>
     requires document { IsDocument (shape_of root.now) }
     requires few { length (tagged (shape_of root.now)) ≤ MOST_DESCRIPTORS }
-    ensures { IfOk result (λ argdata. argdata ≡ spelling (value_of 0 (shape_of root.now))) }
+    ensures { IfOk result (λ argdata. argdata ≡ encoding (value_of 0 (shape_of root.now))) }
 {
     let mut next = 0;
     encode(alloc, &argument(alloc, &mut next, root)?)

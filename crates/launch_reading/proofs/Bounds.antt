@@ -1,4 +1,4 @@
--- A launch that words and inputs spell can be started.
+-- A launch that words and inputs describe can be started.
 use Rattle.std.proofs.Common.{◌≡◌, ℕ, List, Result, Ok, Err, refl, sym, subst, arith}
 use Rattle.elf_image.specs.Sound.{IsSound}
 use Rattle.elf_image.proofs.FaultOrder.{image_sound}
@@ -38,7 +38,7 @@ module _ (tree : Tree) where
   unfolding planned_text
   text_plan_is text planned e = with_document_is (parse_at text) planned e
 
--- a launch that words and inputs spell begins with a tree, and grants what is there
+-- a launch that words and inputs describe begins with a tree, and grants what is there
 begins : (settings : Settings) (launch : Launch) → IsBuiltLaunch settings launch → MayBegin launch.tree launch.grants
 begins settings launch b = record {
   tree = meaning_start (times_of settings) b.document launch.tree b.tree (let short = b.short in omega arith);

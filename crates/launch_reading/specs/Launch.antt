@@ -1,7 +1,7 @@
--- What words and inputs spell: a launch, or the first refusal.
+-- What words and inputs describe: a launch, or the first refusal.
 use Rattle.std.specs.Prelude.{◌≡◌, ◌≤◌, ◌++◌, ℕ, ◌⊎◌, ⊤, Bool, false, List, [], ◌∷◌, cond, length, nat_lt, Option, None, Some, Result, Ok, Err}
 use Rattle.std.specs.Option.{option_to_list}
-use Rattle.input_output.specs.Source.{Told, Untold, Lacking, Content}
+use Rattle.input_output.specs.Source.{InputContent, Unknown, Lacking, Content}
 use Rattle.input_output.specs.declared.whole.TheConstants.{INPUT_LIMIT}
 use Rattle.elf_image.specs.Checks.{fault_of}
 use Rattle.elf_image.specs.Image.{image}
@@ -19,12 +19,12 @@ use Rattle.launch_reading.specs.declared.inputs.Inputs.{Inputs}
 use Rattle.launch_reading.specs.declared.refusal.LaunchRefusal.{LaunchRefusal}
 use Rattle.launch_reading.specs.declared.refusal.LaunchRefusal.TheVariants.{Input, TooLong, Memory}
 
--- What is spelled: a launch; a refusal with its status and its line; or nothing that could be compared, where the
--- source does not tell an input.
-pub data Spelled : Type 0 where
-  untold : Spelled
-  refuses : ℕ → List ℕ → Spelled
-  spells : Launch → Spelled
+-- What is described: a launch; a refusal with its status and its line; or nothing that could be compared, where the
+-- source does not show an input.
+pub data Described : Type 0 where
+  unknown : Described
+  refuses : ℕ → List ℕ → Described
+  describes : Launch → Described
 
 -- the most bytes that an input may have
 abbrev pub input_limit : ℕ
@@ -46,57 +46,57 @@ launch_with settings inputs tree planned = record {
   turns = settings.turns;
 }
 
-abbrev pub spelled_text : Settings → Inputs → Tree → TextPlan → Spelled
-spelled_text settings inputs tree (Ok planned) = spells (launch_with settings inputs tree planned)
-spelled_text settings inputs tree (Err fault) = refuses 65 (launch_line fault)
+abbrev pub described_text : Settings → Inputs → Tree → TextPlan → Described
+described_text settings inputs tree (Ok planned) = describes (launch_with settings inputs tree planned)
+described_text settings inputs tree (Err fault) = refuses 65 (launch_line fault)
 
--- what the inputs spell, where the tree document means this tree, or is faulty at this byte
-abbrev pub spelled_tree : Settings → Inputs → Result Tree ℕ → Spelled
-spelled_tree settings inputs (Ok tree) = spelled_text settings inputs tree (planned_text tree inputs.text)
-spelled_tree settings inputs (Err byte) = refuses 68 (tree_line byte)
+-- what the inputs describe, where the tree document means this tree, or is faulty at this byte
+abbrev pub described_tree : Settings → Inputs → Result Tree ℕ → Described
+described_tree settings inputs (Ok tree) = described_text settings inputs tree (planned_text tree inputs.text)
+described_tree settings inputs (Err byte) = refuses 68 (tree_line byte)
 
--- what the inputs spell, where this is the program's first fault, if it has one
-abbrev pub spelled_at : Settings → Inputs → Option ElfFault → Spelled
-spelled_at settings inputs (Some fault) = refuses 67 (program_line fault)
-spelled_at settings inputs None = spelled_tree settings inputs (meaning (times_of settings) inputs.tree)
+-- what the inputs describe, where this is the program's first fault, if it has one
+abbrev pub described_at : Settings → Inputs → Option ElfFault → Described
+described_at settings inputs (Some fault) = refuses 67 (program_line fault)
+described_at settings inputs None = described_tree settings inputs (meaning (times_of settings) inputs.tree)
 
--- what the contents of the inputs spell: first the program is looked at, then the tree document, then the launch text
-unfoldable pub spelled_by : Settings → Inputs → Spelled
-spelled_by settings inputs = spelled_at settings inputs (fault_of inputs.program)
+-- what the contents of the inputs describe: first the program is looked at, then the tree document, then the launch text
+unfoldable pub described_by : Settings → Inputs → Described
+described_by settings inputs = described_at settings inputs (fault_of inputs.program)
 
--- what an input spells of which this is told, where what its bytes spell is given
-abbrev pub spelled_with : List ℕ → Told → (List ℕ → Spelled) → Spelled
-spelled_with name Untold next = untold
-spelled_with name Lacking next = refuses 66 (input_line name)
-spelled_with name (Content bytes) next = cond (nat_lt input_limit (length bytes)) (refuses 66 (too_long_line name)) (next bytes)
+-- what an input describes of which this is known, where what its bytes describe is given
+abbrev pub described_with : List ℕ → InputContent → (List ℕ → Described) → Described
+described_with name Unknown next = unknown
+described_with name Lacking next = refuses 66 (input_line name)
+described_with name (Content bytes) next = cond (nat_lt input_limit (length bytes)) (refuses 66 (too_long_line name)) (next bytes)
 
 -- the same of an input that may not be asked for, and is empty then
-abbrev pub spelled_optional : Option (List ℕ) → (List ℕ → Told) → (List ℕ → Spelled) → Spelled
-spelled_optional None told next = next []
-spelled_optional (Some name) told next = spelled_with name (told name) next
+abbrev pub described_optional : Option (List ℕ) → (List ℕ → InputContent) → (List ℕ → Described) → Described
+described_optional None content next = next []
+described_optional (Some name) content next = described_with name (content name) next
 
 -- the name of standard input, which has the launch text
 abbrev pub standard_input : List ℕ
 standard_input = 45 ∷ []
 
--- what the inputs of these settings spell, which are looked at in this order
-abbrev pub inputs_spell : Settings → (List ℕ → Told) → Spelled
-inputs_spell settings told =
-    spelled_optional (Some settings.program) told (λ program.
-    spelled_optional (Some standard_input) told (λ text.
-    spelled_optional settings.tree told (λ tree.
-    spelled_optional settings.stdin told (λ stdin.
-    spelled_by settings (record { program = program; text = text; tree = tree; stdin = stdin })))))
+-- what the inputs of these settings describe, which are looked at in this order
+abbrev pub inputs_describe : Settings → (List ℕ → InputContent) → Described
+inputs_describe settings content =
+    described_optional (Some settings.program) content (λ program.
+    described_optional (Some standard_input) content (λ text.
+    described_optional settings.tree content (λ tree.
+    described_optional settings.stdin content (λ stdin.
+    described_by settings (record { program = program; text = text; tree = tree; stdin = stdin })))))
 
--- what words spell that give these settings, or none
-abbrev pub words_spell : Option Settings → (List ℕ → Told) → Spelled
-words_spell None told = refuses 2 words_line
-words_spell (Some settings) told = inputs_spell settings told
+-- what words describe that give these settings, or none
+abbrev pub words_describe : Option Settings → (List ℕ → InputContent) → Described
+words_describe None content = refuses 2 words_line
+words_describe (Some settings) content = inputs_describe settings content
 
--- What words spell, where this is told of each input: first the words are looked at, then the inputs in their order,
+-- What words describe, where this is known of each input: first the words are looked at, then the inputs in their order,
 -- then the program, the tree document and the launch text.
-abbrev pub launch_of : List (List ℕ) → (List ℕ → Told) → Spelled
-launch_of words told = words_spell (words_of words) told
+abbrev pub launch_of : List (List ℕ) → (List ℕ → InputContent) → Described
+launch_of words content = words_describe (words_of words) content
 
 -- the names of the inputs of settings, in their order
 abbrev pub settings_inputs : Settings → List (List ℕ)
@@ -120,11 +120,11 @@ history_with (Some settings) = settings.history
 abbrev pub asks_history : List (List ℕ) → Bool
 asks_history words = history_with (words_of words)
 
--- this is what is spelled, where anything is told of it
-abbrev pub IsToldAs : Spelled → Spelled → Type 0
-IsToldAs untold answer = ⊤
-IsToldAs (refuses status line) answer = refuses status line ≡ answer
-IsToldAs (spells launch) answer = spells launch ≡ answer
+-- this is what is described, where anything is known of it
+abbrev pub IsKnownAs : Described → Described → Type 0
+IsKnownAs unknown answer = ⊤
+IsKnownAs (refuses status line) answer = refuses status line ≡ answer
+IsKnownAs (describes launch) answer = describes launch ≡ answer
 
 -- a launch of these settings: the image of a program without fault, the tree that a tree document means, what a launch text
 -- without fault gives by this tree, and the settings' key, epoch and turns
@@ -156,19 +156,19 @@ abbrev pub IfTooLong : LaunchRefusal → (List ℕ → Type 0) → Type 0
 IfTooLong (TooLong name) P = P name.now
 IfTooLong _ P = ⊤
 
--- the refusal is of what the words and the inputs spell: it is no fault of reading and no want of memory
+-- the refusal is of what the words and the inputs describe: it is no fault of reading and no lack of memory
 abbrev pub IsOfTexts : LaunchRefusal → Type 0
 IsOfTexts (Input name) = ⊥
 IsOfTexts Memory = ⊥
 IsOfTexts _ = ⊤
 
--- the refusal that is spelled, or want of memory
+-- the refusal that is described, or lack of memory
 abbrev pub IsRefusedAs : ℕ → List ℕ → Result Launch LaunchRefusal → Type 0
 IsRefusedAs status line (Ok launch) = ⊥
 IsRefusedAs status line (Err refusal) = (refusal ≡ Memory) ⊎ ((status_of refusal ≡ status) × (line_of refusal ≡ line))
 
--- What is answered is what is spelled, where anything is told of it, or want of memory.
-abbrev pub AnswersSpelled : Spelled → Result Launch LaunchRefusal → Type 0
-AnswersSpelled untold result = ⊤
-AnswersSpelled (refuses status line) result = IsRefusedAs status line result
-AnswersSpelled (spells launch) result = (result ≡ Ok launch) ⊎ (result ≡ Err Memory)
+-- What is answered is what is described, where anything is known of it, or lack of memory.
+abbrev pub AnswersDescribed : Described → Result Launch LaunchRefusal → Type 0
+AnswersDescribed unknown result = ⊤
+AnswersDescribed (refuses status line) result = IsRefusedAs status line result
+AnswersDescribed (describes launch) result = (result ≡ Ok launch) ⊎ (result ≡ Err Memory)

@@ -30,12 +30,12 @@ with_document tree (Err fault) = Err (Yaml fault.line fault.kind)
 unfoldable pub planned_text : Tree → List ℕ → TextPlan
 planned_text tree text = with_document tree (parse_at text)
 
--- the fault is the one that the text has; none was found for want of memory
+-- the fault is the one that the text has; none was found where memory ran out
 abbrev pub IsTextFault : TextPlan → Option LaunchFault → Type 0
 IsTextFault planned None = Unit {0}
 IsTextFault planned (Some fault) = planned ≡ Err fault
 
--- a fault of a launch file and one of its plan; none, where memory is wanting
+-- a fault of a launch file and one of its plan; none, where memory runs out
 abbrev pub of_file : YamlFault → Option LaunchFault
 of_file (At line kind) = Some (Yaml line kind)
 of_file NoMemory = None

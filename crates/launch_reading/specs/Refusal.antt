@@ -98,7 +98,7 @@ launch_ending (Plan plans.NoMemory) = ended (codes "no memory")
 abbrev pub launch_line : LaunchFault → List ℕ
 launch_line fault = launch_front fault ++ (line_number (line_of_fault fault) ++ launch_ending fault)
 
--- memory is wanting
+-- memory runs out
 abbrev pub memory_line : List ℕ
 memory_line = ended (codes "memory")
 

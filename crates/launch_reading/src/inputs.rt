@@ -5,7 +5,7 @@ ghost use Rattle.input_output.specs.Source.{Rose, IsWhole};
 ghost use Rattle.tree_model.specs.Grants.{MayBegin};
 ghost use Rattle.command_line.specs.Settings.{IsWithin, view};
 ghost use Rattle.launch_reading.specs.Inputs.{AreRead, IsReadAs, IsUnread, IsUnreadOf, IsNoLaunch, IsNoLaunchOf};
-ghost use Rattle.launch_reading.specs.Launch.{spells, input_limit, spelled_by, inputs_spell, settings_inputs, times_of, IsToldAs, IsBuiltLaunch, AnswersSpelled};
+ghost use Rattle.launch_reading.specs.Launch.{describes, input_limit, described_by, inputs_describe, settings_inputs, times_of, IsKnownAs, IsBuiltLaunch, AnswersDescribed};
 ghost use Rattle.call_codec.specs.Bounded.{IsBounded};
 
 use crate::launch_text::plan_text;
@@ -54,12 +54,12 @@ fn read_input<'a, S: Source>(
     name: &'a str,
 ) -> Result<Bytes, LaunchRefusal<'a>>
     requires { S.may_read source.old name.now }
-    ensures told_stays { (n : List ℕ) → S.told source.new n ≡ S.told source.old n }
+    ensures content_stays { (n : List ℕ) → S.content source.new n ≡ S.content source.old n }
     ensures may_read_stays { (n : List ℕ) → S.may_read source.old n → S.may_read source.new n }
     ensures faults_never_fall { S.faults source.old ≤ S.faults source.new }
     ensures within_limit { IfOk result (λ bytes. length bytes ≤ input_limit) }
-    ensures ok { IfOk result (IsWhole (S.told source.old name.now)) }
-    ensures err { IfErr result (IsUnread name.now (S.told source.old name.now) (Rose (S.faults source.old) (S.faults source.new))) }
+    ensures ok { IfOk result (IsWhole (S.content source.old name.now)) }
+    ensures err { IfErr result (IsUnread name.now (S.content source.old name.now) (Rose (S.faults source.old) (S.faults source.new))) }
 {
     match read_whole(alloc, source, name) {
         Ok(bytes) => Ok(bytes),
@@ -76,11 +76,11 @@ fn read_optional<'a, S: Source>(
     name: Option<&'a str>,
 ) -> Result<Bytes, LaunchRefusal<'a>>
     requires { All (S.may_read source.old) (option_to_list (option_map (λ name. name.now) name)) }
-    ensures told_stays { (n : List ℕ) → S.told source.new n ≡ S.told source.old n }
+    ensures content_stays { (n : List ℕ) → S.content source.new n ≡ S.content source.old n }
     ensures may_read_stays { (n : List ℕ) → S.may_read source.old n → S.may_read source.new n }
     ensures faults_never_fall { S.faults source.old ≤ S.faults source.new }
-    ensures ok { IfOk result (IsReadAs (option_map (λ name. name.now) name.entry) (S.told source.old)) }
-    ensures err { IfErr result (IsUnreadOf (option_map (λ name. name.now) name.entry) (S.told source.old) (Rose (S.faults source.old) (S.faults source.new))) }
+    ensures ok { IfOk result (IsReadAs (option_map (λ name. name.now) name.entry) (S.content source.old)) }
+    ensures err { IfErr result (IsUnreadOf (option_map (λ name. name.now) name.entry) (S.content source.old) (Rose (S.faults source.old) (S.faults source.new))) }
 {
     match name {
         None => Ok(Bytes::new(alloc)),
@@ -95,11 +95,11 @@ fn read_inputs<'a, S: Source>(
     source: &mut S,
 ) -> Result<Inputs, LaunchRefusal<'a>>
     requires { All (S.may_read source.old) (settings_inputs (view settings.now)) }
-    ensures told_stays { (n : List ℕ) → S.told source.new n ≡ S.told source.old n }
+    ensures content_stays { (n : List ℕ) → S.content source.new n ≡ S.content source.old n }
     ensures may_read_stays { (n : List ℕ) → S.may_read source.old n → S.may_read source.new n }
     ensures faults_never_fall { S.faults source.old ≤ S.faults source.new }
-    ensures ok { IfOk result (AreRead (view settings.now) (S.told source.old)) }
-    ensures err { IfErr result (IsNoLaunchOf (settings_inputs (view settings.now)) (inputs_spell (view settings.now) (S.told source.old)) (Rose (S.faults source.old) (S.faults source.new))) }
+    ensures ok { IfOk result (AreRead (view settings.now) (S.content source.old)) }
+    ensures err { IfErr result (IsNoLaunchOf (settings_inputs (view settings.now)) (inputs_describe (view settings.now) (S.content source.old)) (Rose (S.faults source.old) (S.faults source.new))) }
 {
     let program = read_input(alloc, source, settings.program)?;
     let text = read_input(alloc, source, STANDARD_INPUT)?;
@@ -124,16 +124,16 @@ fn times_of(settings: &LaunchSettings<'_>) -> Times
     }
 }
 
-// The launch that settings and inputs spell.
-#[tactic(auto, unfolding(crate::specs::Launch::spelled_by))]
+// The launch that settings and inputs describe.
+#[tactic(auto, unfolding(crate::specs::Launch::described_by))]
 fn launch_from<'a>(
     alloc: Global,
     settings: &LaunchSettings<'a>,
     inputs: Inputs,
 ) -> Result<Launch, LaunchRefusal<'a>>
     requires { length inputs.tree ≤ input_limit }
-    ensures ok { IfOk result (λ launch. spelled_by (view settings.now) inputs ≡ spells launch) }
-    ensures err { IfErr result (IsNoLaunch (spelled_by (view settings.now) inputs)) }
+    ensures ok { IfOk result (λ launch. described_by (view settings.now) inputs ≡ describes launch) }
+    ensures err { IfErr result (IsNoLaunch (described_by (view settings.now) inputs)) }
 {
     let elf = match read_elf(alloc, inputs.program.as_slice()) {
         Ok(elf) => elf,
@@ -163,11 +163,11 @@ fn launch_from<'a>(
     }
 }
 
-/// The launch that settings and inputs spell. It reads the settings' inputs and no other: the program, standard input with
+/// The launch that settings and inputs describe. It reads the settings' inputs and no other: the program, standard input with
 /// the launch text, the tree document and the program's standard input, where they are asked for, in this order.
 ///
 /// A refusal is the first in this order: an input that could not be read or is too long, the program, the tree document,
-/// the launch text. Where the source tells nothing of an input, only its bytes as they were read are looked at.
+/// the launch text. Where the source shows nothing of an input, only its bytes as they were read are looked at.
 pub fn read_launch<'a, S: Source>(
     alloc: Global,
     settings: &LaunchSettings<'a>,
@@ -176,22 +176,22 @@ pub fn read_launch<'a, S: Source>(
     requires may_read { All (S.may_read source.old) (settings_inputs (view settings.now)) }
     requires within { IsWithin (view settings.now) }
 
-    // What the source tells stays, and so does which names may be read.
-    ensures told_stays { (n : List ℕ) → S.told source.new n ≡ S.told source.old n }
+    // What the source shows stays, and so does which names may be read.
+    ensures content_stays { (n : List ℕ) → S.content source.new n ≡ S.content source.old n }
     ensures may_read_stays { (n : List ℕ) → S.may_read source.old n → S.may_read source.new n }
     ensures faults_never_fall { S.faults source.old ≤ S.faults source.new }
 
-    // A launch is the one that is spelled, where anything is told of it, and in any case one of these settings.
-    ensures ok { IfOk result (λ launch. IsToldAs (inputs_spell (view settings.now) (S.told source.old)) (spells launch)) }
+    // A launch is the one that is described, where anything is known of it, and in any case one of these settings.
+    ensures ok { IfOk result (λ launch. IsKnownAs (inputs_describe (view settings.now) (S.content source.old)) (describes launch)) }
     ensures built { IfOk result (IsBuiltLaunch (view settings.now)) }
     ensures begins { IfOk result (λ launch. MayBegin launch.tree launch.grants) }
     ensures bounded { IfOk result IsBounded }
 
     // When each refusal comes.
-    ensures err { IfErr result (IsNoLaunchOf (settings_inputs (view settings.now)) (inputs_spell (view settings.now) (S.told source.old)) (Rose (S.faults source.old) (S.faults source.new))) }
+    ensures err { IfErr result (IsNoLaunchOf (settings_inputs (view settings.now)) (inputs_describe (view settings.now) (S.content source.old)) (Rose (S.faults source.old) (S.faults source.new))) }
 
-    // Where no fault was counted, what is spelled is answered, or want of memory.
-    ensures complete { ¬ Rose (S.faults source.old) (S.faults source.new) → AnswersSpelled (inputs_spell (view settings.now) (S.told source.old)) result }
+    // Where no fault was counted, what is described is answered, or lack of memory.
+    ensures complete { ¬ Rose (S.faults source.old) (S.faults source.new) → AnswersDescribed (inputs_describe (view settings.now) (S.content source.old)) result }
 {
     let inputs = read_inputs(alloc, settings, source)?;
     launch_from(alloc, settings, inputs)

@@ -38,7 +38,7 @@ impl LaunchFault {
     }
 }
 
-// A fault of a launch file; nothing, where memory is wanting.
+// A fault of a launch file; nothing, where memory ran out.
 fn of_file(fault: YamlFault) -> Option<LaunchFault>
     ensures { result ≡ of_file fault }
 {
@@ -48,7 +48,7 @@ fn of_file(fault: YamlFault) -> Option<LaunchFault>
     }
 }
 
-// A fault of a plan; nothing, where memory is wanting.
+// A fault of a plan; nothing, where memory ran out.
 fn of_plan(fault: PlanFault) -> Option<LaunchFault>
     ensures { result ≡ of_plan fault }
 {
@@ -76,7 +76,8 @@ fn plan_document(alloc: Global, doc: &Doc, tree: &Tree) -> Result<Planned, Optio
     }
 }
 
-/// The argument data and the descriptors that a launch text gives where there is this file tree. Its fault is `None` for want of memory.
+/// The argument data and the descriptors that a launch text gives where there is this file tree. Its fault is `None` where memory
+/// ran out.
 pub fn plan_text(alloc: Global, text: &[u8], tree: &Tree) -> Result<Planned, Option<LaunchFault>>
     ensures ok { IfOk result (λ planned. planned_text tree.now text.now ≡ Ok (planned.argdata, planned.grants)) }
     ensures err { IfErr result (IsTextFault (planned_text tree.now text.now)) }

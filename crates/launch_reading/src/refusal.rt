@@ -98,7 +98,7 @@ pub enum LaunchRefusal<'a> {
     Tree(u64),
     /// The launch text has this fault.
     LaunchText(LaunchFault),
-    /// Memory is wanting.
+    /// Memory ran out.
     Memory,
 }
 

@@ -1,23 +1,23 @@
 -- A refusal of settings or of words, as the top call answers it.
 use Rattle.std.proofs.Common.{◌≢◌, ℕ, List, subst}
 use Rattle.std.specs.Prelude.{Some, Err, Contains}
-use Rattle.input_output.specs.Source.{Told}
+use Rattle.input_output.specs.Source.{InputContent}
 use Rattle.command_line.specs.Settings.{Settings}
 use Rattle.launch_reading.specs.Inputs.{IsNoLaunchOf}
-use Rattle.launch_reading.specs.Launch.{Spelled, refuses, inputs_spell, settings_inputs, AnswersSpelled, IfInput, IfTooLong, IsOfTexts, IsToldAs}
+use Rattle.launch_reading.specs.Launch.{Described, refuses, inputs_describe, settings_inputs, AnswersDescribed, IfInput, IfTooLong, IsOfTexts, IsKnownAs}
 use Rattle.launch_reading.specs.Refusal.{line_of, status_of}
 use Rattle.launch_run.specs.TopCall.{IsRefusalOf}
 use Rattle.launch_reading.specs.declared.refusal.LaunchRefusal.{LaunchRefusal}
 use Rattle.launch_reading.specs.declared.refusal.LaunchRefusal.TheVariants.{Words, Input, TooLong, Program, Tree, LaunchText, Memory}
 
 -- settings that were read are not refused for their words
-pub not_words : (names : List (List ℕ)) (spelled : Spelled) (rose : Type 0) (r : LaunchRefusal) → IsNoLaunchOf names spelled rose r → r ≢ Words
-not_words names spelled rose r h is = subst (IsNoLaunchOf names spelled rose) is h
+pub not_words : (names : List (List ℕ)) (described : Described) (rose : Type 0) (r : LaunchRefusal) → IsNoLaunchOf names described rose r → r ≢ Words
+not_words names described rose r h is = subst (IsNoLaunchOf names described rose) is h
 
-module _ (settings : Settings) (told : List ℕ → Told) (rose : Type 0) where
+module _ (settings : Settings) (content : List ℕ → InputContent) (rose : Type 0) where
   -- a refusal of what texts say
-  of_text : (r : LaunchRefusal) → IsNoLaunchOf (settings_inputs settings) (inputs_spell settings told) rose r → IsOfTexts r
-      → IsToldAs (inputs_spell settings told) (refuses (status_of r) (line_of r))
+  of_text : (r : LaunchRefusal) → IsNoLaunchOf (settings_inputs settings) (inputs_describe settings content) rose r → IsOfTexts r
+      → IsKnownAs (inputs_describe settings content) (refuses (status_of r) (line_of r))
   of_text Words h text = absurd h
   of_text (Input name) h text = absurd text
   of_text (TooLong name) h text = h.1
@@ -26,7 +26,7 @@ module _ (settings : Settings) (told : List ℕ → Told) (rose : Type 0) where
   of_text (LaunchText fault) h text = h
   of_text Memory h text = absurd text
 
-  of_input : (r : LaunchRefusal) → IsNoLaunchOf (settings_inputs settings) (inputs_spell settings told) rose r
+  of_input : (r : LaunchRefusal) → IsNoLaunchOf (settings_inputs settings) (inputs_describe settings content) rose r
       → IfInput r (λ name. Contains (settings_inputs settings) name × rose)
   of_input Words h = absurd h
   of_input (Input name) h = h
@@ -36,7 +36,7 @@ module _ (settings : Settings) (told : List ℕ → Told) (rose : Type 0) where
   of_input (LaunchText fault) h = tt
   of_input Memory h = tt
 
-  of_length : (r : LaunchRefusal) → IsNoLaunchOf (settings_inputs settings) (inputs_spell settings told) rose r → IfTooLong r (Contains (settings_inputs settings))
+  of_length : (r : LaunchRefusal) → IsNoLaunchOf (settings_inputs settings) (inputs_describe settings content) rose r → IfTooLong r (Contains (settings_inputs settings))
   of_length Words h = absurd h
   of_length (Input name) h = tt
   of_length (TooLong name) h = h.0
@@ -45,10 +45,10 @@ module _ (settings : Settings) (told : List ℕ → Told) (rose : Type 0) where
   of_length (LaunchText fault) h = tt
   of_length Memory h = tt
 
-  pub settings_refused : (r : LaunchRefusal) → IsNoLaunchOf (settings_inputs settings) (inputs_spell settings told) rose r
-      → (¬ rose → AnswersSpelled (inputs_spell settings told) (Err r)) → IsRefusalOf (Some settings) told rose r
+  pub settings_refused : (r : LaunchRefusal) → IsNoLaunchOf (settings_inputs settings) (inputs_describe settings content) rose r
+      → (¬ rose → AnswersDescribed (inputs_describe settings content) (Err r)) → IsRefusalOf (Some settings) content rose r
   settings_refused r h complete = record {
-    words_refused = λ is. absurd (not_words (settings_inputs settings) (inputs_spell settings told) rose r h is);
+    words_refused = λ is. absurd (not_words (settings_inputs settings) (inputs_describe settings content) rose r h is);
     words_answered = λ none. absurd (cc);
     input = of_input r h;
     too_long = of_length r h;

@@ -1,7 +1,7 @@
 -- What the top call's clauses say, by the end of the call.
 use Rattle.std.proofs.Common.{◌≡◌, ◌≢◌, ◌==◌, ◌<◌, ◌⊎◌, ℕ, Bool, true, false, List, [], length, refl, sym, ap, subst, arith, inl, inr, if◌then◌else◌}
 use Rattle.std.specs.Prelude.{Option, None, Some, IfSome, IsSomeAnd, Result, Ok, Err}
-use Rattle.input_output.specs.Source.{Told}
+use Rattle.input_output.specs.Source.{InputContent}
 use Rattle.abi_types.specs.declared.status.Status.{Status}
 use Rattle.abi_types.specs.declared.status.Status.TheVariants.{Live, Exit, Killed}
 use Rattle.run_types.specs.declared.history.Entry.{Entry}
@@ -11,7 +11,7 @@ use Rattle.tree_model.specs.Grants.{MayBegin}
 use Rattle.run_model.proofs.Confinements.{legal_is_confined}
 use Rattle.authority_laws.proofs.Histories.{legal_is_recorded}
 use Rattle.command_line.specs.Settings.{Settings}
-use Rattle.launch_reading.specs.Launch.{Spelled, untold, refuses, spells, words_spell, inputs_with, history_with, AnswersSpelled, IsToldAs, IsBuiltBy}
+use Rattle.launch_reading.specs.Launch.{Described, unknown, refuses, describes, words_describe, inputs_with, history_with, AnswersDescribed, IsKnownAs, IsBuiltBy}
 use Rattle.launch_reading.specs.Refusal.{words_line, memory_line, status_of}
 use Rattle.launch_reading.specs.declared.refusal.LaunchRefusal.{LaunchRefusal}
 use Rattle.launch_reading.specs.declared.refusal.LaunchRefusal.TheVariants.{Words, Input, TooLong, Program, Tree, LaunchText, Memory}
@@ -19,18 +19,18 @@ use Rattle.launch_run.specs.declared.top.RunEnd.{RunEnd}
 use Rattle.launch_run.specs.declared.top.RunEnd.TheVariants.{Reported, Unwritten, NotBegun, Lacking}
 use Rattle.launch_run.specs.declared.top.TopEnd.{TopEnd}
 use Rattle.launch_run.specs.declared.top.TopEnd.TheVariants.{Refused, Ran}
-use Rattle.launch_run.specs.TopCall.{Wrote, IsRecordOf, IsRunOf, IsTopEnd, IsToldEnd, IsInputRefused, IsKept, Completes, HasFailed, HasReported, status_number, finished_run, finished_of, IsProgramRefused, IsTreeRefused, IsTextRefused}
+use Rattle.launch_run.specs.TopCall.{Wrote, IsRecordOf, IsRunOf, IsTopEnd, IsReportedEnd, IsInputRefused, IsKept, Completes, HasFailed, HasReported, status_number, finished_run, finished_of, IsProgramRefused, IsTreeRefused, IsTextRefused}
 
 -- a record of a run is as every record that is kept
-is_kept : (given : Option Settings) (spelled : Spelled) (launch : Launch) (r : Record) → IsRecordOf launch r → IsToldAs spelled (spells launch) →
-    IsBuiltBy given launch → MayBegin launch.tree launch.grants → IsKept given spelled r
-is_kept given spelled launch r of told built begins =
+is_kept : (given : Option Settings) (described : Described) (launch : Launch) (r : Record) → IsRecordOf launch r → IsKnownAs described (describes launch) →
+    IsBuiltBy given launch → MayBegin launch.tree launch.grants → IsKept given described r
+is_kept given described launch r of known built begins =
     let proper : MayBegin r.launch.tree r.launch.grants = subst (λ (l : Launch). MayBegin l.tree l.grants) (sym of.0) begins in
     record {
       legal = of.1;
       confined = legal_is_confined r.launch r.history of.1 proper;
       recorded = legal_is_recorded r.launch r.history of.1 proper;
-      launch_spelled = subst (λ (l : Launch). IsToldAs spelled (spells l)) (sym of.0) told;
+      launch_described = subst (λ (l : Launch). IsKnownAs described (describes l)) (sym of.0) known;
       built = subst (IsBuiltBy given) (sym of.0) built;
     }
 
@@ -39,7 +39,7 @@ where_kept : (P : Record → Type 0) (r : Record) (none : Bool) → P r → IfSo
 where_kept P r true holds = tt
 where_kept P r false holds = holds
 
--- want of memory has a status of its own
+-- lack of memory has a status of its own
 memory_status : (refusal : LaunchRefusal) → ◌≡◌ {A = Result Launch LaunchRefusal} (Err refusal) (Err Memory) → status_of refusal ≡ 70
 memory_status Words is = absurd (cc)
 memory_status (Input name) is = absurd (cc)
@@ -67,22 +67,22 @@ not_01 n more (inr is) = omega arith
 no_ended : (n : ℕ) → 1 < n → (status : Option Status) → status_number status ≡ n → ⊥
 no_ended n more status is = not_01 n more (subst (λ (m : ℕ). (m ≡ 0) ⊎ (m ≡ 1)) is (status_is_small status))
 
-module _ (given : Option Settings) (told : List ℕ → Told) (rose : Type 0) (before after : Option (List ℕ)) (sink_rose : Type 0) where
-  run_kept : (end : RunEnd) → IsRunOf given told rose before after sink_rose end →
-      IfSome (finished_run end).kept (IsKept given (words_spell given told))
-  run_kept (Reported r status) o = is_kept given _ o.launch r o.end_told.0 o.spelled o.built o.begins
-  run_kept (Unwritten r) o = is_kept given _ o.launch r o.end_told.0 o.spelled o.built o.begins
+module _ (given : Option Settings) (content : List ℕ → InputContent) (rose : Type 0) (before after : Option (List ℕ)) (sink_rose : Type 0) where
+  run_kept : (end : RunEnd) → IsRunOf given content rose before after sink_rose end →
+      IfSome (finished_run end).kept (IsKept given (words_describe given content))
+  run_kept (Reported r status) o = is_kept given _ o.launch r o.end_reported.0 o.described o.built o.begins
+  run_kept (Unwritten r) o = is_kept given _ o.launch r o.end_reported.0 o.described o.built o.begins
   run_kept NotBegun o = tt
   run_kept (Lacking r) o =
-      where_kept (IsKept given (words_spell given told)) r (length r.history == 0) (is_kept given _ o.launch r o.end_told.0 o.spelled o.built o.begins)
+      where_kept (IsKept given (words_describe given content)) r (length r.history == 0) (is_kept given _ o.launch r o.end_reported.0 o.described o.built o.begins)
 
-  pub top_kept : (end : TopEnd) → IsTopEnd given told rose before after sink_rose end →
-      IfSome (finished_of end).kept (IsKept given (words_spell given told))
+  pub top_kept : (end : TopEnd) → IsTopEnd given content rose before after sink_rose end →
+      IfSome (finished_of end).kept (IsKept given (words_describe given content))
   top_kept (Refused refusal) o = tt
   top_kept (Ran end) o = run_kept end o
 
-  pub top_input : (end : TopEnd) → IsTopEnd given told rose before after sink_rose end → (finished_of end).status ≡ 66 →
-      IsInputRefused (inputs_with given) (words_spell given told) rose (Wrote before after sink_rose)
+  pub top_input : (end : TopEnd) → IsTopEnd given content rose before after sink_rose end → (finished_of end).status ≡ 66 →
+      IsInputRefused (inputs_with given) (words_describe given content) rose (Wrote before after sink_rose)
   top_input (Refused Words) o is = absurd (omega arith)
   top_input (Refused (Input name)) o is = (name.now, o.0.input.0, inl (o.0.input.1, o.1))
   top_input (Refused (TooLong name)) o is = (name.now, o.0.too_long, inr (o.0.refused tt, o.1))
@@ -95,8 +95,8 @@ module _ (given : Option Settings) (told : List ℕ → Told) (rose : Type 0) (b
   top_input (Ran NotBegun) o is = absurd (omega arith)
   top_input (Ran (Lacking r)) o is = absurd (omega arith)
 
-  pub top_program : (end : TopEnd) → IsTopEnd given told rose before after sink_rose end → (finished_of end).status ≡ 67 →
-      IsProgramRefused (words_spell given told) (Wrote before after sink_rose)
+  pub top_program : (end : TopEnd) → IsTopEnd given content rose before after sink_rose end → (finished_of end).status ≡ 67 →
+      IsProgramRefused (words_describe given content) (Wrote before after sink_rose)
   top_program (Refused Words) o is = absurd (omega arith)
   top_program (Refused (Input name)) o is = absurd (omega arith)
   top_program (Refused (TooLong name)) o is = absurd (omega arith)
@@ -109,8 +109,8 @@ module _ (given : Option Settings) (told : List ℕ → Told) (rose : Type 0) (b
   top_program (Ran NotBegun) o is = absurd (omega arith)
   top_program (Ran (Lacking r)) o is = absurd (omega arith)
 
-  pub top_text : (end : TopEnd) → IsTopEnd given told rose before after sink_rose end → (finished_of end).status ≡ 65 →
-      IsTextRefused (words_spell given told) (Wrote before after sink_rose)
+  pub top_text : (end : TopEnd) → IsTopEnd given content rose before after sink_rose end → (finished_of end).status ≡ 65 →
+      IsTextRefused (words_describe given content) (Wrote before after sink_rose)
   top_text (Refused Words) o is = absurd (omega arith)
   top_text (Refused (Input name)) o is = absurd (omega arith)
   top_text (Refused (TooLong name)) o is = absurd (omega arith)
@@ -123,8 +123,8 @@ module _ (given : Option Settings) (told : List ℕ → Told) (rose : Type 0) (b
   top_text (Ran NotBegun) o is = absurd (omega arith)
   top_text (Ran (Lacking r)) o is = absurd (omega arith)
 
-  pub top_tree : (end : TopEnd) → IsTopEnd given told rose before after sink_rose end → (finished_of end).status ≡ 68 →
-      IsTreeRefused (words_spell given told) (Wrote before after sink_rose)
+  pub top_tree : (end : TopEnd) → IsTopEnd given content rose before after sink_rose end → (finished_of end).status ≡ 68 →
+      IsTreeRefused (words_describe given content) (Wrote before after sink_rose)
   top_tree (Refused Words) o is = absurd (omega arith)
   top_tree (Refused (Input name)) o is = absurd (omega arith)
   top_tree (Refused (TooLong name)) o is = absurd (omega arith)
@@ -144,7 +144,7 @@ module _ (given : Option Settings) (told : List ℕ → Told) (rose : Type 0) (b
     pub none_given : given ≡ None
     pub wrote : Wrote before after sink_rose words_line
 
-  pub top_words : (end : TopEnd) → IsTopEnd given told rose before after sink_rose end → (finished_of end).status ≡ 2 → HasRefusedWords
+  pub top_words : (end : TopEnd) → IsTopEnd given content rose before after sink_rose end → (finished_of end).status ≡ 2 → HasRefusedWords
   top_words (Refused Words) o is = record { none_given = o.0.words_refused refl; wrote = o.1 }
   top_words (Refused (Input name)) o is = absurd (omega arith)
   top_words (Refused (TooLong name)) o is = absurd (omega arith)
@@ -161,21 +161,21 @@ module _ (given : Option Settings) (told : List ℕ → Told) (rose : Type 0) (b
   words_status refusal (inl is) = inl (ap status_of is)
   words_status refusal (inr is) = inr (ap status_of is)
 
-  no_run : (end : RunEnd) → given ≡ None → IsRunOf given told rose before after sink_rose end → ⊥
+  no_run : (end : RunEnd) → given ≡ None → IsRunOf given content rose before after sink_rose end → ⊥
   no_run end none o = subst (λ g. IsBuiltBy g o.launch) none o.built
 
-  pub top_words_refused : (end : TopEnd) → IsTopEnd given told rose before after sink_rose end → given ≡ None →
+  pub top_words_refused : (end : TopEnd) → IsTopEnd given content rose before after sink_rose end → given ≡ None →
       ((finished_of end).status ≡ 2) ⊎ ((finished_of end).status ≡ 70)
   top_words_refused (Refused refusal) o none = words_status refusal (o.0.words_answered none)
   top_words_refused (Ran end) o none = absurd (no_run end none o)
 
-  -- ---- want of memory
+  -- ---- lack of memory
 
   some_entries : (r : Record) (none : Bool) → (length r.history == 0) ≡ none → IfSome (if none then None else Some r) (λ x. x.history ≢ [])
   some_entries r true e = tt
   some_entries r false e = λ empty. absurd (cc (ap (λ (xs : List Entry). length xs == 0) empty, e))
 
-  pub top_memory : (end : TopEnd) → IsTopEnd given told rose before after sink_rose end → (finished_of end).status ≡ 70 →
+  pub top_memory : (end : TopEnd) → IsTopEnd given content rose before after sink_rose end → (finished_of end).status ≡ 70 →
       Wrote before after sink_rose memory_line × IfSome (finished_of end).kept (λ r. r.history ≢ [])
   top_memory (Refused Words) o is = absurd (omega arith)
   top_memory (Refused (Input name)) o is = absurd (omega arith)
@@ -186,12 +186,12 @@ module _ (given : Option Settings) (told : List ℕ → Told) (rose : Type 0) (b
   top_memory (Refused Memory) o is = (o.1, tt)
   top_memory (Ran (Reported r status)) o is = absurd (no_ended 70 (omega arith) status is)
   top_memory (Ran (Unwritten r)) o is = absurd (omega arith)
-  top_memory (Ran NotBegun) o is = (o.end_told, tt)
-  top_memory (Ran (Lacking r)) o is = (o.end_told.1, some_entries r (length r.history == 0) refl)
+  top_memory (Ran NotBegun) o is = (o.end_reported, tt)
+  top_memory (Ran (Lacking r)) o is = (o.end_reported.1, some_entries r (length r.history == 0) refl)
 
   -- ---- a report
 
-  pub top_ended : (end : TopEnd) → IsTopEnd given told rose before after sink_rose end → ((finished_of end).status ≡ 0) ⊎ ((finished_of end).status ≡ 1) →
+  pub top_ended : (end : TopEnd) → IsTopEnd given content rose before after sink_rose end → ((finished_of end).status ≡ 0) ⊎ ((finished_of end).status ≡ 1) →
       IsSomeAnd (finished_of end).kept (HasReported (history_with given) before after (finished_of end).status)
   top_ended (Refused Words) o is = absurd (not_01 2 (omega arith) is)
   top_ended (Refused (Input name)) o is = absurd (not_01 66 (omega arith) is)
@@ -201,12 +201,12 @@ module _ (given : Option Settings) (told : List ℕ → Told) (rose : Type 0) (b
   top_ended (Refused (LaunchText fault)) o is = absurd (not_01 65 (omega arith) is)
   top_ended (Refused Memory) o is = absurd (not_01 70 (omega arith) is)
   top_ended (Ran (Reported r status)) o is =
-      record { ended = o.end_told.1; status_is = ap status_number o.end_told.2; written = o.end_told.3 }
+      record { ended = o.end_reported.1; status_is = ap status_number o.end_reported.2; written = o.end_reported.3 }
   top_ended (Ran (Unwritten r)) o is = absurd (not_01 69 (omega arith) is)
   top_ended (Ran NotBegun) o is = absurd (not_01 70 (omega arith) is)
   top_ended (Ran (Lacking r)) o is = absurd (not_01 70 (omega arith) is)
 
-  pub top_unwritten : (end : TopEnd) → IsTopEnd given told rose before after sink_rose end → (finished_of end).status ≡ 69 →
+  pub top_unwritten : (end : TopEnd) → IsTopEnd given content rose before after sink_rose end → (finished_of end).status ≡ 69 →
       sink_rose × IsSomeAnd (finished_of end).kept (HasFailed (history_with given) before after)
   top_unwritten (Refused Words) o is = absurd (omega arith)
   top_unwritten (Refused (Input name)) o is = absurd (omega arith)
@@ -216,34 +216,34 @@ module _ (given : Option Settings) (told : List ℕ → Told) (rose : Type 0) (b
   top_unwritten (Refused (LaunchText fault)) o is = absurd (omega arith)
   top_unwritten (Refused Memory) o is = absurd (omega arith)
   top_unwritten (Ran (Reported r status)) o is = absurd (no_ended 69 (omega arith) status is)
-  top_unwritten (Ran (Unwritten r)) o is = (o.end_told.2, record { ended = o.end_told.1; prefix = o.end_told.3 })
+  top_unwritten (Ran (Unwritten r)) o is = (o.end_reported.2, record { ended = o.end_reported.1; prefix = o.end_reported.3 })
   top_unwritten (Ran NotBegun) o is = absurd (omega arith)
   top_unwritten (Ran (Lacking r)) o is = absurd (omega arith)
 
-  -- ---- what is spelled is answered
+  -- ---- what is described is answered
 
-  -- a refusal that is spelled, or want of memory
-  completes_refused : (spelled : Spelled) (refusal : LaunchRefusal) → AnswersSpelled spelled (Err refusal) → Completes spelled sink_rose (status_of refusal)
-  completes_refused untold refusal h = tt
+  -- a refusal that is described, or lack of memory
+  completes_refused : (described : Described) (refusal : LaunchRefusal) → AnswersDescribed described (Err refusal) → Completes described sink_rose (status_of refusal)
+  completes_refused unknown refusal h = tt
   completes_refused (refuses status line) refusal (inl memory) = inr (ap status_of memory)
   completes_refused (refuses status line) refusal (inr is) = inl is.0
-  completes_refused (spells launch) refusal (inl is) = absurd (cc)
-  completes_refused (spells launch) refusal (inr memory) = λ calm. inr (inr (memory_status refusal memory))
+  completes_refused (describes launch) refusal (inl is) = absurd (cc)
+  completes_refused (describes launch) refusal (inr memory) = λ calm. inr (inr (memory_status refusal memory))
 
   -- how a run may end where the sink's count did not rise
-  calm_end : (launch : Launch) (end : RunEnd) → IsToldEnd launch (history_with given) before after sink_rose end → ¬ sink_rose
+  calm_end : (launch : Launch) (end : RunEnd) → IsReportedEnd launch (history_with given) before after sink_rose end → ¬ sink_rose
       → ((finished_run end).status ≡ 0) ⊎ ((finished_run end).status ≡ 1) ⊎ ((finished_run end).status ≡ 70)
   calm_end launch (Reported r status) o calm = elim (status_is_small status) [ inl h ↦ inl h | inr h ↦ inr (inl h) ]
   calm_end launch (Unwritten r) o calm = absurd (calm o.2)
   calm_end launch NotBegun o calm = inr (inr refl)
   calm_end launch (Lacking r) o calm = inr (inr refl)
 
-  completes_run : (spelled : Spelled) (launch : Launch) (end : RunEnd) → AnswersSpelled spelled (Ok launch) → IsToldEnd launch (history_with given) before after sink_rose end
-      → Completes spelled sink_rose (finished_run end).status
-  completes_run untold launch end h o = tt
+  completes_run : (described : Described) (launch : Launch) (end : RunEnd) → AnswersDescribed described (Ok launch) → IsReportedEnd launch (history_with given) before after sink_rose end
+      → Completes described sink_rose (finished_run end).status
+  completes_run unknown launch end h o = tt
   completes_run (refuses status line) launch end h o = absurd h
-  completes_run (spells other) launch end h o = λ calm. calm_end launch end o calm
+  completes_run (describes other) launch end h o = λ calm. calm_end launch end o calm
 
-  pub top_complete : (end : TopEnd) → IsTopEnd given told rose before after sink_rose end → ¬ rose → Completes (words_spell given told) sink_rose (finished_of end).status
-  top_complete (Refused refusal) o calm = completes_refused (words_spell given told) refusal (o.0.complete calm)
-  top_complete (Ran end) o calm = completes_run (words_spell given told) o.launch end (o.complete calm) o.end_told
+  pub top_complete : (end : TopEnd) → IsTopEnd given content rose before after sink_rose end → ¬ rose → Completes (words_describe given content) sink_rose (finished_of end).status
+  top_complete (Refused refusal) o calm = completes_refused (words_describe given content) refusal (o.0.complete calm)
+  top_complete (Ran end) o calm = completes_run (words_describe given content) o.launch end (o.complete calm) o.end_reported

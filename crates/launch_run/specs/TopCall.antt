@@ -1,10 +1,10 @@
--- What the top call answers and writes. The words are those of its caller; what a source tells of its inputs and what a
--- sink tells of its bytes are as the traits say (a source or a sink may tell nothing). A count of faults rose in a call
+-- What the top call answers and writes. The words are those of its caller; what a source shows of its inputs and what a
+-- sink shows of its bytes are as the traits say (a source or a sink may show nothing). A count of faults rose in a call
 -- where it is greater afterwards, or stands at its last value.
 use Rattle.std.specs.Prelude.{◌≡◌, ◌⊎◌, ◌==◌, ⊤, ℕ, Bool, List, length, Option, None, Some, Ok, Err, Contains, if◌then◌else◌}
 use Rattle.std.specs.FinMap.{get}
 use Rattle.input_output.specs.Sink.{grown, GrewByPrefix}
-use Rattle.input_output.specs.Source.{Told}
+use Rattle.input_output.specs.Source.{InputContent}
 use Rattle.abi_types.specs.declared.status.Status.{Status}
 use Rattle.abi_types.specs.declared.status.Status.TheVariants.{Live, Exit, Killed}
 use Rattle.run_types.specs.declared.history.Record.{Record}
@@ -17,7 +17,7 @@ use Rattle.run_model.specs.Legal.{Legal}
 use Rattle.run_model.specs.World.{world}
 use Rattle.authority_laws.specs.Laws.{IsRecorded}
 use Rattle.command_line.specs.Settings.{Settings}
-use Rattle.launch_reading.specs.Launch.{Spelled, untold, refuses, spells, words_spell, inputs_with, history_with, IsToldAs, IsBuiltBy, IfInput, IfTooLong, IsOfTexts, AnswersSpelled}
+use Rattle.launch_reading.specs.Launch.{Described, unknown, refuses, describes, words_describe, inputs_with, history_with, IsKnownAs, IsBuiltBy, IfInput, IfTooLong, IsOfTexts, AnswersDescribed}
 use Rattle.elf_image.specs.declared.fault.ElfFault.{ElfFault}
 use Rattle.launch_reading.specs.Refusal.{line_of, status_of, memory_line, input_line, program_line, tree_line, launch_line, too_long_line}
 use Rattle.run_report.specs.Report.{report_of}
@@ -53,9 +53,9 @@ record_report lines r = report_of (state_of r) r.history lines
 abbrev pub IsRecordOf : Launch → Record → Type 0
 IsRecordOf launch r = (r.launch ≡ launch) × Legal r.launch r.history
 
--- How a run of the launch came to its end, where before and after are what the sink tells of its bytes, and rose says
+-- How a run of the launch came to its end, where before and after are what the sink shows of its bytes, and rose says
 -- that its count of faults rose. The report is of an ended run, and was written whole, or a prefix of it where the sink
--- failed; for want of memory nothing was written of it.
+-- failed; where memory ran out, nothing was written of it.
 abbrev pub IsEndOf : Launch → Bool → Option (List ℕ) → Option (List ℕ) → Type 0 → RunEnd → Type 0
 IsEndOf launch lines before after rose (Reported r status) =
     IsRecordOf launch r × Ended r.launch r.history × (status ≡ get (state_of r).statuses 0) × (after ≡ grown before (record_report lines r))
@@ -63,47 +63,47 @@ IsEndOf launch lines before after rose (Unwritten r) = IsRecordOf launch r × En
 IsEndOf launch lines before after rose NotBegun = after ≡ before
 IsEndOf launch lines before after rose (Lacking r) = IsRecordOf launch r × (after ≡ before)
 
--- the same once the line that says so was written for want of memory
-abbrev pub IsToldEnd : Launch → Bool → Option (List ℕ) → Option (List ℕ) → Type 0 → RunEnd → Type 0
-IsToldEnd launch lines before after rose (Reported r status) = IsEndOf launch lines before after rose (Reported r status)
-IsToldEnd launch lines before after rose (Unwritten r) = IsEndOf launch lines before after rose (Unwritten r)
-IsToldEnd launch lines before after rose NotBegun = Wrote before after rose memory_line
-IsToldEnd launch lines before after rose (Lacking r) = IsRecordOf launch r × Wrote before after rose memory_line
+-- the same once the line that says so was written where memory ran out
+abbrev pub IsReportedEnd : Launch → Bool → Option (List ℕ) → Option (List ℕ) → Type 0 → RunEnd → Type 0
+IsReportedEnd launch lines before after rose (Reported r status) = IsEndOf launch lines before after rose (Reported r status)
+IsReportedEnd launch lines before after rose (Unwritten r) = IsEndOf launch lines before after rose (Unwritten r)
+IsReportedEnd launch lines before after rose NotBegun = Wrote before after rose memory_line
+IsReportedEnd launch lines before after rose (Lacking r) = IsRecordOf launch r × Wrote before after rose memory_line
 
--- what is written after a run's end: the line for want of memory, and else nothing
-abbrev pub TellsEnd : Option (List ℕ) → Option (List ℕ) → Type 0 → RunEnd → Type 0
-TellsEnd before after rose (Reported r status) = after ≡ before
-TellsEnd before after rose (Unwritten r) = after ≡ before
-TellsEnd before after rose NotBegun = Wrote before after rose memory_line
-TellsEnd before after rose (Lacking r) = Wrote before after rose memory_line
+-- what is written after a run's end: the line that says that memory ran out, and else nothing
+abbrev pub ReportsEnd : Option (List ℕ) → Option (List ℕ) → Type 0 → RunEnd → Type 0
+ReportsEnd before after rose (Reported r status) = after ≡ before
+ReportsEnd before after rose (Unwritten r) = after ≡ before
+ReportsEnd before after rose NotBegun = Wrote before after rose memory_line
+ReportsEnd before after rose (Lacking r) = Wrote before after rose memory_line
 
--- ---- the whole call, for words that give these settings or none, what the source tells of each input, and whether its
+-- ---- the whole call, for words that give these settings or none, what the source shows of each input, and whether its
 -- count of faults rose
 
--- a refusal, which is the first that the words and the inputs spell, where anything is told of it
-pub record IsRefusalOf (given : Option Settings) (told : List ℕ → Told) (rose : Type 0) (refusal : LaunchRefusal) : Type 0 where
+-- a refusal, which is the first that the words and the inputs describe, where anything is known of it
+pub record IsRefusalOf (given : Option Settings) (content : List ℕ → InputContent) (rose : Type 0) (refusal : LaunchRefusal) : Type 0 where
   pub words_refused : refusal ≡ Words → given ≡ None
   pub words_answered : given ≡ None → (refusal ≡ Words) ⊎ (refusal ≡ Memory)
   pub input : IfInput refusal (λ name. Contains (inputs_with given) name × rose)
   pub too_long : IfTooLong refusal (Contains (inputs_with given))
-  pub refused : IsOfTexts refusal → IsToldAs (words_spell given told) (refuses (status_of refusal) (line_of refusal))
-  pub complete : ¬ rose → AnswersSpelled (words_spell given told) (Err refusal)
+  pub refused : IsOfTexts refusal → IsKnownAs (words_describe given content) (refuses (status_of refusal) (line_of refusal))
+  pub complete : ¬ rose → AnswersDescribed (words_describe given content) (Err refusal)
 
--- a run of the launch that the words and the inputs spell, where anything is told of it
-pub record IsRunOf (given : Option Settings) (told : List ℕ → Told) (rose : Type 0) (before after : Option (List ℕ)) (sink_rose : Type 0) (end : RunEnd) : Type 0 where
+-- a run of the launch that the words and the inputs describe, where anything is known of it
+pub record IsRunOf (given : Option Settings) (content : List ℕ → InputContent) (rose : Type 0) (before after : Option (List ℕ)) (sink_rose : Type 0) (end : RunEnd) : Type 0 where
   pub launch : Launch
-  pub spelled : IsToldAs (words_spell given told) (spells launch)
+  pub described : IsKnownAs (words_describe given content) (describes launch)
   pub built : IsBuiltBy given launch
   pub begins : MayBegin launch.tree launch.grants
-  pub complete : ¬ rose → AnswersSpelled (words_spell given told) (Ok launch)
-  pub end_told : IsToldEnd launch (history_with given) before after sink_rose end
+  pub complete : ¬ rose → AnswersDescribed (words_describe given content) (Ok launch)
+  pub end_reported : IsReportedEnd launch (history_with given) before after sink_rose end
 
 -- how the call ended
-abbrev pub IsTopEnd : Option Settings → (List ℕ → Told) → Type 0 → Option (List ℕ) → Option (List ℕ) → Type 0 → TopEnd → Type 0
-IsTopEnd given told rose before after sink_rose (Refused refusal) = IsRefusalOf given told rose refusal × Wrote before after sink_rose (line_of refusal)
-IsTopEnd given told rose before after sink_rose (Ran end) = IsRunOf given told rose before after sink_rose end
+abbrev pub IsTopEnd : Option Settings → (List ℕ → InputContent) → Type 0 → Option (List ℕ) → Option (List ℕ) → Type 0 → TopEnd → Type 0
+IsTopEnd given content rose before after sink_rose (Refused refusal) = IsRefusalOf given content rose refusal × Wrote before after sink_rose (line_of refusal)
+IsTopEnd given content rose before after sink_rose (Ran end) = IsRunOf given content rose before after sink_rose end
 
--- the record that is kept for want of memory: that of a run which had an entry
+-- the record that is kept where memory ran out: that of a run which had an entry
 abbrev pub kept_of : Record → Option Record
 kept_of r = if length r.history == 0 then None else Some r
 
@@ -125,12 +125,12 @@ abbrev pub IsTopStatus : ℕ → Type 0
 IsTopStatus status =
     (status ≡ 0) ⊎ (status ≡ 1) ⊎ (status ≡ 2) ⊎ (status ≡ 65) ⊎ (status ≡ 66) ⊎ (status ≡ 67) ⊎ (status ≡ 68) ⊎ (status ≡ 69) ⊎ (status ≡ 70)
 
--- An input could not be read, and the source's count of faults rose; or an input is too long, as it is spelled, where
--- anything is told of it. The line names the input.
-abbrev pub IsInputRefused : List (List ℕ) → Spelled → Type 0 → (List ℕ → Type 0) → Type 0
-IsInputRefused names spelled rose wrote =
+-- An input could not be read, and the source's count of faults rose; or an input is too long, as it is described, where
+-- anything is known of it. The line names the input.
+abbrev pub IsInputRefused : List (List ℕ) → Described → Type 0 → (List ℕ → Type 0) → Type 0
+IsInputRefused names described rose wrote =
     (name : List ℕ) × Contains names name
-    × ((rose × wrote (input_line name)) ⊎ (IsToldAs spelled (refuses 66 (too_long_line name)) × wrote (too_long_line name)))
+    × ((rose × wrote (input_line name)) ⊎ (IsKnownAs described (refuses 66 (too_long_line name)) × wrote (too_long_line name)))
 
 -- the run of the record has ended, the status is that of its process 0, and exactly its report was written
 pub record HasReported (lines : Bool) (before after : Option (List ℕ)) (status : ℕ) (r : Record) : Type 0 where
@@ -138,22 +138,22 @@ pub record HasReported (lines : Bool) (before after : Option (List ℕ)) (status
   pub status_is : status ≡ status_number (get (state_of r).statuses 0)
   pub written : after ≡ grown before (record_report lines r)
 
--- the program is refused for a fault of its file, which is the first refusal that is spelled, where anything is told of it,
+-- the program is refused for a fault of its file, which is the first refusal that is described, where anything is known of it,
 -- and its line was written
-abbrev pub IsProgramRefused : Spelled → (List ℕ → Type 0) → Type 0
-IsProgramRefused spelled wrote =
-    (found : ElfFault) × IsToldAs spelled (refuses 67 (program_line found)) × wrote (program_line found)
+abbrev pub IsProgramRefused : Described → (List ℕ → Type 0) → Type 0
+IsProgramRefused described wrote =
+    (found : ElfFault) × IsKnownAs described (refuses 67 (program_line found)) × wrote (program_line found)
 
--- the tree document is refused for a record that begins at a byte, which is the first refusal that is spelled, where anything is
--- told of it, and its line was written
-abbrev pub IsTreeRefused : Spelled → (List ℕ → Type 0) → Type 0
-IsTreeRefused spelled wrote = (byte : ℕ) × IsToldAs spelled (refuses 68 (tree_line byte)) × wrote (tree_line byte)
+-- the tree document is refused for a record that begins at a byte, which is the first refusal that is described, where anything
+-- is known of it, and its line was written
+abbrev pub IsTreeRefused : Described → (List ℕ → Type 0) → Type 0
+IsTreeRefused described wrote = (byte : ℕ) × IsKnownAs described (refuses 68 (tree_line byte)) × wrote (tree_line byte)
 
--- the launch text is refused for a fault, which is the first refusal that is spelled, where anything is told of it, and its
+-- the launch text is refused for a fault, which is the first refusal that is described, where anything is known of it, and its
 -- line was written
-abbrev pub IsTextRefused : Spelled → (List ℕ → Type 0) → Type 0
-IsTextRefused spelled wrote =
-    (fault : LaunchFault) × IsToldAs spelled (refuses 65 (launch_line fault)) × wrote (launch_line fault)
+abbrev pub IsTextRefused : Described → (List ℕ → Type 0) → Type 0
+IsTextRefused described wrote =
+    (fault : LaunchFault) × IsKnownAs described (refuses 65 (launch_line fault)) × wrote (launch_line fault)
 
 -- the run of the record has ended, and a prefix of its report was written
 pub record HasFailed (lines : Bool) (before after : Option (List ℕ)) (r : Record) : Type 0 where
@@ -161,19 +161,19 @@ pub record HasFailed (lines : Bool) (before after : Option (List ℕ)) (r : Reco
   pub prefix : GrewByPrefix before after (record_report lines r)
 
 -- What every record that is kept is: its history is legal, each entry is confined to what its process's descriptors
--- reach with the rights needed, who holds which descriptors is told by the entries, and each descriptor comes from one of the
--- launch's grants; and its launch is the one that is spelled, where anything is told of it, and in any case one of these
+-- reach with the rights needed, who holds which descriptors is shown by the entries, and each descriptor comes from one of the
+-- launch's grants; and its launch is the one that is described, where anything is known of it, and in any case one of these
 -- settings.
-pub record IsKept (given : Option Settings) (spelled : Spelled) (r : Record) : Type 0 where
+pub record IsKept (given : Option Settings) (described : Described) (r : Record) : Type 0 where
   pub legal : Legal r.launch r.history
   pub confined : IsConfined r.launch r.history
   pub recorded : IsRecorded r.launch r.history
-  pub launch_spelled : IsToldAs spelled (spells r.launch)
+  pub launch_described : IsKnownAs described (describes r.launch)
   pub built : IsBuiltBy given r.launch
 
--- Where the source's count of faults did not rise, a refusal that is spelled is answered, and a launch that is spelled is
--- run to its report where the sink's count did not rise; or memory was wanting.
-abbrev pub Completes : Spelled → Type 0 → ℕ → Type 0
-Completes untold sink_rose status = ⊤
+-- Where the source's count of faults did not rise, a refusal that is described is answered, and a launch that is described is
+-- run to its report where the sink's count did not rise; or memory ran out.
+abbrev pub Completes : Described → Type 0 → ℕ → Type 0
+Completes unknown sink_rose status = ⊤
 Completes (refuses refused line) sink_rose status = (status ≡ refused) ⊎ (status ≡ 70)
-Completes (spells launch) sink_rose status = ¬ sink_rose → (status ≡ 0) ⊎ (status ≡ 1) ⊎ (status ≡ 70)
+Completes (describes launch) sink_rose status = ¬ sink_rose → (status ≡ 0) ⊎ (status ≡ 1) ⊎ (status ≡ 70)

@@ -8,7 +8,7 @@ ghost use Rattle.launch_reading.specs.Launch.{launch_of, inputs_of, settings_inp
 ghost use Rattle.launch_reading.specs.Refusal.{line_of, words_line, memory_line};
 ghost use Rattle.call_codec.specs.Bounded.{IsBounded};
 ghost use Rattle.plain_run.specs.Run.{IsBetween, IsLive};
-ghost use Rattle.launch_run.specs.TopCall.{Wrote, IsEndOf, IsToldEnd, TellsEnd, IsTopEnd, IsTopStatus, IsInputRefused, IsProgramRefused, IsTreeRefused, IsTextRefused, HasReported, HasFailed, IsKept, Completes, status_number, kept_of, finished_run, finished_of};
+ghost use Rattle.launch_run.specs.TopCall.{Wrote, IsEndOf, IsReportedEnd, ReportsEnd, IsTopEnd, IsTopStatus, IsInputRefused, IsProgramRefused, IsTreeRefused, IsTextRefused, HasReported, HasFailed, IsKept, Completes, status_number, kept_of, finished_run, finished_of};
 ghost use Rattle.launch_run.specs.declared.top.TopEnd.TheVariants.{Refused};
 
 use abi_types::Status;
@@ -34,9 +34,9 @@ pub enum RunEnd {
     Reported(Record, Option<Status>),
     /// It ended, and the sink failed while its report was written.
     Unwritten(Record),
-    /// Memory was wanting before the run began.
+    /// Memory ran out before the run began.
     NotBegun,
-    /// Memory was wanting, and this was recorded until then.
+    /// Memory ran out, and this was recorded until then.
     Lacking(Record),
 }
 
@@ -85,10 +85,10 @@ fn run_launched<K: Sink>(alloc: Global, launch: Launch, lines: bool, sink: &mut 
     }
 }
 
-// Says that memory was wanting, where it was. A fault of the sink changes nothing of the end.
-fn tell_end<K: Sink>(end: &RunEnd, sink: &mut K)
+// Says that memory ran out, where it was. A fault of the sink changes nothing of the end.
+fn report_end<K: Sink>(end: &RunEnd, sink: &mut K)
     ensures faults_never_fall { K.faults sink.old ≤ K.faults sink.new }
-    ensures told { TellsEnd (K.written sink.old) (K.written sink.new) (Rose (K.faults sink.old) (K.faults sink.new)) end.now }
+    ensures content { ReportsEnd (K.written sink.old) (K.written sink.new) (Rose (K.faults sink.old) (K.faults sink.new)) end.now }
 {
     match end {
         RunEnd::Reported(..) | RunEnd::Unwritten(_) => {}
@@ -104,14 +104,14 @@ fn refuse<K: Sink>(refusal: &LaunchRefusal<'_>, sink: &mut K)
     let _ = refusal.write_line(sink);
 }
 
-// Runs a launch to its end, and writes its report, or the line for want of memory.
-fn run_told<K: Sink>(alloc: Global, launch: Launch, lines: bool, sink: &mut K) -> RunEnd
+// Runs a launch to its end, and writes its report, or the line that says that memory ran out.
+fn run_reported<K: Sink>(alloc: Global, launch: Launch, lines: bool, sink: &mut K) -> RunEnd
     requires { IsBounded launch }
     ensures faults_never_fall { K.faults sink.old ≤ K.faults sink.new }
-    ensures end { IsToldEnd launch lines (K.written sink.old) (K.written sink.new) (Rose (K.faults sink.old) (K.faults sink.new)) result }
+    ensures end { IsReportedEnd launch lines (K.written sink.old) (K.written sink.new) (Rose (K.faults sink.old) (K.faults sink.new)) result }
 {
     let end = run_launched(alloc, launch, lines, sink);
-    tell_end(&end, sink);
+    report_end(&end, sink);
     end
 }
 
@@ -143,13 +143,13 @@ fn run_settings<'a, S: Source, K: Sink>(
 ) -> TopEnd<'a>
     requires may_read { All (S.may_read source.old) (settings_inputs (view settings.now)) }
     requires within { IsWithin (view settings.now) }
-    ensures told_stays { (n : List ℕ) → S.told source.new n ≡ S.told source.old n }
+    ensures content_stays { (n : List ℕ) → S.content source.new n ≡ S.content source.old n }
     ensures source_faults { S.faults source.old ≤ S.faults source.new }
     ensures sink_faults { K.faults sink.old ≤ K.faults sink.new }
-    ensures end { IsTopEnd (Some (view settings.now)) (S.told source.old) (Rose (S.faults source.old) (S.faults source.new)) (K.written sink.old) (K.written sink.new) (Rose (K.faults sink.old) (K.faults sink.new)) result }
+    ensures end { IsTopEnd (Some (view settings.now)) (S.content source.old) (Rose (S.faults source.old) (S.faults source.new)) (K.written sink.old) (K.written sink.new) (Rose (K.faults sink.old) (K.faults sink.new)) result }
 {
     match read_launch(alloc, settings, source) {
-        Ok(launch) => TopEnd::Ran(run_told(alloc, launch, settings.history, sink)),
+        Ok(launch) => TopEnd::Ran(run_reported(alloc, launch, settings.history, sink)),
         Err(refusal) => refused(refusal, sink),
     }
 }
@@ -162,11 +162,11 @@ fn launch_and_run<'a, S: Source, K: Sink>(
     sink: &mut K,
 ) -> TopEnd<'a>
     requires { All (S.may_read source.old) (inputs_of (map string_bytes words.now)) }
-    ensures told_stays { (n : List ℕ) → S.told source.new n ≡ S.told source.old n }
+    ensures content_stays { (n : List ℕ) → S.content source.new n ≡ S.content source.old n }
     ensures source_faults { S.faults source.old ≤ S.faults source.new }
     ensures sink_faults { K.faults sink.old ≤ K.faults sink.new }
     ensures unread { words_of (map string_bytes words.now) ≡ None → source.new ≡ source.old }
-    ensures end { IsTopEnd (words_of (map string_bytes words.now)) (S.told source.old) (Rose (S.faults source.old) (S.faults source.new)) (K.written sink.old) (K.written sink.new) (Rose (K.faults sink.old) (K.faults sink.new)) result }
+    ensures end { IsTopEnd (words_of (map string_bytes words.now)) (S.content source.old) (Rose (S.faults source.old) (S.faults source.new)) (K.written sink.old) (K.written sink.new) (Rose (K.faults sink.old) (K.faults sink.new)) result }
 {
     match read_words(alloc, words) {
         Ok(settings) => run_settings(alloc, &settings, source, sink),
@@ -227,7 +227,7 @@ fn finish(end: TopEnd<'_>) -> Finished
 ///
 /// The status is 0 where the run ended and process 0 exited with 0, 1 where it ended otherwise, 2 for faulty words, 65
 /// for a launch text, 67 for a program and 68 for a tree document that is refused, 66 for an input that can't be read or
-/// is too long, 69 where the sink failed while the report was written, and 70 for want of memory. What a refusal writes
+/// is too long, 69 where the sink failed while the report was written, and 70 where memory ran out. What a refusal writes
 /// is its line, or a prefix of it where the sink failed.
 pub fn run_launch<S: Source, K: Sink>(
     alloc: Global,
@@ -237,8 +237,8 @@ pub fn run_launch<S: Source, K: Sink>(
 ) -> Finished
     requires { All (S.may_read source.old) (inputs_of (map string_bytes words.now)) }
 
-    // The counts of faults never fall, and what the source tells stays.
-    ensures told_stays { (n : List ℕ) → S.told source.new n ≡ S.told source.old n }
+    // The counts of faults never fall, and what the source shows stays.
+    ensures content_stays { (n : List ℕ) → S.content source.new n ≡ S.content source.old n }
     ensures source_faults { S.faults source.old ≤ S.faults source.new }
     ensures sink_faults { K.faults sink.old ≤ K.faults sink.new }
 
@@ -248,13 +248,13 @@ pub fn run_launch<S: Source, K: Sink>(
     ensures words_refused { words_of (map string_bytes words.now) ≡ None → (result.status ≡ 2) ⊎ (result.status ≡ 70) }
     ensures unread { words_of (map string_bytes words.now) ≡ None → source.new ≡ source.old }
     ensures words_line { result.status ≡ 2 → Wrote (K.written sink.old) (K.written sink.new) (Rose (K.faults sink.old) (K.faults sink.new)) words_line }
-    ensures input { result.status ≡ 66 → IsInputRefused (inputs_of (map string_bytes words.now)) (launch_of (map string_bytes words.now) (S.told source.old)) (Rose (S.faults source.old) (S.faults source.new))
+    ensures input { result.status ≡ 66 → IsInputRefused (inputs_of (map string_bytes words.now)) (launch_of (map string_bytes words.now) (S.content source.old)) (Rose (S.faults source.old) (S.faults source.new))
         (Wrote (K.written sink.old) (K.written sink.new) (Rose (K.faults sink.old) (K.faults sink.new))) }
-    ensures program { result.status ≡ 67 → IsProgramRefused (launch_of (map string_bytes words.now) (S.told source.old))
+    ensures program { result.status ≡ 67 → IsProgramRefused (launch_of (map string_bytes words.now) (S.content source.old))
         (Wrote (K.written sink.old) (K.written sink.new) (Rose (K.faults sink.old) (K.faults sink.new))) }
-    ensures tree { result.status ≡ 68 → IsTreeRefused (launch_of (map string_bytes words.now) (S.told source.old))
+    ensures tree { result.status ≡ 68 → IsTreeRefused (launch_of (map string_bytes words.now) (S.content source.old))
         (Wrote (K.written sink.old) (K.written sink.new) (Rose (K.faults sink.old) (K.faults sink.new))) }
-    ensures launch_text { result.status ≡ 65 → IsTextRefused (launch_of (map string_bytes words.now) (S.told source.old))
+    ensures launch_text { result.status ≡ 65 → IsTextRefused (launch_of (map string_bytes words.now) (S.content source.old))
         (Wrote (K.written sink.old) (K.written sink.new) (Rose (K.faults sink.old) (K.faults sink.new))) }
     ensures memory { result.status ≡ 70 → Wrote (K.written sink.old) (K.written sink.new) (Rose (K.faults sink.old) (K.faults sink.new)) memory_line
         × IfSome result.kept (λ r. r.history ≢ []) }
@@ -262,12 +262,12 @@ pub fn run_launch<S: Source, K: Sink>(
     ensures unwritten { result.status ≡ 69 → Rose (K.faults sink.old) (K.faults sink.new) × IsSomeAnd result.kept (HasFailed (asks_history (map string_bytes words.now)) (K.written sink.old) (K.written sink.new)) }
 
     // What is kept.
-    ensures kept { IfSome result.kept (IsKept (words_of (map string_bytes words.now)) (launch_of (map string_bytes words.now) (S.told source.old))) }
+    ensures kept { IfSome result.kept (IsKept (words_of (map string_bytes words.now)) (launch_of (map string_bytes words.now) (S.content source.old))) }
     ensures none_kept { IsSome result.kept → (result.status ≡ 0) ⊎ (result.status ≡ 1) ⊎ (result.status ≡ 69) ⊎ (result.status ≡ 70) }
 
-    // What is spelled is answered where no fault came.
+    // What is described is answered where no fault came.
     ensures complete { ¬ Rose (S.faults source.old) (S.faults source.new)
-        → Completes (launch_of (map string_bytes words.now) (S.told source.old)) (Rose (K.faults sink.old) (K.faults sink.new)) result.status }
+        → Completes (launch_of (map string_bytes words.now) (S.content source.old)) (Rose (K.faults sink.old) (K.faults sink.new)) result.status }
 {
     finish(launch_and_run(alloc, words, source, sink))
 }

@@ -15,7 +15,7 @@ use Rattle.launch_scalars.specs.Results.{fault}
 use Rattle.launch_scalars.specs.Characters.{begins_control, control_at, invalid_at, earlier, bad_at}
 use Rattle.launch_scalars.specs.Spaces.{without_last_spaces}
 use Rattle.launch_scalars.specs.Plain.{begins_plain, plain_length, wrong_beginning}
-use Rattle.launch_scalars.specs.Quoted.{Quoted, quoted, told, if_right, if_closed, taken_of}
+use Rattle.launch_scalars.specs.Quoted.{Quoted, quoted, reported, if_right, if_closed, taken_of}
 use Rattle.launch_scalars.specs.Scalars.{Scalar, is_quote, unless_at, quoted_scalar, plain_scalar, quoted_at, plain_at, scalar_at}
 use Rattle.lists.proofs.Chosen.{chosen, some_is, none_some, ok_is, err_ok}
 use Rattle.launch_scalars.proofs.BadBytes.{bad_inside}
@@ -90,9 +90,9 @@ good_nonzero bytes e = no_control bytes (control_none (control_at bytes) (invali
 
 -- ---- what a scalar says is a text without a zero byte, where each of its bytes may be in a text
 
--- what is told of a quoted scalar that is closed and has no wrong escape
-pub told_parts : (q : Quoted) (content rest : List ℕ) → told q ≡ Ok (content, rest) → (q.wrong ≡ None) × (q.rest ≡ Some rest) × (q.content ≡ content)
-told_parts q content rest e = of_parts q.wrong q.rest e
+-- what is reported of a quoted scalar that is closed and has no wrong escape
+pub reported_parts : (q : Quoted) (content rest : List ℕ) → reported q ≡ Ok (content, rest) → (q.wrong ≡ None) × (q.rest ≡ Some rest) × (q.content ≡ content)
+reported_parts q content rest e = of_parts q.wrong q.rest e
   where
     of_parts : (wrong : Option ℕ) (behind : Option (List ℕ)) → if_right wrong (if_closed q.content behind) ≡ Ok (content, rest) → (wrong ≡ None) × (behind ≡ Some rest) × (q.content ≡ content)
     of_parts (Some place) behind e = absurd (err_ok _ _ e)
@@ -117,10 +117,10 @@ IsGood bytes = IsUtf8 bytes × AreNonzero bytes
 pub all_good : (bytes : List ℕ) → bad_at bytes ≡ None → IsGood bytes
 all_good bytes e = (good_utf8 bytes e, good_nonzero bytes e)
 
-pub quoted_good : (quote : ℕ) (bytes content rest : List ℕ) → quote < 128 → told (quoted quote bytes) ≡ Ok (content, rest)
+pub quoted_good : (quote : ℕ) (bytes content rest : List ℕ) → quote < 128 → reported (quoted quote bytes) ≡ Ok (content, rest)
     → bad_at (take (suc (taken_of (length bytes) (quoted quote bytes).rest)) (quote ∷ bytes)) ≡ None → IsGood content
 quoted_good quote bytes content rest small e good =
-    let parts = told_parts (quoted quote bytes) content rest e in
+    let parts = reported_parts (quoted quote bytes) content rest e in
     let read = quoted_read quote bytes rest parts.1 parts.0 in
     let front = subst IsGood (taken_is quote bytes read.taken rest (quoted quote bytes).rest parts.1 read.whole) (all_good _ good) in
     let inside = (around_ascii [] read.taken quote small front.0).1 in
@@ -132,15 +132,15 @@ plain_good bytes good = (trimmed_for bytes [] (good_utf8 bytes good), trimmed_no
 quoted_text : (quote : ℕ) (bytes : List ℕ) → quote < 128 → IfOk (quoted_at quote bytes) (λ s. IsGood s.content)
 quoted_text quote bytes small = by_bad (bad_at (take (suc (taken_of (length bytes) (quoted quote bytes).rest)) (quote ∷ bytes))) refl
   where
-    of_told : (r : Result (List ℕ × List ℕ) LineFault) → told (quoted quote bytes) ≡ r → bad_at (take (suc (taken_of (length bytes) (quoted quote bytes).rest)) (quote ∷ bytes)) ≡ None
+    of_reported : (r : Result (List ℕ × List ℕ) LineFault) → reported (quoted quote bytes) ≡ r → bad_at (take (suc (taken_of (length bytes) (quoted quote bytes).rest)) (quote ∷ bytes)) ≡ None
         → IfOk (r >>= λ c. Ok (quoted_scalar c)) (λ s. IsGood s.content)
-    of_told (Err e) is good = tt
-    of_told (Ok c) is good = quoted_good quote bytes c.0 c.1 small is good
+    of_reported (Err e) is good = tt
+    of_reported (Ok c) is good = quoted_good quote bytes c.0 c.1 small is good
 
     by_bad : (bad : Option ℕ) → bad_at (take (suc (taken_of (length bytes) (quoted quote bytes).rest)) (quote ∷ bytes)) ≡ bad
-        → IfOk (unless_at (length (quote ∷ bytes)) bad (told (quoted quote bytes) >>= λ c. Ok (quoted_scalar c))) (λ s. IsGood s.content)
+        → IfOk (unless_at (length (quote ∷ bytes)) bad (reported (quoted quote bytes) >>= λ c. Ok (quoted_scalar c))) (λ s. IsGood s.content)
     by_bad (Some n) is = tt
-    by_bad None is = of_told (told (quoted quote bytes)) refl is
+    by_bad None is = of_reported (reported (quoted quote bytes)) refl is
 
 plain_text : (count : ℕ) (bytes : List ℕ) → IfOk (plain_at count bytes) (λ s. IsGood s.content)
 plain_text count bytes = by_bad (bad_at (take count bytes)) refl

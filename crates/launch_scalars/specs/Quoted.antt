@@ -100,7 +100,7 @@ in_double zero (b ∷ bs) =
 unfoldable pub quoted : ℕ → List ℕ → Quoted
 quoted quote bytes = if quote == 39 then in_single bytes else in_double 0 bytes
 
--- ---- what is told of it
+-- ---- what is reported of it
 
 abbrev pub if_closed : List ℕ → Option (List ℕ) → Result (List ℕ × List ℕ) LineFault
 if_closed content None = fault 0 kinds.Quote
@@ -111,8 +111,8 @@ if_right None further = further
 if_right (Some place) further = fault place kinds.Escape
 
 -- what it says and what stands behind it, or its first wrong escape, or that it isn't closed
-abbrev pub told : Quoted → Result (List ℕ × List ℕ) LineFault
-told q = if_right q.wrong (if_closed q.content q.rest)
+abbrev pub reported : Quoted → Result (List ℕ × List ℕ) LineFault
+reported q = if_right q.wrong (if_closed q.content q.rest)
 
 -- how many of the bytes behind the opening quote it takes
 abbrev pub taken_of : ℕ → Option (List ℕ) → ℕ

@@ -7,7 +7,7 @@ use Rattle.launch_scalars.specs.Results.{fault}
 use Rattle.launch_scalars.specs.Characters.{bad_at}
 use Rattle.launch_scalars.specs.Spaces.{without_last_spaces}
 use Rattle.launch_scalars.specs.Plain.{begins_plain, plain_length, wrong_beginning}
-use Rattle.launch_scalars.specs.Quoted.{quoted, told, taken_of}
+use Rattle.launch_scalars.specs.Quoted.{quoted, reported, taken_of}
 
 -- a scalar: whether it is plain, what it says, and what stands behind it
 pub record Scalar : Type 0 where
@@ -35,7 +35,7 @@ quoted_scalar c = record { plain = false; content = c.0; rest = c.1 }
 
 -- the quoted scalar behind whose opening quote these bytes stand, and the plain one of so many bytes
 abbrev pub quoted_at : ℕ → List ℕ → Result Scalar LineFault
-quoted_at quote bytes = unless_bad (suc (taken_of (length bytes) (quoted quote bytes).rest)) (quote ∷ bytes) (told (quoted quote bytes) >>= λ c. Ok (quoted_scalar c))
+quoted_at quote bytes = unless_bad (suc (taken_of (length bytes) (quoted quote bytes).rest)) (quote ∷ bytes) (reported (quoted quote bytes) >>= λ c. Ok (quoted_scalar c))
 
 abbrev pub plain_at : ℕ → List ℕ → Result Scalar LineFault
 plain_at count bytes = unless_bad count bytes (Ok (plain_scalar count bytes))

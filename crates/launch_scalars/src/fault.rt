@@ -5,7 +5,7 @@ ghost use Rattle.lists.specs.declared.stop.Stop.TheVariants.{At};
 use crate::kind::YamlKind;
 use lists::Stop;
 
-/// A fault in a line. Its place is told by how many bytes of the line stand behind it, its own included.
+/// A fault in a line. Its place is given by how many bytes of the line stand behind it, its own included.
 #[derive(Clone, Copy, Drop)]
 pub struct LineFault {
     /// How many bytes there are from the fault's place to the line's end.

@@ -1,7 +1,7 @@
 //! Quoted scalars.
 ghost use Rattle.std.specs.Prelude.{◌≡◌, ◌<◌, ◌≤◌, ◌∷◌, ◌++◌, suc, IfOk, OnOk, IfSome, false, length, drop, option_map};
 ghost use Rattle.lists.specs.Results.{Gives};
-ghost use Rattle.launch_scalars.specs.Quoted.{in_single, in_double, quoted, told, taken_of};
+ghost use Rattle.launch_scalars.specs.Quoted.{in_single, in_double, quoted, reported, taken_of};
 ghost use Rattle.launch_scalars.specs.PieceViews.{bytes_of, with_part, is_line_end};
 
 use crate::escapes::{Piece, escape};
@@ -127,7 +127,7 @@ pub fn quoted_content(
     quote: u8,
     bytes: &[u8],
 ) -> Result<(Vec<u8>, &[u8]), Stop<LineFault>>
-    ensures reads { Gives (λ c. (c.0.items, c.1.now)) result (told (quoted quote bytes.now)) }
+    ensures reads { Gives (λ c. (c.0.items, c.1.now)) result (reported (quoted quote bytes.now)) }
     ensures no_longer { IfOk result (λ c. length c.1.now ≤ length bytes.now) }
 {
     let mut content = Vec::new(alloc);

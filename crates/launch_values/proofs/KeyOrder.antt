@@ -1,4 +1,4 @@
--- The order of keys tells apart what means different things.
+-- The order of keys distinguishes what means different things.
 use Rattle.std.proofs.lemmas.Map.Lookups.{exact_signed, exact_bytes}
 use Rattle.std.proofs.Common.{rules, ℤ, ◌≡◌, sym, ap, ◌∙◌, Bool, true, false, List, [], ◌∷◌, map, ◌||◌, refl}
 use Rattle.std.specs.List.{list_any}

@@ -1,4 +1,4 @@
--- What a scalar means tells integers out of range from none other.
+-- What a scalar means doesn't distinguish integers that are out of range.
 use Rattle.std.proofs.Common.{ℕ, ℤ, ◌≡◌, List, Bool, true, false, if◌then◌else◌, Option, Some, None, Result, Ok, Err, option_map, ap, refl, sym, ◌∙◌}
 use Rattle.launch_scalars.specs.declared.kind.YamlKind.{YamlKind}
 use Rattle.launch_scalars.specs.declared.kind.YamlKind.TheVariants as kinds

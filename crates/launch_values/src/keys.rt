@@ -41,7 +41,7 @@ impl KeySet {
         }
     }
 
-    /// Puts a key in, and tells whether it wasn't there. A key that is there stays. Fails where there is no memory, and
+    /// Puts a key in, and says whether it wasn't there. A key that is there stays. Fails where there is no memory, and
     /// then nothing is put in.
     pub fn insert(&mut self, alloc: Global, key: &NodeValue) -> Result<bool, AllocError>
         requires { IsScalarKey (content_of_value key.now) }

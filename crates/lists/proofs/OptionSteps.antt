@@ -1,4 +1,4 @@
--- One step of reading after another, where faults aren't told.
+-- One step of reading after another, where faults aren't reported.
 use Rattle.std.proofs.Common.{◌≡◌, Option, Some, None, refl}
 use Rattle.lists.specs.declared.stop.Stop.{Stop}
 use Rattle.lists.specs.declared.stop.Stop.TheVariants.{At, Memory}

@@ -4,7 +4,7 @@ ghost use Rattle.std.specs.Prelude.{◌≡◌, ◌++◌, ◌∷◌, [], length, 
 use std::alloc::{AllocError, Global};
 use std::marker::Model;
 
-/// A value of which an equal one can be made. Only want of memory keeps it from that.
+/// A value of which an equal one can be made, unless memory runs out.
 pub trait TryClone: Sized {
     /// An equal value.
     fn copy(&self) -> Result<Self, AllocError>

@@ -1,7 +1,7 @@
 //! Growing values that contracts see as lists: of values (`Items`), of bytes (`Bytes`) and of a text's bytes (`Text`); and
 //! `TryClone`, for values of which an equal one can be made.
 //!
-//! `Stop` is what a reader answers in place of a value: a fault in what it read, or want of memory.
+//! `Stop` is what a reader answers in place of a value: a fault in what it read, or lack of memory.
 #![tactic(auto)]
 
 pub use bytes::Bytes;

@@ -11,7 +11,7 @@
 --     closure_ready      where ready is monotone, each number that came is a key that is ready at the whole closure
 --     closure_none      where no key is ready at start, it is start
 --     closure_same      maps with the same keys, and tests alike at these, have the same closure
---     changed f m      the map with each value changed by f, which is told its key
+--     changed f m      the map with each value changed by f, which is given its key
 --     get-changed, entries-changed, len-changed      what it answers
 --     changed-empty, changed-insert, changed-remove, total-changed      its laws
 --     total_zero_exactly      a total is 0 exactly where each weight is 0
@@ -61,7 +61,7 @@ closure_within ready (suc n) pending found =
 unfoldable pub closure : {X : Type 0} → (List ℕ → ℕ → Bool) → FinMap nat_cmp X → List ℕ → List ℕ
 closure ready m start = closure_within ready (len m) m start
 
--- the map with each value changed by f, which is told its key
+-- the map with each value changed by f, which is given its key
 unfoldable pub changed : {X Y : Type 0} → (ℕ → X → Y) → FinMap nat_cmp X → FinMap nat_cmp Y
 changed f m = from_entries (map (λ e. (e.0, f e.0 e.1)) (entries m))
 

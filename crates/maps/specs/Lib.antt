@@ -1,5 +1,5 @@
 pub mod Closure
-pub mod Lending
+pub mod Borrowing
 pub mod Maps
 pub mod Named
 pub mod Names

@@ -4,7 +4,7 @@ ghost use Rattle.std.specs.Ordering.{nat_cmp};
 ghost use Rattle.std.specs.FinMap as map;
 ghost use Rattle.std.specs.Borrow.{sem};
 ghost use Rattle.std.specs.Fn.{FnReturnsAt};
-ghost use Rattle.maps.specs.Lending.{LendsValue};
+ghost use Rattle.maps.specs.Borrowing.{LendsValue};
 ghost use Rattle.maps.specs.Maps.{least_key};
 
 use std::alloc::{AllocFailed, Global};

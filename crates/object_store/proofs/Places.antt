@@ -1,6 +1,6 @@
--- The list of opens without a holder, and the places in it that their entries tell.
+-- The list of opens without a holder, and the places in it that their entries give.
 --
--- Here `P o` is the place that the entry of the open o tells, and `None` where the list is not to have the open.
+-- Here `P o` is the place that the entry of the open o gives, and `None` where the list is not to have the open.
 use Rattle.std.proofs.Common.{◌≡◌, ◌≢◌, ◌↔◌, inl, inr, ℕ, ◌+◌, ◌-◌, ◌<◌, ◌≤◌, eq-eqb, cond, List, [], ◌∷◌, ◌++◌, length, get_or, Option, Some, None, IsSome, is_some, slice_get, refl, sym, ap, ◌∙◌, arith, length-append}
 use Rattle.std.proofs.lemmas.Bool.Decides.{eqb_tells}
 use Rattle.std.proofs.lemmas.List.{get_or_append_left, get_or-append_right}
@@ -12,11 +12,11 @@ use Rattle.object_store.specs.Entries.{place_of, AreListed, AreListedBut}
 use Rattle.object_store.specs.declared.entry.Entry.{Entry}
 
 -- the list has each open at its place, and nothing else
-abbrev pub Tell : (ℕ → Option ℕ) → List ℕ → Type 0
-Tell P list = (o i : ℕ) → (P o ≡ Some i) ↔ (slice_get list i ≡ Some o)
+abbrev pub Report : (ℕ → Option ℕ) → List ℕ → Type 0
+Report P list = (o i : ℕ) → (P o ≡ Some i) ↔ (slice_get list i ≡ Some o)
 
-abbrev pub TellBut : ℕ → (ℕ → Option ℕ) → List ℕ → Type 0
-TellBut p P list = (o i : ℕ) → (P o ≡ Some i) ↔ ((slice_get list i ≡ Some o) × (i ≢ p))
+abbrev pub ReportBut : ℕ → (ℕ → Option ℕ) → List ℕ → Type 0
+ReportBut p P list = (o i : ℕ) → (P o ≡ Some i) ↔ ((slice_get list i ≡ Some o) × (i ≢ p))
 
 -- ---- lists
 
@@ -33,14 +33,14 @@ at_end xs x i end =
 
 -- ---- places
 
--- where the same is told, the list may stay
-pub tell_same : (P Q : ℕ → Option ℕ) (list : List ℕ) → ((o : ℕ) → Q o ≡ P o) → Tell P list → Tell Q list
-tell_same P Q list same told o i = (λ h. (told o i).0 (sym (same o) ∙ h), λ h. same o ∙ (told o i).1 h)
+-- where the same is given, the list may stay
+pub report_same : (P Q : ℕ → Option ℕ) (list : List ℕ) → ((o : ℕ) → Q o ≡ P o) → Report P list → Report Q list
+report_same P Q list same reported o i = (λ h. (reported o i).0 (sym (same o) ∙ h), λ h. same o ∙ (reported o i).1 h)
 
 -- an open that comes to the end of the list
-pub tell_more : (P Q : ℕ → Option ℕ) (list : List ℕ) (k : ℕ) → P k ≡ None → Q k ≡ Some (length list) → ((o : ℕ) → o ≢ k → Q o ≡ P o)
-    → Tell P list → Tell Q (list ++ k ∷ [])
-tell_more P Q list k absent new others told o i =
+pub report_more : (P Q : ℕ → Option ℕ) (list : List ℕ) (k : ℕ) → P k ≡ None → Q k ≡ Some (length list) → ((o : ℕ) → o ≢ k → Q o ≡ P o)
+    → Report P list → Report Q (list ++ k ∷ [])
+report_more P Q list k absent new others reported o i =
     elim (eqb_tells o k) [
       | inl h ↦
           let here : Q o ≡ Some (length list) = ap Q h.1 ∙ new in
@@ -53,13 +53,13 @@ tell_more P Q list k absent new others told o i =
                   | inl end ↦ here ∙ ap Some (sym end.1)
                   | inr n ↦
                       let below : i < length list = omega (arith, most, long, n.1) in
-                      let was : P o ≡ Some i = (told o i).1 (sym (below_end list k i below) ∙ is) in
+                      let was : P o ≡ Some i = (reported o i).1 (sym (below_end list k i below) ∙ is) in
                       absurd (cc)
                 ],
           )
       | inr h ↦ (
         λ is.
-            let was : slice_get list i ≡ Some o = (told o i).0 (sym (others o h.1) ∙ is) in
+            let was : slice_get list i ≡ Some o = (reported o i).0 (sym (others o h.1) ∙ is) in
             below_end list k i (slice_get_within list i o was) ∙ was,
         λ is.
             let most : i < length (list ++ k ∷ []) = slice_get_within _ i o is in
@@ -68,51 +68,51 @@ tell_more P Q list k absent new others told o i =
               | inl end ↦ absurd (h.1 (same_Some _ _ (sym is ∙ at_end list k i end.1)))
               | inr n ↦
                   let below : i < length list = omega (arith, most, long, n.1) in
-                  others o h.1 ∙ (told o i).1 (sym (below_end list k i below) ∙ is)
+                  others o h.1 ∙ (reported o i).1 (sym (below_end list k i below) ∙ is)
             ],
       )
     ]
 
--- an open that tells no place any more
-pub tell_less : (P Q : ℕ → Option ℕ) (list : List ℕ) (k p : ℕ) → P k ≡ Some p → Q k ≡ None → ((o : ℕ) → o ≢ k → Q o ≡ P o)
-    → Tell P list → TellBut p Q list
-tell_less P Q list k p was gone others told o i =
+-- an open that gives no place any more
+pub report_less : (P Q : ℕ → Option ℕ) (list : List ℕ) (k p : ℕ) → P k ≡ Some p → Q k ≡ None → ((o : ℕ) → o ≢ k → Q o ≡ P o)
+    → Report P list → ReportBut p Q list
+report_less P Q list k p was gone others reported o i =
     elim (eqb_tells o k) [
       | inl h ↦
           let none : Q o ≡ None = ap Q h.1 ∙ gone in
           let own : P o ≡ Some p = ap P h.1 ∙ was in (
             λ is. absurd (cc),
-            λ is. let there : P o ≡ Some i = (told o i).1 is.0 in absurd (is.1 (same_Some _ _ (sym there ∙ own))),
+            λ is. let there : P o ≡ Some i = (reported o i).1 is.0 in absurd (is.1 (same_Some _ _ (sym there ∙ own))),
           )
       | inr h ↦ (
         λ is.
-            let there : slice_get list i ≡ Some o = (told o i).0 (sym (others o h.1) ∙ is) in
-            (there, λ e. h.1 (same_Some _ _ (sym there ∙ ap (slice_get list) e ∙ (told k p).0 was))),
-        λ is. others o h.1 ∙ (told o i).1 is.0,
+            let there : slice_get list i ≡ Some o = (reported o i).0 (sym (others o h.1) ∙ is) in
+            (there, λ e. h.1 (same_Some _ _ (sym there ∙ ap (slice_get list) e ∙ (reported k p).0 was))),
+        λ is. others o h.1 ∙ (reported o i).1 is.0,
       )
     ]
 
 -- the last place of the list is the one that goes
-pub tell_cut : (P : ℕ → Option ℕ) (list short : List ℕ) (p : ℕ) → length short + 1 ≡ length list → p ≡ length short
-    → ((i : ℕ) → i < length short → slice_get short i ≡ slice_get list i) → TellBut p P list → Tell P short
-tell_cut P list short p long last below told o i = (
+pub report_cut : (P : ℕ → Option ℕ) (list short : List ℕ) (p : ℕ) → length short + 1 ≡ length list → p ≡ length short
+    → ((i : ℕ) → i < length short → slice_get short i ≡ slice_get list i) → ReportBut p P list → Report P short
+report_cut P list short p long last below reported o i = (
   λ is.
-      let there : slice_get list i ≡ Some o = ((told o i).0 is).0 in
-      let other : i ≢ p = ((told o i).0 is).1 in
+      let there : slice_get list i ≡ Some o = ((reported o i).0 is).0 in
+      let other : i ≢ p = ((reported o i).0 is).1 in
       let within : i < length list = slice_get_within list i o there in
       below i (omega (arith, within, long, last, other)) ∙ there,
   λ is.
       let within : i < length short = slice_get_within short i o is in
-      (told o i).1 (sym (below i within) ∙ is, λ e. omega (arith, within, last, e)),
+      (reported o i).1 (sym (below i within) ∙ is, λ e. omega (arith, within, last, e)),
 )
 
 -- the open at the end of the list comes to the place that goes
-pub tell_moved : (P Q : ℕ → Option ℕ) (list short : List ℕ) (p k : ℕ) → length short + 1 ≡ length list → p < length short
+pub report_moved : (P Q : ℕ → Option ℕ) (list short : List ℕ) (p k : ℕ) → length short + 1 ≡ length list → p < length short
     → slice_get list (length short) ≡ Some k → slice_get short p ≡ Some k
     → ((i : ℕ) → i ≢ p → i < length short → slice_get short i ≡ slice_get list i)
-    → Q k ≡ Some p → ((o : ℕ) → o ≢ k → Q o ≡ P o) → TellBut p P list → Tell Q short
-tell_moved P Q list short p k long within last filled below new others told o i =
-    let was : P k ≡ Some (length short) = (told k (length short)).1 (last, λ e. omega (arith, within, e)) in
+    → Q k ≡ Some p → ((o : ℕ) → o ≢ k → Q o ≡ P o) → ReportBut p P list → Report Q short
+report_moved P Q list short p k long within last filled below new others reported o i =
+    let was : P k ≡ Some (length short) = (reported k (length short)).1 (last, λ e. omega (arith, within, e)) in
     elim (eqb_tells o k) [
       | inl h ↦
           let here : Q o ≡ Some p = ap Q h.1 ∙ new in (
@@ -121,14 +121,14 @@ tell_moved P Q list short p k long within last filled below new others told o i 
               | inl e ↦ here ∙ ap Some (sym e.1)
               | inr n ↦
                   let most : i < length short = slice_get_within short i o is in
-                  let old : P o ≡ Some i = (told o i).1 (sym (below i n.1 most) ∙ is, n.1) in
+                  let old : P o ≡ Some i = (reported o i).1 (sym (below i n.1 most) ∙ is, n.1) in
                   let same : i ≡ length short = same_Some _ _ (sym old ∙ ap P h.1 ∙ was) in
                   absurd (omega (arith, most, same))
             ],
           )
       | inr h ↦ (
         λ is.
-            let old = (told o i).0 (sym (others o h.1) ∙ is) in
+            let old = (reported o i).0 (sym (others o h.1) ∙ is) in
             let most : i < length list = slice_get_within list i o old.0 in
             let inner : i ≢ length short = λ e. h.1 (same_Some _ _ (sym old.0 ∙ ap (slice_get list) e ∙ last)) in
             below i old.1 (omega (arith, most, long, inner)) ∙ old.0,
@@ -136,7 +136,7 @@ tell_moved P Q list short p k long within last filled below new others told o i 
           | inl e ↦ absurd (h.1 (same_Some _ _ (sym is ∙ ap (slice_get short) e.1 ∙ filled)))
           | inr n ↦
               let most : i < length short = slice_get_within short i o is in
-              others o h.1 ∙ (told o i).1 (sym (below i n.1 most) ∙ is, n.1)
+              others o h.1 ∙ (reported o i).1 (sym (below i n.1 most) ∙ is, n.1)
         ],
       )
     ]
@@ -158,11 +158,11 @@ listed_empty o i = (
   λ is. absurd (cc),
 )
 
--- an entry that changes and tells the same
+-- an entry that changes and gives the same
 pub listed_stay : (m : FinMap nat_cmp Entry) (list : List ℕ) (k : ℕ) (e new : Entry) → get m k ≡ Some e → place_of (Some new) ≡ place_of (Some e)
     → AreListed m list → AreListed (insert m k new) list
 listed_stay m list k e new there same =
-    tell_same (λ o. place_of (get m o)) (λ o. place_of (get (insert m k new) o)) list
+    report_same (λ o. place_of (get m o)) (λ o. place_of (get (insert m k new) o)) list
     (λ o. elim (eqb_tells o k) [
       | inl h ↦ ap (λ x. place_of (get (insert m k new) x)) h.1 ∙ ap place_of (get-insert-same m k new) ∙ same ∙ sym (ap place_of there) ∙ ap (λ x. place_of (get m x)) (sym h.1)
       | inr h ↦ ap place_of (get-insert-other m k new o h.1)
@@ -172,7 +172,7 @@ listed_stay m list k e new there same =
 pub listed_push : (m : FinMap nat_cmp Entry) (list : List ℕ) (k : ℕ) (new : Entry) → place_of (get m k) ≡ None → new.count ≡ 0 → new.place ≡ length list
     → AreListed m list → AreListed (insert m k new) (list ++ k ∷ [])
 listed_push m list k new absent none last =
-    tell_more (λ o. place_of (get m o)) (λ o. place_of (get (insert m k new) o)) list k absent
+    report_more (λ o. place_of (get m o)) (λ o. place_of (get (insert m k new) o)) list k absent
     (ap place_of (get-insert-same m k new) ∙ place_unheld new none ∙ ap Some last)
     (λ o other. ap place_of (get-insert-other m k new o other))
 
@@ -180,7 +180,7 @@ listed_push m list k new absent none last =
 pub listed_held : (m : FinMap nat_cmp Entry) (list : List ℕ) (k : ℕ) (e new : Entry) → get m k ≡ Some e → e.count ≡ 0 → 0 < new.count
     → AreListed m list → AreListedBut e.place (insert m k new) list
 listed_held m list k e new there none some =
-    tell_less (λ o. place_of (get m o)) (λ o. place_of (get (insert m k new) o)) list k e.place
+    report_less (λ o. place_of (get m o)) (λ o. place_of (get (insert m k new) o)) list k e.place
     (ap place_of there ∙ place_unheld e none)
     (ap place_of (get-insert-same m k new) ∙ place_held new some)
     (λ o other. ap place_of (get-insert-other m k new o other))
@@ -189,7 +189,7 @@ listed_held m list k e new there none some =
 pub listed_gone : (m : FinMap nat_cmp Entry) (list : List ℕ) (k : ℕ) (e : Entry) → get m k ≡ Some e → e.count ≡ 0
     → AreListed m list → AreListedBut e.place (remove m k) list
 listed_gone m list k e there none =
-    tell_less (λ o. place_of (get m o)) (λ o. place_of (get (remove m k) o)) list k e.place
+    report_less (λ o. place_of (get m o)) (λ o. place_of (get (remove m k) o)) list k e.place
     (ap place_of there ∙ place_unheld e none)
     (ap place_of (get-remove-same m k))
     (λ o other. ap place_of (get-remove-other m k o other))
@@ -197,44 +197,44 @@ listed_gone m list k e there none =
 -- a held entry that goes
 pub listed_without : (m : FinMap nat_cmp Entry) (list : List ℕ) (k : ℕ) → place_of (get m k) ≡ None → AreListed m list → AreListed (remove m k) list
 listed_without m list k absent =
-    tell_same (λ o. place_of (get m o)) (λ o. place_of (get (remove m k) o)) list
+    report_same (λ o. place_of (get m o)) (λ o. place_of (get (remove m k) o)) list
     (λ o. elim (eqb_tells o k) [
       | inl h ↦ ap (λ x. place_of (get (remove m k) x)) h.1 ∙ ap place_of (get-remove-same m k) ∙ sym absent ∙ ap (λ x. place_of (get m x)) (sym h.1)
       | inr h ↦ ap place_of (get-remove-other m k o h.1)
     ])
 
--- the place that an entry without a holder tells is one of the list
+-- the place that an entry without a holder gives is one of the list
 pub place_within : (m : FinMap nat_cmp Entry) (list : List ℕ) (k : ℕ) (e : Entry) → get m k ≡ Some e → e.count ≡ 0 → AreListed m list → e.place < length list
-place_within m list k e there none told = slice_get_within list e.place k ((told k e.place).0 (ap place_of there ∙ place_unheld e none))
+place_within m list k e there none reported = slice_get_within list e.place k ((reported k e.place).0 (ap place_of there ∙ place_unheld e none))
 
--- what stands in the list has an entry, which has no holder and tells the place
-told_entry : (o : Option Entry) (i : ℕ) → place_of o ≡ Some i → (e : Entry) × (o ≡ Some e) × (e.count ≡ 0) × (e.place ≡ i)
-told_entry None i is = absurd (cc)
-told_entry (Some e) i is = elim (eqb_tells e.count 0) [
+-- what stands in the list has an entry, which has no holder and gives the place
+reported_entry : (o : Option Entry) (i : ℕ) → place_of o ≡ Some i → (e : Entry) × (o ≡ Some e) × (e.count ≡ 0) × (e.place ≡ i)
+reported_entry None i is = absurd (cc)
+reported_entry (Some e) i is = elim (eqb_tells e.count 0) [
   | inl h ↦ (e, refl, h.1, same_Some _ _ (sym (place_unheld e h.1) ∙ is))
   | inr h ↦ let none : place_of (Some e) ≡ None = ap (λ b. cond b (Some e.place) None) h.0 in absurd (cc)
 ]
 
 pub listed_entry : (m : FinMap nat_cmp Entry) (list : List ℕ) (o i : ℕ) → AreListed m list → slice_get list i ≡ Some o
     → (e : Entry) × (get m o ≡ Some e) × (e.count ≡ 0) × (e.place ≡ i)
-listed_entry m list o i told is = told_entry (get m o) i ((told o i).1 is)
+listed_entry m list o i reported is = reported_entry (get m o) i ((reported o i).1 is)
 
 pub listed_entry_but : (p : ℕ) (m : FinMap nat_cmp Entry) (list : List ℕ) (o i : ℕ) → AreListedBut p m list → slice_get list i ≡ Some o → i ≢ p
     → (e : Entry) × (get m o ≡ Some e) × (e.count ≡ 0) × (e.place ≡ i)
-listed_entry_but p m list o i told is other = told_entry (get m o) i ((told o i).1 (is, other))
+listed_entry_but p m list o i reported is other = reported_entry (get m o) i ((reported o i).1 (is, other))
 
 -- the open at the end of the list has one, and goes with it
 pub listed_last : (m : FinMap nat_cmp Entry) (list : List ℕ) (k : ℕ) → AreListed m (list ++ k ∷ [])
     → (e : Entry) × (get m k ≡ Some e) × (e.count ≡ 0) × (e.place ≡ length list)
-listed_last m list k told = listed_entry m (list ++ k ∷ []) k (length list) told (at_end list k (length list) refl)
+listed_last m list k reported = listed_entry m (list ++ k ∷ []) k (length list) reported (at_end list k (length list) refl)
 
 pub listed_popped : (m : FinMap nat_cmp Entry) (list : List ℕ) (k : ℕ) → AreListed m (list ++ k ∷ []) → AreListed (remove m k) list
-listed_popped m list k told =
-    let entry = listed_last m list k told in
+listed_popped m list k reported =
+    let entry = listed_last m list k reported in
     let e = entry.0 in
-    tell_cut (λ o. place_of (get (remove m k) o)) (list ++ k ∷ []) list e.place (omega (arith, length-append list (k ∷ []))) entry.3
+    report_cut (λ o. place_of (get (remove m k) o)) (list ++ k ∷ []) list e.place (omega (arith, length-append list (k ∷ []))) entry.3
     (λ i below. sym (below_end list k i below))
-    (listed_gone m (list ++ k ∷ []) k e entry.1 entry.2 told)
+    (listed_gone m (list ++ k ∷ []) k e entry.1 entry.2 reported)
 
 -- ---- after `swap_remove`
 
@@ -246,14 +246,14 @@ Others n p list short = (i d : ℕ) → i ≢ p → i + 1 < n → get_or short i
 pub listed_cut : (m : FinMap nat_cmp Entry) (list short : List ℕ) (n p : ℕ) → n ≡ length list → length short + 1 ≡ n → length short ≤ p → p < n
     → Others n p list short → AreListedBut p m list → AreListed m short
 listed_cut m list short n p size long most least same =
-    tell_cut (λ o. place_of (get m o)) list short p (long ∙ size) (omega (arith, most, least, long))
+    report_cut (λ o. place_of (get m o)) list short p (long ∙ size) (omega (arith, most, least, long))
     (λ i below.
     slice_get-get_or short i 0 below
     ∙ ap Some (same i 0 (λ e. omega (arith, e, below, most)) (omega (arith, below, long)))
     ∙ sym (slice_get-get_or list i 0 (omega (arith, below, long, size))))
 
 module _ (m : FinMap nat_cmp Entry) (list short : List ℕ) (n p k : ℕ) (size : n ≡ length list) (long : length short + 1 ≡ n) (within : p < length short)
-    (filled : slice_get short p ≡ Some k) (from_end : (d : ℕ) → p + 1 < n → get_or short p d ≡ get_or list (n - 1) d) (told : AreListedBut p m list) where
+    (filled : slice_get short p ≡ Some k) (from_end : (d : ℕ) → p + 1 < n → get_or short p d ≡ get_or list (n - 1) d) (reported : AreListedBut p m list) where
   -- the open that came to the place is the last one of the list
   moved_last : slice_get list (length short) ≡ Some k
   moved_last =
@@ -265,21 +265,21 @@ module _ (m : FinMap nat_cmp Entry) (list short : List ℕ) (n p k : ℕ) (size 
 
   -- it has an entry
   pub moved_entry : (e : Entry) × (get m k ≡ Some e) × (e.count ≡ 0) × (e.place ≡ length short)
-  moved_entry = listed_entry_but p m list k (length short) told moved_last (λ e. omega (arith, e, within))
+  moved_entry = listed_entry_but p m list k (length short) reported moved_last (λ e. omega (arith, e, within))
 
   pub moved_there : IsSome (get m k)
   moved_there = ap is_some moved_entry.1
 
-  -- which is told the place
+  -- which is given the place
   pub listed_moved : (e new : Entry) → Others n p list short → get m k ≡ Some e → new.count ≡ e.count → new.place ≡ p → AreListed (insert m k new) short
   listed_moved e new same there count place =
       let same_entry : moved_entry.0 ≡ e = same_Some _ _ (sym moved_entry.1 ∙ there) in
       let none : new.count ≡ 0 = count ∙ ap (λ (x : Entry). x.count) (sym same_entry) ∙ moved_entry.2 in
-      tell_moved (λ o. place_of (get m o)) (λ o. place_of (get (insert m k new) o)) list short p k (long ∙ size) within moved_last filled
+      report_moved (λ o. place_of (get m o)) (λ o. place_of (get (insert m k new) o)) list short p k (long ∙ size) within moved_last filled
       (λ i other below.
       slice_get-get_or short i 0 below
       ∙ ap Some (same i 0 other (omega (arith, below, long)))
       ∙ sym (slice_get-get_or list i 0 (omega (arith, below, long, size))))
       (ap place_of (get-insert-same m k new) ∙ place_unheld new none ∙ ap Some place)
       (λ o other. ap place_of (get-insert-other m k new o other))
-      told
+      reported

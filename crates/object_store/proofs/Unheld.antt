@@ -15,23 +15,23 @@ use Rattle.object_store.proofs.Places.{listed_entry, place_unheld}
 -- ---- the opens in the list
 
 -- what stands in the list has no holder
-pub told_unheld : (m : FinMap nat_cmp Entry) (list : List ℕ) (o i : ℕ) → AreListed m list → slice_get list i ≡ Some o → get (counts_of m) o ≡ Some 0
-told_unheld m list o i told is =
-    let entry = listed_entry m list o i told is in
+pub reported_unheld : (m : FinMap nat_cmp Entry) (list : List ℕ) (o i : ℕ) → AreListed m list → slice_get list i ≡ Some o → get (counts_of m) o ≡ Some 0
+reported_unheld m list o i reported is =
+    let entry = listed_entry m list o i reported is in
     count_at m o entry.0 entry.1 ∙ ap Some entry.2
 
 -- an open without a holder stands in the list
-unheld_told : (m : FinMap nat_cmp Entry) (list : List ℕ) (o : ℕ) (entry : Option Entry) → AreListed m list → get m o ≡ entry → get (counts_of m) o ≡ Some 0
+unheld_reported : (m : FinMap nat_cmp Entry) (list : List ℕ) (o : ℕ) (entry : Option Entry) → AreListed m list → get m o ≡ entry → get (counts_of m) o ≡ Some 0
     → (i : ℕ) × (slice_get list i ≡ Some o)
-unheld_told m list o None told is zero = let none = count_absent m o is in absurd (cc)
-unheld_told m list o (Some e) told is zero =
+unheld_reported m list o None reported is zero = let none = count_absent m o is in absurd (cc)
+unheld_reported m list o (Some e) reported is zero =
     let none : e.count ≡ 0 = same_Some _ _ (sym (count_at m o e is) ∙ zero) in
-    (e.place, (told o e.place).0 (ap place_of is ∙ place_unheld e none))
+    (e.place, (reported o e.place).0 (ap place_of is ∙ place_unheld e none))
 
 -- where the list is empty, each open has a holder
 pub none_unheld : (m : FinMap nat_cmp Entry) (list : List ℕ) → AreListed m list → length list ≡ 0 → (o : ℕ) → get (counts_of m) o ≢ Some 0
-none_unheld m list told short o zero =
-    let there = unheld_told m list o (get m o) told refl zero in
+none_unheld m list reported short o zero =
+    let there = unheld_reported m list o (get m o) reported refl zero in
     let within = slice_get_within list there.0 o there.1 in
     omega (arith, short, within)
 
@@ -42,13 +42,13 @@ last_none (x ∷ xs) none =
     let last : slice_get (x ∷ xs) (length (x ∷ xs) - 1) ≡ Some _ = slice_get-get_or (x ∷ xs) (length (x ∷ xs) - 1) 0 (omega arith) in
     absurd (cc)
 
-module _ (m : FinMap nat_cmp Entry) (list : List ℕ) (h : Held) (told : AreListed m list) (view : held_of m ≡ h) where
+module _ (m : FinMap nat_cmp Entry) (list : List ℕ) (h : Held) (reported : AreListed m list) (view : held_of m ≡ h) where
   pub last_unheld : (last : Option ℕ) → last ≡ slice_get list (length list - 1) → IfSome last (λ o. get h.counts o ≡ Some 0)
   last_unheld None is = tt
-  last_unheld (Some o) is = sym (λ i. get (view i).counts o) ∙ told_unheld m list o (length list - 1) told (sym is)
+  last_unheld (Some o) is = sym (λ i. get (view i).counts o) ∙ reported_unheld m list o (length list - 1) reported (sym is)
 
   pub no_last : (last : Option ℕ) → last ≡ slice_get list (length list - 1) → IsNone last ↔ ((o : ℕ) → get h.counts o ≢ Some 0)
-  no_last None is = (λ _ o zero. none_unheld m list told (last_none list (sym is)) o ((λ i. get (view i).counts o) ∙ zero), λ _. refl)
+  no_last None is = (λ _ o zero. none_unheld m list reported (last_none list (sym is)) o ((λ i. get (view i).counts o) ∙ zero), λ _. refl)
   no_last (Some o) is = (λ none. absurd (cc), λ held. absurd (held o (last_unheld (Some o) is)))
 
 -- ---- one of them goes

@@ -26,11 +26,11 @@ abbrev pub place_of : Option Entry → Option ℕ
 place_of None = None
 place_of (Some e) = if e.count == 0 then Some e.place else None
 
--- the list has each open at the place that its entry tells, and nothing else
+-- the list has each open at the place that its entry gives, and nothing else
 abbrev pub AreListed : FinMap nat_cmp Entry → List ℕ → Type 0
 AreListed entries unheld = (o i : ℕ) → (place_of (get entries o) ≡ Some i) ↔ (slice_get unheld i ≡ Some o)
 
--- the same but for one place of the list, of which no entry tells
+-- the same but for one place of the list, of which no entry gives
 abbrev pub AreListedBut : ℕ → FinMap nat_cmp Entry → List ℕ → Type 0
 AreListedBut place entries unheld = (o i : ℕ) → (place_of (get entries o) ≡ Some i) ↔ ((slice_get unheld i ≡ Some o) × (i ≢ place))
 

@@ -30,7 +30,7 @@ pub fn count_of(by_node: &NumMap<u64>, node: ObjId) -> u64
     }
 }
 
-/// Counts one open more, if it is of a node. The first open of a node takes memory for an entry. Where memory is wanting,
+/// Counts one open more, if it is of a node. The first open of a node takes memory for an entry. Where memory runs out,
 /// nothing changes.
 pub fn count_open(by_node: &mut NumMap<u64>, kind: &OpenKind) -> Result<(), AllocError>
     requires { (n : ℕ) → number (map.get by_node.old n) < 2 ^ 63 }

@@ -1,7 +1,7 @@
 //! The opens that descriptors name, each with the number of its holders.
 //!
 //! [`Objects`] is the one type here. Its contracts see two maps, of what each open is and of how many hold it
-//! (`specs/Objects.antt`). It tells how many opens are of a node of the file tree, and [`node_of`] which node an open is
+//! (`specs/Objects.antt`). It says how many opens are of a node of the file tree, and [`node_of`] which node an open is
 //! of. A release costs look-ups alone: no call goes over all opens.
 #![tactic(auto)]
 

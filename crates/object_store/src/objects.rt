@@ -19,7 +19,7 @@ use std::marker::Model;
 pub struct Objects {
     entries: NumMap<Entry>,
 
-    // The opens without a holder, in any order. An entry tells its place here, so that an open comes to this list and
+    // The opens without a holder, in any order. An entry gives its place here, so that an open comes to this list and
     // leaves it without a search: the last of the list fills a gap. It is a vector because the room of a vector can be
     // taken beforehand: a new open takes the room for all opens, and a release takes none.
     unheld: Vec<ObjId>,
@@ -84,7 +84,7 @@ impl Objects {
         by_node::count_of(&self.by_node, node)
     }
 
-    /// A new open that nothing holds. Where memory is wanting, all is as before.
+    /// A new open that nothing holds. Where memory runs out, all is as before.
     pub fn add(&mut self, id: ObjId, kind: OpenKind) -> Result<(), AllocError>
         requires { map.get self.old.kinds id ≡ None }
         ensures ok { OnOk result (self.new ≡ record { kinds = map.insert self.old.kinds id kind; counts = map.insert self.old.counts id 0 }) }
@@ -99,7 +99,7 @@ impl Objects {
             place: self.unheld.len(),
         };
         self.entries.insert(id.0, entry)?;
-        // The first open of a node takes memory too: where it is wanting, the entry goes again.
+        // The first open of a node takes memory too: where it runs out, the entry goes again.
         if let Err(error) = by_node::count_open(&mut self.by_node, &kind) {
             self.entries.remove(id.0);
             return Err(error);
@@ -196,7 +196,7 @@ impl Objects {
 }
 
 // Takes the open at this place out of the list. The last of the list comes to its place, and the entry of that one is
-// told so.
+// changed accordingly.
 fn unlist(entries: &mut NumMap<Entry>, unheld: &mut Vec<ObjId>, place: usize)
     requires there { place < vec_len unheld.old }
     requires others { AreListedBut place entries.old unheld.old.items }

@@ -192,7 +192,7 @@ module _ (index : Index) (slots : List Slot) (q : ℕ) (s : Slot) (h : IsIndexed
       (λ r n. same_here (insert index q (length slots)) index (slots ++ s ∷ []) slots r (get-insert-other index q (length slots) r n)
       (λ j e. ap (λ (t : Slot). t.page) (get_or_append_left slots (s ∷ []) no_slot j (h.placed r j e).0)) ∙ sym (get-insert-other (content index slots) q s.page r n))
 
--- the same, told by equations
+-- the same, as equations
 pub added : (index next : Index) (slots more : List Slot) (q place : ℕ) (s : Slot) → IsIndexed index slots → get index q ≡ None → s.number ≡ q
     → place ≡ length slots → next ≡ insert index q place → more ≡ slots ++ s ∷ []
     → IsIndexed next more × (content next more ≡ insert (content index slots) q s.page)
@@ -330,7 +330,7 @@ module _ (index : Index) (short : List Slot) (last : Slot) (q i : ℕ) (h : IsIn
               ∙ sym (get-remove-other (content index (short ++ last ∷ [])) q r n)
         ])
 
--- ---- told by equations
+-- ---- as equations
 
 -- a number without a slot
 pub absent_removed : (index next : Index) (slots : List Slot) (q : ℕ) → IsIndexed index slots → get index q ≡ None → next ≡ remove index q

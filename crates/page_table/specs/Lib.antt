@@ -1,4 +1,4 @@
 pub mod Page
 pub mod Numbers
 pub mod Table
-pub mod Lending
+pub mod Borrowing

@@ -4,7 +4,7 @@ ghost use Rattle.std.specs.FinMap as map;
 ghost use Rattle.std.specs.Borrow.{sem};
 ghost use Rattle.abi_base.specs.declared.address_space.TheConstants.{PAGE_SIZE};
 ghost use Rattle.maps.specs.Maps.{least_key};
-ghost use Rattle.page_table.specs.Lending.{LendsPage};
+ghost use Rattle.page_table.specs.Borrowing.{LendsPage};
 ghost use Rattle.page_table.specs.Table.{IsIndexed, IsStored, content};
 ghost use Rattle.page_table.specs.Numbers.{IsWidth};
 
@@ -196,7 +196,7 @@ impl PageTable {
         true
     }
 
-    /// Adds a page under a number that has none. Want of memory changes nothing.
+    /// Adds a page under a number that has none. Where memory runs out, nothing changes.
     pub fn insert(&mut self, number: u64, page: MappedPage) -> Result<(), AllocError>
         requires { map.get self.old number ≡ None }
         ensures ok { OnOk result (self.new ≡ map.insert self.old number page) }
@@ -230,7 +230,7 @@ impl PageTable {
     }
 }
 
-// Adds a slot with a page under a number that has none. Want of memory changes nothing.
+// Adds a slot with a page under a number that has none. Where memory runs out, nothing changes.
 fn insert_slot(
     index: &mut NumMap<usize>,
     slots: &mut Vec<Slot>,

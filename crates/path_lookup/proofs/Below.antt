@@ -42,7 +42,7 @@ module _ (inside : ℕ → Bool) (mode : WalkMode) (go : Onward) (goes : GoesIn 
   stand_ends n rest h = either (is_last rest) (Ok (end.Found n)) (Err fault.NotDir) (record { ends = h }) (record { ends = tt })
 
   lack_ends : (top : ℕ) (c : Component) (rest : List Component) → inside top ≡ true → Ends inside (lack top c rest)
-  lack_ends top c rest h = either (is_last rest && c.is_spelled) (Ok (end.Absent top c.from c.len)) (Err fault.NoEntry) (record { ends = h }) (record { ends = tt })
+  lack_ends top c rest h = either (is_last rest && c.is_in_path) (Ok (end.Absent top c.from c.len)) (Err fault.NoEntry) (record { ends = h }) (record { ends = tt })
 
   finding_ends : (links top : ℕ) (above : List ℕ) (c : Component) (rest : List Component) (found : Finding) → inside top ≡ true → AreIn inside above
       → FindsIn inside found → Ends inside (by_finding go mode links top above c rest found)

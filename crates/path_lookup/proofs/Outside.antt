@@ -83,7 +83,7 @@ module _ (n : ℕ) (mode : WalkMode) (go : Onward) (goes : GoesBy n go) where
 
   lack_leaves : (top : ℕ) (c : Component) (rest : List Component) → Leaves n (lack top c rest)
   lack_leaves top c rest =
-      either n (is_last rest && c.is_spelled) (Ok (end.Absent top c.from c.len)) (Err fault.NoEntry) (record { by = tt }) (record { by = tt })
+      either n (is_last rest && c.is_in_path) (Ok (end.Absent top c.from c.len)) (Err fault.NoEntry) (record { by = tt }) (record { by = tt })
 
   finding_leaves : (links top : ℕ) (above : List ℕ) (c : Component) (rest : List Component) (found : Finding) → c.index ≤ n → AreCounted n rest
       → Leaves n (by_finding go mode links top above c rest found)

@@ -1,4 +1,4 @@
--- The place that a walk's end tells is one of a name in the path.
+-- The place that a walk's end gives is one of a name in the path.
 use Rattle.std.proofs.Common.{◌≡◌, ◌≢◌, ◌∷◌, ◌++◌, ◌+◌, ◌-◌, ◌≤◌, ◌&&◌, ℕ, zero, suc, Bool, true, false, cond, not, List, [], length, take, drop, map, eqb, ltb, Ok, Err, refl, ap, sym, ◌∙◌, subst, arith, length-append, append_assoc, inl, inr}
 use Rattle.std.specs.List.{AllByRecursion, slice_range}
 use Rattle.std.proofs.lemmas.Bool.{ltb-false, false≢true}
@@ -94,12 +94,12 @@ LastIsPlaced path [] = Unit {0}
 LastIsPlaced path (c ∷ []) = IsPlaced path c
 LastIsPlaced path (c ∷ d ∷ rest) = LastIsPlaced path (d ∷ rest)
 
--- each component that the path spells is placed, and the last one where the mode stops before it
+-- each component that stands in the path itself is placed, and the last one where the mode stops before it
 record ArePlaced (path : List ℕ) (mode : WalkMode) (cs : List Component) : Type 0 where
-  spelled : AllByRecursion (λ c. c.is_spelled ≡ true → IsPlaced path c) cs
+  in_path : AllByRecursion (λ c. c.is_in_path ≡ true → IsPlaced path c) cs
   last : stops_before_last mode ≡ true → LastIsPlaced path cs
 
-counted_placed : (path : List ℕ) (index : ℕ) (ps : List Piece) → ArePut path ps → AllByRecursion (λ c. c.is_spelled ≡ true → IsPlaced path c) (counted_from index ps)
+counted_placed : (path : List ℕ) (index : ℕ) (ps : List Piece) → ArePut path ps → AllByRecursion (λ c. c.is_in_path ≡ true → IsPlaced path c) (counted_from index ps)
 counted_placed path index [] h = tt
 counted_placed path index (p ∷ ps) h = ((λ s. h.0), counted_placed path (index + 1) ps h.1)
 
@@ -114,13 +114,13 @@ names_of_put (b ∷ rest) = names_put (b ∷ rest) [] [] (b ∷ rest) 0 refl ref
 
 path_placed : (path : List ℕ) (mode : WalkMode) → ArePlaced path mode (path_components path)
 path_placed path mode = record {
-  spelled = counted_placed path 0 (names_of path) (names_of_put path);
+  in_path = counted_placed path 0 (names_of path) (names_of_put path);
   last = λ s. last_counted path 0 (names_of path) (names_of_put path);
 }
 
--- those of a symlink's text are not spelled
-given_before : (path : List ℕ) (index : ℕ) (ps : List Piece) (rest : List Component) → AllByRecursion (λ c. c.is_spelled ≡ true → IsPlaced path c) rest
-    → AllByRecursion (λ c. c.is_spelled ≡ true → IsPlaced path c) (map (given_at index) ps ++ rest)
+-- those of a symlink's text don't stand in the path
+given_before : (path : List ℕ) (index : ℕ) (ps : List Piece) (rest : List Component) → AllByRecursion (λ c. c.is_in_path ≡ true → IsPlaced path c) rest
+    → AllByRecursion (λ c. c.is_in_path ≡ true → IsPlaced path c) (map (given_at index) ps ++ rest)
 given_before path index [] rest h = h
 given_before path index (p ∷ ps) rest h = ((λ s. absurd (false≢true s)), given_before path index ps rest h)
 
@@ -191,7 +191,7 @@ put_place path name from len short put = record { within = put.within; short = o
 
 module _ (path : List ℕ) (mode : WalkMode) (go : Onward) (goes : GoesPlaced path mode go) where
   behind : (c : Component) (rest : List Component) → ArePlaced path mode (c ∷ rest) → ArePlaced path mode rest
-  behind c rest placed = record { spelled = placed.spelled.1; last = λ s. last_of_rest path c rest (placed.last s) }
+  behind c rest placed = record { in_path = placed.in_path.1; last = λ s. last_of_rest path c rest (placed.last s) }
 
   climb_ends : (links : ℕ) (above : List ℕ) (c : Component) (rest : List Component) → ArePlaced path mode rest → Ends path (climb go links above c rest)
   climb_ends links [] c rest placed = record { ends = tt }
@@ -203,7 +203,7 @@ module _ (path : List ℕ) (mode : WalkMode) (go : Onward) (goes : GoesPlaced pa
   follow_ends (suc links) top above c text rest more placed =
       either path (is_absolute text) (Err (fault.Outside c.index)) (go links top above (text_components c.index text ++ rest)) (λ h. record { ends = tt })
       (λ h. goes links top above (text_components c.index text ++ rest) (record {
-        spelled = given_before path c.index (names_of text) rest placed.spelled;
+        in_path = given_before path c.index (names_of text) rest placed.in_path;
         last = λ s. last_before path (text_components c.index text) rest (not_first (is_last rest) (stops_before_last mode) more s) (placed.last s);
       }))
 
@@ -212,8 +212,8 @@ module _ (path : List ℕ) (mode : WalkMode) (go : Onward) (goes : GoesPlaced pa
 
   lack_ends : (top : ℕ) (c : Component) (rest : List Component) → length c.name ≤ longest_name → ArePlaced path mode (c ∷ rest) → Ends path (lack top c rest)
   lack_ends top c rest short placed =
-      either path (is_last rest && c.is_spelled) (Ok (end.Absent top c.from c.len)) (Err fault.NoEntry)
-      (λ h. record { ends = put_place path c.name c.from c.len short (placed.spelled.0 (second_of (is_last rest) c.is_spelled h)) }) (λ h. record { ends = tt })
+      either path (is_last rest && c.is_in_path) (Ok (end.Absent top c.from c.len)) (Err fault.NoEntry)
+      (λ h. record { ends = put_place path c.name c.from c.len short (placed.in_path.0 (second_of (is_last rest) c.is_in_path h)) }) (λ h. record { ends = tt })
 
   finding_ends : (links top : ℕ) (above : List ℕ) (c : Component) (rest : List Component) (found : Finding) → length c.name ≤ longest_name
       → (is_last rest && stops_before_last mode) ≡ false

@@ -48,7 +48,7 @@ not_last index [] h = cc
 not_last index (p ∷ ps) h = refl
 
 dotted : (find : Finds) (mode : WalkMode) (start : ℕ) (rest : List Component) → is_last rest ≡ false
-    → step find mode (walk_within find mode 1023) most_links start [] (record { name = dot ∷ dot ∷ []; index = 0; is_spelled = true; from = 0; len = 2 } ∷ rest) ≡ Err (fault.Outside 0)
+    → step find mode (walk_within find mode 1023) most_links start [] (record { name = dot ∷ dot ∷ []; index = 0; is_in_path = true; from = 0; len = 2 } ∷ rest) ≡ Err (fault.Outside 0)
 dotted find mode start [] h = cc
 dotted find mode start (c ∷ rest) h = refl
 
@@ -60,4 +60,4 @@ climbs_outside_at_once find mode start rest =
 pub dot_is_nothing : DotIsNothing
 unfolding walk_within
 dot_is_nothing find mode left links top above c next rest h =
-    ap (λ name. step find mode (walk_within find mode left) links top above (record { name = name; index = c.index; is_spelled = c.is_spelled; from = c.from; len = c.len } ∷ next ∷ rest)) h
+    ap (λ name. step find mode (walk_within find mode left) links top above (record { name = name; index = c.index; is_in_path = c.is_in_path; from = c.from; len = c.len } ∷ next ∷ rest)) h

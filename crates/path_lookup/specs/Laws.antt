@@ -79,7 +79,7 @@ DotIsNothing =
     (find : Finds) (mode : WalkMode) (left links top : ℕ) (above : List ℕ) (c next : Component) (rest : List Component)
     → c.name ≡ dot ∷ [] → walk_within find mode (suc left) links top above (c ∷ next ∷ rest) ≡ walk_within find mode left links top above (next ∷ rest)
 
--- ---- the place that an end tells
+-- ---- the place that an end gives
 
 -- The place of a name in a path: it lies in the path, and has at most 255 bytes, none of which is a slash.
 pub record IsPlace (path : List ℕ) (from len : ℕ) : Type 0 where
@@ -92,7 +92,7 @@ HasPlace path (end.Found n) = ⊤
 HasPlace path (end.Absent dir from len) = IsPlace path from len
 HasPlace path (end.Last dir from len) = IsPlace path from len
 
--- the place that a walk's end tells is that of a name in its path
+-- the place that a walk's end gives is that of a name in its path
 abbrev pub EndsAtPlace : List ℕ → WalkEnd → Type 0
 EndsAtPlace path (Ok end) = HasPlace path end
 EndsAtPlace path (Err fault) = ⊤

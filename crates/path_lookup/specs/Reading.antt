@@ -25,7 +25,7 @@ components_from false index ps = map (given_at index) ps
 
 -- the first of these, and the index of the next
 abbrev pub component : Bool → ℕ → Piece → Component
-component is_spelled index p = record { name = p.name; index = index; is_spelled = is_spelled; from = p.from; len = p.len }
+component is_in_path index p = record { name = p.name; index = index; is_in_path = is_in_path; from = p.from; len = p.len }
 
 abbrev pub next_index : Bool → ℕ → ℕ
 next_index true index = index + 1
@@ -33,13 +33,13 @@ next_index false index = index
 
 -- the component that was read
 abbrev pub component_of : code.Component → Component
-component_of c = record { name = c.name.now; index = c.index; is_spelled = c.is_spelled; from = c.from; len = c.len }
+component_of c = record { name = c.name.now; index = c.index; is_in_path = c.is_in_path; from = c.from; len = c.len }
 
 -- ---- texts that are left
 
 -- the components that are left of a text
 abbrev pub rest_of : Frame → List Component
-rest_of f = components_from f.is_spelled f.index (names_from f.at [] (drop f.at f.text.now))
+rest_of f = components_from f.is_in_path f.index (names_from f.at [] (drop f.at f.text.now))
 
 -- the components that are left of these texts, in order
 abbrev pub coming : List Frame → List Component
@@ -48,7 +48,7 @@ coming frames = flat_map rest_of frames
 -- The place is in the text, and the path has no more components before it than bytes.
 pub record IsFrame (f : Frame) : Type 0 where
   pub within : f.at ≤ length f.text.now
-  pub counted : f.is_spelled ≡ true → f.index ≤ f.at
+  pub counted : f.is_in_path ≡ true → f.index ≤ f.at
 
 abbrev pub AreFrames : List Frame → Type 0
 AreFrames frames = AllByRecursion IsFrame frames

@@ -49,12 +49,12 @@ abbrev pub is_absolute : List ℕ → Bool
 is_absolute [] = false
 is_absolute (b ∷ rest) = b == slash
 
--- A component of a walk: its name, its index in the path, whether the path itself spells it (and not the text of a symlink),
--- and its place in the text that spells it.
+-- A component of a walk: its name, its index in the path, whether it stands in the path itself (and not in the text of a
+-- symlink), and its place in the text where it stands.
 pub record Component : Type 0 where
   pub name : List ℕ
   pub index : ℕ
-  pub is_spelled : Bool
+  pub is_in_path : Bool
   pub from : ℕ
   pub len : ℕ
 
@@ -62,14 +62,14 @@ pub record Component : Type 0 where
 abbrev pub counted_from : ℕ → List Piece → List Component
 counted_from index [] = []
 counted_from index (p ∷ ps) =
-    record { name = p.name; index = index; is_spelled = true; from = p.from; len = p.len } ∷ counted_from (index + 1) ps
+    record { name = p.name; index = index; is_in_path = true; from = p.from; len = p.len } ∷ counted_from (index + 1) ps
 
 abbrev pub path_components : List ℕ → List Component
 path_components path = counted_from 0 (names_of path)
 
 -- the components that the text of a symlink gives have all the index of the symlink
 abbrev pub given_at : ℕ → Piece → Component
-given_at index p = record { name = p.name; index = index; is_spelled = false; from = p.from; len = p.len }
+given_at index p = record { name = p.name; index = index; is_in_path = false; from = p.from; len = p.len }
 
 abbrev pub text_components : ℕ → List ℕ → List Component
 text_components index text = map (given_at index) (names_of text)

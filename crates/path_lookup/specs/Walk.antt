@@ -64,9 +64,9 @@ abbrev pub climb : Onward → ℕ → List ℕ → Component → List Component 
 climb go links [] c rest = Err (fault.Outside c.index)
 climb go links (parent ∷ above) c rest = go links parent above rest
 
--- A name that isn't there is absent where it is the last and the path itself spells it. Else there is no entry.
+-- A name that isn't there is absent where it is the last and stands in the path itself. Else there is no entry.
 abbrev pub lack : ℕ → Component → List Component → WalkEnd
-lack top c rest = cond (is_last rest && c.is_spelled) (Ok (end.Absent top c.from c.len)) (Err fault.NoEntry)
+lack top c rest = cond (is_last rest && c.is_in_path) (Ok (end.Absent top c.from c.len)) (Err fault.NoEntry)
 
 -- A directory is where the walk stands next.
 abbrev pub enter : Onward → ℕ → ℕ → List ℕ → ℕ → List Component → WalkEnd

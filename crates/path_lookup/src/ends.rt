@@ -12,7 +12,7 @@ pub enum WalkMode {
     Parent,
 }
 
-/// Where a walk ends. A name's place is told by the number of bytes before it in the path, and its length in bytes. For
+/// Where a walk ends. A name's place is given by the number of bytes before it in the path, and its length in bytes. For
 /// the `.` that a slash at a path's end adds, these are the path's length and 0.
 #[derive(Clone, Copy)]
 pub enum End {

@@ -20,7 +20,7 @@ pub(crate) struct Frame<'a> {
     /// The index of the next component.
     index: u64,
     /// Whether the text is the path itself.
-    is_spelled: bool,
+    is_in_path: bool,
 }
 
 /// The texts whose components are left. Those of the last come first.
@@ -32,8 +32,8 @@ pub(crate) struct Component<'a> {
     pub(crate) name: &'a [u8],
     /// Its index in the path. A component of a symlink's text has that of the symlink.
     pub(crate) index: u64,
-    /// Whether the path itself spells it.
-    pub(crate) is_spelled: bool,
+    /// Whether it stands in the path itself.
+    pub(crate) is_in_path: bool,
     /// How many bytes stand before it in its text.
     pub(crate) from: u64,
     /// How many bytes of its text it has.
@@ -45,7 +45,7 @@ impl<'a> Frame<'a> {
     fn component(&self, place: Place) -> Component<'a>
         requires order { place.from ≤ place.end }
         requires within { place.end ≤ length self.now.text.now }
-        ensures { component_of result ≡ component self.now.is_spelled self.now.index (name_at self.now.text.now place) }
+        ensures { component_of result ≡ component self.now.is_in_path self.now.index (name_at self.now.text.now place) }
     {
         let is_added = place.from == self.text.len();
         Component {
@@ -55,7 +55,7 @@ impl<'a> Frame<'a> {
                 &self.text[place.from..place.end]
             },
             index: self.index,
-            is_spelled: self.is_spelled,
+            is_in_path: self.is_in_path,
             from: place.from as u64,
             len: (place.end - place.from) as u64,
         }
@@ -67,18 +67,18 @@ impl<'a> Frame<'a> {
         requires order { self.now.at ≤ end }
         requires within { end < length self.now.text.now }
         ensures frame { IsFrame result }
-        ensures rest { rest_of result ≡ components_from self.now.is_spelled (next_index self.now.is_spelled self.now.index)
+        ensures rest { rest_of result ≡ components_from self.now.is_in_path (next_index self.now.is_in_path self.now.index)
             (names_after self.now.text.now end) }
     {
         Frame {
             text: self.text,
             at: end + 1,
-            index: if self.is_spelled {
+            index: if self.is_in_path {
                 self.index + 1
             } else {
                 self.index
             },
-            is_spelled: self.is_spelled,
+            is_in_path: self.is_in_path,
         }
     }
 }
@@ -115,11 +115,11 @@ pub(crate) fn next_component<'a>(frames: &mut Frames<'a>) -> Option<Component<'a
 }
 
 /// Puts a text's components before all others, with this index for the first.
-pub(crate) fn put_text<'a>(frames: &mut Frames<'a>, text: &'a [u8], index: u64, is_spelled: bool)
+pub(crate) fn put_text<'a>(frames: &mut Frames<'a>, text: &'a [u8], index: u64, is_in_path: bool)
     requires room { array_vec_len frames.old < 33 }
-    requires index { is_spelled ≡ true → index ≡ 0 }
+    requires index { is_in_path ≡ true → index ≡ 0 }
     requires frames { AreFrames (reverse frames.old.items) }
-    ensures put { coming (reverse frames.new.items) ≡ components_from is_spelled index (names_of text.now) ++ coming (reverse frames.old.items) }
+    ensures put { coming (reverse frames.new.items) ≡ components_from is_in_path index (names_of text.now) ++ coming (reverse frames.old.items) }
     ensures frames { AreFrames (reverse frames.new.items) }
     ensures room { array_vec_len frames.new ≤ array_vec_len frames.old + 1 }
 {
@@ -128,7 +128,7 @@ pub(crate) fn put_text<'a>(frames: &mut Frames<'a>, text: &'a [u8], index: u64, 
             text,
             at: 0,
             index,
-            is_spelled,
+            is_in_path,
         });
     }
 }

@@ -89,7 +89,7 @@ impl<'a> Walker<'a> {
     fn lack(&self, component: &Component<'a>) -> Result<End, WalkFault>
         ensures { result ≡ lack self.now.top (component_of component.now) (left_of self.now) }
     {
-        if is_last(&self.frames) && component.is_spelled {
+        if is_last(&self.frames) && component.is_in_path {
             Ok(End::Absent {
                 dir: ObjId(self.top),
                 from: component.from,

@@ -22,7 +22,7 @@ use Rattle.run_model.specs.World.{World, Guest, or_no_guest, world, apply, acted
 use Rattle.run_model.proofs.Calls.{called_is, ended_by}
 use Rattle.run_model.proofs.Histories.{world_more, world_constants, legal_more, apply_is}
 use Rattle.plain_run.specs.declared.run.Run.{Run}
-use Rattle.plain_run.specs.Run.{IsAt, IsBetweenTurns, IsStopped, IsLiveProcess, GoesOn, EndsBy, settled, guest_now, entry_now}
+use Rattle.plain_run.specs.Run.{IsAt, IsBetweenTurns, IsStopped, IsLiveProcess, GoesOn, EndsBy, recorded_guest, guest_now, entry_now}
 use Rattle.plain_run.proofs.Runs.{guest_put, guest_there, now_is}
 
 -- the run after an entry, with no turn that has none
@@ -33,7 +33,7 @@ entered r kernel guests history = record r { kernel = kernel; guests = guests; t
 abbrev pub world_now : Run → World
 world_now r = world r.launch r.history
 
--- the history is legal whether the entry was added or memory was wanting for it
+-- the history is legal whether the entry was added or memory ran out for it
 pub legal_after : {T E : Type 0} (result : Result T E) (r : Run) (history : List Entry) (e : Entry) → Legal r.launch r.history → Fits (world_now r) e
     → OnOk result (history ≡ r.history ++ e ∷ []) → OnErr result (history ≡ r.history) → Legal r.launch history
 legal_after (Ok x) r history e legal fits more same = subst (Legal r.launch) (sym more) (legal_more r.launch r.history e legal fits)
@@ -84,12 +84,12 @@ not_live act.Idle status by = absurd by
 abbrev pub entry_of : Run → Who → State → Act → Entry
 entry_of r who kernel a = entry_now (record r { kernel = kernel }) who a
 
--- the act's wants at the run's own state are those at the world's
-fits_there : (r : Run) (who : Who) (a : Act) → IsAt r who.pid → FitsAct r.launch.constants r.kernel who (settled r who.pid) r.turns a
-    → FitsAct (world_now r).constants (world_now r).state who (settled r who.pid) r.turns a
+-- the act's needs at the run's own state are those at the world's
+fits_there : (r : Run) (who : Who) (a : Act) → IsAt r who.pid → FitsAct r.launch.constants r.kernel who (recorded_guest r who.pid) r.turns a
+    → FitsAct (world_now r).constants (world_now r).state who (recorded_guest r who.pid) r.turns a
 fits_there r who a at fits =
-    subst (λ (c : Constants). FitsAct c (world_now r).state who (settled r who.pid) r.turns a) (sym (world_constants r.launch r.history))
-    (subst (λ (S : State). FitsAct r.launch.constants S who (settled r who.pid) r.turns a) at.state fits)
+    subst (λ (c : Constants). FitsAct c (world_now r).state who (recorded_guest r who.pid) r.turns a) (sym (world_constants r.launch r.history))
+    (subst (λ (S : State). FitsAct r.launch.constants S who (recorded_guest r who.pid) r.turns a) at.state fits)
 
 live_there : (r : Run) (p : ℕ) → IsAt r p → IsLiveProcess r p → get (world_now r).state.statuses p ≡ Some Live
 live_there r p at live = ap (λ (S : State). get S.statuses p) (sym at.state) ∙ live
@@ -103,7 +103,7 @@ module _ (r : Run) (who : Who) (kernel : State) (a : Act) (status : Status) (by 
   stop_guests : r.guests ≡ (apply (world_now r) (entry_of r who kernel a)).guests
   stop_guests = at.guests ∙ sym (ap (λ (w : World). w.guests) (apply_stop (world_now r) (entry_of r who kernel a) status by))
 
-  pub stop_fits : IsLiveProcess r who.pid → FitsAct r.launch.constants r.kernel who (settled r who.pid) r.turns a
+  pub stop_fits : IsLiveProcess r who.pid → FitsAct r.launch.constants r.kernel who (recorded_guest r who.pid) r.turns a
       → Fits (world_now r) (entry_of r who kernel a)
   stop_fits live fits = record {
     live = live_there r who.pid at live;
@@ -128,13 +128,13 @@ module _ (r : Run) (who : Who) (kernel : State) (a : Act) (status : Status) (by 
 -- ---- a call
 
 module _ (r : Run) (who : Who) (call : Call) (given : Answer) (kernel : State) (stopped : IsStopped r who turn_end_is.Ecall)
-    (spelled : call ≡ args_of (guest_now r who.pid).memory (registers_of (guest_now r who.pid) who.tid))
+    (encoded : call ≡ args_of (guest_now r who.pid).memory (registers_of (guest_now r who.pid) who.tid))
     (step : IsStep r.launch.constants r.kernel who call given kernel) where
   -- the state that the entry leaves is the kernel's
-  settled_state : kernel ≡ called_state r.launch.constants r.kernel who call given
-  settled_state =
+  recorded_state : kernel ≡ called_state r.launch.constants r.kernel who call given
+  recorded_state =
       subst (λ (x : Call). IsStep r.launch.constants r.kernel who x given kernel → kernel ≡ called_state r.launch.constants r.kernel who x given)
-      (sym spelled)
+      (sym encoded)
       (called_is (guest_now r who.pid).memory (registers_of (guest_now r who.pid) who.tid) r.launch.constants r.kernel who given kernel) step
 
   applied : apply (world_now r) (entry_of r who kernel (act.Call call given)) ≡ acted (turned (world_now r) who.pid r.turns) who (act.Call call given)
@@ -145,7 +145,7 @@ module _ (r : Run) (who : Who) (call : Call) (given : Answer) (kernel : State) (
       ap (λ (w : World). w.state) applied
       ∙ ap (λ (c : Constants). called_state c (world_now r).state who call given) (world_constants r.launch r.history)
       ∙ ap (λ (S : State). called_state r.launch.constants S who call given) (sym stopped.at.state)
-      ∙ sym settled_state
+      ∙ sym recorded_state
 
   -- the guests with the answer
   abbrev answered : FinMap nat_cmp Guest
@@ -161,8 +161,8 @@ module _ (r : Run) (who : Who) (call : Call) (given : Answer) (kernel : State) (
     live = live_there r who.pid stopped.at stopped.live;
     act = fits_there r who (act.Call call given) stopped.at (
       stopped.last,
-      spelled ∙ ap (λ (g : Guest). args_of g.memory (registers_of g who.tid)) (now_is r who.pid stopped.at),
-      subst (IsStep r.launch.constants r.kernel who call given) settled_state step,
+      encoded ∙ ap (λ (g : Guest). args_of g.memory (registers_of g who.tid)) (now_is r who.pid stopped.at),
+      subst (IsStep r.launch.constants r.kernel who call given) recorded_state step,
     );
     moment = ap (λ (S : State). S.clock) (sym call_state);
   }

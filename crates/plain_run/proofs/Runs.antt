@@ -15,7 +15,7 @@ use Rattle.run_model.proofs.Potentials.{history_is_short}
 use Rattle.run_model.proofs.Histories.{guest_turned, turned_more, whole_more}
 use Rattle.run_model.proofs.Worlds.{clock_counts}
 use Rattle.plain_run.specs.declared.run.Run.{Run}
-use Rattle.plain_run.specs.Run.{IsAt, IsLiveProcess, IsBetweenTurns, IsStopped, GoesOn, settled, guest_now, live_number, ahead}
+use Rattle.plain_run.specs.Run.{IsAt, IsLiveProcess, IsBetweenTurns, IsStopped, GoesOn, recorded_guest, guest_now, live_number, pending}
 
 -- ---- guests
 
@@ -33,15 +33,15 @@ pub left_put : (r : Run) (p key : ℕ) (guest : Guest) → key ≡ p → guest.l
 left_put r p key guest same left =
     (λ i. (or_no_guest (get (insert r.guests (same i) guest) p)).left) ∙ ap (λ (g : Guest). g.left) (guest_put r.guests p guest) ∙ left
 
--- process p's guest now is the settled one after the turns that no entry has yet
-pub now_is : (r : Run) (p : ℕ) → IsAt r p → guest_now r p ≡ turned_guest_by r.turns (settled r p)
+-- process p's guest now is the recorded one after the turns that no entry has yet
+pub now_is : (r : Run) (p : ℕ) → IsAt r p → guest_now r p ≡ turned_guest_by r.turns (recorded_guest r p)
 now_is r p at = ap (λ (m : FinMap nat_cmp Guest). or_no_guest (get m p)) at.guests ∙ guest_turned (world r.launch r.history) p r.turns
 
 -- the process whose turns no entry has yet has a guest
 pub guest_there : (r : Run) (p : ℕ) → IsAt r p → IsSome (get r.guests p)
 guest_there r p at =
     subst (λ (m : FinMap nat_cmp Guest). IsSome (get m p)) (sym at.guests)
-    (subst IsSome (sym (get-insert-same (world r.launch r.history).guests p (turned_guest_by r.turns (settled r p)))) refl)
+    (subst IsSome (sym (get-insert-same (world r.launch r.history).guests p (turned_guest_by r.turns (recorded_guest r p)))) refl)
 
 -- the clock of a run is far from its end, since its history is legal and so it is short
 pub early : (r : Run) (p : ℕ) → IsAt r p → r.kernel.clock < 2 ^ 63
@@ -67,9 +67,9 @@ module _ (r : Run) (who : Who) (guests : FinMap nat_cmp Guest) (turns : List ℕ
   pub left_turn : (guest_now (after_turn r guests turns) who.pid).left ≡ (guest_now r who.pid).left - 1
   left_turn = ap (λ (g : Guest). g.left) turned_now
 
-  -- the turns after this one, of the settled guest
-  turns_more : turned_guest_by turns (settled r who.pid) ≡ turned_guest (turned_guest_by r.turns (settled r who.pid)) who.tid
-  turns_more = ap (λ (ts : List ℕ). turned_guest_by ts (settled r who.pid)) one ∙ turned_more r.turns who.tid (settled r who.pid)
+  -- the turns after this one, of the recorded guest
+  turns_more : turned_guest_by turns (recorded_guest r who.pid) ≡ turned_guest (turned_guest_by r.turns (recorded_guest r who.pid)) who.tid
+  turns_more = ap (λ (ts : List ℕ). turned_guest_by ts (recorded_guest r who.pid)) one ∙ turned_more r.turns who.tid (recorded_guest r who.pid)
 
   pub at_turn : IsAt r who.pid → IsAt (after_turn r guests turns) who.pid
   at_turn at = record {
@@ -91,16 +91,16 @@ module _ (r : Run) (who : Who) (guests : FinMap nat_cmp Guest) (turns : List ℕ
   goes_on_turn : GoesOn r who → GoesOn (after_turn r guests turns) who
   goes_on_turn on = record { runnable = on.runnable; registers = registers_turn }
 
-  may_turn : IsAt r who.pid → GoesOn r who → 0 < (guest_now r who.pid).left → MayTurn r.kernel who.pid (turned_guest_by r.turns (settled r who.pid)) who.tid
+  may_turn : IsAt r who.pid → GoesOn r who → 0 < (guest_now r who.pid).left → MayTurn r.kernel who.pid (turned_guest_by r.turns (recorded_guest r who.pid)) who.tid
   may_turn at on some = (on.runnable, subst (λ (g : Guest). 0 < g.left) (now_is r who.pid at) some)
 
   ends_there : (end : TurnEnd) → end ≡ turn_end (guest_now r who.pid) who.tid → IsAt r who.pid
-      → turn_end (turned_guest_by r.turns (settled r who.pid)) who.tid ≡ end
+      → turn_end (turned_guest_by r.turns (recorded_guest r who.pid)) who.tid ≡ end
   ends_there end ends at = sym (ends ∙ ap (λ (g : Guest). turn_end g who.tid) (now_is r who.pid at))
 
   -- the turn's end is that of the last of the turns
   pub last_turn : (end : TurnEnd) → end ≡ turn_end (guest_now r who.pid) who.tid → IsBetweenTurns r who → IsLiveProcess r who.pid
-      → 0 < (guest_now r who.pid).left → LastEnds r.kernel who.pid (settled r who.pid) turns who.tid end
+      → 0 < (guest_now r who.pid).left → LastEnds r.kernel who.pid (recorded_guest r who.pid) turns who.tid end
   last_turn end ends b live some = (r.turns, one, b.whole, may_turn b.at (b.goes_on live) some, ends_there end ends b.at)
 
   -- the run after a turn that an entry must follow
@@ -118,12 +118,12 @@ module _ (r : Run) (who : Who) (guests : FinMap nat_cmp Guest) (turns : List ℕ
       → 0 < (guest_now r who.pid).left → IsBetweenTurns (after_turn r guests turns) who
   between_turn ends b live some = record {
     at = at_turn b.at;
-    whole = subst (AreWhole r.kernel who.pid (settled r who.pid)) (sym one)
-        (whole_more r.kernel who.pid r.turns who.tid (settled r who.pid) b.whole (may_turn b.at (b.goes_on live) some) (ends_there turn_end_is.Quantum ends b.at));
+    whole = subst (AreWhole r.kernel who.pid (recorded_guest r who.pid)) (sym one)
+        (whole_more r.kernel who.pid r.turns who.tid (recorded_guest r who.pid) b.whole (may_turn b.at (b.goes_on live) some) (ends_there turn_end_is.Quantum ends b.at));
     goes_on = λ _. goes_on_turn (b.goes_on live);
   }
 
--- ---- how much is ahead
+-- ---- how much is pending
 
 live_at_most : (status : Option Status) → live_number status ≤ 1
 live_at_most None = omega arith
@@ -131,9 +131,9 @@ live_at_most (Some Live) = omega arith
 live_at_most (Some (Exit code)) = omega arith
 live_at_most (Some (Killed signal)) = omega arith
 
--- a turn less is ahead, whatever the process comes to
+-- a turn less is pending, whatever the process comes to
 pub fewer : (old new : Run) (p : ℕ) → IsLiveProcess old p → 0 < (guest_now old p).left → (guest_now new p).left ≡ (guest_now old p).left - 1
-    → ahead new p < ahead old p
+    → pending new p < pending old p
 fewer old new p live some less =
     let most : live_number (get new.kernel.statuses p) ≤ 1 = live_at_most (get new.kernel.statuses p) in
     let one : live_number (get old.kernel.statuses p) ≡ 1 = ap live_number live in

@@ -1,4 +1,4 @@
--- The code of a guest, by which proofs tell guests apart: the tuple of its fields.
+-- The code of a guest, by which proofs distinguish guests: the tuple of its fields.
 use Rattle.std.specs.Prelude.{ℕ, refl}
 use Rattle.std.specs.Ordering.{nat_cmp}
 use Rattle.std.specs.FinMap.{FinMap, code}

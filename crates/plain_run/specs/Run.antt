@@ -19,8 +19,8 @@ abbrev pub first_thread : Who
 first_thread = record { pid = 0; tid = 1 }
 
 -- process p's guest in the world of the history
-abbrev pub settled : Run → ℕ → Guest
-settled r p = guest_of (world r.launch r.history) p
+abbrev pub recorded_guest : Run → ℕ → Guest
+recorded_guest r p = guest_of (world r.launch r.history) p
 
 -- process p's guest now
 abbrev pub guest_now : Run → ℕ → Guest
@@ -50,7 +50,7 @@ pub record GoesOn (r : Run) (who : Who) : Type 0 where
 -- the run stands between two turns, and the turns that no entry has yet are of this thread's process
 pub record IsBetweenTurns (r : Run) (who : Who) : Type 0 where
   pub at : IsAt r who.pid
-  pub whole : AreWhole r.kernel who.pid (settled r who.pid) r.turns
+  pub whole : AreWhole r.kernel who.pid (recorded_guest r who.pid) r.turns
   pub goes_on : IsLiveProcess r who.pid → GoesOn r who
 
 -- the run stands between two turns of process 0's thread
@@ -60,7 +60,7 @@ IsBetween r = IsBetweenTurns r first_thread
 -- the run stands at the end of a turn of the thread that ended so, which an entry must follow
 pub record IsStopped (r : Run) (who : Who) (end : TurnEnd) : Type 0 where
   pub at : IsAt r who.pid
-  pub last : LastEnds r.kernel who.pid (settled r who.pid) r.turns who.tid end
+  pub last : LastEnds r.kernel who.pid (recorded_guest r who.pid) r.turns who.tid end
   pub live : IsLiveProcess r who.pid
   pub goes_on : GoesOn r who
 
@@ -72,8 +72,8 @@ live_number (Some (Exit code)) = 0
 live_number (Some (Killed signal)) = 0
 
 -- how many turns and ends process p has left
-abbrev pub ahead : Run → ℕ → ℕ
-ahead r p = (guest_now r p).left + live_number (get r.kernel.statuses p)
+abbrev pub pending : Run → ℕ → ℕ
+pending r p = (guest_now r p).left + live_number (get r.kernel.statuses p)
 
 -- the status of a process that an act ends from outside
 abbrev pub EndsBy : Act → Status → Type 0

@@ -110,7 +110,7 @@ impl Guest {
         )
     }
 
-    /// The call that a thread spells as it stands at an ECALL.
+    /// The call that a thread encodes as it stands at an ECALL.
     pub fn call(&self, alloc: Global, tid: Tid) -> Result<Call, AllocError>
         requires thread { IsSome (map.get self.now.regs tid) }
         ensures ok { IfOk result (λ call. call ≡ args_of self.now.memory (registers_of self.now tid)) }
@@ -120,8 +120,8 @@ impl Guest {
         args(alloc, regs, &self.memory)
     }
 
-    /// Gives a thread the answer to the call that it spells. Want of memory, which only fd_pread, fd_read and mem_map meet,
-    /// changes nothing.
+    /// Gives a thread the answer to the call that it encodes. Where memory runs out, which only fd_pread, fd_read and mem_map
+    /// meet, nothing changes.
     #[tactic(auto, using(maps::specs::Maps::number_laws))]
     pub fn answer(
         &mut self,
@@ -131,7 +131,7 @@ impl Guest {
         answer: &Answer,
     ) -> Result<(), AllocError>
         requires thread { IsSome (map.get self.old.regs tid) }
-        requires spelled { call.now ≡ args_of self.old.memory (registers_of self.old tid) }
+        requires encoded { call.now ≡ args_of self.old.memory (registers_of self.old tid) }
         ensures ok { OnOk result (self.new ≡ called_guest self.old tid call.now answer.now) }
         ensures err { OnErr result (self.new ≡ self.old) }
         ensures only { OnErr result (TakesRoom call.now) }

@@ -3,7 +3,7 @@ ghost use Rattle.std.specs.Prelude.{◌≡◌, ◌<◌, [], ◌∷◌, ◌++◌,
 ghost use Rattle.run_model.specs.Legal.{Legal, FitsAct};
 ghost use Rattle.rv_interp.specs.declared.turns.TurnEnd.TheVariants as turn_end;
 ghost use Rattle.call_codec.specs.Bounded.{IsBounded};
-ghost use Rattle.plain_run.specs.Run.{IsAt, IsBetween, IsBetweenTurns, IsStopped, IsLive, IsLiveProcess, EndsBy, settled, guest_now, ahead, entry_now};
+ghost use Rattle.plain_run.specs.Run.{IsAt, IsBetween, IsBetweenTurns, IsStopped, IsLive, IsLiveProcess, EndsBy, recorded_guest, guest_now, pending, entry_now};
 
 use crate::guest::{FIRST, FIRST_THREAD, Guest};
 use abi_types::{Pid, Signal, Status, TidList, Who};
@@ -82,7 +82,7 @@ impl Run {
     fn stop(&mut self, alloc: Global, who: &Who, act: Act, status: Status) -> Result<(), AllocError>
         requires at { IsAt self.old who.now.pid }
         requires live { IsLiveProcess self.old who.now.pid }
-        requires fits { FitsAct self.old.launch.constants self.old.kernel who.now (settled self.old who.now.pid)
+        requires fits { FitsAct self.old.launch.constants self.old.kernel who.now (recorded_guest self.old who.now.pid)
             self.old.turns act }
         requires status { EndsBy act status }
         ensures ok { OnOk result (IsBetweenTurns self.new who.now × ¬ IsLiveProcess self.new who.now.pid) }
@@ -115,7 +115,7 @@ impl Run {
         requires between { IsBetweenTurns self.old who.now }
         requires live { IsLiveProcess self.old who.now.pid }
         ensures ok { OnOk result (IsBetweenTurns self.new who.now) }
-        ensures fewer { OnOk result (ahead self.new who.now.pid < ahead self.old who.now.pid) }
+        ensures fewer { OnOk result (pending self.new who.now.pid < pending self.old who.now.pid) }
         ensures launch { self.new.launch ≡ self.old.launch }
         ensures legal { Legal self.new.launch self.new.history }
     {

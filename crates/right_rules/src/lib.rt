@@ -1,5 +1,5 @@
-//! What a call needs of its descriptors, and the refusals for want of it. They come before what a call does, and are the same
-//! for all calls. The needs are lent from the call itself, so no list is made of them.
+//! What a call needs of its descriptors, and the refusals for lack of it. They come before what a call does, and are the same
+//! for all calls. The needs are borrowed from the call itself, so no list is made of them.
 #![tactic(auto)]
 
 pub use needs::{Needs, needs_of};

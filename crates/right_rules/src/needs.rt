@@ -39,7 +39,7 @@ fn base<'a>(fd: u32, rights: Rights) -> Needs<'a>
     Needs::One(base_row(fd, rights))
 }
 
-// What fd_seek needs: an offset of 0 from where it is tells it alone.
+// What fd_seek needs: an offset of 0 from where it is only reports it.
 fn seek_row(fd: u32, offset: u64, whence: u32) -> Needed
     ensures { result ≡ seek_row fd offset whence }
 {

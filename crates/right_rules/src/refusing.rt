@@ -1,4 +1,4 @@
-//! The refusals of a call for want of a descriptor or of rights.
+//! The refusals of a call for lack of a descriptor or of rights.
 ghost use Rattle.std.specs.Prelude.{◌≡◌, Some};
 ghost use Rattle.std.specs.FinMap as map;
 ghost use Rattle.kernel_model.specs.Calls.{refusal};
@@ -127,7 +127,7 @@ fn first_lack(table: &FdTable, needs: Needs<'_>) -> Option<Denial>
     }
 }
 
-/// The refusal of a call by its process's table: for want of a descriptor that it names, and where all are there for want
+/// The refusal of a call by its process's table: for lack of a descriptor that it names, and where all are there for lack
 /// of rights.
 pub fn refusal(table: &FdTable, call: &Call) -> Option<Reply>
     ensures { result ≡ refusal table.now call.now }

@@ -1,5 +1,5 @@
 -- What a call leaves of the kernel's state, and the end of a process from outside.
---     called_is      a step of a call that registers spell leaves what its answer says
+--     called_is      a step of a call that registers encode leaves what its answer says
 --     ended_by      a process that is ended is not live
 use Rattle.std.proofs.Common.{◌≡◌, ◌≢◌, inl, inr, ℕ, Option, Some, refl, sym, ap, ◌∙◌}
 use Rattle.std.specs.FinMap.{get}
@@ -20,7 +20,7 @@ use Rattle.kernel_model.proofs.Steps.{end_ends_only}
 use Rattle.guest_memory.specs.Page.{Pages}
 use Rattle.call_codec.specs.Arguments.{args_of}
 use Rattle.run_model.specs.World.{by_errno, called_state}
-use Rattle.run_model.proofs.Spelled.{args_no_lack}
+use Rattle.run_model.proofs.Encoded.{args_no_lack}
 
 -- ---- what an answered call leaves
 
@@ -36,7 +36,7 @@ called_by constants S who call (answer.Reply reply) T none (inl done) =
 called_by constants S who call (answer.Reply reply) T none (inr lacking) =
     lacking.2 ∙ ap (called_state constants S who call) (sym lacking.1)
 
--- a step of a call that registers spell leaves what its answer says
+-- a step of a call that registers encode leaves what its answer says
 pub called_is : (m : Pages) (r : Registers) (constants : Constants) (S : State) (who : Who) (given : Answer) (T : State)
     → IsStep constants S who (args_of m r) given T → T ≡ called_state constants S who (args_of m r) given
 called_is m r constants S who given T step = called_by constants S who (args_of m r) given T (args_no_lack m r) step

@@ -28,7 +28,7 @@ use Rattle.kernel_model.proofs.Touches as touches
 use Rattle.run_model.specs.Confined.{MayAnswer, CallIsConfined, ActIsConfined, EntryIsConfined, IsConfined}
 use Rattle.run_model.specs.Legal.{FitsAct, Fits, Legal}
 use Rattle.run_model.specs.World.{World, Guest, guest_of, registers_of, called_state, turned_guest_by, turned, acted, who_of, world}
-use Rattle.run_model.proofs.Spelled.{args_not_denied}
+use Rattle.run_model.proofs.Encoded.{args_not_denied}
 use Rattle.run_model.proofs.Histories.{apply_is, legal_front, legal_next}
 use Rattle.run_model.proofs.Worlds.{world_is_valid}
 
@@ -39,7 +39,7 @@ call_answers constants S who call given T U (inl done) same =
 call_answers constants S who call given T U (inr lacking) same =
     (failed U who, inr ((lacking.0.0, sym (same_refusal S U who call same) ∙ lacking.0.1), lacking.1, refl))
 
--- the answer of a call that takes memory is none of want of memory
+-- the answer of a call that takes memory is none of lack of memory
 answer_is_other : (constants : Constants) (S : State) (who : Who) (call : Call) (given : Answer) → takes_memory call ≡ true
     → given ≡ step_answer constants S who call → given ≡ answer.Reply (refused Nomem) → ⊥
 answer_is_other constants S who call given takes done lacking =
@@ -62,11 +62,11 @@ call_leaves constants S who call given T U V (inr lacking) same ends (inr more) 
 nomem_is_other : Nomem ≢ Notcapable
 nomem_is_other e = cc
 
-call_told : (constants : Constants) (S : State) (who : Who) (call : Call) (given : Answer) (T : State) (reply : Reply) → IsNotDeniedEarly call
+call_reported : (constants : Constants) (S : State) (who : Who) (call : Call) (given : Answer) (T : State) (reply : Reply) → IsNotDeniedEarly call
     → IsStep constants S who call given T → given ≡ answer.Reply reply → reply.errno ≡ Notcapable → IsSome reply.denial
-call_told constants S who call given T reply plain (inl done) is lacks =
+call_reported constants S who call given T reply plain (inl done) is lacks =
     notcapable_is_denied constants S who call reply plain (sym done.0 ∙ is) lacks
-call_told constants S who call given T reply plain (inr lacking) is lacks =
+call_reported constants S who call given T reply plain (inr lacking) is lacks =
     absurd (nomem_is_other (ap (λ (r : Reply). r.errno) (same_reply (refused Nomem) reply (sym lacking.1 ∙ is)) ∙ lacks))
 
 -- a step is confined
@@ -79,7 +79,7 @@ call_confined constants S who call given T valid plain step = record {
   changes = λ part outside. touches.others_stay constants S who call given T part step outside;
   lacking = λ table row d own all first. lack_is_denied constants S who call given T table row d step own all first;
   only = λ reply denial is denies. step_denial constants S who call given T reply denial step is denies;
-  told = λ reply is lacks. call_told constants S who call given T reply plain step is lacks;
+  reported = λ reply is lacks. call_reported constants S who call given T reply plain step is lacks;
   listed = λ reply is. replies_are_listed constants S who call reply T (subst (λ a. IsStep constants S who call a T) is step);
   error = λ reply is other. error_keeps constants S who call reply T (subst (λ a. IsStep constants S who call a T) is step) valid other;
 }

@@ -1,4 +1,4 @@
--- Where turns and thread are given and memory is not wanting, at most one entry may follow.
+-- Where turns and thread are given and memory doesn't run out, at most one entry may follow.
 use Rattle.std.proofs.Common.{◌≡◌, ◌≢◌, inl, inr, ℕ, List, [], ◌∷◌, ◌++◌, refl, sym, ap, subst, ◌∙◌}
 use Rattle.std.proofs.lemmas.List.{append_cancel_right}
 use Rattle.abi_types.specs.declared.reply.Answer.{Answer}
@@ -52,7 +52,7 @@ same_signal signal other e = cc
 
 -- ---- acts
 
--- where memory is not wanting, the answer is the call's
+-- where memory doesn't run out, the answer is the call's
 answer_is : (constants : Constants) (S : State) (who : Who) (call : Call) (given : Answer) (T : State) → IsStep constants S who call given T
     → LacksNothing (act.Call call given) → given ≡ step_answer constants S who call
 answer_is constants S who call given T (inl done) plenty = done.0

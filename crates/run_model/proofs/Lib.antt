@@ -5,5 +5,5 @@ pub mod Potentials
 pub mod Entries
 pub mod Followers
 pub mod Histories
-pub mod Spelled
+pub mod Encoded
 pub mod Worlds

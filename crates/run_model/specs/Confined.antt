@@ -50,7 +50,7 @@ pub record CallIsConfined (constants : Constants) (S : State) (who : Who) (call 
       → IsFirstLack table (need call) row d → given ≡ answer.Reply (denied (missing d row))
   pub only : (reply : Reply) (denial : Denial) → given ≡ answer.Reply reply → reply.denial ≡ Some denial
       → IsOfFirstLack S who call denial ⊎ IsOfPath S who call denial
-  pub told : (reply : Reply) → given ≡ answer.Reply reply → reply.errno ≡ Notcapable → IsSome reply.denial
+  pub reported : (reply : Reply) → given ≡ answer.Reply reply → reply.errno ≡ Notcapable → IsSome reply.denial
   pub listed : (reply : Reply) → given ≡ answer.Reply reply → IsListed S who call reply
   pub error : (reply : Reply) → given ≡ answer.Reply reply → reply.errno ≢ Success → T ≡ failed S who
 

@@ -34,7 +34,7 @@ EachEntryFits =
     (launch : Launch) (front : List Entry) (e : Entry) (rest : List Entry) → Legal launch (front ++ e ∷ rest)
     → Legal launch front × Fits (world launch front) e
 
--- memory was not wanting where the act was done
+-- memory didn't run out where the act was done
 abbrev pub LacksNothing : Act → Type 0
 LacksNothing (act.Call call (answer.Reply reply)) = reply.errno ≢ Nomem
 LacksNothing (act.Wake call given (answer.Reply reply)) = reply.errno ≢ Nomem
@@ -42,7 +42,7 @@ LacksNothing (act.Trap signal) = Unit {0}
 LacksNothing act.Expire = Unit {0}
 LacksNothing act.Idle = Unit {0}
 
--- Where a thread and the turns before it are given, and memory is not wanting, at most one entry may follow.
+-- Where a thread and the turns before it are given, and memory doesn't run out, at most one entry may follow.
 abbrev pub EntryIsOne : Type 0
 EntryIsOne =
     (w : World) (e f : Entry) → Fits w e → Fits w f → e.pid ≡ f.pid → e.tid ≡ f.tid → e.turns ≡ f.turns → LacksNothing e.act → LacksNothing f.act
@@ -54,9 +54,9 @@ LegalIsConfined = (launch : Launch) (history : List Entry) → Legal launch hist
 
 -- ---- calls
 
--- No call that memory and registers spell answers NOMEM or NOTCAPABLE of its own.
-abbrev pub SpelledIsPlain : Type 0
-SpelledIsPlain =
+-- No call that memory and registers encode answers NOMEM or NOTCAPABLE of its own.
+abbrev pub EncodedIsPlain : Type 0
+EncodedIsPlain =
     (m : Pages) (r : Registers) → AllByRecursion (λ errno. (errno ≢ Nomem) × (errno ≢ Notcapable)) (errors_of (args_of m r))
 
 -- ---- worlds

@@ -35,8 +35,8 @@ LastEnds S p guest ts t end =
     (front : List ℕ) × (ts ≡ front ++ t ∷ []) × AreWhole S p guest front
     × MayTurn S p (turned_guest_by front guest) t × (turn_end (turned_guest_by front guest) t ≡ end)
 
--- What an act wants of the world before its entry, S being the kernel's state and guest the process's:
--- A call is the one that the thread's registers and memory spell at the ECALL that ended the last turn, and its answer
+-- What an act needs of the world before its entry, S being the kernel's state and guest the process's:
+-- A call is the one that the thread's registers and memory encode at the ECALL that ended the last turn, and its answer
 -- is the kernel's. A trap is the one that ended the last turn. A process expires where a runnable thread has no turn left.
 -- No call makes a thread wait, so neither a wake nor an idle jump fits.
 abbrev pub FitsAct : Constants → State → Who → Guest → List ℕ → Act → Type 0

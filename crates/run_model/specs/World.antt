@@ -105,7 +105,7 @@ turned w p ts = with_guest w p (turned_guest_by ts (guest_of w p))
 
 -- ---- acts
 
--- a reply of want of memory leaves only the clock moved, and every other reply what the call does
+-- a reply of lack of memory leaves only the clock moved, and every other reply what the call does
 abbrev pub by_errno : Errno → State → State → State
 by_errno Nomem lacking done = lacking
 by_errno _ lacking done = done

@@ -1,5 +1,5 @@
 //! Laws of legal histories. The statements are in `specs/Laws.antt`, and each holds of every launch and history.
-ghost use Rattle.run_model.specs.Laws.{LegalBegins, LegalGoesOn, EachEntryFits, EntryIsOne, LegalIsConfined, WorldIsValid, ClockCounts, EntryTakes, SpelledIsPlain};
+ghost use Rattle.run_model.specs.Laws.{LegalBegins, LegalGoesOn, EachEntryFits, EntryIsOne, LegalIsConfined, WorldIsValid, ClockCounts, EntryTakes, EncodedIsPlain};
 ghost use Rattle.run_model.specs.Laws.{OthersStay, HistoryIsShort, EndedIsFinal, StalledIsFinal, NeverStalled, EndsOrGoesOn, RunsToItsEnd};
 
 /// The empty history is legal, an entry that fits the world of a legal history may follow it, and no other history is
@@ -10,15 +10,15 @@ pub fn legal_goes_on()
     ensures each { EachEntryFits }
 {}
 
-/// Of two entries that may follow, of the same thread after the same turns, neither answered for want of memory, both are
+/// Of two entries that may follow, of the same thread after the same turns, neither answered for lack of memory, both are
 /// the same: the same moment, and the same call with the same answer, the same trap, or the end of the turns.
 pub fn entry_is_one()
     ensures { EntryIsOne }
 {}
 
-/// No call that memory and registers spell answers `Errno::Nomem` or `Errno::Notcapable` of its own.
-pub fn spelled_calls_are_plain()
-    ensures { SpelledIsPlain }
+/// No call that memory and registers encode answers `Errno::Nomem` or `Errno::Notcapable` of its own.
+pub fn encoded_calls_are_plain()
+    ensures { EncodedIsPlain }
 {}
 
 /// A legal history of a launch with proper grants is confined (`specs/Confined.antt`).

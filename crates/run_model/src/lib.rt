@@ -5,6 +5,6 @@
 pub mod laws;
 
 pub use laws::{
-    clock_counts, ended_is_final, entry_is_one, history_is_short, legal_goes_on, legal_is_confined,
-    never_stalled, others_stay, runs_to_its_end, spelled_calls_are_plain, world_is_valid,
+    clock_counts, encoded_calls_are_plain, ended_is_final, entry_is_one, history_is_short,
+    legal_goes_on, legal_is_confined, never_stalled, others_stay, runs_to_its_end, world_is_valid,
 };

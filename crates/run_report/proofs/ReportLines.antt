@@ -1,4 +1,4 @@
--- Reports can be read back: their lines and what stands below them can be told apart.
+-- Reports can be read back: their lines and what stands below them can be kept apart.
 use Rattle.std.proofs.Common.{◌≡◌, ◌≢◌, ℕ, Bool, false, ◌+◌, ◌^◌, ◌<◌, ◌==◌, List, [], ◌∷◌, ◌++◌, length, take, drop, codes, refl, sym, ap, subst, ◌∙◌, append_assoc, arith}
 use Rattle.std.proofs.lemmas.Bool.Decides.{nat_tests}
 use Rattle.std.proofs.lemmas.Fmt.{decimal_is_IsNumeral, decimal_injective}
@@ -12,7 +12,7 @@ use Rattle.run_types.specs.declared.history.Entry.{Entry}
 use Rattle.kernel_model.specs.State.{State, tree_of, written_to}
 use Rattle.run_report.specs.Denials.{denials_text}
 use Rattle.run_report.specs.Report.{ending, stream_line, stream_text, end_text, tree_text, asked_history, report_of}
-use Rattle.run_report.specs.ReportLaws.{ReportTellsStreams, StdoutIsCutOut}
+use Rattle.run_report.specs.ReportLaws.{ReportShowsStreams, StdoutIsCutOut}
 
 -- no line feed is in the text
 abbrev IsOneLine : List ℕ → Type 0
@@ -34,26 +34,26 @@ IsOneLine-digits [] h = tt
 IsOneLine-digits (d ∷ ds) h = ((λ e. let far : 36 < 10 = subst (λ n. digit_value n < 10) e h.0 in omega arith), IsOneLine-digits ds h.1)
 
 -- a first line, and what stands after it
-line_told : (a b x y : List ℕ) → IsOneLine a → IsOneLine b → a ++ (10 ∷ x) ≡ b ++ (10 ∷ y) → (a ≡ b) × (x ≡ y)
-line_told [] [] x y h k e = (refl, cc)
-line_told [] (c ∷ b) x y h k e = absurd (k.0 (cc))
-line_told (c ∷ a) [] x y h k e = absurd (h.0 (cc))
-line_told (c ∷ a) (d ∷ b) x y h k e =
+line_apart : (a b x y : List ℕ) → IsOneLine a → IsOneLine b → a ++ (10 ∷ x) ≡ b ++ (10 ∷ y) → (a ≡ b) × (x ≡ y)
+line_apart [] [] x y h k e = (refl, cc)
+line_apart [] (c ∷ b) x y h k e = absurd (k.0 (cc))
+line_apart (c ∷ a) [] x y h k e = absurd (h.0 (cc))
+line_apart (c ∷ a) (d ∷ b) x y h k e =
     let rest : a ++ (10 ∷ x) ≡ b ++ (10 ∷ y) = cc in
     let first : c ≡ d = cc in
-    let told = line_told a b x y h.1 k.1 rest in
-    (ap (λ n. n ∷ a) first ∙ ap (λ bs. d ∷ bs) told.0, told.1)
+    let reported = line_apart a b x y h.1 k.1 rest in
+    (ap (λ n. n ∷ a) first ∙ ap (λ bs. d ∷ bs) reported.0, reported.1)
 
 -- a beginning of a known length, and what stands after it
-part_told : (a b x y : List ℕ) → length a ≡ length b → a ++ x ≡ b ++ y → (a ≡ b) × (x ≡ y)
-part_told [] [] x y n e = (refl, e)
-part_told [] (c ∷ b) x y n e = absurd (omega arith)
-part_told (c ∷ a) [] x y n e = absurd (omega arith)
-part_told (c ∷ a) (d ∷ b) x y n e =
+part_apart : (a b x y : List ℕ) → length a ≡ length b → a ++ x ≡ b ++ y → (a ≡ b) × (x ≡ y)
+part_apart [] [] x y n e = (refl, e)
+part_apart [] (c ∷ b) x y n e = absurd (omega arith)
+part_apart (c ∷ a) [] x y n e = absurd (omega arith)
+part_apart (c ∷ a) (d ∷ b) x y n e =
     let rest : a ++ x ≡ b ++ y = cc in
     let first : c ≡ d = cc in
-    let told = part_told a b x y (omega arith) rest in
-    (ap (λ n. n ∷ a) first ∙ ap (λ bs. d ∷ bs) told.0, told.1)
+    let reported = part_apart a b x y (omega arith) rest in
+    (ap (λ n. n ∷ a) first ∙ ap (λ bs. d ∷ bs) reported.0, reported.1)
 
 -- a stream's line is one line
 stream_line_one : (name bytes : List ℕ) → IsOneLine name → length bytes < 2 ^ 64 → IsOneLine (stream_line name bytes)
@@ -65,14 +65,14 @@ stream_line_one name bytes one small =
 stream-append : (name bytes rest : List ℕ) → stream_text name bytes ++ rest ≡ stream_line name bytes ++ (10 ∷ (bytes ++ (ending bytes ++ rest)))
 stream-append name bytes rest = append_assoc (stream_line name bytes) (10 ∷ (bytes ++ ending bytes)) rest ∙ ap (λ t. stream_line name bytes ++ (10 ∷ t)) (append_assoc bytes (ending bytes) rest)
 
-stream_told : (name a b x y : List ℕ) → IsOneLine name → length a < 2 ^ 64 → length b < 2 ^ 64
+stream_apart : (name a b x y : List ℕ) → IsOneLine name → length a < 2 ^ 64 → length b < 2 ^ 64
     → stream_text name a ++ x ≡ stream_text name b ++ y → (a ≡ b) × (x ≡ y)
-stream_told name a b x y one small other e =
-    let lines = line_told (stream_line name a) (stream_line name b) _ _ (stream_line_one name a one small) (stream_line_one name b one other)
+stream_apart name a b x y one small other e =
+    let lines = line_apart (stream_line name a) (stream_line name b) _ _ (stream_line_one name a one small) (stream_line_one name b one other)
     (sym (stream-append name a x) ∙ e ∙ stream-append name b y) in
     let digits = append_cancel_left (codes " ") _ _ (append_cancel_left name _ _ (append_cancel_left (codes "== ") _ _ lines.0)) in
     let count = decimal_injective (length a) (length b) small other digits in
-    let parts = part_told a b _ _ count lines.1 in
+    let parts = part_apart a b _ _ count lines.1 in
     (parts.0, append_cancel_left (ending b) _ _ (ap (λ c. ending c ++ x) (sym parts.0) ∙ parts.1))
 
 -- what stands after the streams
@@ -94,10 +94,10 @@ stdout_one = (is_no_feed 115 refl, (is_no_feed 116 refl, (is_no_feed 100 refl, (
 stderr_one : IsOneLine (codes "stderr")
 stderr_one = (is_no_feed 115 refl, (is_no_feed 116 refl, (is_no_feed 100 refl, (is_no_feed 101 refl, (is_no_feed 114 refl, (is_no_feed 114 refl, tt))))))
 
-pub report_tells_streams : ReportTellsStreams
-report_tells_streams S T history other lines more small little e =
-    let first = stream_told (codes "stdout") (written_to 1 S) (written_to 1 T) _ _ stdout_one small.0 little.0 (sym (report-streams S history lines) ∙ e ∙ report-streams T other more) in
-    let second = stream_told (codes "stderr") (written_to 2 S) (written_to 2 T) _ _ stderr_one small.1 little.1 first.1 in
+pub report_shows_streams : ReportShowsStreams
+report_shows_streams S T history other lines more small little e =
+    let first = stream_apart (codes "stdout") (written_to 1 S) (written_to 1 T) _ _ stdout_one small.0 little.0 (sym (report-streams S history lines) ∙ e ∙ report-streams T other more) in
+    let second = stream_apart (codes "stderr") (written_to 2 S) (written_to 2 T) _ _ stderr_one small.1 little.1 first.1 in
     (first.0, second.0)
 
 -- the first line feed stands after the first line

@@ -1,4 +1,4 @@
--- How a report says that the run came to its end, and what that tells.
+-- How a report says that the run came to its end, and what that says.
 use Rattle.std.proofs.Common.{◌≡◌, ◌≢◌, ◌↔◌, ◌==◌, ℕ, List, Bool, true, false, if◌then◌else◌, length, codes, refl, sym, ap, ◌∙◌}
 use Rattle.maps.specs.Maps.{least_key}
 use Rattle.kernel_core.specs.Kernel.{any_live, is_live}
@@ -6,7 +6,7 @@ use Rattle.kernel_core.proofs.Lives.{live_some, some_live}
 use Rattle.kernel_model.specs.Ends.{NoneLive, SomeLive}
 use Rattle.kernel_model.specs.State.{State}
 use Rattle.kernel_model.proofs.Tests.{not_true}
-use Rattle.run_report.specs.ReportLaws.{EndIsTold, StallIsTold}
+use Rattle.run_report.specs.ReportLaws.{EndIsReported, StallIsReported}
 
 -- the two words have not the same length
 words_differ : codes "stalled" ≢ codes "ended"
@@ -28,8 +28,8 @@ stalled_where : (S : State) (b : Bool) → any_live S ≡ b → ((if b then code
 stalled_where S true is = ((λ _. found S is), (λ _. refl))
 stalled_where S false unfound = ((λ same. absurd (words_differ (sym same))), (λ one. absurd (none_found S unfound one.0 one.1)))
 
-pub end_is_told : EndIsTold
-end_is_told S = ended_where S (any_live S) refl
+pub end_is_reported : EndIsReported
+end_is_reported S = ended_where S (any_live S) refl
 
-pub stall_is_told : StallIsTold
-stall_is_told S = stalled_where S (any_live S) refl
+pub stall_is_reported : StallIsReported
+stall_is_reported S = stalled_where S (any_live S) refl

@@ -1,4 +1,4 @@
--- What a report tells, whatever the run.
+-- What a report says, whatever the run.
 use Rattle.std.specs.Prelude.{Bool, ◌≡◌, ◌↔◌, ◌+◌, ◌^◌, ◌<◌, ◌==◌, List, codes, length, take, drop}
 use Rattle.std.specs.List.{before_first}
 use Rattle.run_types.specs.declared.history.Entry.{Entry}
@@ -11,13 +11,13 @@ abbrev pub IsCountable : State → Type 0
 IsCountable S = (length (written_to 1 S) < 2 ^ 64) × (length (written_to 2 S) < 2 ^ 64)
 
 -- Two runs with the same report wrote the same to stdout, and the same to stderr.
-abbrev pub ReportTellsStreams : Type 0
-ReportTellsStreams =
+abbrev pub ReportShowsStreams : Type 0
+ReportShowsStreams =
     (S T : State) (history other : List Entry) (lines more : Bool) → IsCountable S → IsCountable T
     → report_of S history lines ≡ report_of T other more
     → (written_to 1 S ≡ written_to 1 T) × (written_to 2 S ≡ written_to 2 T)
 
--- The first line of a report tells how many bytes were written to stdout, and as many bytes after it are those.
+-- The first line of a report says how many bytes were written to stdout, and as many bytes after it are those.
 abbrev pub StdoutIsCutOut : Type 0
 StdoutIsCutOut =
     (S : State) (history : List Entry) (lines : Bool) → IsCountable S
@@ -25,9 +25,9 @@ StdoutIsCutOut =
     × (take (length (written_to 1 S)) (drop (length (stream_line (codes "stdout") (written_to 1 S)) + 1) (report_of S history lines)) ≡ written_to 1 S)
 
 -- A report says that the run ended exactly where no process is live.
-abbrev pub EndIsTold : Type 0
-EndIsTold = (S : State) → (run_text S ≡ codes "ended") ↔ NoneLive S
+abbrev pub EndIsReported : Type 0
+EndIsReported = (S : State) → (run_text S ≡ codes "ended") ↔ NoneLive S
 
 -- A report says that the run stalled exactly where some process is live.
-abbrev pub StallIsTold : Type 0
-StallIsTold = (S : State) → (run_text S ≡ codes "stalled") ↔ SomeLive S
+abbrev pub StallIsReported : Type 0
+StallIsReported = (S : State) → (run_text S ≡ codes "stalled") ↔ SomeLive S

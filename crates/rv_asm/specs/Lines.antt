@@ -146,7 +146,7 @@ AreBytesFrom labels before here (line ∷ lines) out =
 abbrev pub Assembles : List ℕ → List ℕ → Type 0
 Assembles text out = AreBytesFrom (labels_of (lines_of text)) [] 0 (lines_of text) out
 
--- what a fault says of the first line that is outside the grammar; that memory is wanting says nothing of it
+-- what a fault says of the first line that is outside the grammar; that memory ran out says nothing of it
 abbrev pub IsFaultOf : AsmFault → Option ℕ → Type 0
 IsFaultOf (Line n) first = first ≡ Some n
 IsFaultOf NoMemory first = Unit {0}

@@ -15,7 +15,7 @@ use std::alloc::{AllocError, Global};
 pub enum AsmFault {
     /// The line of this number, where the first has number 1, is outside the grammar, and those before it are inside.
     Line(u32),
-    /// Memory is wanting. So it is where an address needs more than 64 bits, or a line's number more than 32.
+    /// Memory ran out. This comes too where an address needs more than 64 bits, or a line's number more than 32.
     NoMemory,
 }
 
@@ -124,8 +124,8 @@ fn fault_up_to<'a>(
 }
 
 /// The bytes of a text: those of its lines, in their order. An instruction's word is decoded to the instruction that its
-/// line names. `Line` names the first line that is outside the grammar, and comes where there is one unless memory is
-/// wanting.
+/// line names. `Line` names the first line that is outside the grammar, and comes where there is one unless memory ran
+/// out.
 pub fn assemble(alloc: Global, text: &str) -> Result<Bytes, AsmFault>
     // The bytes are of the text's lines.
     ensures ok { IfOk result (λ bytes. Assembles text.now bytes) }

@@ -28,7 +28,7 @@ impl<'a> Place<'a> {
         }
     }
 
-    /// Goes past a line. `Err` may leave any place: where memory is wanting, or where an address needs more than 64 bits.
+    /// Goes past a line. `Err` may leave any place: where memory runs out, or where an address needs more than 64 bits.
     pub fn pass(&mut self, line: &'a [u8]) -> Result<(), AllocError>
         ensures labels { OnOk result (rows self.new.labels.items ≡ with_label (rows self.old.labels.items) self.old.address (label_of line.now)) }
         ensures address { OnOk result (self.new.address ≡ self.old.address + size_of line.now) }

@@ -88,7 +88,7 @@ refused_write : (p : Page) (a : ℕ) (b : Bool) → p.prot.write ≡ b → (faul
 refused_write p a true e fault refused = absurd (cc)
 refused_write p a false e fault refused = e
 
--- a page that can be executed, as what was read of it tells, and can't be written
+-- a page that can be executed, as what was read of it says, and can't be written
 unwritable_page : (m : Pages) (a : ℕ) (o : Option Page) (i : Instr) (rest : Result (List ℕ) MemFault) (fault : MemFault) → get m (a / 4096) ≡ o
     → fetched_in (number_in (in_front (byte_in Exec a o) rest)) ≡ Ok i
     → in_front (byte_in Write a o) (Ok []) ≡ Err fault → (p : Page) × (get m (a / 4096) ≡ Some p) × (p.prot.write ≡ false)

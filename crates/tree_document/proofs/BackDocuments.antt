@@ -17,7 +17,7 @@ use Rattle.tree_model.specs.Facts.{directory_there}
 use Rattle.tree_model.specs.Start.{root_tree, root_tree-no_name, root_tree-tree}
 use Rattle.tree_model.specs.Tree.{IsTree, Tree, is_directory, is_directory_kind, is_directory_node, links_of}
 use Rattle.tree_records.specs.Paths.{IsPath, Path, path_bytes}
-use Rattle.tree_records.specs.Records.{Record, path_of, spelled}
+use Rattle.tree_records.specs.Records.{Record, path_of, encoded}
 use Rattle.tree_document.specs.Building.{Making, node_at, start, with_record}
 use Rattle.tree_document.specs.Documents.{AreAllowed, Means, document, with_records}
 use Rattle.tree_document.specs.declared.fault.TreeDocFault.{TreeDocFault}
@@ -88,12 +88,12 @@ paths_more rows row one rest first later =
     ap (λ (p : Path). path_bytes p ∷ map (λ r. path_bytes (path_of r)) rest) first ∙ ap (λ (paths : List (List ℕ)). path_bytes row.0 ∷ paths) later
 
 text_more : (t : Tree) (before rows : List PathRow) (row : PathRow) (one : Record) (rest : List Record)
-    → row_text t (map row_of before) (row_of row) ≡ spelled one → rows_text t (map row_of (before ++ row ∷ [])) (map row_of rows) ≡ document rest
+    → row_text t (map row_of before) (row_of row) ≡ encoded one → rows_text t (map row_of (before ++ row ∷ [])) (map row_of rows) ≡ document rest
     → rows_text t (map row_of before) (map row_of (row ∷ rows)) ≡ document (one ∷ rest)
 text_more t before rows row one rest first later =
     ap (λ (text : List ℕ). text ++ rows_text t (map row_of before ++ row_of row ∷ []) (map row_of rows)) first
-    ∙ ap (λ (rs : List Row). spelled one ++ rows_text t rs (map row_of rows)) (sym (map-append row_of before (row ∷ [])))
-    ∙ ap (λ (text : List ℕ). spelled one ++ text) later
+    ∙ ap (λ (rs : List Row). encoded one ++ rows_text t rs (map row_of rows)) (sym (map-append row_of before (row ∷ [])))
+    ∙ ap (λ (text : List ℕ). encoded one ++ text) later
 
 module _ (t : Tree) (h : IsTree t) where
   read_rows : (rows before : List PathRow) (m : Making) → AreNext t before rows → IsCopy t before m

@@ -13,7 +13,7 @@ use Rattle.tree_model.specs.Changes.{is_file, is_file_kind, linked, made}
 use Rattle.tree_model.specs.Facts.{directory_there}
 use Rattle.tree_model.specs.Tree.{IsTree, Tree, links_in, links_of}
 use Rattle.tree_records.specs.Paths.{IsPath, Path, name_of, parent, path_bytes}
-use Rattle.tree_records.specs.Records.{IsRecord, Record, dir, file, hard, hard_text, link, path_of, spelled}
+use Rattle.tree_records.specs.Records.{IsRecord, Record, dir, file, hard, hard_text, link, path_of, encoded}
 use Rattle.tree_records.proofs.PathLaws.{name_of-push, parent-push}
 use Rattle.tree_document.specs.Building.{IsAllowed, IsPlace, Making, node_at, node_of, with_file, with_node, with_record}
 use Rattle.tree_document.specs.Limits.{IsKept, IsKeptNode}
@@ -32,7 +32,7 @@ pub record IsRead (t : Tree) (before : List PathRow) (m : Making) (p : Path) (n 
   pub one : Record
   pub fits : IsRecord one
   pub allowed : IsAllowed m one
-  pub text : row_text t (map row_of before) (path_bytes p, n) ≡ spelled one
+  pub text : row_text t (map row_of before) (path_bytes p, n) ≡ encoded one
   pub path : path_of one ≡ p
   pub copy : IsCopy t (before ++ (p, n) ∷ []) (with_record m one)
 
@@ -48,8 +48,8 @@ module _ (t : Tree) (h : IsTree t) (before : List PathRow) (m : Making) (c : IsC
   last : next.name ≡ name_of p
   last = sym (ap name_of next.path ∙ name_of-push next.above next.name)
 
-  told : (k : NodeKind) → node.kind ≡ k → row_text t (map row_of before) (path_bytes p, n) ≡ kind_text (first_in (map row_of before) n) (path_bytes p) k
-  told k same =
+  reported : (k : NodeKind) → node.kind ≡ k → row_text t (map row_of before) (path_bytes p, n) ≡ kind_text (first_in (map row_of before) n) (path_bytes p) k
+  reported k same =
       ap (node_text (first_in (map row_of before) n) (path_bytes p)) is ∙ ap (kind_text (first_in (map row_of before) n) (path_bytes p)) same
 
   kind_is : (k : NodeKind) → node.kind ≡ k → kind_of t n ≡ Some k
@@ -129,7 +129,7 @@ module _ (t : Tree) (h : IsTree t) (before : List PathRow) (m : Making) (c : IsC
             ap (λ (path : List ℕ). is_some (get m.files path)) (sym row.2) ∙ c.files n first is_one e,
             link_place m p row.0 next.name room.at at_parent last old.copy (sym old.copied) free,
           );
-          text = told (kind.File bytes) same ∙ ap (λ (o : Option (List ℕ)). kind_text o (path_bytes p) (kind.File bytes)) e
+          text = reported (kind.File bytes) same ∙ ap (λ (o : Option (List ℕ)). kind_text o (path_bytes p) (kind.File bytes)) e
               ∙ ap (hard_text (path_bytes p)) row.2;
           path = refl;
           copy = subst (IsCopy t (before ++ (p, n) ∷ []))
@@ -144,7 +144,7 @@ module _ (t : Tree) (h : IsTree t) (before : List PathRow) (m : Making) (c : IsC
     one = dir p;
     fits = good;
     allowed = may_stand;
-    text = told kind.Directory same;
+    text = reported kind.Directory same;
     path = refl;
     copy = copy_other kind.Directory same refl;
   }
@@ -152,7 +152,7 @@ module _ (t : Tree) (h : IsTree t) (before : List PathRow) (m : Making) (c : IsC
     one = link p text;
     fits = (good, kept);
     allowed = may_stand;
-    text = told (kind.Link text) same;
+    text = reported (kind.Link text) same;
     path = refl;
     copy = copy_other (kind.Link text) same refl;
   }
@@ -162,7 +162,7 @@ module _ (t : Tree) (h : IsTree t) (before : List PathRow) (m : Making) (c : IsC
           one = file p bytes;
           fits = (good, kept);
           allowed = may_stand;
-          text = told (kind.File bytes) same ∙ ap (λ (o : Option (List ℕ)). kind_text o (path_bytes p) (kind.File bytes)) none;
+          text = reported (kind.File bytes) same ∙ ap (λ (o : Option (List ℕ)). kind_text o (path_bytes p) (kind.File bytes)) none;
           path = refl;
           copy = copy_file bytes same none;
         }

@@ -6,8 +6,8 @@ use Rattle.lists.proofs.OptionSteps.{bind_some}
 use Rattle.abi_types.specs.declared.node.Times.{Times}
 use Rattle.tree_model.specs.Tree.{Tree}
 use Rattle.tree_records.specs.Reading.{record_at}
-use Rattle.tree_records.specs.Records.{Record, IsRecord, spelled}
-use Rattle.tree_records.proofs.RecordTexts.{record_again, record_found, spelled_some}
+use Rattle.tree_records.specs.Records.{Record, IsRecord, encoded}
+use Rattle.tree_records.proofs.RecordTexts.{record_again, record_found, encoded_some}
 use Rattle.tree_document.specs.Building.{IsAllowed, Making, start, with_record}
 use Rattle.tree_document.specs.Documents.{IsFaultyAt, IsNoRecord, Means}
 use Rattle.tree_document.specs.Meaning.{from_next, is_allowed, meaning, meaning_within, next_at}
@@ -21,7 +21,7 @@ abbrev if_allowed : Making → Option (Record × List ℕ) → Option (Record ×
 if_allowed m o = o >>= λ next. if is_allowed m next.0 then Some next else None
 
 next_found : (m : Making) (text : List ℕ) (next : Record × List ℕ) → next_at m text ≡ Some next
-    → IsRecord next.0 × IsAllowed m next.0 × (text ≡ spelled next.0 ++ next.1)
+    → IsRecord next.0 × IsAllowed m next.0 × (text ≡ encoded next.0 ++ next.1)
 next_found m text next e =
     let read = bind_some (record_at text) (λ x. if is_allowed m x.0 then Some x else None) next e in
     elim (chosen (is_allowed m read.0.0) (Some read.0) None (Some next) read.2) [
@@ -56,7 +56,7 @@ module _ (times : Times) (bytes : List ℕ) where
         | None ↦ λ none. behind_fault times bytes (b ∷ bs) m (length bytes - length (b ∷ bs)) h (omega arith) refl (no_next m (b ∷ bs) none)
         | Some next ↦ λ there.
             let found = next_found m (b ∷ bs) next there in
-            let shorter = spelled_some next.0 next.1 in
+            let shorter = encoded_some next.0 next.1 in
             let size = ap length found.2 in
             within_so fuel (with_record m next.0) next.1
             (behind_more times bytes (b ∷ bs) next.1 m (with_record m next.0) next.0 h found.0 found.1 found.2 refl) (omega arith)

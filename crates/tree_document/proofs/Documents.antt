@@ -12,8 +12,8 @@ use Rattle.tree_model.specs.declared.limits.TheConstants.{ROOT}
 use Rattle.tree_model.specs.Changes.{is_absent, one_more_in, with_count}
 use Rattle.tree_model.specs.Start.{root_node}
 use Rattle.tree_records.specs.Paths.{name_of, parent}
-use Rattle.tree_records.specs.Records.{Record, IsRecord, dir, file, link, hard, spelled}
-use Rattle.tree_records.proofs.RecordTexts.{spelled_some}
+use Rattle.tree_records.specs.Records.{Record, IsRecord, dir, file, link, hard, encoded}
+use Rattle.tree_records.proofs.RecordTexts.{encoded_some}
 use Rattle.tree_document.specs.Building.{IsAllowed, IsFresh, Making, node_at, node_of, start, with_name_in, with_node_in, with_record}
 use Rattle.tree_document.specs.Documents.{AreAllowed, IsFaultyAt, IsNoRecord, Means, document, with_records}
 
@@ -27,11 +27,11 @@ allowed_push : (m : Making) (rs : List Record) (r : Record) → AreAllowed m rs 
 allowed_push m [] r h fits here = (fits, here, tt)
 allowed_push m (s ∷ rs) r h fits here = (h.0, h.1, allowed_push (with_record m s) rs r h.2 fits here)
 
-document_push : (rs : List Record) (r : Record) (rest : List ℕ) → document rs ++ (spelled r ++ rest) ≡ document (rs ++ r ∷ []) ++ rest
-document_push [] r rest = ap (λ (bs : List ℕ). bs ++ rest) (sym (append-nil (spelled r)))
+document_push : (rs : List Record) (r : Record) (rest : List ℕ) → document rs ++ (encoded r ++ rest) ≡ document (rs ++ r ∷ []) ++ rest
+document_push [] r rest = ap (λ (bs : List ℕ). bs ++ rest) (sym (append-nil (encoded r)))
 document_push (s ∷ rs) r rest =
-    append_assoc (spelled s) (document rs) (spelled r ++ rest) ∙ ap (λ (bs : List ℕ). spelled s ++ bs) (document_push rs r rest)
-    ∙ sym (append_assoc (spelled s) (document (rs ++ r ∷ [])) rest)
+    append_assoc (encoded s) (document rs) (encoded r ++ rest) ∙ ap (λ (bs : List ℕ). encoded s ++ bs) (document_push rs r rest)
+    ∙ sym (append_assoc (encoded s) (document (rs ++ r ∷ [])) rest)
 
 -- ---- the numbers from the next one on are no nodes'
 
@@ -85,7 +85,7 @@ next_records m [] = omega arith
 next_records m (r ∷ rs) =
     let later = next_records (with_record m r) rs in
     let one = next_more m r in
-    let some = spelled_some r (document rs) in
+    let some = encoded_some r (document rs) in
     omega arith
 
 -- ---- what a reader has read
@@ -100,7 +100,7 @@ pub record Behind (times : Times) (bytes rest : List ℕ) (m : Making) : Type 0 
 pub behind_start : (times : Times) (bytes : List ℕ) (m : Making) → m ≡ start times → Behind times bytes bytes m
 behind_start times bytes m e = record { before = []; allowed = tt; text = refl; made = e }
 
-pub behind_more : (times : Times) (bytes text rest : List ℕ) (m new : Making) (r : Record) → Behind times bytes text m → IsRecord r → IsAllowed m r → text ≡ spelled r ++ rest
+pub behind_more : (times : Times) (bytes text rest : List ℕ) (m new : Making) (r : Record) → Behind times bytes text m → IsRecord r → IsAllowed m r → text ≡ encoded r ++ rest
     → new ≡ with_record m r → Behind times bytes rest new
 behind_more times bytes text rest m new r h fits here front e = record {
   before = h.before ++ r ∷ [];

@@ -3,8 +3,8 @@ use Rattle.std.proofs.Common.{◌≡◌, ◌⊎◌, inl, inr, ℕ, List, [], ◌
 use Rattle.std.proofs.lemmas.List.{append-nil}
 use Rattle.abi_types.specs.declared.node.Times.{Times}
 use Rattle.tree_model.specs.Tree.{Tree}
-use Rattle.tree_records.specs.Records.{Record, spelled}
-use Rattle.tree_records.proofs.RecordTexts.{one_record, spelled_some}
+use Rattle.tree_records.specs.Records.{Record, encoded}
+use Rattle.tree_records.proofs.RecordTexts.{one_record, encoded_some}
 use Rattle.tree_document.specs.Building.{Making, start, with_record}
 use Rattle.tree_document.specs.Documents.{AreAllowed, IsFaultyAt, IsNoRecord, Means, document, with_records}
 
@@ -25,7 +25,7 @@ one_begins m [] ss a b h k e = inl (record { more = ss; is = refl; allowed = k; 
 one_begins m (r ∷ rs) [] a b h k e = inr (record { more = r ∷ rs; is = refl; allowed = h; text = sym e })
 one_begins m (r ∷ rs) (s ∷ ss) a b h k e =
     let both = one_record r s (document rs ++ a) (document ss ++ b) h.0 k.0
-    (sym (append_assoc (spelled r) (document rs) a) ∙ e ∙ append_assoc (spelled s) (document ss) b) in
+    (sym (append_assoc (encoded r) (document rs) a) ∙ e ∙ append_assoc (encoded s) (document ss) b) in
     let later = one_begins (with_record m r) rs ss a b h.2 (subst (λ (x : Record). AreAllowed (with_record m x) ss) (sym both.0) k.2) both.1 in
     subst (λ (x : Record). Longer m (r ∷ rs) (x ∷ ss) a b ⊎ Longer m (x ∷ ss) (r ∷ rs) b a) both.0
     (elim later [ inl one ↦ inl (longer_more m r rs ss a b one) | inr one ↦ inr (longer_more m r ss rs b a one) ])
@@ -33,14 +33,14 @@ one_begins m (r ∷ rs) (s ∷ ss) a b h k e =
 -- what begins with no record has no more records in front
 none_more : (m : Making) (more : List Record) (text rest : List ℕ) → IsNoRecord m text → AreAllowed m more → text ≡ document more ++ rest → (more ≡ []) × (text ≡ rest)
 none_more m [] text rest none h e = (refl, e)
-none_more m (r ∷ more) text rest none h e = absurd (none r (document more ++ rest) h.0 h.1 (e ∙ append_assoc (spelled r) (document more) rest))
+none_more m (r ∷ more) text rest none h e = absurd (none r (document more ++ rest) h.0 h.1 (e ∙ append_assoc (encoded r) (document more) rest))
 
 -- nothing has no records
 empty_more : (more : List Record) (rest : List ℕ) → [] ≡ document more ++ rest → (more ≡ []) × (rest ≡ [])
 empty_more [] rest e = (refl, sym e)
 empty_more (r ∷ more) rest e =
-    let some = spelled_some r (document more ++ rest) in
-    let size = ap length (e ∙ append_assoc (spelled r) (document more) rest) in
+    let some = encoded_some r (document more ++ rest) in
+    let size = ap length (e ∙ append_assoc (encoded r) (document more) rest) in
     absurd (omega arith)
 
 same_records : (m : Making) (few many : List Record) (b : List ℕ) → Longer m few many [] b → many ≡ few

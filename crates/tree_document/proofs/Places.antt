@@ -1,4 +1,4 @@
--- Where a record may stand, as changes of a tree tell it.
+-- Where a record may stand, as changes of a tree show it.
 use Rattle.std.proofs.Common.{◌≡◌, ℕ, ◌+◌, List, Option, Some, None, sym, ap, subst, ◌∙◌}
 use Rattle.abi_types.specs.declared.node.NodeKind.{NodeKind}
 use Rattle.tree_model.specs.declared.fault.TreeFault.{TreeFault}
@@ -12,7 +12,7 @@ use Rattle.tree_document.specs.Building.{IsLinkPlace, IsLinkPlaceIn, IsPlace, Is
 abbrev some_node : ℕ → Option ℕ
 some_node n = Some n
 
--- what is refused though it has no fault is refused for want of memory
+-- what is refused though it has no fault is refused since memory ran out
 no_fault : (o : Option TreeFault) (fault : TreeFault) → IsRefusal o fault → o ≡ None → fault ≡ NoMemory
 no_fault o fault h none = subst (λ (x : Option TreeFault). IsRefusal x fault) none h
 

@@ -27,7 +27,7 @@ node_at t d (name ∷ more) = entry_of t d name >>= λ n. node_at t n more
 -- ---- what records make
 
 -- the tree of the records so far, the times of each node, the number of the next one, and the paths of the `file` records as
--- these spell them
+-- these write them
 pub record Making : Type 0 where
   pub tree : Tree
   pub times : Times

@@ -7,12 +7,12 @@ use Rattle.std.specs.Prelude.{◌≡◌, ◌≢◌, ℕ, List, [], ◌∷◌, �
 use Rattle.std.specs.List.{flat_map}
 use Rattle.abi_types.specs.declared.node.Times.{Times}
 use Rattle.tree_model.specs.Tree.{Tree}
-use Rattle.tree_records.specs.Records.{Record, IsRecord, spelled}
+use Rattle.tree_records.specs.Records.{Record, IsRecord, encoded}
 use Rattle.tree_document.specs.Building.{Making, start, IsAllowed, with_record}
 
 -- the text of records
 abbrev pub document : List Record → List ℕ
-document rs = flat_map spelled rs
+document rs = flat_map encoded rs
 
 -- each is a record that may stand behind those before it
 abbrev pub AreAllowed : Making → List Record → Type 0
@@ -32,7 +32,7 @@ pub record Means (times : Times) (bytes : List ℕ) (t : Tree) : Type 0 where
 
 -- no record that may stand next begins the text
 abbrev pub IsNoRecord : Making → List ℕ → Type 0
-IsNoRecord m text = (r : Record) (more : List ℕ) → IsRecord r → IsAllowed m r → text ≡ spelled r ++ more → ⊥
+IsNoRecord m text = (r : Record) (more : List ℕ) → IsRecord r → IsAllowed m r → text ≡ encoded r ++ more → ⊥
 
 -- the text is no document: records that may stand where they stand fill the bytes before this one, and what follows is not
 -- nothing, and begins with no record that may stand there

@@ -2,7 +2,7 @@
 --     kind_at t p      what a path leads to, with its bytes or its text
 --     AreOfOneFile t p q      two paths lead to one file
 --     IsSameTree t u      the same paths lead to the same nodes, and the same ones to one file
---     IsSameOrLacking t read      what was read is the same tree, or memory was wanting
+--     IsSameOrLacking t read      what was read is the same tree, or memory ran out
 use Rattle.std.specs.Prelude.{◌≡◌, ◌↔◌, ℕ, true, Option, None, Some, is_some, Result, Ok, Err}
 use Rattle.std.specs.FinMap.{get}
 use Rattle.lists.specs.Options.{◌>>=◌}
@@ -40,7 +40,7 @@ pub record IsSameTree (t u : Tree) : Type 0 where
   pub kinds : (p : Path) → kind_at t p ≡ kind_at u p
   pub files : (p q : Path) → AreOfOneFile t p q ↔ AreOfOneFile u p q
 
--- what was read is the same tree, or nothing was read for want of memory
+-- what was read is the same tree, or nothing was read since memory ran out
 abbrev pub IsSameOrLacking : Tree → Result Tree TreeDocFault → Type 0
 IsSameOrLacking t (Ok u) = IsSameTree t u
 IsSameOrLacking t (Err fault) = fault ≡ NoMemory

@@ -15,7 +15,7 @@ use Rattle.tree_document.specs.Building.{Making}
 abbrev pub making : Building → Making
 making b = record { tree = b.tree; times = b.times; next = b.next; files = b.files }
 
--- a stop that isn't for want of memory
+-- a stop that isn't for lack of memory
 abbrev pub IsAt : {F : Type 0} → Stop F → Type 0
 IsAt (At f) = Unit {0}
 IsAt Memory = ⊥

@@ -10,7 +10,7 @@ pub enum TreeDocFault {
         /// Where it begins.
         byte: u64,
     },
-    /// Memory is wanting.
-    #[error("memory is wanting")]
+    /// Memory ran out.
+    #[error("memory ran out")]
     NoMemory,
 }

@@ -16,7 +16,7 @@ ghost use Rattle.tree_document.specs.Views.{Gives};
 ghost use Rattle.tree_document.specs.declared.fault.TreeDocFault.{TreeDocFault};
 
 /// A text means one tree, or is faulty at one byte, and never both. So what [`crate::read_tree`] returns is the only tree or
-/// fault that there is for the text, unless memory was wanting.
+/// fault that there is for the text, unless memory ran out.
 pub fn a_text_has_one_meaning()
     ensures tree { (times : Times) (bytes : List ℕ) (t u : Tree) → Means times bytes t → Means times bytes u → t ≡ u }
     ensures fault { (times : Times) (bytes : List ℕ) (a b : ℕ) → IsFaultyAt times bytes a → IsFaultyAt times bytes b → a ≡ b }
@@ -48,7 +48,7 @@ pub fn what_is_printed_is_a_document()
 
 /// What is printed of a tree that keeps the limits means the same tree: the same names, bytes and texts, and the same shared names
 /// of files. Numbers and times of nodes may differ. So [`crate::read_tree`] of what [`crate::tree_text`] printed, which is as
-/// computed, is the same tree, or memory was wanting.
+/// computed, is the same tree, or memory ran out.
 pub fn what_is_printed_reads_back()
     ensures means { (times : Times) (t : Tree) → IsTree t → KeepsLimits t → (u : Tree) × Means times (printed t) u × IsSameTree t u }
     ensures read { (times : Times) (t : Tree) (read : Result Tree TreeDocFault) → IsTree t → KeepsLimits t → Gives read (meaning times (printed t))

@@ -1,6 +1,6 @@
-//! Tree documents: texts that spell the nodes of a file tree, record by record. The crate tree_records has the records.
+//! Tree documents: texts that encode the nodes of a file tree, record by record. The crate tree_records has the records.
 //!
-//! [`read_tree`] gives the tree that a text means, or tells where the text is faulty; [`tree_text`] prints a tree. What a text
+//! [`read_tree`] gives the tree that a text means, or says where the text is faulty; [`tree_text`] prints a tree. What a text
 //! means is defined in `specs/Documents.antt`, and what is printed in `specs/Printing.antt`.
 #![tactic(auto)]
 

@@ -94,7 +94,7 @@ pub struct TreeText {
 /// text, but for the steps that maps take to find a node.
 ///
 /// # Errors
-/// For want of memory alone.
+/// Only where memory runs out.
 pub fn tree_text(alloc: Global, tree: &Tree) -> Result<TreeText, AllocError>
     ensures text { IfOk result (λ document. document.text ≡ printed tree.now) }
     ensures records { IfOk result (λ document. document.records ≡ length (listing tree.now)) }

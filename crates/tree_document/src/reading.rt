@@ -1,7 +1,7 @@
 //! The tree that a text means.
 ghost use Rattle.std.specs.Prelude.{◌≡◌, ◌<◌, ◌+◌, ◌^◌, ◌++◌, ℕ, List, IfOk, IfErr, length};
 ghost use Rattle.tree_model.specs.Grants.{IsStartTree};
-ghost use Rattle.tree_records.specs.Records.{Record, IsRecord, spelled};
+ghost use Rattle.tree_records.specs.Records.{Record, IsRecord, encoded};
 ghost use Rattle.tree_document.specs.Building.{IsAllowed, IsFresh, with_record};
 ghost use Rattle.tree_document.specs.Documents.{IsFaultyAt, IsNoRecord, Means};
 ghost use Rattle.tree_document.specs.Meaning.{meaning};
@@ -19,7 +19,7 @@ use tree_records::{Read, read_record};
 fn add_next<'a>(alloc: Global, building: &mut Building, text: &'a [u8]) -> Read<&'a [u8]>
     requires fresh { IsFresh (making building.old) }
     requires room { building.old.next + 1 < 2 ^ 64 }
-    ensures ok { IfOk result (λ rest. (r : Record) × IsRecord r × IsAllowed (making building.old) r × (text.now ≡ spelled r ++ rest.now)
+    ensures ok { IfOk result (λ rest. (r : Record) × IsRecord r × IsAllowed (making building.old) r × (text.now ≡ encoded r ++ rest.now)
         × (making building.new ≡ with_record (making building.old) r)) }
     ensures err { IfErr result (λ stop. IsAt stop → IsNoRecord (making building.old) text.now) }
     ensures shorter { IfOk result (λ rest. length rest.now < length text.now) }
@@ -35,7 +35,7 @@ fn add_next<'a>(alloc: Global, building: &mut Building, text: &'a [u8]) -> Read<
 ///
 /// # Errors
 /// [`TreeDocFault::At`] exactly where the text is no tree document, with the byte at which the first record begins that is
-/// none or may not stand there. [`TreeDocFault::NoMemory`] where memory is wanting.
+/// none or may not stand there. [`TreeDocFault::NoMemory`] where memory ran out.
 pub fn read_tree(alloc: Global, bytes: &[u8], times: Times) -> Result<Tree, TreeDocFault>
     requires { length bytes.now < 2 ^ 31 }
     ensures tree { IfOk result (λ tree. Means times bytes.now tree) }

@@ -1,6 +1,6 @@
 -- What each change of a tree makes of it, and the faults for which it is refused.
 --     first_fault faults      the first fault of the table whose condition holds
---     IsRefusal first fault      a change is refused with its table's first fault, or where there is none for want of memory
+--     IsRefusal first fault      a change is refused with its table's first fault, or where there is none for lack of memory
 --     make_faults, made      a new node with its first name
 --     link_faults, linked      one more name of a node
 --     unlink_faults, unlinked      a name is taken away
@@ -32,7 +32,7 @@ abbrev pub first_fault : Faults → Option TreeFault
 first_fault [] = None
 first_fault (f ∷ faults) = if f.0 then Some f.1 else first_fault faults
 
--- a change whose table has this first fault is refused with it; and for want of memory only where the table has none
+-- a change whose table has this first fault is refused with it; and for lack of memory only where the table has none
 abbrev pub IsRefusal : Option TreeFault → TreeFault → Type 0
 IsRefusal None fault = fault ≡ NoMemory
 IsRefusal (Some first) fault = fault ≡ first

@@ -23,7 +23,7 @@ pub enum TreeFault {
     Links,
     /// The file would be larger than a file may be.
     TooLarge,
-    /// Memory is wanting.
+    /// Memory ran out.
     NoMemory,
 }
 

@@ -1,4 +1,4 @@
--- Numbers in decimal: what is read is spelled so, and what is spelled so is read.
+-- Numbers in decimal: what is read is encoded so, and what is encoded so is read.
 use Rattle.std.proofs.Common.{◌≡◌, ◌≢◌, ℕ, zero, suc, ◌+◌, ◌-◌, ◌*◌, ◌^◌, ◌<◌, ◌≤◌, true, false, eqb, leb, not, ◌&&◌, List, [], ◌∷◌, length, get_or, Option, Some, None, inl, inr, refl, sym, ap, subst, ◌∙◌, arith}
 use Rattle.std.proofs.Math.Dec.{eqb-suc-zero}
 use Rattle.std.proofs.lemmas.Bool.{and_from, and_left, and_parts, cond-false, cond-true, le-leb, leb-true, ne_eqb}
@@ -53,7 +53,7 @@ behind_small n m (b ∷ bs) h e =
       | inr other ↦ absurd (none_some n other.1)
     ]
 
--- a number that is read is the one that its digits spell, which is no more than a file may have
+-- a number that is read is the one that its digits stand for, which is no more than a file may have
 pub number_found : (ds : List ℕ) (n : ℕ) → number_at ds ≡ Some n → (ds ≡ decimal n) × (n ≤ MOST_FILE_BYTES)
 number_found [] n e = absurd (none_some n e)
 number_found (b ∷ bs) n e =
@@ -76,7 +76,7 @@ number_found (b ∷ bs) n e =
         two_answers : false ≡ true → ⊥
         two_answers k = cc
 
--- ---- what is spelled
+-- ---- what is encoded
 
 value_ge : (m : ℕ) (ds : List ℕ) → m ≤ digits_value_after 10 m ds
 value_ge m [] = omega arith

@@ -1,4 +1,4 @@
--- Records: what is read is spelled so, and what is spelled so is read.
+-- Records: what is read is encoded so, and what is encoded so is read.
 use Rattle.std.proofs.Common.{◌≡◌, ◌≢◌, ℕ, ◌<◌, ◌≤◌, true, false, eqb, not, ◌&&◌, List, ◌∷◌, ◌++◌, length, Option, Some, None, Result, Ok, Err, inl, inr, refl, sym, ap, subst, ◌∙◌, append_assoc, arith, length-append}
 use Rattle.std.proofs.lemmas.Bool.{and_from, and_parts, eqb-false, not-true}
 use Rattle.std.proofs.lemmas.Str.{IsUtf8-from_is_utf8, is_utf8-from_IsUtf8}
@@ -16,7 +16,7 @@ use Rattle.tree_model.specs.declared.limits.TheConstants.{MOST_FILE_BYTES}
 use Rattle.tree_records.specs.declared.limits.TheConstants.{MOST_TEXT_BYTES}
 use Rattle.tree_records.specs.Escapes.{escaped}
 use Rattle.tree_records.specs.Paths.{Path, path_bytes, IsPath}
-use Rattle.tree_records.specs.Records.{Record, dir, file, link, hard, IsLinkText, IsRecord, line, line_with, spelled}
+use Rattle.tree_records.specs.Records.{Record, dir, file, link, hard, IsLinkText, IsRecord, line, line_with, encoded}
 use Rattle.tree_records.specs.Reading.{content_at, is_link_text, is_sized, is_word, number_at, path_at, record_at, record_of, record_with, record_with_content, split_once}
 use Rattle.tree_records.proofs.Numbers.{decimal_without, number_again, number_found}
 use Rattle.tree_records.proofs.PathTexts.{escaped_short, escaped_without, path_again, path_found}
@@ -53,7 +53,7 @@ map_read f (Some x) y e = (x, refl, some_is (f x) y e)
 -- a word, a path and a content that are read make the record whose text they are
 pub record IsTextOf (word : List ℕ) (p : Path) (content : List ℕ) (r : Record) : Type 0 where
   pub fits : IsRecord r
-  pub text : line_with word (path_bytes p) content ≡ spelled r
+  pub text : line_with word (path_bytes p) content ≡ encoded r
 
 word_is : (known word : List ℕ) → is_word known word ≡ true → word ≡ known
 word_is known word h = (bytes_decides word known).0 h
@@ -62,14 +62,14 @@ of_file : (word : List ℕ) (p : Path) (content : List ℕ) (r : Record) → IsP
     → IsTextOf word p content r
 of_file word p content r path small is made = record {
   fits = subst IsRecord made (path, small);
-  text = ap (λ (w : List ℕ). line_with w (path_bytes p) content) is ∙ ap spelled made;
+  text = ap (λ (w : List ℕ). line_with w (path_bytes p) content) is ∙ ap encoded made;
 }
 
 of_link : (word : List ℕ) (p : Path) (content : List ℕ) (r : Record) → IsPath p → is_link_text content ≡ true → word ≡ codes "link" → link p content ≡ r
     → IsTextOf word p content r
 of_link word p content r path good is made = record {
   fits = subst IsRecord made (path, link_text_from_test content good);
-  text = ap (λ (w : List ℕ). line_with w (path_bytes p) content) is ∙ ap spelled made;
+  text = ap (λ (w : List ℕ). line_with w (path_bytes p) content) is ∙ ap encoded made;
 }
 
 of_hard : (word : List ℕ) (p : Path) (content : List ℕ) (r : Record) (target : Path) → IsPath p → path_at content ≡ Some target → word ≡ codes "hard"
@@ -78,7 +78,7 @@ of_hard word p content r target path read is made =
     let found = path_found content target read in
     record {
       fits = subst IsRecord made (path, found.1);
-      text = ap (λ (w : List ℕ). line_with w (path_bytes p) content) is ∙ ap (line_with (codes "hard") (path_bytes p)) found.0 ∙ ap spelled made;
+      text = ap (λ (w : List ℕ). line_with w (path_bytes p) content) is ∙ ap (line_with (codes "hard") (path_bytes p)) found.0 ∙ ap encoded made;
     }
 
 record_of_found : (word : List ℕ) (p : Path) (content : List ℕ) (r : Record) → IsPath p → length content ≤ MOST_FILE_BYTES → record_of word p content ≡ Some r
@@ -108,7 +108,7 @@ line_with_and : (word path content rest : List ℕ)
 line_with_and word path content rest = simp append_assoc
 
 abbrev IsFound : List ℕ → Record → List ℕ → Type 0
-IsFound text r rest = IsRecord r × (text ≡ spelled r ++ rest)
+IsFound text r rest = IsRecord r × (text ≡ encoded r ++ rest)
 
 content_case : (word arguments behind : List ℕ) (r : Record) (rest : List ℕ) → record_with_content word arguments behind ≡ Some (r, rest)
     → IsFound ((word ++ 32 ∷ arguments) ++ 10 ∷ behind) r rest
@@ -130,7 +130,7 @@ content_case word arguments behind r rest e =
           ∙ (λ i. (word ++ 32 ∷ ((digits.0 ∙ ap decimal (sym bytes.1)) i ++ 32 ∷ names.0 i)) ++ 10 ∷ bytes.0 i)
           ∙ line_with_and word (path_bytes path.0) content.0.0 content.0.1
           ∙ ap (λ (xs : List ℕ). xs ++ content.0.1) text.text
-          ∙ ap (λ (x : Record × List ℕ). spelled x.0 ++ x.1) same,
+          ∙ ap (λ (x : Record × List ℕ). encoded x.0 ++ x.1) same,
     )
 
 with_found : (word arguments behind : List ℕ) (r : Record) (rest : List ℕ) → record_with word arguments behind ≡ Some (r, rest)
@@ -143,13 +143,13 @@ with_found word arguments behind r rest e =
             subst IsRecord (ap (λ (x : Record × List ℕ). x.0) path.2) names.1,
             (λ i. (word_is (codes "dir") word is.0 i ++ 32 ∷ names.0 i) ++ 10 ∷ behind)
                 ∙ line_and (codes "dir") (path_bytes path.0) behind
-                ∙ ap (λ (x : Record × List ℕ). spelled x.0 ++ x.1) path.2,
+                ∙ ap (λ (x : Record × List ℕ). encoded x.0 ++ x.1) path.2,
           )
       | inr other ↦ content_case word arguments behind r rest other.1
     ]
 
 -- a record that is read is well-formed, and its text stands at the front
-pub record_found : (bytes : List ℕ) (r : Record) (rest : List ℕ) → record_at bytes ≡ Some (r, rest) → IsRecord r × (bytes ≡ spelled r ++ rest)
+pub record_found : (bytes : List ℕ) (r : Record) (rest : List ℕ) → record_at bytes ≡ Some (r, rest) → IsRecord r × (bytes ≡ encoded r ++ rest)
 unfolding record_at
 record_found bytes r rest e =
     let head = bind_some (split_once 10 bytes) _ (r, rest) e in
@@ -161,7 +161,7 @@ record_found bytes r rest e =
           ∙ found.1,
     )
 
--- ---- what is spelled
+-- ---- what is encoded
 
 without_from_test : (c : ℕ) (bytes : List ℕ) → list_all (λ b. not (eqb b c)) bytes ≡ true → Without c bytes
 without_from_test c = all_from_test (λ b. not (eqb b c)) (λ b. b ≢ c) (λ b h. eqb-false b c (not-true (eqb b c) h))
@@ -194,10 +194,10 @@ arguments_clean n p small =
     without_both 10 (decimal n) (32 ∷ escaped (path_bytes p)) (decimal_without 10 n (λ h. omega (arith, h.0, h.1)) small)
     ((λ e. omega arith), escaped_without (path_bytes p))
 
-spelled_with : (word : List ℕ) (p : Path) (content rest : List ℕ) → Without 32 word → Without 10 word → is_word (codes "dir") word ≡ false
+encoded_with : (word : List ℕ) (p : Path) (content rest : List ℕ) → Without 32 word → Without 10 word → is_word (codes "dir") word ≡ false
     → IsPath p → length content ≤ MOST_FILE_BYTES
     → record_at (line_with word (path_bytes p) content ++ rest) ≡ (record_of word p content >>= λ r. Some (r, rest))
-spelled_with word p content rest no_space no_feed other path small =
+encoded_with word p content rest no_space no_feed other path small =
     ap record_at (sym (line_with_and word (path_bytes p) content rest))
     ∙ head_again word (decimal (length content) ++ 32 ∷ escaped (path_bytes p)) (content ++ 10 ∷ rest) no_space no_feed (arguments_clean (length content) p small)
     ∙ ap (λ b. if b then option_map (λ q. (dir q, content ++ 10 ∷ rest)) (path_at (decimal (length content) ++ 32 ∷ escaped (path_bytes p)))
@@ -205,26 +205,26 @@ spelled_with word p content rest no_space no_feed other path small =
     ∙ content_again_of word p content rest path small
 
 -- a well-formed record's text is read as that record, whatever stands behind it
-pub record_again : (r : Record) (rest : List ℕ) → IsRecord r → record_at (spelled r ++ rest) ≡ Some (r, rest)
+pub record_again : (r : Record) (rest : List ℕ) → IsRecord r → record_at (encoded r ++ rest) ≡ Some (r, rest)
 record_again (dir p) rest h =
     ap record_at (sym (line_and (codes "dir") (path_bytes p) rest))
     ∙ head_again (codes "dir") (escaped (path_bytes p)) rest (without_from_test 32 (codes "dir") refl) (without_from_test 10 (codes "dir") refl) (escaped_without (path_bytes p))
     ∙ ap (option_map (λ (q : Path). (dir q, rest))) (path_again p h)
 record_again (file p content) rest h =
-    spelled_with (codes "file") p content rest (without_from_test 32 (codes "file") refl) (without_from_test 10 (codes "file") refl) refl h.0 h.1
+    encoded_with (codes "file") p content rest (without_from_test 32 (codes "file") refl) (without_from_test 10 (codes "file") refl) refl h.0 h.1
 record_again (link p content) rest h =
     let short = h.1.short in
-    spelled_with (codes "link") p content rest (without_from_test 32 (codes "link") refl) (without_from_test 10 (codes "link") refl) refl h.0 (omega arith)
+    encoded_with (codes "link") p content rest (without_from_test 32 (codes "link") refl) (without_from_test 10 (codes "link") refl) refl h.0 (omega arith)
     ∙ ap (λ (o : Option Record). o >>= λ r. some_read r rest)
     (ap (λ b. if b then some_record (link p content) else None) (test_from_link_text content h.1))
 record_again (hard p target) rest h =
     let short = h.1.short in
     let written = escaped_short (path_bytes target) in
-    spelled_with (codes "hard") p (escaped (path_bytes target)) rest (without_from_test 32 (codes "hard") refl) (without_from_test 10 (codes "hard") refl) refl h.0 (omega arith)
+    encoded_with (codes "hard") p (escaped (path_bytes target)) rest (without_from_test 32 (codes "hard") refl) (without_from_test 10 (codes "hard") refl) refl h.0 (omega arith)
     ∙ ap (λ (o : Option Path). option_map (λ q. hard p q) o >>= λ r. some_read r rest) (path_again target h.1)
 
 -- texts of records that begin alike are one record's
-pub one_record : (r s : Record) (a b : List ℕ) → IsRecord r → IsRecord s → spelled r ++ a ≡ spelled s ++ b → (r ≡ s) × (a ≡ b)
+pub one_record : (r s : Record) (a b : List ℕ) → IsRecord r → IsRecord s → encoded r ++ a ≡ encoded s ++ b → (r ≡ s) × (a ≡ b)
 one_record r s a b fits good same =
     let read = some_is (r, a) (s, b) (sym (record_again r a fits) ∙ ap record_at same ∙ record_again s b good) in
     (ap (λ (x : Record × List ℕ). x.0) read, ap (λ (x : Record × List ℕ). x.1) read)
@@ -232,26 +232,26 @@ one_record r s a b fits good same =
 -- ---- what a reader of records says
 
 -- a record's text isn't empty
-pub spelled_some : (r : Record) (rest : List ℕ) → length rest < length (spelled r ++ rest)
-spelled_some r rest = let some = word_some r in omega (arith, length-append (spelled r) rest)
+pub encoded_some : (r : Record) (rest : List ℕ) → length rest < length (encoded r ++ rest)
+encoded_some r rest = let some = word_some r in omega (arith, length-append (encoded r) rest)
   where
-    word_some : (s : Record) → 0 < length (spelled s)
+    word_some : (s : Record) → 0 < length (encoded s)
     word_some (dir p) = omega arith
     word_some (file p bytes) = omega arith
     word_some (link p text) = omega arith
     word_some (hard p target) = omega arith
 
 module _ {X F : Type 0} (seen : X → Record × List ℕ) (bytes : List ℕ) where
-  pub found_told : (r : Result X (Stop F)) → Reads seen r (record_at bytes)
-      → IfOk r (λ x. IsRecord (seen x).0 × (bytes ≡ spelled (seen x).0 ++ (seen x).1))
-  found_told (Ok x) h = record_found bytes (seen x).0 (seen x).1 h
-  found_told (Err e) h = tt
+  pub found_reported : (r : Result X (Stop F)) → Reads seen r (record_at bytes)
+      → IfOk r (λ x. IsRecord (seen x).0 × (bytes ≡ encoded (seen x).0 ++ (seen x).1))
+  found_reported (Ok x) h = record_found bytes (seen x).0 (seen x).1 h
+  found_reported (Err e) h = tt
 
-  pub only_told : (r : Result X (Stop F)) → Reads seen r (record_at bytes)
-      → (s : Record) (rest : List ℕ) → IsRecord s → bytes ≡ spelled s ++ rest → Reads seen r (Some (s, rest))
-  only_told r h s rest fits same = subst (Reads seen r) (ap record_at same ∙ record_again s rest fits) h
+  pub only_reported : (r : Result X (Stop F)) → Reads seen r (record_at bytes)
+      → (s : Record) (rest : List ℕ) → IsRecord s → bytes ≡ encoded s ++ rest → Reads seen r (Some (s, rest))
+  only_reported r h s rest fits same = subst (Reads seen r) (ap record_at same ∙ record_again s rest fits) h
 
-  pub shorter_told : (r : Result X (Stop F)) → Reads seen r (record_at bytes) → IfOk r (λ x. length (seen x).1 < length bytes)
-  shorter_told (Ok x) h =
-      subst (λ (bs : List ℕ). length (seen x).1 < length bs) (sym (record_found bytes (seen x).0 (seen x).1 h).1) (spelled_some (seen x).0 (seen x).1)
-  shorter_told (Err e) h = tt
+  pub shorter_reported : (r : Result X (Stop F)) → Reads seen r (record_at bytes) → IfOk r (λ x. length (seen x).1 < length bytes)
+  shorter_reported (Ok x) h =
+      subst (λ (bs : List ℕ). length (seen x).1 < length bs) (sym (record_found bytes (seen x).0 (seen x).1 h).1) (encoded_some (seen x).0 (seen x).1)
+  shorter_reported (Err e) h = tt

@@ -9,10 +9,10 @@ use Rattle.std.specs.Str.{IsUtf8, is_utf8}
 use Rattle.tree_records.specs.Reading.{is_sized}
 
 -- what a call that makes a text of bytes says of the test
-pub utf8_told : {A E : Type 0} (bytes : List ℕ) (Q : A → Type 0) (R : E → Type 0) (r : Result A E)
+pub utf8_reported : {A E : Type 0} (bytes : List ℕ) (Q : A → Type 0) (R : E → Type 0) (r : Result A E)
     → MatchResult r (λ s. Q s × IsUtf8 bytes) (λ e. (IsUtf8 bytes → ⊥) × R e) → is_ok r ≡ is_utf8 bytes
-utf8_told bytes Q R (Ok s) h = sym (is_utf8-from_IsUtf8 bytes h.1)
-utf8_told bytes Q R (Err e) h = sym (false_from_ne_true (is_utf8 bytes) (λ is. h.0 (IsUtf8-from_is_utf8 bytes is)))
+utf8_reported bytes Q R (Ok s) h = sym (is_utf8-from_IsUtf8 bytes h.1)
+utf8_reported bytes Q R (Err e) h = sym (false_from_ne_true (is_utf8 bytes) (λ is. h.0 (IsUtf8-from_is_utf8 bytes is)))
 
 -- a test that each passes, and what it says of each
 pub all_from_test : {X : Type 0} (p : X → Bool) (P : X → Type 0) → ((x : X) → p x ≡ true → P x) → (xs : List X) → list_all p xs ≡ true → AllByRecursion P xs

@@ -1,4 +1,4 @@
--- The records of a tree document, and the text that spells each.
+-- The records of a tree document, and the text that encodes each.
 pub mod Paths
 pub mod Escapes
 pub mod Records

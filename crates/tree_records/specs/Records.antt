@@ -1,7 +1,7 @@
--- The records of a tree document, and the text that spells each.
+-- The records of a tree document, and the text that encodes each.
 --     Record, path_of r      a record;  its path
 --     IsLinkText text, IsRecord r      what may be a symlink's text;  what may be a record by itself
---     spelled r      the text of a record
+--     encoded r      the text of a record
 use Rattle.std.specs.Prelude.{ℕ, ◌<◌, ◌≤◌, List, [], ◌∷◌, ◌++◌, length, codes}
 use Rattle.std.specs.Fmt.{decimal}
 use Rattle.std.specs.List.{AllByRecursion}
@@ -62,8 +62,8 @@ abbrev pub hard_text : List ℕ → List ℕ → List ℕ
 hard_text path target = line_with (codes "hard") path (escaped target)
 
 -- the text of a record
-abbrev pub spelled : Record → List ℕ
-spelled (dir p) = dir_text (path_bytes p)
-spelled (file p bytes) = file_text (path_bytes p) bytes
-spelled (link p text) = link_text (path_bytes p) text
-spelled (hard p target) = hard_text (path_bytes p) (path_bytes target)
+abbrev pub encoded : Record → List ℕ
+encoded (dir p) = dir_text (path_bytes p)
+encoded (file p bytes) = file_text (path_bytes p) bytes
+encoded (link p text) = link_text (path_bytes p) text
+encoded (hard p target) = hard_text (path_bytes p) (path_bytes target)

@@ -3,7 +3,7 @@ ghost use Rattle.std.specs.Prelude.{◌≡◌, ◌<◌, ◌++◌, ℕ, List, IfO
 ghost use Rattle.std.specs.List.{list_all};
 ghost use Rattle.std.specs.Str.{is_utf8};
 ghost use Rattle.lists.specs.Options.{Reads};
-ghost use Rattle.tree_records.specs.Records.{Record as RecordOf, IsRecord, spelled};
+ghost use Rattle.tree_records.specs.Records.{Record as RecordOf, IsRecord, encoded};
 ghost use Rattle.tree_records.specs.Reading.{is_dots, is_sized, is_name, names_in, are_path, path_at, is_link_text, record_of, record_with_content, record_with, record_at};
 ghost use Rattle.tree_records.specs.Views.{read_seen, record_seen};
 
@@ -150,9 +150,9 @@ fn record(alloc: Global, bytes: &[u8]) -> Read<(Record<'_>, &[u8])>
 /// the record's paths. It takes time by the length of the record's first line.
 pub fn read_record(alloc: Global, bytes: &[u8]) -> Read<(Record<'_>, &[u8])>
     // What is read may be a record, and its text stands at the front.
-    ensures found { IfOk result (λ x. IsRecord (record_seen x.0) × (bytes.now ≡ spelled (record_seen x.0) ++ x.1.now)) }
+    ensures found { IfOk result (λ x. IsRecord (record_seen x.0) × (bytes.now ≡ encoded (record_seen x.0) ++ x.1.now)) }
     // Where a record's text stands at the front, that record is read, unless memory runs out.
-    ensures only { (r : RecordOf) (rest : List ℕ) → IsRecord r → bytes.now ≡ spelled r ++ rest
+    ensures only { (r : RecordOf) (rest : List ℕ) → IsRecord r → bytes.now ≡ encoded r ++ rest
         → Reads read_seen result (Some (r, rest)) }
     ensures shorter { IfOk result (λ x. length x.1.now < length bytes.now) }
 {

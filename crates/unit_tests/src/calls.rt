@@ -1,4 +1,4 @@
-//! Calls that registers and memory spell. What is wanted follows from docs/ABI.md's numbers and the order of refusals.
+//! Calls that registers and memory encode. What is wanted follows from docs/ABI.md's numbers and the order of refusals.
 
 mod descriptors;
 mod files;

@@ -25,7 +25,7 @@ no_names = record {
   effect = λ now new t here there. Refuses Nosys;
   outside = λ t here there. None;
   touched = λ t here there. [];
-  makes = 0;
+  new_nodes = 0;
   errors = Nosys ∷ [];
 }
 

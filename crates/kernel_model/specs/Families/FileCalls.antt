@@ -6,7 +6,7 @@ use Rattle.abi_types.specs.declared.call.Call.TheVariants as call
 use Rattle.path_lookup.specs.declared.ends.WalkMode.TheVariants.{NoFollow}
 use Rattle.kernel_model.specs.Families.FileBytes.{read_at, write_at}
 use Rattle.kernel_model.specs.Families.FileChanges.{allocate, changing, put_by_path, put_open}
-use Rattle.kernel_model.specs.Families.FileLooks.{list_open, looking, read_link_in, tell_in, tell_open}
+use Rattle.kernel_model.specs.Families.FileLooks.{list_open, looking, read_link_in, report_in, report_open}
 use Rattle.kernel_model.specs.Families.FileMeaning.{FileMeaning}
 use Rattle.kernel_model.specs.Families.FilePaths.{by_path, lookup_mode}
 use Rattle.abi_types.specs.Families.{is_anonymous}
@@ -33,9 +33,9 @@ abbrev pub file_meaning : Call → FileMeaning
 file_meaning (call.FileAllocate fd offset length) = changing (allocate (offset + length))
 file_meaning (call.FileReaddir fd length cookie) = looking (list_open length cookie)
 file_meaning (call.FileReadlink fd path length) = by_path NoFollow path (λ now. read_link_in length)
-file_meaning (call.FileStatFget fd) = looking tell_open
+file_meaning (call.FileStatFget fd) = looking report_open
 file_meaning (call.FileStatFput fd stat flags) = changing (put_open flags stat)
-file_meaning (call.FileStatGet lookup path) = by_path (lookup_mode lookup.flags) path (λ now. tell_in)
+file_meaning (call.FileStatGet lookup path) = by_path (lookup_mode lookup.flags) path (λ now. report_in)
 file_meaning (call.FileStatPut lookup path stat flags) = put_by_path (lookup_mode lookup.flags) path flags stat
 file_meaning (call.FdPread fd length offset) = looking (read_at length offset)
 file_meaning (call.FdPwrite fd bytes offset) = changing (write_at bytes offset)

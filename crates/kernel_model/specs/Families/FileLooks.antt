@@ -62,30 +62,30 @@ node_stat n node = record {
 abbrev pub object_stat : ℕ → ℕ → FileStat
 object_stat number type = record { dev = 0; ino = number; kind = type; nlink = 1; size = 0; atim = 0; mtim = 0; ctim = 0 }
 
--- the call tells what a file is
-abbrev pub told : FileStat → Outcome
-told stat = replies (record (success 0 0) { payload = payload.FileStat stat })
+-- the call reports what a file is
+abbrev pub reported : FileStat → Outcome
+reported stat = replies (record (success 0 0) { payload = payload.FileStat stat })
 
-abbrev pub tell_node : ℕ → Option Node → Outcome
-tell_node n None = replies (refused Badf)
-tell_node n (Some node) = told (node_stat n node)
+abbrev pub report_node : ℕ → Option Node → Outcome
+report_node n None = replies (refused Badf)
+report_node n (Some node) = reported (node_stat n node)
 
-abbrev pub tell_in : Tree → ℕ → Outcome
-tell_in t n = tell_node n (get t.nodes n)
+abbrev pub report_in : Tree → ℕ → Outcome
+report_in t n = report_node n (get t.nodes n)
 
 -- ---- file_stat_fget
 
 -- The stream that is number k of the standard ones is object k + 1 of the launch. An end has the number of the channel that it
 -- reads, or else of that which it writes. No open of a valid state is of a process yet.
-abbrev pub tell_open : Tree → Option OpenKind → Outcome
-tell_open t None = replies (refused Badf)
-tell_open t (Some (File node offset flags)) = tell_in t node
-tell_open t (Some (Directory node flags)) = tell_in t node
-tell_open t (Some (End (Some reads) writes flags)) = told (object_stat reads (type_number (End (Some reads) writes flags)))
-tell_open t (Some (End None (Some writes) flags)) = told (object_stat writes (type_number (End None (Some writes) flags)))
-tell_open t (Some (End None None flags)) = replies (refused Badf)
-tell_open t (Some (Terminal which flags)) = told (object_stat (launch_object (which + 1)) (type_number (Terminal which flags)))
-tell_open t (Some (Process p)) = replies (refused Badf)
+abbrev pub report_open : Tree → Option OpenKind → Outcome
+report_open t None = replies (refused Badf)
+report_open t (Some (File node offset flags)) = report_in t node
+report_open t (Some (Directory node flags)) = report_in t node
+report_open t (Some (End (Some reads) writes flags)) = reported (object_stat reads (type_number (End (Some reads) writes flags)))
+report_open t (Some (End None (Some writes) flags)) = reported (object_stat writes (type_number (End None (Some writes) flags)))
+report_open t (Some (End None None flags)) = replies (refused Badf)
+report_open t (Some (Terminal which flags)) = reported (object_stat (launch_object (which + 1)) (type_number (Terminal which flags)))
+report_open t (Some (Process p)) = replies (refused Badf)
 
 -- the meaning of a call that looks at an open so
 abbrev pub looking : (Tree → Option OpenKind → Outcome) → FileMeaning
@@ -98,12 +98,12 @@ looking looks = record {
 }
 
 abbrev pub file_stat_fget : ℕ → Meaning
-file_stat_fget fd = on_open (base_row fd FILE_STAT_FGET) (looking tell_open)
+file_stat_fget fd = on_open (base_row fd FILE_STAT_FGET) (looking report_open)
 
 -- ---- file_stat_get
 
 abbrev pub file_stat_get : Lookup → List ℕ → Meaning
-file_stat_get lookup path = on_open (base_row lookup.fd FILE_STAT_GET) (by_path (lookup_mode lookup.flags) path (λ now. tell_in))
+file_stat_get lookup path = on_open (base_row lookup.fd FILE_STAT_GET) (by_path (lookup_mode lookup.flags) path (λ now. report_in))
 
 -- ---- file_readlink
 

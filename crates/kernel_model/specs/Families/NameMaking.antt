@@ -18,7 +18,7 @@ use Rattle.kernel_model.specs.Rows.{base_row}
 use Rattle.kernel_model.specs.State.{Tree}
 use Rattle.kernel_model.specs.Families.TreeUpdates.{Change}
 
--- The error for a fault of the tree. Want of memory is no fault of a tree's table.
+-- The error for a fault of the tree. Lack of memory is no fault of a tree's table.
 abbrev pub errno_of : TreeFault → Errno
 errno_of Absent = Noent
 errno_of Taken = Exist
@@ -61,7 +61,7 @@ making kind path = record {
   effect = λ now new t here there. at_name (make_in kind now new t) (last_name t path here);
   outside = λ t here there. last_outside (last_name t path here);
   touched = λ t here there. directory_parts (last_name t path here);
-  makes = 1;
+  new_nodes = 1;
   errors = path_errors ++ Exist ∷ Again ∷ [];
 }
 

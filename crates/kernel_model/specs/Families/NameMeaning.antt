@@ -33,15 +33,15 @@ pub record NameMeaning : Type 0 where
   -- what it may change of the tree beside the node that it makes
   pub touched : Tree → Option OpenKind → Option OpenKind → List Part
   -- how many nodes it makes
-  pub makes : ℕ
+  pub new_nodes : ℕ
   pub errors : List Errno
 
 -- what it does, by what its process has of its own
 abbrev pub outcome_of : ℕ → Option ProcessState → ℕ → NameOutcome → Outcome
-outcome_of p own makes (Refuses errno) = replies (refused errno)
-outcome_of p own makes (LeadsOut component) = replies (denied (Outside component))
-outcome_of p own makes (Changes change) =
-    if can_number p makes own then record { answer = answer.Reply (success 0 0); updates = process_updates p makes own ++ change_updates change }
+outcome_of p own new_nodes (Refuses errno) = replies (refused errno)
+outcome_of p own new_nodes (LeadsOut component) = replies (denied (Outside component))
+outcome_of p own new_nodes (Changes change) =
+    if can_number p new_nodes own then record { answer = answer.Reply (success 0 0); updates = process_updates p new_nodes own ++ change_updates change }
     else replies (refused Again)
 
 -- the meaning of a call by the path of one descriptor, of which it needs this
@@ -51,11 +51,11 @@ by_name row m = record {
   need = row ∷ [];
   seen = row.fd ∷ [];
   effect = λ constants v who table.
-      outcome_of who.pid (v.process who.pid) m.makes
+      outcome_of who.pid (v.process who.pid) m.new_nodes
       (m.effect (real_time constants v.clock) (next_object who.pid (v.process who.pid) 1) v.branch (open_of v (get table row.fd)) None);
   outside = λ v table. m.outside v.branch (open_of v (get table row.fd)) None;
   touched = λ S table. m.touched (tree_of S) (open_of (whole S) (get table row.fd)) None;
-  numbers = m.makes;
+  numbers = m.new_nodes;
   errors = m.errors;
   takes_memory = true;
 }
@@ -67,12 +67,12 @@ by_names first second m = record {
   need = first ∷ second ∷ [];
   seen = first.fd ∷ second.fd ∷ [];
   effect = λ constants v who table.
-      outcome_of who.pid (v.process who.pid) m.makes
+      outcome_of who.pid (v.process who.pid) m.new_nodes
       (m.effect (real_time constants v.clock) (next_object who.pid (v.process who.pid) 1) v.branch
       (open_of v (get table first.fd)) (open_of v (get table second.fd)));
   outside = λ v table. m.outside v.branch (open_of v (get table first.fd)) (open_of v (get table second.fd));
   touched = λ S table. m.touched (tree_of S) (open_of (whole S) (get table first.fd)) (open_of (whole S) (get table second.fd));
-  numbers = m.makes;
+  numbers = m.new_nodes;
   errors = m.errors;
   takes_memory = true;
 }

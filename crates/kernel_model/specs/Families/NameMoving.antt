@@ -65,7 +65,7 @@ linking mode path new_path = record {
   effect = λ now new t here there. at_found (λ n. at_name (link_in now t n) (last_name t new_path there)) (walked t mode path here);
   outside = λ t here there. found_outside (last_outside (last_name t new_path there)) (walked t mode path here);
   touched = λ t here there. found_part (walked t mode path here) ++ directory_parts (last_name t new_path there);
-  makes = 0;
+  new_nodes = 0;
   errors = path_errors ++ Perm ∷ Exist ∷ Mlink ∷ [];
 }
 
@@ -114,7 +114,7 @@ renaming path new_path = record {
   touched = λ t here there.
       directory_parts (last_name t path here)
       ++ (directory_parts (last_name t new_path there) ++ named_parts t (last_name t new_path there));
-  makes = 0;
+  new_nodes = 0;
   errors = path_errors ++ Isdir ∷ Notempty ∷ [];
 }
 

@@ -43,7 +43,7 @@ unlink_node flags now t d name (Some n) =
     if is_directory t n then (if removes_directory flags then Changes (without_name now t d name n) else Refuses Perm)
     else (if removes_directory flags then Refuses Notdir else Changes (without_name now t d name n))
 
--- names in a directory are told only where it might go
+-- names in a directory are reported only where it might go
 abbrev pub unlink_errno : ℕ → TreeFault → Errno
 unlink_errno flags NotEmpty = if removes_directory flags then Notempty else Perm
 unlink_errno flags fault = errno_of fault
@@ -73,7 +73,7 @@ unlinking flags path = record {
   effect = λ now new t here there. at_name (unlink_in flags now t) (last_name t path here);
   outside = λ t here there. last_outside (last_name t path here);
   touched = λ t here there. directory_parts (last_name t path here) ++ named_parts t (last_name t path here);
-  makes = 0;
+  new_nodes = 0;
   errors = path_errors ++ Perm ∷ Notempty ∷ [];
 }
 

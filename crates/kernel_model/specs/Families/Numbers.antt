@@ -10,8 +10,8 @@ object_of p k = p * 2 ^ 32 + k
 abbrev pub next_object : ℕ → Option ProcessState → ℕ → ℕ
 next_object p own k = object_of p ((counts_in own).objects + k)
 
--- Whether a process can make so many objects more. One that has made nearly 2^32 can't, and 0xffffffff is the number by which the
--- launch's objects are told, so that no process has it. No run comes so far.
+-- Whether a process can make so many objects more. One that has made nearly 2^32 can't, and 0xffffffff is the number that stands
+-- for the launch's objects, so that no process has it. No run comes so far.
 abbrev pub can_number : ℕ → ℕ → Option ProcessState → Bool
 can_number p zero own = true
 can_number p (suc count) None = false

@@ -122,13 +122,13 @@ opened_descriptor o kind stat = record {
 abbrev pub opened_outcome : ℕ → Option ProcessState → Table → FdStat → ℕ → Opened → Outcome
 opened_outcome p own table stat fd (NotOpened errno) = replies (refused errno)
 opened_outcome p own table stat fd (OpenedOutside component) = replies (denied (Outside component))
-opened_outcome p own table stat fd (Opens kind change makes) =
-    if can_number p (makes + 1) own then record {
+opened_outcome p own table stat fd (Opens kind change new_nodes) =
+    if can_number p (new_nodes + 1) own then record {
       answer = answer.Reply (success fd 0);
       updates =
-          set_open (next_object p own (makes + 1)) kind
-          ∷ set_table p (insert table fd (opened_descriptor (next_object p own (makes + 1)) kind stat))
-          ∷ (process_updates p (makes + 1) own ++ change_updates change);
+          set_open (next_object p own (new_nodes + 1)) kind
+          ∷ set_table p (insert table fd (opened_descriptor (next_object p own (new_nodes + 1)) kind stat))
+          ∷ (process_updates p (new_nodes + 1) own ++ change_updates change);
     } else replies (refused Again)
 
 -- a free number is looked for before the path is

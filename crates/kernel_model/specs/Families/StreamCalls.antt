@@ -100,7 +100,7 @@ seeking bits whence = record {
   takes_memory = false;
 }
 
--- FD_SEEK; an offset of 0 from where it is (whence 1) tells it alone, for which FD_TELL will do
+-- FD_SEEK; an offset of 0 from where it is (whence 1) only reports it, for which FD_TELL will do
 abbrev pub seek_row : ℕ → ℕ → ℕ → Needed
 seek_row fd bits whence = if (bits == 0) && (whence == 1) then either_row fd FD_TELL FD_SEEK else base_row fd FD_SEEK
 

@@ -1,4 +1,4 @@
-//! What those calls name and need that the command answers by NOSYS before the kernel sees them, and their refusals for want of
+//! What those calls name and need that the command answers by NOSYS before the kernel sees them, and their refusals for lack of
 //! that: with no descriptor at all, with just what they need, and with each needed right taken away in turn. The same of the
 //! other calls is shown by scripts of calls (docs/GATE.md).
 use crate::kernel::stdout_kernel::{answer_to, bare_kernel};
@@ -259,9 +259,9 @@ fn call_at(alloc: Global, place: usize) -> Result<Option<Call>, AllocError> {
 }
 
 // The error and the denial of a refusal, if there is one.
-type Told = Option<(Errno, Option<Denial>)>;
+type Reported = Option<(Errno, Option<Denial>)>;
 
-const ABSENT: Told = Some((Errno::Badf, None));
+const ABSENT: Reported = Some((Errno::Badf, None));
 
 // A right that is taken away from a descriptor.
 #[derive(Clone, Copy)]
@@ -280,7 +280,7 @@ impl Taken {
     }
 
     // The refusal that must come of it.
-    fn refusal(self) -> Told {
+    fn refusal(self) -> Reported {
         match self {
             Taken::Nothing => None,
             Taken::Right(fd, base) => {
@@ -330,7 +330,7 @@ fn table_of(alloc: Global, rows: &[Row], taken: Taken) -> Result<FdTable, AllocE
 }
 
 // The refusal's error and denial, if there is one.
-fn told(reply: Option<Reply>) -> Told {
+fn reported(reply: Option<Reply>) -> Reported {
     reply.map(|reply| (reply.errno, reply.denial))
 }
 
@@ -356,18 +356,22 @@ fn append(list: &mut Vec<Taken>, fd: u32, rights: &[Rights]) -> Result<(), Alloc
     Ok(())
 }
 
-// What is told with all that is needed, and without each right of it in turn.
-fn told_of_rights(alloc: Global, rows: &[Row], call: &Call) -> Result<Vec<Told>, AllocError> {
+// What is reported with all that is needed, and without each right of it in turn.
+fn reported_of_rights(
+    alloc: Global,
+    rows: &[Row],
+    call: &Call,
+) -> Result<Vec<Reported>, AllocError> {
     let mut list = Vec::new(alloc);
     for taken in takings(alloc, rows)? {
         let table = table_of(alloc, rows, taken)?;
-        list.push(told(refusal(&table, call)))?;
+        list.push(reported(refusal(&table, call)))?;
     }
     Ok(list)
 }
 
-// What must be told then.
-fn wanted_of_rights(alloc: Global, rows: &[Row]) -> Result<Vec<Told>, AllocError> {
+// What must be reported then.
+fn wanted_of_rights(alloc: Global, rows: &[Row]) -> Result<Vec<Reported>, AllocError> {
     let mut list = Vec::new(alloc);
     for taken in takings(alloc, rows)? {
         list.push(taken.refusal())?;
@@ -375,13 +379,17 @@ fn wanted_of_rights(alloc: Global, rows: &[Row]) -> Result<Vec<Told>, AllocError
     Ok(list)
 }
 
-// What is told without each of the descriptors that the call names in turn.
-fn told_of_descriptors(alloc: Global, case: &Case, call: &Call) -> Result<Vec<Told>, AllocError> {
+// What is reported without each of the descriptors that the call names in turn.
+fn reported_of_descriptors(
+    alloc: Global,
+    case: &Case,
+    call: &Call,
+) -> Result<Vec<Reported>, AllocError> {
     let mut list = Vec::new(alloc);
     for fd in case.named {
         let mut table = table_of(alloc, case.rows, Taken::Nothing)?;
         table.remove(*fd);
-        list.push(told(refusal(&table, call)))?;
+        list.push(reported(refusal(&table, call)))?;
     }
     Ok(list)
 }
@@ -397,7 +405,7 @@ fn bare_wanted(case: &Case) -> Errno {
 
 // Whether a case's call has its number, and is refused by its rights as it must be.
 fn needs_its_rights(alloc: Global, case: &Case, call: &Call) -> Result<bool, AllocError> {
-    let got = told_of_rights(alloc, case.rows, call)?;
+    let got = reported_of_rights(alloc, case.rows, call)?;
     let right = wanted_of_rights(alloc, case.rows)?;
     let numbered = call.number().ok() == CallNumber::of(case.number);
     Ok(numbered && got.as_slice() == right.as_slice())
@@ -405,8 +413,8 @@ fn needs_its_rights(alloc: Global, case: &Case, call: &Call) -> Result<bool, All
 
 // Whether it is BADF without one of the descriptors that the call names.
 fn needs_its_descriptors(alloc: Global, case: &Case, call: &Call) -> Result<bool, AllocError> {
-    let got = told_of_descriptors(alloc, case, call)?;
-    Ok(got.len() == case.named.len() && got.iter().all(|told| *told == ABSENT))
+    let got = reported_of_descriptors(alloc, case, call)?;
+    Ok(got.len() == case.named.len() && got.iter().all(|reported| *reported == ABSENT))
 }
 
 // Whether the case's call is refused as it must be.

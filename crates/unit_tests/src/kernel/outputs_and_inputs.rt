@@ -1,6 +1,6 @@
 //! Whole reads and writes over each source and sink in memory.
 ghost use Rattle.std.specs.Prelude.{⊤};
-ghost use Rattle.input_output.specs.Source.{Untold};
+ghost use Rattle.input_output.specs.Source.{Unknown};
 
 use input_output::{
     Failed, MemSink, MemSource, ReadFault, Sink, Source, SteadySink, SteadySource, read_whole,
@@ -49,14 +49,14 @@ fn failing_sink(alloc: Global) -> Result<MemSink, AllocError> {
     Ok(MemSink::new(alloc, vec![in alloc; 1u64]?))
 }
 
-// So many bytes under any name, of which it tells nothing, read in order.
+// So many bytes under any name, of which it shows nothing, read in order.
 #[derive(Drop)]
-struct Untelling {
+struct Silent {
     left: usize,
 }
 
-impl Source for Untelling {
-    ghost told = { λ s name. Untold };
+impl Source for Silent {
+    ghost content = { λ s name. Unknown };
 
     ghost may_read = { λ s name. ⊤ };
 
@@ -97,7 +97,7 @@ fn reads_steadily(rt: HostRuntime) -> Result<(), Fail> {
 #[test]
 fn limits_inputs(rt: HostRuntime) {
     for (left, want) in LIMITS {
-        let mut source = Untelling { left: *left };
+        let mut source = Silent { left: *left };
         assert_eq!(rt;
             read_length(rt.alloc(), &mut source, "any"),
             *want,

@@ -1,5 +1,5 @@
-//! Values and the bytes that spell them, both ways, and bytes that are refused, with the place of the fault.
-ghost use Rattle.argdata_codec.specs.Spelling.{CanBeSpelled};
+//! Values and the bytes that encode them, both ways, and bytes that are refused, with the place of the fault.
+ghost use Rattle.argdata_codec.specs.Encoding.{CanBeEncoded};
 ghost use Rattle.argdata_codec.specs.Views.{shape_of};
 
 use argdata_codec::{ArgFault, Value, decode, encode};
@@ -50,7 +50,7 @@ const DEEPER: [u8; 131] = [
     7, 0x82, 7, 0x80,
 ];
 
-// A sequence of one value, whose spelling has a length of two bytes.
+// A sequence of one value, whose encoding has a length of two bytes.
 const LONG: Form = Form::Seq(&[Form::Binary(&[7; 299])]);
 
 // The value has this form, and no more than so many maps and sequences stand inside each other.
@@ -100,27 +100,27 @@ fn have_forms_in_pairs(pairs: &[(Value, Value)], forms: &[(Form, Form)], depth: 
     pairs.len() == forms.len()
 }
 
-fn is_spelled(alloc: Global, bytes: &[u8], form: &Form) -> bool {
+fn is_encoded(alloc: Global, bytes: &[u8], form: &Form) -> bool {
     match decode(alloc, bytes) {
         Ok(value) => has_form(&value, form, 1),
         Err(_) => false,
     }
 }
 
-// The value is spelled so.
-fn is_spelling(alloc: Global, value: &Value, bytes: &[u8]) -> bool
-    requires { CanBeSpelled (shape_of value.now) }
+// The value is encoded so.
+fn is_encoding(alloc: Global, value: &Value, bytes: &[u8]) -> bool
+    requires { CanBeEncoded (shape_of value.now) }
 {
     match encode(alloc, value) {
-        Ok(spelled) => spelled.as_slice() == bytes,
+        Ok(encoded) => encoded.as_slice() == bytes,
         Err(_) => false,
     }
 }
 
-// The bytes spell a value that is spelled so.
-fn is_spelled_again(alloc: Global, bytes: &[u8]) -> bool {
+// The bytes encode a value that is encoded so.
+fn is_encoded_again(alloc: Global, bytes: &[u8]) -> bool {
     match decode(alloc, bytes) {
-        Ok(value) => is_spelling(alloc, &value, bytes),
+        Ok(value) => is_encoding(alloc, &value, bytes),
         Err(_) => false,
     }
 }
@@ -128,7 +128,7 @@ fn is_spelled_again(alloc: Global, bytes: &[u8]) -> bool {
 #[test]
 fn examples(rt: HostRuntime) {
     for (bytes, form) in EXAMPLES {
-        let both_ways = is_spelled(rt.alloc(), bytes, form) && is_spelled_again(rt.alloc(), bytes);
+        let both_ways = is_encoded(rt.alloc(), bytes, form) && is_encoded_again(rt.alloc(), bytes);
         assert!(rt; both_ways, "{bytes:?}");
     }
 }
@@ -137,17 +137,17 @@ fn examples(rt: HostRuntime) {
 fn a_long_length(rt: HostRuntime) -> Result<(), Fail> {
     let mut bytes = [7, 2, 0xac, 1].to_vec(rt.alloc())?;
     bytes.resize(303, 7)?;
-    let both_ways = is_spelled(rt.alloc(), &bytes, &LONG) && is_spelled_again(rt.alloc(), &bytes);
+    let both_ways = is_encoded(rt.alloc(), &bytes, &LONG) && is_encoded_again(rt.alloc(), &bytes);
     assert!(rt; both_ways);
     Ok(())
 }
 
 #[test]
 fn depth(rt: HostRuntime) {
-    assert!(rt; is_spelled_again(rt.alloc(), &DEEPER[3..]));
+    assert!(rt; is_encoded_again(rt.alloc(), &DEEPER[3..]));
 }
 
-// Bytes that spell no value, and the place of the fault.
+// Bytes that encode no value, and the place of the fault.
 const FAULTS: &[(&[u8], usize)] = &[
     // An integer that isn't the shortest, and a boolean of another byte.
     (&[5, 0, 1], 2),

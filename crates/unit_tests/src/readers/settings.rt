@@ -1,8 +1,8 @@
-//! Words, with the settings that they spell, where no run shows these.
+//! Words, with the settings that they stand for, where no run shows these.
 use command_line::{CommandLineFault, LaunchSettings, read_words};
 use std::alloc::{AllocError, Global};
 
-// What `p` alone spells.
+// What `p` alone stands for.
 const PLAIN: LaunchSettings<'static> = LaunchSettings {
     program: "p",
     tree: None,
@@ -32,7 +32,7 @@ fn words_of(alloc: Global, texts: &[&str]) -> Result<Vec<String>, AllocError> {
     Ok(words)
 }
 
-// Words, and what they spell.
+// Words, and what they stand for.
 const TAKEN: &[(&[&str], LaunchSettings<'static>)] = &[
     (&["p"], PLAIN),
     (

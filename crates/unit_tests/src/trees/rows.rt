@@ -11,9 +11,9 @@ type Acts = &'static [(Act, Answer)];
 
 const DONE: Answer = Answer::Done;
 
-// Nodes that aren't there and directories that are none are told, and so are the nodes without a name, until they get one or are
-// forgotten.
-const NODES_ARE_TOLD: Acts = &[
+// Nodes that aren't there and directories that are none are reported, and so are the nodes without a name, until they get one or
+// are forgotten.
+const NODES_ARE_REPORTED: Acts = &[
     (Act::Directory(0, b"d", 1), DONE),
     (Act::File(0, b"f", 2), DONE),
     (Act::Link(1, b"g", 2), DONE),
@@ -42,8 +42,8 @@ const NODES_ARE_TOLD: Acts = &[
     (Act::Entry(0, b"back"), Answer::Is(2)),
 ];
 
-// A move tells the node that loses its name.
-const MOVES_TELL_NODES: Acts = &[
+// A move reports the node that loses its name.
+const MOVES_REPORT_NODES: Acts = &[
     (Act::File(0, b"f", 4), DONE),
     (Act::File(0, b"g", 5), DONE),
     (
@@ -56,7 +56,7 @@ const MOVES_TELL_NODES: Acts = &[
 ];
 
 // A walk ends at the place of a name in the path, also of one that is no name.
-const WALKS_TELL_PLACES: Acts = &[
+const WALKS_REPORT_PLACES: Acts = &[
     (Act::Directory(0, b"a", 1), DONE),
     (Act::Directory(1, b"b", 2), DONE),
     (Act::Symlink(0, b"s", 3, b"a/b"), DONE),
@@ -81,9 +81,9 @@ const BYTES_END: Acts = &[
 
 // Each list of acts, on a tree of its own.
 const ALL: &[(&str, Acts)] = &[
-    ("nodes are told", NODES_ARE_TOLD),
-    ("moves tell nodes", MOVES_TELL_NODES),
-    ("walks tell places", WALKS_TELL_PLACES),
+    ("nodes are reported", NODES_ARE_REPORTED),
+    ("moves report nodes", MOVES_REPORT_NODES),
+    ("walks report places", WALKS_REPORT_PLACES),
     ("bytes end", BYTES_END),
 ];
 

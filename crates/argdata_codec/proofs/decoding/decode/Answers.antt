@@ -1,4 +1,4 @@
--- What is read is spelled so, and what is spelled so is read.
+-- What is read is encoded so, and what is encoded so is read.
 use Rattle.std.proofs.Common.{arith, sym, subst, ◌∙◌}
 use Rattle.lists.specs.declared.stop.Stop.{Stop}
 use Rattle.lists.specs.Options.{IsStopOf}

@@ -1,6 +1,6 @@
 -- the place is that of the longest beginning
 use Rattle.std.proofs.Common.{arith, subst, sym}
-use Rattle.argdata_codec.specs.Spelling.{IsLongest}
+use Rattle.argdata_codec.specs.Encoding.{IsLongest}
 use Rattle.argdata_codec.proofs.Longest.{from_each, fault_place}
 use Rattle.argdata_codec.proofs.decoding.fault.Goals as goal
 

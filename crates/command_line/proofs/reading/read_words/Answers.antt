@@ -1,7 +1,7 @@
 use Rattle.std.proofs.Common.{◌≡◌, ◌≢◌, ◌∙◌, [], map, ap, subst, string_bytes}
 use Rattle.std.specs.Prelude.{Err}
 use Rattle.clap.specs.Words.{App, fault_of, found_of, matches_of}
-use Rattle.command_line.proofs.Spelling.{ok_side, passed_up, refused, refused_side, spells, texts_of}
+use Rattle.command_line.proofs.Meanings.{ok_side, passed_up, refused, refused_side, means, texts_of}
 use Rattle.command_line.proofs.reading.read_words.Goals as goal
 
 pub returns-in_err-matches-clause-refused : goal.returns-in_err-matches-clause-refused
@@ -16,13 +16,13 @@ returns-clause-ok c =
     let words = map string_bytes c.args.words.now in
     let taken = subst (λ (a : App). fault_of a words ≡ []) c.in_ok-command.ensures c.in_ok-matches.ensures.taken in
     let rows = c.in_ok-matches.ensures.matches ∙ ap (λ (a : App). matches_of a words) c.in_ok-command.ensures in
-    let spelled = spells words (texts_of c.args.words.now) taken (found_of c.in_ok-matches.matches) rows in
-    ok_side c.settings.result c.ok_or.result words _ spelled.2 (c.settings.ensures.value spelled.0 spelled.1) c.ok_or.ensures.value
+    let meant = means words (texts_of c.args.words.now) taken (found_of c.in_ok-matches.matches) rows in
+    ok_side c.settings.result c.ok_or.result words _ meant.2 (c.settings.ensures.value meant.0 meant.1) c.ok_or.ensures.value
 
 pub returns-clause-refused : goal.returns-clause-refused
 returns-clause-refused c =
     let words = map string_bytes c.args.words.now in
     let taken = subst (λ (a : App). fault_of a words ≡ []) c.in_ok-command.ensures c.in_ok-matches.ensures.taken in
     let rows = c.in_ok-matches.ensures.matches ∙ ap (λ (a : App). matches_of a words) c.in_ok-command.ensures in
-    let spelled = spells words (texts_of c.args.words.now) taken (found_of c.in_ok-matches.matches) rows in
-    refused_side c.settings.result c.ok_or.result words _ spelled.2 (c.settings.ensures.value spelled.0 spelled.1) c.ok_or.ensures.value
+    let meant = means words (texts_of c.args.words.now) taken (found_of c.in_ok-matches.matches) rows in
+    refused_side c.settings.result c.ok_or.result words _ meant.2 (c.settings.ensures.value meant.0 meant.1) c.ok_or.ensures.value

@@ -1,5 +1,5 @@
 use Rattle.std.proofs.Common.{Some, ap, ◌∙◌}
-use Rattle.kernel_model.specs.Families.FileLooks.{tell_in}
+use Rattle.kernel_model.specs.Families.FileLooks.{report_in}
 use Rattle.kernel_model.specs.Families.FilePaths.{walked}
 use Rattle.kernel_model.specs.Outcome.{replies}
 use Rattle.file_calls.specs.Walks.{node_or_refusal}
@@ -8,12 +8,12 @@ use Rattle.file_calls.proofs.stats.file_stat_get.Goals as goal
 
 pub returns-in-Ok : goal.returns-in-Ok
 returns-in-Ok c =
-    c.tell_node.ensures
-    ∙ found_goes_on (tell_in c.args.tree.now) _ c.in-Ok.node
+    c.report_node.ensures
+    ∙ found_goes_on (report_in c.args.tree.now) _ c.in-Ok.node
     (c.in-Ok.ensures ∙ ap (λ mode. node_or_refusal (walked c.args.tree.now mode c.args.path.now (Some c.args.kind.now))) c.lookup_mode.ensures)
 
 pub returns-in-Err : goal.returns-in-Err
 returns-in-Err c =
     ap replies c.reply_of.ensures
-    ∙ lost_replies (tell_in c.args.tree.now) _ c.in-Err.refusal
+    ∙ lost_replies (report_in c.args.tree.now) _ c.in-Err.refusal
     (c.in-Err.ensures ∙ ap (λ mode. node_or_refusal (walked c.args.tree.now mode c.args.path.now (Some c.args.kind.now))) c.lookup_mode.ensures)

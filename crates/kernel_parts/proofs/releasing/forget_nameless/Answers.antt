@@ -1,6 +1,6 @@
 use Rattle.std.proofs.Common.{◌≡◌, Some, sym, ◌∙◌}
 use Rattle.tree_model.specs.Changes.{nameless_after}
-use Rattle.kernel_parts.proofs.Forgetting.{fewer_ahead, forgetting_ends, forgetting_goes_on, others_stay}
+use Rattle.kernel_parts.proofs.Forgetting.{fewer_nodes_left, forgetting_ends, forgetting_goes_on, others_stay}
 use Rattle.kernel_parts.proofs.releasing.forget_nameless.Goals as goal
 use Rattle.kernel_parts.proofs.releasing.forget_nameless.Goals.{After-forget_unused}
 
@@ -10,7 +10,7 @@ next c = sym c.nameless.ensures ∙ c.in-Some.is
 pub loop-node-smaller : goal.loop-node-smaller
 loop-node-smaller c =
     let kinds = c.args.objects.now.kinds in
-    fewer_ahead c.loop-node.tree c.forget_unused.new.tree c.loop-node.last c.in-Some.node (next c)
+    fewer_nodes_left c.loop-node.tree c.forget_unused.new.tree c.loop-node.last c.in-Some.node (next c)
     (others_stay kinds c.loop-node.tree c.forget_unused.new.tree c.in-Some.node c.forget_unused.ensures.used c.forget_unused.ensures.absent c.forget_unused.ensures.unused)
 
 pub loop-node-preserved : goal.loop-node-preserved

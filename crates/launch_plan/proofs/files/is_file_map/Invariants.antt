@@ -1,4 +1,4 @@
--- The pairs that are left tell whether the map is one of parts.
+-- The pairs that are left say whether the map is one of parts.
 use Rattle.std.proofs.Common.{◌≡◌, false}
 use Rattle.launch_plan.proofs.FileParts.{are_with, pairs_at}
 use Rattle.launch_plan.proofs.files.is_file_map.Given as goal

@@ -28,7 +28,7 @@ returns-clause-input g c is =
 pub returns-clause-kept : goal.returns-clause-kept
 returns-clause-kept g c =
     subst
-    (λ (f : Finished). IfSome f.kept (IsKept (words_of (map string_bytes c.args.words.now)) (launch_of (map string_bytes c.args.words.now) (g.S.Source.told c.args.source.now))))
+    (λ (f : Finished). IfSome f.kept (IsKept (words_of (map string_bytes c.args.words.now)) (launch_of (map string_bytes c.args.words.now) (g.S.Source.content c.args.source.now))))
     (sym c.finish.ensures)
     (top_kept _ _ _ _ _ _ c.launch_and_run.result c.launch_and_run.ensures.end)
 

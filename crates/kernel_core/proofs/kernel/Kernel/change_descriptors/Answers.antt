@@ -31,7 +31,7 @@ pub change_table-requires-clause-few : goal.change_table-requires-clause-few
 change_table-requires-clause-few c = λ o.
     subst (λ (n : ℕ). n < 2 ^ 63) (sym (c.self.invariant.counted o)) (holders_few (the_view c.self.inside) o c.self.invariant.small c.self.invariant.processes)
 
--- ---- where memory is wanting nothing has changed
+-- ---- where memory runs out nothing has changed
 
 abbrev unchanged : In_err-reply → State
 unchanged c = record {

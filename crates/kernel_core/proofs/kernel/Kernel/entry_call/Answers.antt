@@ -43,7 +43,7 @@ returns-in_default-clause-ok d = λ table here.
     absurd (open_there S d.args.pid d.args.fd table has d.self.invariant.valid.nearly (d.requires.named table here)
     (open_absent S.opens (get S.tables d.args.pid) table d.args.fd has (sym d.open_of.ensures ∙ d.in_default.is)))
 
--- ---- where memory is wanting nothing has changed
+-- ---- where memory runs out nothing has changed
 
 abbrev unchanged : In_err-reply → State
 unchanged c = record (the_view c.self.inside) {
@@ -81,7 +81,7 @@ owned c = ap (get c.self.inside.processes) (sym (c.from.ensures ∙ c.pid.view_i
 abbrev comes : In_ok-reply → NameOutcome
 comes c = entries_come c.args.constants.now (the_view c.self.inside) c.args.pid (table_of c) c.args.fd c.args.other (call_of_entry c.args.call)
 
-done : (c : In_ok-reply) → IsLeftBy c.args.pid (name_meaning (call_of_entry c.args.call)).makes c.get_mut-own.result.now c.change_entries.new.own c.self.inside.tree
+done : (c : In_ok-reply) → IsLeftBy c.args.pid (name_meaning (call_of_entry c.args.call)).new_nodes c.get_mut-own.result.now c.change_entries.new.own c.self.inside.tree
     c.change_entries.new.tree (comes c) c.in_ok-reply.reply
 done c =
     let S = the_view c.self.inside in
@@ -91,7 +91,7 @@ done c =
     c.as_ref.ensures.value ∙ c.kind_of-there.ensures ∙ ap (λ t. kind_with S.opens t c.args.other) f.there in
     let same : _ ≡ comes c =
     λ i. (name_meaning (call_of_entry c.args.call)).effect (c.self.inside.clock + c.args.constants.now.epoch) (next_object c.args.pid (sym (owned c) i) 1) (tree_of S) (here i) (other i) in
-    subst (λ k. IsLeftBy c.args.pid (name_meaning (call_of_entry c.args.call)).makes c.get_mut-own.result.now c.change_entries.new.own c.self.inside.tree c.change_entries.new.tree k
+    subst (λ k. IsLeftBy c.args.pid (name_meaning (call_of_entry c.args.call)).new_nodes c.get_mut-own.result.now c.change_entries.new.own c.self.inside.tree c.change_entries.new.tree k
     c.in_ok-reply.reply) same c.in_ok-reply.ensures.done
 
 pub forget_nameless-requires : goal.forget_nameless-requires

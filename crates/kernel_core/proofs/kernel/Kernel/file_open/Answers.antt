@@ -15,7 +15,7 @@ use Rattle.kernel_model.specs.Reply.{success}
 use Rattle.kernel_model.specs.State.{State, Table, Tree, counts_in, put_all, tree_of}
 use Rattle.kernel_model.specs.Valid.{IsValid}
 use Rattle.kernel_model.proofs.Valids.{release_restores, release_valid, same_value}
-use Rattle.entry_calls.specs.Plans.{change_of, makes_of}
+use Rattle.entry_calls.specs.Plans.{change_of, new_nodes_of}
 use Rattle.kernel_core.specs.Opening.{IsOpening, open_outcome}
 use Rattle.kernel_core.specs.contracts.kernel.Kernel.{the_view}
 use Rattle.kernel_core.proofs.Changes.{moved_holders}
@@ -66,7 +66,7 @@ put_opening-requires-clause-made d =
     node_is_new (the_view d.self.inside) d.args.pid d.get_mut-table.result.now d.args.call.now.lookup d.args.call.now.path.now d.args.call.now.oflags d.args.call.now.stat d.in-Ok.opening
     (planned (goal.at.put_opening-requires-clause-made d).After-get_mut-table) d.self.invariant.valid
 
--- ---- where memory is wanting nothing has changed
+-- ---- where memory runs out nothing has changed
 
 abbrev unchanged : In_err-put_opening → State
 unchanged c = record (the_view c.self.inside) {
@@ -114,8 +114,8 @@ make-requires d =
     let own : get S.processes d.args.pid ≡ Some d.get_mut.result.now =
     ap (get S.processes) (sym (d.from-p.ensures ∙ d.pid.view_is)) ∙ sym d.get_mut.ensures.value in
     let made = ap (λ o. (counts_in o).objects) own in
-    let makes = d.makes.ensures in
-    omega (arith, fits.1, made, makes)
+    let new_nodes = d.new_nodes.ensures in
+    omega (arith, fits.1, made, new_nodes)
 
 pub forget_nameless-requires : goal.forget_nameless-requires
 forget_nameless-requires d =
@@ -160,9 +160,9 @@ after c plan =
     let tables : insert S.tables c.from-p.result c.put_opening.new.table ≡ insert S.tables p (insert c.get_mut-table.result.now o.fd o.descriptor) =
     ap (insert S.tables c.from-p.result) c.in_ok-put_opening.ensures.table
     ∙ ap (λ (q : ℕ). insert S.tables q (insert c.get_mut-table.result.now o.fd o.descriptor)) same in
-    let own : insert S.processes c.from-p.result c.make.new.self ≡ insert S.processes p (made_more (makes_of o.plan + 1) c.get_mut.result.now) =
-    ap (insert S.processes c.from-p.result) (c.make.ensures ∙ ap (λ k. made_more (k + 1) c.get_mut.result.now) c.makes.ensures)
-    ∙ ap (λ (q : ℕ). insert S.processes q (made_more (makes_of o.plan + 1) c.get_mut.result.now)) same in
+    let own : insert S.processes c.from-p.result c.make.new.self ≡ insert S.processes p (made_more (new_nodes_of o.plan + 1) c.get_mut.result.now) =
+    ap (insert S.processes c.from-p.result) (c.make.ensures ∙ ap (λ k. made_more (k + 1) c.get_mut.result.now) c.new_nodes.ensures)
+    ∙ ap (λ (q : ℕ). insert S.processes q (made_more (new_nodes_of o.plan + 1) c.get_mut.result.now)) same in
     let opens : c.put_opening.new.objects.kinds ≡ insert S.opens o.descriptor.id o.kind = c.in_ok-put_opening.ensures.kinds in
     let u : Tree = (change_of o.plan c.args.call.now.path.now now (next_object p (get S.processes p) 1) (tree_of S)).tree in
     let changed : c.put_opening.new.tree ≡ u =

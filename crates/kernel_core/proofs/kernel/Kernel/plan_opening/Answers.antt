@@ -7,7 +7,7 @@ use Rattle.kernel_model.specs.Families.Opening.{opened_descriptor}
 use Rattle.kernel_model.specs.Outcome.{replies}
 use Rattle.kernel_model.specs.State.{State, Table, tree_of}
 use Rattle.kernel_model.proofs.Valids.{same_value}
-use Rattle.entry_calls.specs.Plans.{makes_of, opened_by, opened_of}
+use Rattle.entry_calls.specs.Plans.{new_nodes_of, opened_by, opened_of}
 use Rattle.kernel_parts.specs.Entries.{number_of, open_in}
 use Rattle.kernel_core.specs.Opening.{IsOpening, open_outcome, opened_at}
 use Rattle.kernel_core.specs.contracts.kernel.Kernel.{the_view}
@@ -85,13 +85,13 @@ returns-in_default-numbered-clause-refused d = λ table here now.
     let c = (goal.at.returns-in_default-numbered-clause-refused d).In-Some-Some in
     let S = the_view d.self.inside in
     let new : ℕ = next_object d.args.pid (get S.processes d.args.pid) 1 in
-    let none : number_of d.args.pid (makes_of d.in-Ok.plan + 1) (Some d.in-Some-Some.own.now) ≡ None =
-    ap (λ k. number_of d.args.pid (k + 1) (Some d.in-Some-Some.own.now)) (sym d.makes.ensures) ∙ sym d.numbered.ensures.number ∙ d.in_default-numbered.is in
+    let none : number_of d.args.pid (new_nodes_of d.in-Ok.plan + 1) (Some d.in-Some-Some.own.now) ≡ None =
+    ap (λ k. number_of d.args.pid (k + 1) (Some d.in-Some-Some.own.now)) (sym d.new_nodes.ensures) ∙ sym d.numbered.ensures.number ∙ d.in_default-numbered.is in
     seen c (λ T t. open_outcome now T d.args.pid t d.args.call.now.lookup d.args.call.now.path.now d.args.call.now.oflags d.args.call.now.stat ≡ replies d.refused-in_default-numbered.result)
     (uncounted_opens_none now S d.args.pid d.in-Some-Some.table.now d.args.call.now.lookup d.args.call.now.path.now d.args.call.now.oflags d.args.call.now.stat
     d.refused-in_default-numbered.result d.in-Some.fd d.in-Ok.plan d.in-Some.ensures.free
     (planned (goal.at.returns-in_default-numbered-clause-refused d).In-Ok now new)
-    (ap (can_number d.args.pid (makes_of d.in-Ok.plan + 1)) (owned c) ∙ unnumbered d.args.pid (makes_of d.in-Ok.plan + 1) (Some d.in-Some-Some.own.now) none)
+    (ap (can_number d.args.pid (new_nodes_of d.in-Ok.plan + 1)) (owned c) ∙ unnumbered d.args.pid (new_nodes_of d.in-Ok.plan + 1) (Some d.in-Some-Some.own.now) none)
     d.refused-in_default-numbered.ensures) table here
 
 pub returns-clause-ok : goal.returns-clause-ok
@@ -100,12 +100,12 @@ returns-clause-ok d = λ table here.
     let S = the_view d.self.inside in
     let p : ℕ = d.args.pid in
     let stat = d.args.call.now.stat in
-    let makes : ℕ = makes_of d.in-Ok.plan in
-    let found : number_of p (makes + 1) (Some d.in-Some-Some.own.now) ≡ Some d.in-Some-numbered.id =
-    ap (λ k. number_of p (k + 1) (Some d.in-Some-Some.own.now)) (sym d.makes.ensures) ∙ sym d.numbered.ensures.number ∙ d.in-Some-numbered.is in
-    let number = numbered_is p (makes + 1) d.in-Some-numbered.id (Some d.in-Some-Some.own.now) found in
-    let last : d.in-Some-numbered.id ≡ next_object p (get S.processes p) (makes + 1) =
-    number.1 ∙ ap (λ o. next_object p o (makes + 1)) (sym (owned c)) in
+    let new_nodes : ℕ = new_nodes_of d.in-Ok.plan in
+    let found : number_of p (new_nodes + 1) (Some d.in-Some-Some.own.now) ≡ Some d.in-Some-numbered.id =
+    ap (λ k. number_of p (k + 1) (Some d.in-Some-Some.own.now)) (sym d.new_nodes.ensures) ∙ sym d.numbered.ensures.number ∙ d.in-Some-numbered.is in
+    let number = numbered_is p (new_nodes + 1) d.in-Some-numbered.id (Some d.in-Some-Some.own.now) found in
+    let last : d.in-Some-numbered.id ≡ next_object p (get S.processes p) (new_nodes + 1) =
+    number.1 ∙ ap (λ o. next_object p o (new_nodes + 1)) (sym (owned c)) in
     seen c (λ T t. IsOpening T p t d.args.call.now.lookup d.args.call.now.path.now d.args.call.now.oflags stat (record {
       fd = d.in-Some.fd;
       descriptor = d.descriptor.result;
@@ -115,8 +115,8 @@ returns-clause-ok d = λ table here.
     }))
     (record {
       free = d.in-Some.ensures.free;
-      can = ap (can_number p (makes + 1)) (owned c) ∙ number.0;
-      new = first_number p makes d.id.inside.0 d.from.result (get S.processes p) (d.id.view_is ∙ last) (d.from.ensures ∙ d.makes-2.ensures);
+      can = ap (can_number p (new_nodes + 1)) (owned c) ∙ number.0;
+      new = first_number p new_nodes d.id.inside.0 d.from.result (get S.processes p) (d.id.view_is ∙ last) (d.from.ensures ∙ d.new_nodes-2.ensures);
       kind = d.kind.ensures;
       descriptor = d.descriptor.ensures stat.flags (d.id.inside.0 - d.from.result)
           ∙ ap (λ k. opened_descriptor d.in-Some-numbered.id k stat) (sym d.kind.ensures) ∙ ap (λ n. opened_descriptor n d.kind.result stat) last;

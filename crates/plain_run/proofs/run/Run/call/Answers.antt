@@ -40,8 +40,8 @@ step-answer-requires-clause-epoch c = c.requires.at.bounded.epoch
 found : (c : After-enter) → c.get_mut-guest.result.now ≡ guest_now c.args.self.now c.args.who.now.pid
 found c = guest_found c.args.self.now c.args.who.now.pid c.key_of.result _ (c.key_of.ensures) c.get_mut-guest.ensures.value
 
-spelled : (c : After-enter) → c.in_ok-call.call ≡ args_of (guest_now c.args.self.now c.args.who.now.pid).memory (registers_of (guest_now c.args.self.now c.args.who.now.pid) c.args.who.now.tid)
-spelled c = c.in_ok-call.ensures.ok ∙ ap (λ (g : Guest). args_of g.memory (registers_of g c.args.who.now.tid)) (found c)
+encoded : (c : After-enter) → c.in_ok-call.call ≡ args_of (guest_now c.args.self.now c.args.who.now.pid).memory (registers_of (guest_now c.args.self.now c.args.who.now.pid) c.args.who.now.tid)
+encoded c = c.in_ok-call.ensures.ok ∙ ap (λ (g : Guest). args_of g.memory (registers_of g c.args.who.now.tid)) (found c)
 
 -- the guests after the call
 abbrev guests : After-enter → FinMap nat_cmp Guest
@@ -59,7 +59,7 @@ returns-clause-ok c =
     let a = (goal.at.returns-clause-ok c).After-enter in
     on_ok_weaker _
     (λ more. subst (λ (x : Run). IsBetweenTurns x c.args.who.now) (sym c.enter.ensures.rest)
-    (call_between c.args.self.now c.args.who.now c.in_ok-call.call c.step-answer.result c.step-answer.new.self c.requires (spelled a) c.step-answer.ensures.step
+    (call_between c.args.self.now c.args.who.now c.in_ok-call.call c.step-answer.result c.step-answer.new.self c.requires (encoded a) c.step-answer.ensures.step
     (guests a) (put a) c.enter.new.self.history more))
     c.enter.ensures.ok
 
@@ -67,7 +67,7 @@ pub returns-clause-left : goal.returns-clause-left
 returns-clause-left c =
     let a = (goal.at.returns-clause-left c).After-enter in
     ap (λ (x : Run). (guest_now x c.args.who.now.pid).left) c.enter.ensures.rest
-    ∙ call_left c.args.self.now c.args.who.now c.in_ok-call.call c.step-answer.result c.step-answer.new.self c.requires (spelled a) c.step-answer.ensures.step
+    ∙ call_left c.args.self.now c.args.who.now c.in_ok-call.call c.step-answer.result c.step-answer.new.self c.requires (encoded a) c.step-answer.ensures.step
     (guests a) (put a) c.enter.new.self.history
 
 pub returns-clause-legal : goal.returns-clause-legal
@@ -75,5 +75,5 @@ returns-clause-legal c =
     let a = (goal.at.returns-clause-legal c).After-enter in
     subst (λ (x : Run). Legal x.launch c.enter.new.self.history) (sym c.enter.ensures.rest)
     (legal_after c.enter.result c.args.self.now c.enter.new.self.history _ c.requires.at.legal
-    (call_fits c.args.self.now c.args.who.now c.in_ok-call.call c.step-answer.result c.step-answer.new.self c.requires (spelled a) c.step-answer.ensures.step)
+    (call_fits c.args.self.now c.args.who.now c.in_ok-call.call c.step-answer.result c.step-answer.new.self c.requires (encoded a) c.step-answer.ensures.step)
     c.enter.ensures.ok c.enter.ensures.err)

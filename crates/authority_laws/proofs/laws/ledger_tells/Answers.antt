@@ -1,5 +1,0 @@
-use Rattle.authority_laws.proofs.Histories as histories
-use Rattle.authority_laws.proofs.laws.ledger_tells.Goals as goal
-
-pub returns : goal.returns
-returns c = histories.ledger_tells

@@ -1,5 +1,0 @@
-use Rattle.launch_laws.proofs.LineEnds.{lines_are_told}
-use Rattle.launch_laws.proofs.laws.faults_of_lines_are_told.Goals as goal
-
-pub returns : goal.returns
-returns c = lines_are_told

@@ -1,5 +1,0 @@
-use Rattle.tree_records.proofs.RecordTexts.{one_record}
-use Rattle.tree_records.proofs.laws.no_spelling_begins_another.Goals as goal
-
-pub returns : goal.returns
-returns c = one_record
