@@ -13,7 +13,6 @@ pub use places::NamePlace;
 pub use plans::{OpenPlan, apply_plan};
 
 mod checking;
-mod descriptors;
 mod dispatch;
 mod entries;
 mod failure;

@@ -1,19 +1,25 @@
-//! What an open does to the file tree.
-ghost use Rattle.std.specs.Prelude.{◌≡◌, [], true, OnOk, OnErr};
+//! What is opened, and what an open does to the file tree.
+ghost use Rattle.std.specs.Prelude.{◌≡◌, ℕ, [], true, OnOk, OnErr};
+ghost use Rattle.abi_base.specs.Rights.{meet_of};
 ghost use Rattle.abi_types.specs.declared.node.NodeKind.TheVariants as kind;
 ghost use Rattle.tree_model.specs.Changes.{is_absent};
 ghost use Rattle.kernel_model.specs.Families.FileChanges.{sized};
 ghost use Rattle.kernel_model.specs.Families.LastNames.{name_at};
 ghost use Rattle.kernel_model.specs.Families.NameMaking.{with_node};
+ghost use Rattle.kernel_model.specs.Families.Opening.{opened_descriptor};
 ghost use Rattle.entry_calls.specs.Done.{IsNew};
 ghost use Rattle.entry_calls.specs.Plans.{change_of, kind_of, new_nodes_of};
 
 use crate::making::make_in;
 use crate::places::{NamePlace, name_at};
-use abi_types::{Bytes, NodeKind, ObjId, OpenKind};
+use abi_types::{Bytes, Descriptor, FdStat, NodeKind, ObjId, OpenKind, OpenType, Rights};
 use file_calls::set_size;
 use file_tree::Tree;
+use right_rules::fits;
 use std::alloc::{AllocError, Global};
+
+// What a descriptor of a directory may pass on: its own rights and a file's.
+const DIRECTORY_INHERITING: u64 = 0x11ffff7ff;
 
 /// What is opened, and what is done to the tree for it.
 #[derive(Clone, Copy)]
@@ -24,6 +30,17 @@ pub enum OpenPlan {
     Directory { node: ObjId },
     /// A file that is made at this place.
     New { place: NamePlace },
+}
+
+// The descriptor of this open, with those of these rights that are asked.
+fn asked_of(id: ObjId, stat: &FdStat, base: Rights, inheriting: Rights) -> Descriptor
+    ensures { result ≡ record { id = id; base = record { 0 = meet_of base.0 stat.now.base.0 }; inheriting = record { 0 = meet_of inheriting.0 stat.now.inheriting.0 } } }
+{
+    Descriptor {
+        id,
+        base: base.meet(stat.base),
+        inheriting: inheriting.meet(stat.inheriting),
+    }
 }
 
 impl OpenPlan {
@@ -43,6 +60,23 @@ impl OpenPlan {
                 offset: 0,
                 flags,
             },
+        }
+    }
+
+    /// The descriptor of the open with this number: it has the rights that are asked, without those that its type doesn't have.
+    pub fn descriptor(&self, id: ObjId, stat: &FdStat) -> Descriptor
+        ensures { (flags new : ℕ) → result ≡ opened_descriptor id (kind_of self.now flags new) stat.now }
+    {
+        match self {
+            OpenPlan::File { .. } | OpenPlan::New { .. } => {
+                asked_of(id, stat, fits(OpenType::File), Rights(0))
+            }
+            OpenPlan::Directory { .. } => asked_of(
+                id,
+                stat,
+                fits(OpenType::Directory),
+                Rights(DIRECTORY_INHERITING),
+            ),
         }
     }
 

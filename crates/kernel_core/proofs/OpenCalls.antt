@@ -49,7 +49,7 @@ use Rattle.entry_calls.specs.Plans.{change_of, kind_of, new_nodes_of, opened_by,
 use Rattle.entry_calls.specs.declared.plans.OpenPlan.{OpenPlan}
 use Rattle.kernel_parts.specs.Entries.{open_in}
 use Rattle.kernel_core.specs.Opening.{IsOpening, open_outcome, opened_at}
-use Rattle.kernel_parts.specs.declared.installing.Opening.{Opening}
+use Rattle.kernel_parts.specs.declared.opens.Opening.{Opening}
 use Rattle.kernel_core.proofs.Leaving.{counted_is, none_holds, released_is}
 use Rattle.kernel_parts.proofs.Lowest.{lowest_is}
 use Rattle.kernel_core.proofs.EntryCalls.{opened_is}

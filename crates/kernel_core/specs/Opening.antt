@@ -12,7 +12,7 @@ use Rattle.kernel_model.specs.Outcome.{Outcome}
 use Rattle.kernel_model.specs.State.{State, Table, tree_of}
 use Rattle.entry_calls.specs.Plans.{kind_of, new_nodes_of, opened_by}
 use Rattle.kernel_parts.specs.Entries.{open_in}
-use Rattle.kernel_parts.specs.declared.installing.Opening.{Opening}
+use Rattle.kernel_parts.specs.declared.opens.Opening.{Opening}
 
 -- what is opened at this time, by the open of a descriptor of the table, where a node that is made has the number new
 abbrev pub opened_at : ℕ → ℕ → State → Table → Lookup → List ℕ → ℕ → FdStat → Opened

@@ -3,8 +3,7 @@
 #![tactic(auto)]
 
 pub use entries::{Caller, change_entries};
-pub use installing::{Opening, put_opening};
-pub use opens::{kind_of, open_of};
+pub use opens::{Opening, kind_of, open_of, put_opening};
 pub use places::placed;
 pub use process::ProcessState;
 pub use releasing::{forget_nameless, release};
@@ -15,7 +14,6 @@ pub use table_change::change_table;
 pub use terminal::Terminal;
 
 mod entries;
-mod installing;
 mod opens;
 mod places;
 mod process;

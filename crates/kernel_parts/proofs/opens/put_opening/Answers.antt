@@ -7,7 +7,7 @@ use Rattle.object_store.specs.Objects.{Held}
 use Rattle.kernel_model.specs.State.{Table}
 use Rattle.kernel_parts.specs.Changes.{IsMoved}
 use Rattle.kernel_parts.proofs.Counts.{number-back}
-use Rattle.kernel_parts.proofs.installing.put_opening.Goals as goal
+use Rattle.kernel_parts.proofs.opens.put_opening.Goals as goal
 
 pub returns-in-Err-clause-same_table : goal.returns-in-Err-clause-same_table
 returns-in-Err-clause-same_table c =

@@ -5,7 +5,7 @@ use Rattle.object_store.specs.Objects.{Held}
 use Rattle.kernel_model.specs.Release.{count_in, names_open}
 use Rattle.kernel_model.specs.State.{Table}
 use Rattle.kernel_parts.proofs.Counts.{number-hold, zero_added}
-use Rattle.kernel_parts.proofs.installing.add_open.Goals as goal
+use Rattle.kernel_parts.proofs.opens.add_open.Goals as goal
 
 pub returns-in-Err-clause-same_table : goal.returns-in-Err-clause-same_table
 returns-in-Err-clause-same_table c =
