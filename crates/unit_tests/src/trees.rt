@@ -1,4 +1,4 @@
 //! File trees and walks over them.
 
-mod acts;
+mod operations;
 mod rows;

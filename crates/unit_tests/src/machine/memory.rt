@@ -26,7 +26,7 @@ const READ_WRITE: Prot = Prot {
 
 // What is done with a memory.
 #[derive(Clone, Copy)]
-enum Act {
+enum Operation {
     // At an address, so many pages, with these rights.
     Map(u64, u32, Prot),
     MapFixed(u64, u32, Prot),
@@ -53,7 +53,7 @@ enum Act {
     Bytes(u64, &'static [u8]),
 }
 
-// What an act gives: a number, or 0 where it gives none.
+// What an operation gives: a number, or 0 where it gives none.
 type Answer = Result<u64, MemFault>;
 
 const DONE: Answer = Ok(0);
@@ -172,40 +172,40 @@ fn bytes(memory: &GuestMemory, at: u64, want: &[u8]) -> Answer {
     }
 }
 
-// Does an act.
-fn answer(memory: &mut GuestMemory, alloc: Global, act: Act) -> Answer {
-    match act {
-        Act::Map(at, pages, prot) => map(memory, alloc, at, pages, prot),
-        Act::MapFixed(at, pages, prot) => map_fixed(memory, alloc, at, pages, prot),
-        Act::Protect(at, pages, prot) => protect(memory, at, pages, prot),
-        Act::Unmap(at, pages) => unmap(memory, at, pages),
-        Act::Gap(pages) => memory.find_gap(pages).ok_or(MemFault::NoMemory),
-        Act::Len => Ok(memory.len() as u64),
-        Act::Within(at, pages) => within(memory, at, pages),
-        Act::Mapped(at, pages) => mapped(memory, at, pages),
-        Act::Check(access, at, count) => {
+// Does an operation.
+fn answer(memory: &mut GuestMemory, alloc: Global, operation: Operation) -> Answer {
+    match operation {
+        Operation::Map(at, pages, prot) => map(memory, alloc, at, pages, prot),
+        Operation::MapFixed(at, pages, prot) => map_fixed(memory, alloc, at, pages, prot),
+        Operation::Protect(at, pages, prot) => protect(memory, at, pages, prot),
+        Operation::Unmap(at, pages) => unmap(memory, at, pages),
+        Operation::Gap(pages) => memory.find_gap(pages).ok_or(MemFault::NoMemory),
+        Operation::Len => Ok(memory.len() as u64),
+        Operation::Within(at, pages) => within(memory, at, pages),
+        Operation::Mapped(at, pages) => mapped(memory, at, pages),
+        Operation::Check(access, at, count) => {
             memory.check(access, at, count)?;
             DONE
         }
-        Act::Rights(at) => rights(memory, at),
-        Act::Load(at, n) => load(memory, at, n),
-        Act::Store(at, n, v) => store(memory, at, n, v),
-        Act::Fetch(at) => Ok(u64::from(memory.fetch(at)?)),
-        Act::Write(at, bytes) => {
+        Operation::Rights(at) => rights(memory, at),
+        Operation::Load(at, n) => load(memory, at, n),
+        Operation::Store(at, n, v) => store(memory, at, n, v),
+        Operation::Fetch(at) => Ok(u64::from(memory.fetch(at)?)),
+        Operation::Write(at, bytes) => {
             memory.write_bytes(at, bytes)?;
             DONE
         }
-        Act::Bytes(at, want) => bytes(memory, at, want),
+        Operation::Bytes(at, want) => bytes(memory, at, want),
     }
 }
 
-// Acts one after another, and what each gives.
-type Acts = &'static [(Act, Answer)];
+// Operations one after another, and what each gives.
+type Operations = &'static [(Operation, Answer)];
 
-// Does acts. The first row that gives another answer.
-fn first_other(memory: &mut GuestMemory, alloc: Global, acts: Acts) -> Option<usize> {
-    for (i, &(act, want)) in acts.iter().enumerate() {
-        if answer(memory, alloc, act) != want {
+// Does operations. The first row that gives another answer.
+fn first_other(memory: &mut GuestMemory, alloc: Global, operations: Operations) -> Option<usize> {
+    for (i, &(operation, want)) in operations.iter().enumerate() {
+        if answer(memory, alloc, operation) != want {
             return Some(i);
         }
     }
@@ -213,246 +213,303 @@ fn first_other(memory: &mut GuestMemory, alloc: Global, acts: Acts) -> Option<us
 }
 
 // The first byte that may not be accessed is named.
-const FIRST_FAULT_IS_NAMED: Acts = &[
-    (Act::Map(0x10000, 2, READ_WRITE), DONE),
-    (Act::Map(0x12000, 1, READ), DONE),
-    (Act::Map(0x13000, 1, WRITE), DONE),
-    (Act::Map(0x14000, 1, EXEC), DONE),
-    (Act::Check(Access::Read, 0x10ff8, 16), DONE),
-    (Act::Check(Access::Read, 0x12ff8, 8), DONE),
+const FIRST_FAULT_IS_NAMED: Operations = &[
+    (Operation::Map(0x10000, 2, READ_WRITE), DONE),
+    (Operation::Map(0x12000, 1, READ), DONE),
+    (Operation::Map(0x13000, 1, WRITE), DONE),
+    (Operation::Map(0x14000, 1, EXEC), DONE),
+    (Operation::Check(Access::Read, 0x10ff8, 16), DONE),
+    (Operation::Check(Access::Read, 0x12ff8, 8), DONE),
     (
-        Act::Check(Access::Read, 0x12ff8, 9),
+        Operation::Check(Access::Read, 0x12ff8, 9),
         Err(MemFault::NoRight(0x13000)),
     ),
     (
-        Act::Check(Access::Read, 0x13004, 1),
+        Operation::Check(Access::Read, 0x13004, 1),
         Err(MemFault::NoRight(0x13004)),
     ),
     (
-        Act::Check(Access::Read, 0xfff8, 16),
+        Operation::Check(Access::Read, 0xfff8, 16),
         Err(MemFault::NotMapped(0xfff8)),
     ),
     (
-        Act::Check(Access::Write, 0x11ff8, 16),
+        Operation::Check(Access::Write, 0x11ff8, 16),
         Err(MemFault::NoRight(0x12000)),
     ),
-    (Act::Check(Access::Write, 0x13000, 4096), DONE),
+    (Operation::Check(Access::Write, 0x13000, 4096), DONE),
     (
-        Act::Check(Access::Write, 0x13000, 8192),
+        Operation::Check(Access::Write, 0x13000, 8192),
         Err(MemFault::NoRight(0x14000)),
     ),
-    (Act::Check(Access::Exec, 0x14000, 4096), DONE),
+    (Operation::Check(Access::Exec, 0x14000, 4096), DONE),
     (
-        Act::Check(Access::Exec, 0x14ffe, 4),
+        Operation::Check(Access::Exec, 0x14ffe, 4),
         Err(MemFault::NotMapped(0x15000)),
     ),
     (
-        Act::Check(Access::Exec, 0x10000, 4),
+        Operation::Check(Access::Exec, 0x10000, 4),
         Err(MemFault::NoRight(0x10000)),
     ),
-    (Act::Check(Access::Read, 0x15000, 0), DONE),
+    (Operation::Check(Access::Read, 0x15000, 0), DONE),
     (
-        Act::Check(Access::Read, u64::MAX, 2),
+        Operation::Check(Access::Read, u64::MAX, 2),
         Err(MemFault::NotMapped(u64::MAX)),
     ),
 ];
 
 // What is refused writes no byte, neither to memory nor from there.
-const REFUSALS_CHANGE_NOTHING: Acts = &[
-    (Act::Map(0x10000, 2, READ_WRITE), DONE),
-    (Act::Map(0x12000, 1, READ), DONE),
-    (Act::Map(0x13000, 1, WRITE), DONE),
-    (Act::Map(0x14000, 1, EXEC), DONE),
-    (Act::Write(0x11ff8, b"abcdefgh"), DONE),
+const REFUSALS_CHANGE_NOTHING: Operations = &[
+    (Operation::Map(0x10000, 2, READ_WRITE), DONE),
+    (Operation::Map(0x12000, 1, READ), DONE),
+    (Operation::Map(0x13000, 1, WRITE), DONE),
+    (Operation::Map(0x14000, 1, EXEC), DONE),
+    (Operation::Write(0x11ff8, b"abcdefgh"), DONE),
     (
-        Act::Write(0x11ff9, b"ABCDEFGHI"),
+        Operation::Write(0x11ff9, b"ABCDEFGHI"),
         Err(MemFault::NoRight(0x12000)),
     ),
-    (Act::Store(0x11ffc, 8, 0), Err(MemFault::NoRight(0x12000))),
-    (Act::Bytes(0x11ff8, b"abcdefgh"), DONE),
     (
-        Act::Bytes(0x12ffc, b"abcdefgh"),
+        Operation::Store(0x11ffc, 8, 0),
+        Err(MemFault::NoRight(0x12000)),
+    ),
+    (Operation::Bytes(0x11ff8, b"abcdefgh"), DONE),
+    (
+        Operation::Bytes(0x12ffc, b"abcdefgh"),
         Err(MemFault::NoRight(0x13000)),
     ),
 ];
 
 // A right is none of the others.
-const EACH_RIGHT_IS_ITS_OWN: Acts = &[
-    (Act::Map(0x10000, 2, READ_WRITE), DONE),
-    (Act::Map(0x12000, 1, READ), DONE),
-    (Act::Map(0x13000, 1, WRITE), DONE),
-    (Act::Map(0x14000, 1, EXEC), DONE),
-    (Act::Store(0x10ffe, 4, 0xdead_beef), DONE),
-    (Act::Fetch(0x10ffe), Err(MemFault::NoRight(0x10ffe))),
-    (Act::Load(0x12000, 8), Ok(0)),
-    (Act::Store(0x12000, 8, 1), Err(MemFault::NoRight(0x12000))),
-    (Act::Store(0x13000, 8, 7), DONE),
-    (Act::Load(0x13000, 8), Err(MemFault::NoRight(0x13000))),
-    (Act::Fetch(0x14000), Ok(0)),
-    (Act::Load(0x14000, 4), Err(MemFault::NoRight(0x14000))),
-    (Act::Protect(0x10000, 2, EXEC), DONE),
-    (Act::Fetch(0x10ffc), Ok(0xbeef_0000)),
-    (Act::Fetch(0x10ffe), Ok(0xdead_beef)),
-    (Act::Protect(0x13000, 1, READ), DONE),
-    (Act::Load(0x13000, 8), Ok(7)),
+const EACH_RIGHT_IS_ITS_OWN: Operations = &[
+    (Operation::Map(0x10000, 2, READ_WRITE), DONE),
+    (Operation::Map(0x12000, 1, READ), DONE),
+    (Operation::Map(0x13000, 1, WRITE), DONE),
+    (Operation::Map(0x14000, 1, EXEC), DONE),
+    (Operation::Store(0x10ffe, 4, 0xdead_beef), DONE),
+    (Operation::Fetch(0x10ffe), Err(MemFault::NoRight(0x10ffe))),
+    (Operation::Load(0x12000, 8), Ok(0)),
+    (
+        Operation::Store(0x12000, 8, 1),
+        Err(MemFault::NoRight(0x12000)),
+    ),
+    (Operation::Store(0x13000, 8, 7), DONE),
+    (Operation::Load(0x13000, 8), Err(MemFault::NoRight(0x13000))),
+    (Operation::Fetch(0x14000), Ok(0)),
+    (Operation::Load(0x14000, 4), Err(MemFault::NoRight(0x14000))),
+    (Operation::Protect(0x10000, 2, EXEC), DONE),
+    (Operation::Fetch(0x10ffc), Ok(0xbeef_0000)),
+    (Operation::Fetch(0x10ffe), Ok(0xdead_beef)),
+    (Operation::Protect(0x13000, 1, READ), DONE),
+    (Operation::Load(0x13000, 8), Ok(7)),
 ];
 
 // Gaps where no page is: all that is between 0x2000000000 and 0x3e00000000, and more.
-const GAPS_OF_NOTHING: Acts = &[
-    (Act::Gap(1), Ok(0x20_0000_0000)),
-    (Act::Gap(2), Ok(0x20_0000_0000)),
-    (Act::Gap(0x1e0_0000), Ok(0x20_0000_0000)),
-    (Act::Gap(0x1df_fffc), Ok(0x20_0000_0000)),
-    (Act::Gap(0x1df_fffd), Ok(0x20_0000_0000)),
-    (Act::Gap(0x1e0_0001), NONE_SUCH),
-    (Act::Gap(u32::MAX), NONE_SUCH),
+const GAPS_OF_NOTHING: Operations = &[
+    (Operation::Gap(1), Ok(0x20_0000_0000)),
+    (Operation::Gap(2), Ok(0x20_0000_0000)),
+    (Operation::Gap(0x1e0_0000), Ok(0x20_0000_0000)),
+    (Operation::Gap(0x1df_fffc), Ok(0x20_0000_0000)),
+    (Operation::Gap(0x1df_fffd), Ok(0x20_0000_0000)),
+    (Operation::Gap(0x1e0_0001), NONE_SUCH),
+    (Operation::Gap(u32::MAX), NONE_SUCH),
 ];
 
 // Gaps round three pages, and what is behind them.
-const LOWEST_GAP_IS_FOUND: Acts = &[
-    (Act::Map(0x20_0000_0000, 2, READ_WRITE), DONE),
-    (Act::Map(0x20_0000_3000, 1, READ), DONE),
-    (Act::Gap(1), Ok(0x20_0000_2000)),
-    (Act::Gap(2), Ok(0x20_0000_4000)),
-    (Act::Gap(0x1e0_0000), NONE_SUCH),
-    (Act::Gap(0x1df_fffc), Ok(0x20_0000_4000)),
-    (Act::Gap(0x1df_fffd), NONE_SUCH),
-    (Act::Gap(0x1e0_0001), NONE_SUCH),
-    (Act::Gap(u32::MAX), NONE_SUCH),
+const LOWEST_GAP_IS_FOUND: Operations = &[
+    (Operation::Map(0x20_0000_0000, 2, READ_WRITE), DONE),
+    (Operation::Map(0x20_0000_3000, 1, READ), DONE),
+    (Operation::Gap(1), Ok(0x20_0000_2000)),
+    (Operation::Gap(2), Ok(0x20_0000_4000)),
+    (Operation::Gap(0x1e0_0000), NONE_SUCH),
+    (Operation::Gap(0x1df_fffc), Ok(0x20_0000_4000)),
+    (Operation::Gap(0x1df_fffd), NONE_SUCH),
+    (Operation::Gap(0x1e0_0001), NONE_SUCH),
+    (Operation::Gap(u32::MAX), NONE_SUCH),
 ];
 
 // Gaps beside two pages that are apart, and two pages below.
-const GAPS_BETWEEN_PAGES: Acts = &[
-    (Act::Map(0x20000, 2, READ), DONE),
-    (Act::Gap(0x1e0_0000), Ok(0x20_0000_0000)),
-    (Act::Gap(0x1e0_0001), NONE_SUCH),
-    (Act::Map(0x20_0000_0000, 1, READ), DONE),
-    (Act::Map(0x20_0000_3000, 1, READ), DONE),
-    (Act::Gap(0), Ok(0x20_0000_0000)),
-    (Act::Gap(1), Ok(0x20_0000_1000)),
-    (Act::Gap(2), Ok(0x20_0000_1000)),
-    (Act::Gap(3), Ok(0x20_0000_4000)),
-    (Act::Gap(0x1df_fffc), Ok(0x20_0000_4000)),
-    (Act::Gap(0x1df_fffd), NONE_SUCH),
-    (Act::Gap(0x1e0_0000), NONE_SUCH),
+const GAPS_BETWEEN_PAGES: Operations = &[
+    (Operation::Map(0x20000, 2, READ), DONE),
+    (Operation::Gap(0x1e0_0000), Ok(0x20_0000_0000)),
+    (Operation::Gap(0x1e0_0001), NONE_SUCH),
+    (Operation::Map(0x20_0000_0000, 1, READ), DONE),
+    (Operation::Map(0x20_0000_3000, 1, READ), DONE),
+    (Operation::Gap(0), Ok(0x20_0000_0000)),
+    (Operation::Gap(1), Ok(0x20_0000_1000)),
+    (Operation::Gap(2), Ok(0x20_0000_1000)),
+    (Operation::Gap(3), Ok(0x20_0000_4000)),
+    (Operation::Gap(0x1df_fffc), Ok(0x20_0000_4000)),
+    (Operation::Gap(0x1df_fffd), NONE_SUCH),
+    (Operation::Gap(0x1e0_0000), NONE_SUCH),
 ];
 
 // The first page that is there already comes before the limit.
-const MAP_NAMES_ITS_FAULT: Acts = &[
-    (Act::Map(0x20000, 2, READ), DONE),
-    (Act::Map(0x20000, 1, READ), Err(MemFault::Overlaps(0x20000))),
-    (Act::Map(0x1e000, 8, READ), Err(MemFault::Overlaps(0x20000))),
-    (Act::Map(0x21000, 8, READ), Err(MemFault::Overlaps(0x21000))),
+const MAP_NAMES_ITS_FAULT: Operations = &[
+    (Operation::Map(0x20000, 2, READ), DONE),
     (
-        Act::Map(0x10000, 70_000, READ),
+        Operation::Map(0x20000, 1, READ),
         Err(MemFault::Overlaps(0x20000)),
     ),
-    (Act::Map(0x22000, 65_535, READ), Err(MemFault::PageLimit)),
-    (Act::Map(0x20000, 0, READ), DONE),
-    (Act::Map(0x1f000, 1, READ), DONE),
-    (Act::Map(0x22000, 1, READ), DONE),
-    (Act::Map(0x3f_ffff_f000, 1, READ), DONE),
-    (Act::Map(0x1f000, 4, READ), Err(MemFault::Overlaps(0x1f000))),
-    (Act::Len, Ok(5)),
+    (
+        Operation::Map(0x1e000, 8, READ),
+        Err(MemFault::Overlaps(0x20000)),
+    ),
+    (
+        Operation::Map(0x21000, 8, READ),
+        Err(MemFault::Overlaps(0x21000)),
+    ),
+    (
+        Operation::Map(0x10000, 70_000, READ),
+        Err(MemFault::Overlaps(0x20000)),
+    ),
+    (
+        Operation::Map(0x22000, 65_535, READ),
+        Err(MemFault::PageLimit),
+    ),
+    (Operation::Map(0x20000, 0, READ), DONE),
+    (Operation::Map(0x1f000, 1, READ), DONE),
+    (Operation::Map(0x22000, 1, READ), DONE),
+    (Operation::Map(0x3f_ffff_f000, 1, READ), DONE),
+    (
+        Operation::Map(0x1f000, 4, READ),
+        Err(MemFault::Overlaps(0x1f000)),
+    ),
+    (Operation::Len, Ok(5)),
 ];
 
 // There are at most 65,536 pages.
-const AT_THE_LIMIT: Acts = &[
-    (Act::Map(0x10000, 65_537, READ), Err(MemFault::PageLimit)),
-    (Act::Map(0x10000, 65_536, READ), DONE),
-    (Act::Map(0x2000_0000, 1, READ), Err(MemFault::PageLimit)),
-    (Act::Map(0x2000_0000, 0, READ), DONE),
-    (Act::Unmap(0x10000, 1), DONE),
-    (Act::Map(0x2000_0000, 1, READ), DONE),
+const AT_THE_LIMIT: Operations = &[
+    (
+        Operation::Map(0x10000, 65_537, READ),
+        Err(MemFault::PageLimit),
+    ),
+    (Operation::Map(0x10000, 65_536, READ), DONE),
+    (
+        Operation::Map(0x2000_0000, 1, READ),
+        Err(MemFault::PageLimit),
+    ),
+    (Operation::Map(0x2000_0000, 0, READ), DONE),
+    (Operation::Unmap(0x10000, 1), DONE),
+    (Operation::Map(0x2000_0000, 1, READ), DONE),
 ];
 
 // Pages that aren't there are passed over.
-const UNMAP_PASSES_OVER_ABSENT_PAGES: Acts = &[
-    (Act::Map(0x20000, 2, READ), DONE),
-    (Act::Unmap(0x22000, 1), DONE),
-    (Act::Unmap(0x1f000, 2), DONE),
-    (Act::Rights(0x1f000), Err(MemFault::NotMapped(0x1f000))),
-    (Act::Rights(0x20000), Err(MemFault::NotMapped(0x20000))),
-    (Act::Rights(0x21000), Ok(4)),
-    (Act::Rights(0x22000), Err(MemFault::NotMapped(0x22000))),
-    (Act::Unmap(0, u32::MAX), DONE),
-    (Act::Len, Ok(0)),
+const UNMAP_PASSES_OVER_ABSENT_PAGES: Operations = &[
+    (Operation::Map(0x20000, 2, READ), DONE),
+    (Operation::Unmap(0x22000, 1), DONE),
+    (Operation::Unmap(0x1f000, 2), DONE),
+    (
+        Operation::Rights(0x1f000),
+        Err(MemFault::NotMapped(0x1f000)),
+    ),
+    (
+        Operation::Rights(0x20000),
+        Err(MemFault::NotMapped(0x20000)),
+    ),
+    (Operation::Rights(0x21000), Ok(4)),
+    (
+        Operation::Rights(0x22000),
+        Err(MemFault::NotMapped(0x22000)),
+    ),
+    (Operation::Unmap(0, u32::MAX), DONE),
+    (Operation::Len, Ok(0)),
 ];
 
 // Where a page isn't there, no page is changed.
-const PROTECT_CHANGES_ALL_OR_NOTHING: Acts = &[
-    (Act::Map(0x20000, 2, READ), DONE),
+const PROTECT_CHANGES_ALL_OR_NOTHING: Operations = &[
+    (Operation::Map(0x20000, 2, READ), DONE),
     (
-        Act::Protect(0x21000, 2, EXEC),
+        Operation::Protect(0x21000, 2, EXEC),
         Err(MemFault::NotMapped(0x22000)),
     ),
-    (Act::Rights(0x20000), Ok(4)),
-    (Act::Rights(0x21000), Ok(4)),
+    (Operation::Rights(0x20000), Ok(4)),
+    (Operation::Rights(0x21000), Ok(4)),
     (
-        Act::Protect(0x1f000, 2, EXEC),
+        Operation::Protect(0x1f000, 2, EXEC),
         Err(MemFault::NotMapped(0x1f000)),
     ),
-    (Act::Rights(0x20000), Ok(4)),
-    (Act::Rights(0x21000), Ok(4)),
-    (Act::Protect(0x21000, 1, EXEC), DONE),
-    (Act::Rights(0x20000), Ok(4)),
-    (Act::Rights(0x21000), Ok(1)),
-    (Act::Protect(0x20000, 2, EXEC), DONE),
-    (Act::Rights(0x20000), Ok(1)),
-    (Act::Rights(0x21000), Ok(1)),
-    (Act::Protect(0x40000, 0, EXEC), DONE),
-    (Act::Rights(0x20000), Ok(1)),
-    (Act::Rights(0x21000), Ok(1)),
+    (Operation::Rights(0x20000), Ok(4)),
+    (Operation::Rights(0x21000), Ok(4)),
+    (Operation::Protect(0x21000, 1, EXEC), DONE),
+    (Operation::Rights(0x20000), Ok(4)),
+    (Operation::Rights(0x21000), Ok(1)),
+    (Operation::Protect(0x20000, 2, EXEC), DONE),
+    (Operation::Rights(0x20000), Ok(1)),
+    (Operation::Rights(0x21000), Ok(1)),
+    (Operation::Protect(0x40000, 0, EXEC), DONE),
+    (Operation::Rights(0x20000), Ok(1)),
+    (Operation::Rights(0x21000), Ok(1)),
 ];
 
 // How many pages of a range are there, and the first that isn't.
-const PAGES_ARE_COUNTED_AND_CHECKED: Acts = &[
-    (Act::Map(0x20000, 2, READ), DONE),
-    (Act::Map(0x24000, 1, EXEC), DONE),
-    (Act::Len, Ok(3)),
-    (Act::Within(0x20000, 2), Ok(2)),
-    (Act::Mapped(0x20000, 2), DONE),
-    (Act::Within(0x20000, 5), Ok(3)),
-    (Act::Mapped(0x20000, 5), Err(MemFault::NotMapped(0x22000))),
-    (Act::Within(0x1f000, 2), Ok(1)),
-    (Act::Mapped(0x1f000, 2), Err(MemFault::NotMapped(0x1f000))),
-    (Act::Within(0x22000, 2), Ok(0)),
-    (Act::Mapped(0x22000, 2), Err(MemFault::NotMapped(0x22000))),
-    (Act::Within(0x24000, 1), Ok(1)),
-    (Act::Mapped(0x24000, 1), DONE),
-    (Act::Within(0x30000, 0), Ok(0)),
-    (Act::Mapped(0x30000, 0), DONE),
-    (Act::Within(0, u32::MAX), Ok(3)),
-    (Act::Mapped(0, 0xffff_ffff), Err(MemFault::NotMapped(0))),
+const PAGES_ARE_COUNTED_AND_CHECKED: Operations = &[
+    (Operation::Map(0x20000, 2, READ), DONE),
+    (Operation::Map(0x24000, 1, EXEC), DONE),
+    (Operation::Len, Ok(3)),
+    (Operation::Within(0x20000, 2), Ok(2)),
+    (Operation::Mapped(0x20000, 2), DONE),
+    (Operation::Within(0x20000, 5), Ok(3)),
     (
-        Act::Mapped(0xffff_ffff_ffff_f000, 0x10_0000_0000_0000),
+        Operation::Mapped(0x20000, 5),
+        Err(MemFault::NotMapped(0x22000)),
+    ),
+    (Operation::Within(0x1f000, 2), Ok(1)),
+    (
+        Operation::Mapped(0x1f000, 2),
+        Err(MemFault::NotMapped(0x1f000)),
+    ),
+    (Operation::Within(0x22000, 2), Ok(0)),
+    (
+        Operation::Mapped(0x22000, 2),
+        Err(MemFault::NotMapped(0x22000)),
+    ),
+    (Operation::Within(0x24000, 1), Ok(1)),
+    (Operation::Mapped(0x24000, 1), DONE),
+    (Operation::Within(0x30000, 0), Ok(0)),
+    (Operation::Mapped(0x30000, 0), DONE),
+    (Operation::Within(0, u32::MAX), Ok(3)),
+    (
+        Operation::Mapped(0, 0xffff_ffff),
+        Err(MemFault::NotMapped(0)),
+    ),
+    (
+        Operation::Mapped(0xffff_ffff_ffff_f000, 0x10_0000_0000_0000),
         Err(MemFault::NotMapped(0xffff_ffff_ffff_f000)),
     ),
 ];
 
 // Fixed mappings are of zeros with the rights asked.
-const FIXED_MAPPINGS_REPLACE_PAGES: Acts = &[
-    (Act::Map(0x20000, 2, READ), DONE),
-    (Act::Map(0x24000, 1, READ_WRITE), DONE),
-    (Act::Write(0x24ff8, &[7; 8]), DONE),
+const FIXED_MAPPINGS_REPLACE_PAGES: Operations = &[
+    (Operation::Map(0x20000, 2, READ), DONE),
+    (Operation::Map(0x24000, 1, READ_WRITE), DONE),
+    (Operation::Write(0x24ff8, &[7; 8]), DONE),
     // over the second of the first two pages and the free one behind it, over nothing, and over the page with bytes
-    (Act::MapFixed(0x21000, 2, EXEC), DONE),
-    (Act::MapFixed(0x30000, 0, EXEC), DONE),
-    (Act::MapFixed(0x24000, 2, READ), DONE),
-    (Act::Rights(0x20000), Ok(4)),
-    (Act::Rights(0x21000), Ok(1)),
-    (Act::Rights(0x22000), Ok(1)),
-    (Act::Rights(0x23000), Err(MemFault::NotMapped(0x23000))),
-    (Act::Rights(0x24000), Ok(4)),
-    (Act::Rights(0x25000), Ok(4)),
-    (Act::Rights(0x26000), Err(MemFault::NotMapped(0x26000))),
-    (Act::Rights(0x30000), Err(MemFault::NotMapped(0x30000))),
-    (Act::Bytes(0x24ff8, &[0; 16]), DONE),
-    (Act::Len, Ok(5)),
+    (Operation::MapFixed(0x21000, 2, EXEC), DONE),
+    (Operation::MapFixed(0x30000, 0, EXEC), DONE),
+    (Operation::MapFixed(0x24000, 2, READ), DONE),
+    (Operation::Rights(0x20000), Ok(4)),
+    (Operation::Rights(0x21000), Ok(1)),
+    (Operation::Rights(0x22000), Ok(1)),
+    (
+        Operation::Rights(0x23000),
+        Err(MemFault::NotMapped(0x23000)),
+    ),
+    (Operation::Rights(0x24000), Ok(4)),
+    (Operation::Rights(0x25000), Ok(4)),
+    (
+        Operation::Rights(0x26000),
+        Err(MemFault::NotMapped(0x26000)),
+    ),
+    (
+        Operation::Rights(0x30000),
+        Err(MemFault::NotMapped(0x30000)),
+    ),
+    (Operation::Bytes(0x24ff8, &[0; 16]), DONE),
+    (Operation::Len, Ok(5)),
 ];
 
 // Each begins with a memory that has no page.
-const ALL: &[(&str, Acts)] = &[
+const ALL: &[(&str, Operations)] = &[
     ("first fault is named", FIRST_FAULT_IS_NAMED),
     ("refusals change nothing", REFUSALS_CHANGE_NOTHING),
     ("each right is its own", EACH_RIGHT_IS_ITS_OWN),
@@ -477,9 +534,9 @@ const ALL: &[(&str, Acts)] = &[
 
 #[test]
 fn acts_are_answered(rt: HostRuntime) -> Result<(), Fail> {
-    for &(name, acts) in ALL {
+    for &(name, operations) in ALL {
         let mut memory = GuestMemory::new(rt.alloc());
-        let other = first_other(&mut memory, rt.alloc(), acts);
+        let other = first_other(&mut memory, rt.alloc(), operations);
         assert_eq!(rt; other, None, "{name}");
     }
     Ok(())
@@ -494,68 +551,77 @@ fn page_limit(rt: HostRuntime) -> Result<(), Fail> {
     Ok(())
 }
 
-// Acts before a memory is copied, those that change it then, and those on the copy.
+// Operations before a memory is copied, those that change it then, and those on the copy.
 struct Copied {
-    before: Acts,
-    then: Acts,
-    copy: Acts,
+    before: Operations,
+    then: Operations,
+    copy: Operations,
 }
 
 const COPIES: &[Copied] = &[
     Copied {
         before: &[
-            (Act::Map(0x20000, 2, READ), DONE),
-            (Act::Map(0x3f_ffff_f000, 1, EXEC), DONE),
+            (Operation::Map(0x20000, 2, READ), DONE),
+            (Operation::Map(0x3f_ffff_f000, 1, EXEC), DONE),
         ],
         then: &[
-            (Act::Unmap(0x20000, 1), DONE),
-            (Act::Protect(0x21000, 1, EXEC), DONE),
+            (Operation::Unmap(0x20000, 1), DONE),
+            (Operation::Protect(0x21000, 1, EXEC), DONE),
         ],
         copy: &[
-            (Act::Rights(0x20000), Ok(4)),
-            (Act::Rights(0x21000), Ok(4)),
-            (Act::Rights(0x3f_ffff_f000), Ok(1)),
-            (Act::Len, Ok(3)),
+            (Operation::Rights(0x20000), Ok(4)),
+            (Operation::Rights(0x21000), Ok(4)),
+            (Operation::Rights(0x3f_ffff_f000), Ok(1)),
+            (Operation::Len, Ok(3)),
         ],
     },
     Copied {
         before: &[
-            (Act::Map(0x20_0000_0000, 2, READ_WRITE), DONE),
-            (Act::Map(0x20_0000_3000, 1, READ), DONE),
+            (Operation::Map(0x20_0000_0000, 2, READ_WRITE), DONE),
+            (Operation::Map(0x20_0000_3000, 1, READ), DONE),
             // The first page that is there is named, even where there would be too many too.
             (
-                Act::Map(0x20_0000_2000, 2, READ),
+                Operation::Map(0x20_0000_2000, 2, READ),
                 Err(MemFault::Overlaps(0x20_0000_3000)),
             ),
             (
-                Act::Map(0x1f_ffff_f000, 65_536, READ),
+                Operation::Map(0x1f_ffff_f000, 65_536, READ),
                 Err(MemFault::Overlaps(0x20_0000_0000)),
             ),
             // There are three pages.
-            (Act::Map(0x10000, 65_534, READ), Err(MemFault::PageLimit)),
             (
-                Act::Load(0x20_0000_2000, 1),
+                Operation::Map(0x10000, 65_534, READ),
+                Err(MemFault::PageLimit),
+            ),
+            (
+                Operation::Load(0x20_0000_2000, 1),
                 Err(MemFault::NotMapped(0x20_0000_2000)),
             ),
             (
-                Act::Protect(0x20_0000_0000, 4, READ),
+                Operation::Protect(0x20_0000_0000, 4, READ),
                 Err(MemFault::NotMapped(0x20_0000_2000)),
             ),
-            (Act::Store(0x20_0000_0ffc, 8, 0x8877_6655_4433_2211), DONE),
+            (
+                Operation::Store(0x20_0000_0ffc, 8, 0x8877_6655_4433_2211),
+                DONE,
+            ),
         ],
         then: &[
-            (Act::Unmap(0x20_0000_1000, 2), DONE),
+            (Operation::Unmap(0x20_0000_1000, 2), DONE),
             (
-                Act::Load(0x20_0000_0ffc, 8),
+                Operation::Load(0x20_0000_0ffc, 8),
                 Err(MemFault::NotMapped(0x20_0000_1000)),
             ),
-            (Act::Load(0x20_0000_3000, 8), Ok(0)),
-            (Act::Map(0x20_0000_1000, 1, READ), DONE),
-            (Act::Load(0x20_0000_0ffc, 8), Ok(0x4433_2211)),
+            (Operation::Load(0x20_0000_3000, 8), Ok(0)),
+            (Operation::Map(0x20_0000_1000, 1, READ), DONE),
+            (Operation::Load(0x20_0000_0ffc, 8), Ok(0x4433_2211)),
         ],
         copy: &[
-            (Act::Load(0x20_0000_0ffc, 8), Ok(0x8877_6655_4433_2211)),
-            (Act::Gap(1), Ok(0x20_0000_2000)),
+            (
+                Operation::Load(0x20_0000_0ffc, 8),
+                Ok(0x8877_6655_4433_2211),
+            ),
+            (Operation::Gap(1), Ok(0x20_0000_2000)),
         ],
     },
 ];

@@ -18,7 +18,7 @@ pub const TIMES: Times = Times {
 
 /// What is done with a tree. Nodes have small numbers here: 0 is the root.
 #[derive(Clone, Copy)]
-pub enum Act {
+pub enum Operation {
     /// A new directory, file or symlink with this text: in which directory, by which name, of which number.
     Directory(u16, &'static [u8], u16),
     File(u16, &'static [u8], u16),
@@ -42,7 +42,7 @@ pub enum Act {
     Walk(u16, &'static [u8], WalkMode),
 }
 
-/// What comes of an act.
+/// What comes of an operation.
 #[derive(Clone, Copy, Debug, PartialEq, Eq)]
 pub enum Answer {
     Done,
@@ -79,7 +79,7 @@ fn of_change(done: Result<(), TreeFault>) -> Answer {
     }
 }
 
-// The number of a node, as in acts. A node of another launch's number isn't one that a test has.
+// The number of a node, as in operations. A node of another launch's number isn't one that a test has.
 fn number(node: ObjId) -> Answer {
     match node.0.checked_sub(ROOT) {
         Some(number) => Answer::Is(number),
@@ -228,45 +228,48 @@ fn place(dir: ObjId, from: u64, len: u64, is_last: bool) -> Answer {
 }
 
 // What is asked of a tree, and changes nothing.
-fn asked(tree: &Tree, act: Act) -> Answer {
-    match act {
-        Act::Entry(dir, name) => of_node(tree.entry(id(dir), name)),
-        Act::Links(node) => links(tree, node),
-        Act::NameAt(dir, place) => name_at(tree, dir, place),
-        Act::Nameless(after) => of_node(tree.nameless(Some(id(after)))),
-        Act::Read(node, at, most, want) => read(tree, node, at, most, want),
-        Act::Walk(start, path, mode) => walked(tree, start, path, mode),
+fn asked(tree: &Tree, operation: Operation) -> Answer {
+    match operation {
+        Operation::Entry(dir, name) => of_node(tree.entry(id(dir), name)),
+        Operation::Links(node) => links(tree, node),
+        Operation::NameAt(dir, place) => name_at(tree, dir, place),
+        Operation::Nameless(after) => of_node(tree.nameless(Some(id(after)))),
+        Operation::Read(node, at, most, want) => read(tree, node, at, most, want),
+        Operation::Walk(start, path, mode) => walked(tree, start, path, mode),
         _ => Answer::Other,
     }
 }
 
-/// Does an act.
-pub fn act_on(tree: &mut Tree, alloc: Global, act: Act) -> Answer {
-    match act {
-        Act::Directory(dir, name, made) => make(tree, dir, name, made, NodeKind::Directory),
-        Act::File(dir, name, made) => make(
+/// Does an operation.
+pub fn operate(tree: &mut Tree, alloc: Global, operation: Operation) -> Answer {
+    match operation {
+        Operation::Directory(dir, name, made) => make(tree, dir, name, made, NodeKind::Directory),
+        Operation::File(dir, name, made) => make(
             tree,
             dir,
             name,
             made,
             NodeKind::File(Bytes::new(alloc)),
         ),
-        Act::Symlink(dir, name, made, text) => symlink(tree, alloc, dir, name, made, text),
-        Act::Link(dir, name, node) => of_change(tree.link(id(dir), name, id(node))),
-        Act::Unlink(dir, name) => unlink(tree, dir, name),
-        Act::Rename(from, name, to, new) => rename(tree, from, name, to, new),
-        Act::Write(node, at, bytes) => write(tree, node, at, bytes),
-        Act::Size(node, size) => set_size(tree, node, size),
-        Act::Forget(node) => forget(tree, node),
+        Operation::Symlink(dir, name, made, text) => symlink(tree, alloc, dir, name, made, text),
+        Operation::Link(dir, name, node) => of_change(tree.link(id(dir), name, id(node))),
+        Operation::Unlink(dir, name) => unlink(tree, dir, name),
+        Operation::Rename(from, name, to, new) => rename(tree, from, name, to, new),
+        Operation::Write(node, at, bytes) => write(tree, node, at, bytes),
+        Operation::Size(node, size) => set_size(tree, node, size),
+        Operation::Forget(node) => forget(tree, node),
         other => asked(tree, other),
     }
 }
 
-/// Does acts one after another on a tree of the root alone. The first row that gives another answer.
-pub fn first_other(alloc: Global, acts: &[(Act, Answer)]) -> Result<Option<usize>, AllocError> {
+/// Does operations one after another on a tree of the root alone. The first row that gives another answer.
+pub fn first_other(
+    alloc: Global,
+    operations: &[(Operation, Answer)],
+) -> Result<Option<usize>, AllocError> {
     let mut tree = Tree::new(alloc, TIMES)?;
-    for (i, &(act, want)) in acts.iter().enumerate() {
-        if act_on(&mut tree, alloc, act) != want {
+    for (i, &(operation, want)) in operations.iter().enumerate() {
+        if operate(&mut tree, alloc, operation) != want {
             return Ok(Some(i));
         }
     }
