@@ -34,12 +34,12 @@ use Rattle.call_codec.proofs.Puts.{memory_is}
 use Rattle.call_codec.proofs.Readings.{IsListedRefusal, passed}
 
 -- an error of a call that registers encode
-abbrev pub IsEncoded : Errno → Type 0
-IsEncoded errno = (errno ≢ Nomem) × (errno ≢ Notcapable)
+abbrev pub IsPlain : Errno → Type 0
+IsPlain errno = (errno ≢ Nomem) × (errno ≢ Notcapable)
 
 -- each error that the call answers of its own is one of those
-abbrev pub IsEncodedCall : Call → Type 0
-IsEncodedCall call = AllByRecursion IsEncoded (errors_of call)
+abbrev pub IsPlainCall : Call → Type 0
+IsPlainCall call = AllByRecursion IsPlain (errors_of call)
 
 -- ---- tests of errors
 
@@ -52,14 +52,14 @@ abbrev are_plain : List Errno → Bool
 are_plain [] = true
 are_plain (errno ∷ errnos) = is_plain errno && are_plain errnos
 
-plain_encoded : (errno : Errno) → is_plain errno ≡ true → IsEncoded errno
-plain_encoded errno plain =
+plain_is : (errno : Errno) → is_plain errno ≡ true → IsPlain errno
+plain_is errno plain =
     (λ same. let not : false ≡ true = ap is_plain (sym same) ∙ plain in cc, λ same. let not : false ≡ true = ap is_plain (sym same) ∙ plain in cc)
 
-all_encoded : (errnos : List Errno) → are_plain errnos ≡ true → AllByRecursion IsEncoded errnos
-all_encoded [] plain = tt
-all_encoded (errno ∷ errnos) plain =
-    (plain_encoded errno (first_true (is_plain errno) (are_plain errnos) plain), all_encoded errnos (second_true (is_plain errno) (are_plain errnos) plain))
+all_plain : (errnos : List Errno) → are_plain errnos ≡ true → AllByRecursion IsPlain errnos
+all_plain [] plain = tt
+all_plain (errno ∷ errnos) plain =
+    (plain_is errno (first_true (is_plain errno) (are_plain errnos) plain), all_plain errnos (second_true (is_plain errno) (are_plain errnos) plain))
 
 -- ---- errors that hang on arguments
 
@@ -125,13 +125,13 @@ call_plain m r (Refused it errno) is = listed_plain errno is
 call_plain m r (FileSymlink text fd path) is = symlink_plain (text_error text) text path
 call_plain m r call is = refl
 
-pub args_plain : (m : Pages) (r : Registers) → IsEncodedCall (args_of m r)
-args_plain m r = all_encoded (errors_of (args_of m r)) (call_plain m r (args_of m r) (args_encoded m r))
+pub args_plain : (m : Pages) (r : Registers) → IsPlainCall (args_of m r)
+args_plain m r = all_plain (errors_of (args_of m r)) (call_plain m r (args_of m r) (args_encoded m r))
 
 -- no error that a call which registers encode answers of its own is lack of memory
 pub args_no_lack : (m : Pages) (r : Registers) → IsNoLackOf (args_of m r)
-args_no_lack m r = all_weaker IsEncoded (λ errno. errno ≢ Nomem) (λ errno h. h.0) (errors_of (args_of m r)) (args_plain m r)
+args_no_lack m r = all_weaker IsPlain (λ errno. errno ≢ Nomem) (λ errno h. h.0) (errors_of (args_of m r)) (args_plain m r)
 
 -- no error that it answers of its own is NOTCAPABLE
 pub args_not_denied : (m : Pages) (r : Registers) → IsNotDeniedEarly (args_of m r)
-args_not_denied m r = all_weaker IsEncoded (λ errno. errno ≢ Notcapable) (λ errno h. h.1) (errors_of (args_of m r)) (args_plain m r)
+args_not_denied m r = all_weaker IsPlain (λ errno. errno ≢ Notcapable) (λ errno h. h.1) (errors_of (args_of m r)) (args_plain m r)
