@@ -22,3 +22,4 @@ pub mod TextValues
 pub mod TextPlaces
 pub mod ValuePlaces
 pub mod Longest
+pub mod Folded

@@ -1,8 +1,6 @@
 pub mod Shape
-pub mod Code
 pub mod Views
 pub mod Encoding
-pub mod Sizes
 pub mod Writing
 pub mod Reading
 pub mod Places

@@ -1,5 +1,5 @@
 -- Argument data as contracts see it, without where it lies in memory.
-use Rattle.std.specs.Prelude.{ℕ, ℤ, suc, ◌+◌, max, Bool, List, [], ◌∷◌}
+use Rattle.std.specs.Prelude.{ℕ, ℤ, suc, max, Bool, List, [], ◌∷◌}
 
 -- a value; Shapes and Pairs are the lists of values and of pairs in a sequence and in a map
 mutual
@@ -58,23 +58,3 @@ abbrev mutual
   pub depth_of_pairs : Pairs → ℕ
   depth_of_pairs no_pairs = 0
   depth_of_pairs (pair k v ps) = max (max (depth_of k) (depth_of v)) (depth_of_pairs ps)
-
--- how many values and lists are in a value, the value included: what is inside has fewer
-abbrev mutual
-  pub size_of : Shape → ℕ
-  size_of null = 0
-  size_of (binary bytes) = 0
-  size_of (boolean b) = 0
-  size_of (descriptor n) = 0
-  size_of (integer i) = 0
-  size_of (mapping ps) = suc (size_of_pairs ps)
-  size_of (sequence xs) = suc (size_of_items xs)
-  size_of (text bytes) = 0
-
-  pub size_of_items : Shapes → ℕ
-  size_of_items no_items = 0
-  size_of_items (item x xs) = suc (size_of x + size_of_items xs)
-
-  pub size_of_pairs : Pairs → ℕ
-  size_of_pairs no_pairs = 0
-  size_of_pairs (pair k v ps) = suc (size_of k + size_of v + size_of_pairs ps)

@@ -6,10 +6,8 @@ ghost use Rattle.argdata_codec.specs.Reading.{field_at, boolean_at, descriptor_a
 
 use crate::encoding::width;
 use crate::fault::Malformed;
-use crate::pair_list::PairList;
 use crate::tag;
 use crate::value::Value;
-use crate::value_list::ValueList;
 use lists::{Bytes, Stop, Text};
 use std::alloc::Global;
 
@@ -33,21 +31,25 @@ pub fn value(alloc: Global, depth: usize, bytes: &[u8]) -> Result<Value, Stop<Ma
 // The pairs of a map that may be of some depth.
 #[cycle(read)]
 #[tactic(auto, unfolding(crate::specs::Reading::pairs_at))]
-fn pair_list(alloc: Global, depth: usize, body: &[u8]) -> Result<PairList, Stop<Malformed>>
-    ensures { Reads (λ ps. ps) result (pairs_at depth body.now) }
+fn pair_list(
+    alloc: Global,
+    depth: usize,
+    body: &[u8],
+) -> Result<Vec<(Value, Value)>, Stop<Malformed>>
+    ensures { Reads (λ v. map pair_of v.items) result (pairs_at depth body.now) }
 {
     let inside = depth.checked_sub(1).ok_or(Stop::At(Malformed))?;
-    Ok(PairList::from_vec(pairs(alloc, inside, body)?))
+    pairs(alloc, inside, body)
 }
 
 // The values of a sequence that may be of some depth.
 #[cycle(read)]
 #[tactic(auto, unfolding(crate::specs::Reading::items_at))]
-fn value_list(alloc: Global, depth: usize, body: &[u8]) -> Result<ValueList, Stop<Malformed>>
-    ensures { Reads (λ xs. xs) result (items_at depth body.now) }
+fn value_list(alloc: Global, depth: usize, body: &[u8]) -> Result<Vec<Value>, Stop<Malformed>>
+    ensures { Reads (λ v. map shape_of v.items) result (items_at depth body.now) }
 {
     let inside = depth.checked_sub(1).ok_or(Stop::At(Malformed))?;
-    Ok(ValueList::from_vec(items(alloc, inside, body)?))
+    items(alloc, inside, body)
 }
 
 #[cycle(read)]

@@ -1,11 +1,8 @@
 //! A value of argument data.
 
-use crate::pair_list::PairList;
-use crate::value_list::ValueList;
 use lists::{Bytes, Text};
 
 /// A value that a program is given at its start.
-#[cycle(value)]
 #[derive(Drop)]
 pub enum Value {
     /// No value.
@@ -19,9 +16,9 @@ pub enum Value {
     /// An integer.
     Int(i128),
     /// Pairs of a key and a value, in an order.
-    Map(PairList),
+    Map(Vec<(Value, Value)>),
     /// Values in an order.
-    Seq(ValueList),
+    Seq(Vec<Value>),
     /// A text.
     Str(Text),
 }

@@ -7,7 +7,7 @@ ghost use Rattle.launch_values.specs.Views.{shape_of, pair_of, content_of_value}
 ghost use Rattle.launch_plan.specs.Tagged.{tagged_in, tagged_in_items, tagged_in_pairs};
 ghost use Rattle.launch_plan.specs.Values.{count, value_of, content_value, item_values, pair_values};
 
-use argdata_codec::{PairList, Value, ValueList};
+use argdata_codec::Value;
 use launch_values::{Node, NodeValue};
 use lists::TryClone;
 use std::alloc::{AllocError, Global};
@@ -47,16 +47,16 @@ fn content(alloc: Global, next: &mut u32, value: &NodeValue) -> Result<Value, Al
 }
 
 #[cycle(arguments)]
-fn content_of_items(alloc: Global, next: &mut u32, items: &[Node]) -> Result<ValueList, AllocError>
+fn content_of_items(alloc: Global, next: &mut u32, items: &[Node]) -> Result<Vec<Value>, AllocError>
     requires { next.old + length (tagged_in_items (of_list (map shape_of items.now))) < 2 ^ 32 }
-    ensures value { IfOk result (λ made. arguments_of_list made ≡ item_values next.old (of_list (map shape_of items.now))) }
+    ensures value { IfOk result (λ made. arguments_of_list (map argument_of made.items) ≡ item_values next.old (of_list (map shape_of items.now))) }
     ensures next { OnOk result (next.new ≡ next.old + length (tagged_in_items (of_list (map shape_of items.now)))) }
 {
     let mut values = Vec::new(alloc);
     for item in items {
         values.push(argument(alloc, next, item)?)?;
     }
-    Ok(ValueList::from_vec(values))
+    Ok(values)
 }
 
 #[cycle(arguments)]
@@ -64,9 +64,9 @@ fn content_of_pairs(
     alloc: Global,
     next: &mut u32,
     pairs: &[(Node, Node)],
-) -> Result<PairList, AllocError>
+) -> Result<Vec<(Value, Value)>, AllocError>
     requires { next.old + length (tagged_in_pairs (of_pairs (map pair_of pairs.now))) < 2 ^ 32 }
-    ensures value { IfOk result (λ made. arguments_of_pairs made ≡ pair_values next.old (of_pairs (map pair_of pairs.now))) }
+    ensures value { IfOk result (λ made. arguments_of_pairs (map argument_pair_of made.items) ≡ pair_values next.old (of_pairs (map pair_of pairs.now))) }
     ensures next { OnOk result (next.new ≡ next.old + length (tagged_in_pairs (of_pairs (map pair_of pairs.now)))) }
 {
     let mut values = Vec::new(alloc);
@@ -74,5 +74,5 @@ fn content_of_pairs(
         let key = argument(alloc, next, key)?;
         values.push((key, argument(alloc, next, value)?))?;
     }
-    Ok(PairList::from_vec(values))
+    Ok(values)
 }

@@ -1,7 +1,6 @@
 -- What stands in a list is no deeper than the list; and the steps of the two loops.
 use Rattle.std.proofs.Common.{map, ap, sym, ◌∙◌, arith}
 use Rattle.std.proofs.lemmas.List.{map-append}
-use Rattle.argdata_codec.specs.Shape.{of_list as arguments_of_list, of_pairs as arguments_of_pairs}
 use Rattle.argdata_codec.specs.Views.{shape_of as argument_of, pair_of as argument_pair_of}
 use Rattle.launch_values.specs.declared.node.Node.{Node}
 use Rattle.launch_values.specs.Shape.{depth_of}
@@ -25,7 +24,7 @@ content_of_items-loop-item-preserved t c = (
 
 pub content_of_items-returns-clause-value : goal.content_of_items-returns-clause-value
 content_of_items-returns-clause-value t c =
-    ap arguments_of_list c.from_vec.ensures ∙ sym (all_items (map argument_of c.loop-item.values.items))
+    sym (all_items (map argument_of c.loop-item.values.items))
     ∙ sym (ap (before_items (map argument_of c.loop-item.values.items)) (no_items_from c.loop-item.next c.args.items.now c.loop-item.item-index c.loop-item-test.false))
     ∙ c.loop-item.invariant.0
 
@@ -52,6 +51,6 @@ content_of_pairs-loop-key-preserved t c = (
 
 pub content_of_pairs-returns-clause-value : goal.content_of_pairs-returns-clause-value
 content_of_pairs-returns-clause-value t c =
-    ap arguments_of_pairs c.from_vec.ensures ∙ sym (all_pairs (map argument_pair_of c.loop-key.values.items))
+    sym (all_pairs (map argument_pair_of c.loop-key.values.items))
     ∙ sym (ap (before_pairs (map argument_pair_of c.loop-key.values.items)) (no_pairs_from c.loop-key.next c.args.pairs.now c.loop-key.key-index c.loop-key-test.false))
     ∙ c.loop-key.invariant.0
