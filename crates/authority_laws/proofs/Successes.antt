@@ -36,7 +36,7 @@ use Rattle.kernel_model.specs.Families.Opening.{open_row, opened_descriptor}
 use Rattle.kernel_model.specs.Outcome.{Outcome}
 use Rattle.kernel_model.specs.Reply.{refused}
 use Rattle.kernel_model.specs.State.{State, Table}
-use Rattle.kernel_model.specs.Step.{tick, act_on, step_answer, IsStep}
+use Rattle.kernel_model.specs.Step.{tick, outcome_on, step_answer, IsStep}
 use Rattle.kernel_model.specs.Valid.{IsNamed, IsValid, fits, fits_inheriting}
 use Rattle.kernel_model.specs.View.{whole}
 use Rattle.kernel_model.proofs.Outcomes.{outcome_reads}
@@ -65,7 +65,7 @@ no_memory reply is success = no_success reply Nomem is nomem_is_error success
 without_table : (constants : Constants) (S : State) (who : Who) (call : Call) → get S.tables who.pid ≡ None
     → step_answer constants S who call ≡ answer.Reply (refused Badf)
 without_table constants S who call own =
-    ap (λ (o : Outcome). o.answer) (outcome_reads constants S who call ∙ ap (act_on constants (whole (tick S)) who call) own)
+    ap (λ (o : Outcome). o.answer) (outcome_reads constants S who call ∙ ap (outcome_on constants (whole (tick S)) who call) own)
 
 pub has_table : (constants : Constants) (S : State) (who : Who) (call : Call) (reply : Reply) (T : State) {X : Type 0}
     → IsStep constants S who call (answer.Reply reply) T → reply.errno ≡ Success → get S.tables who.pid ≡ None → X

@@ -11,6 +11,6 @@ returns-in-Ok-clause-step c =
     let constants = c.args.constants.now in
     let who = c.args.who.now in
     let call = c.args.call.now in
-    done_is_step constants c.args.self.now c.act.new.self who call c.in-Ok.answer
+    done_is_step constants c.args.self.now c.dispatch.new.self who call c.in-Ok.answer
     ((c.in-Ok.ensures.ok.0) ∙ ap (λ (S : State). (outcome_by constants (whole (tick S)) who call).answer) c.self.view_is)
     ((c.in-Ok.ensures.ok.1) ∙ ap (λ (S : State). release (put_all (outcome_by constants (whole (tick S)) who call).updates (tick S))) c.self.view_is)
