@@ -44,3 +44,4 @@ pub mod Lacks
 pub mod Refusals
 pub mod Reaches
 pub mod Starts
+pub mod OpenLaws

@@ -112,12 +112,12 @@ only_one x y p there =
 -- ---- grants
 
 -- what is granted under a number: its descriptor, and the open that it names
-record IsGranted (tree : Tree) (grants : List Grant) (k : ℕ) (grant : Grant) : Type 0 where
-  allowed : IsGrant tree grant
-  held : get (granted_table tree grants) k ≡ Some (granted_descriptor tree k grant)
-  opened : get (start_state tree grants []).opens (first_open tree + k) ≡ Some (open_of tree grant.target)
+pub record IsGranted (tree : Tree) (grants : List Grant) (k : ℕ) (grant : Grant) : Type 0 where
+  pub allowed : IsGrant tree grant
+  pub held : get (granted_table tree grants) k ≡ Some (granted_descriptor tree k grant)
+  pub opened : get (start_state tree grants []).opens (first_open tree + k) ≡ Some (open_of tree grant.target)
 
-granted_at : (tree : Tree) (grants : List Grant) (k : ℕ) (grant : Grant) → AreGrants tree grants → slice_get grants k ≡ Some grant → IsGranted tree grants k grant
+pub granted_at : (tree : Tree) (grants : List Grant) (k : ℕ) (grant : Grant) → AreGrants tree grants → slice_get grants k ≡ Some grant → IsGranted tree grants k grant
 granted_at tree grants k grant all there = record {
   allowed = all_at (IsGrant tree) grants k grant all.1 there;
   held = get-from_entries nat_cmp_total _ k ∙ find_numbered (granted_descriptor tree) 0 grants k k (omega arith) ∙ ap (option_map (granted_descriptor tree k)) there;

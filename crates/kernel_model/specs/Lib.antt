@@ -16,3 +16,4 @@ pub mod Step
 pub mod Start
 pub mod Proper
 pub mod Laws
+pub mod OpenLaws
