@@ -6,3 +6,5 @@ pub mod Left
 pub mod Turns
 pub mod Places
 pub mod Outside
+pub mod Leading
+pub mod Related

@@ -1,7 +1,8 @@
 -- What holds of every walk: the statements that are the contracts of `walk` and of the functions of src/laws.rt.
-use Rattle.std.specs.Prelude.{◌≡◌, ◌≢◌, ◌≤◌, ◌+◌, ⊤, ℕ, suc, true, false, Bool, List, [], ◌∷◌, length, slice_range, Ok, Err}
+use Rattle.std.specs.Prelude.{◌≡◌, ◌≢◌, ◌↔◌, ◌≤◌, ◌+◌, ⊤, ℕ, suc, true, false, Bool, List, [], ◌∷◌, length, slice_range, Ok, Err}
 use Rattle.std.specs.List.{AllByRecursion}
 use Rattle.path_lookup.specs.Finding.{Finding, Nothing, Directory, File, Link}
+use Rattle.path_lookup.specs.Relation.{Walks}
 use Rattle.path_lookup.specs.Split.{Component, dot, slash}
 use Rattle.path_lookup.specs.Walk.{WalkEnd, Finds, walk_of, walk_within, stops_before_last, longest_name}
 use Rattle.path_lookup.specs.declared.ends.End.{End}
@@ -96,3 +97,10 @@ HasPlace path (end.Last dir from len) = IsPlace path from len
 abbrev pub EndsAtPlace : List ℕ → WalkEnd → Type 0
 EndsAtPlace path (Ok end) = HasPlace path end
 EndsAtPlace path (Err fault) = ⊤
+
+-- ---- the walk said a second time
+
+-- a path leads by the clauses of the relation where its walk ends, and nowhere else
+abbrev pub WalkIsTheRelation : Type 0
+WalkIsTheRelation =
+    (find : Finds) (mode : WalkMode) (start : ℕ) (path : List ℕ) (w : WalkEnd) → Walks find mode start path w ↔ (w ≡ walk_of find mode start path)

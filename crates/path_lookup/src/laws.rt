@@ -1,5 +1,5 @@
 //! Laws of walks. The statements are in `specs/Laws.antt`, and each holds of all directories, paths and modes.
-ghost use Rattle.path_lookup.specs.Laws.{ReadsBelow, ClimbsOutside, ClimbsOutsideAtOnce, SlashIsOutside, EmptyIsNoEntry, DotIsNothing};
+ghost use Rattle.path_lookup.specs.Laws.{ReadsBelow, ClimbsOutside, ClimbsOutsideAtOnce, SlashIsOutside, EmptyIsNoEntry, DotIsNothing, WalkIsTheRelation};
 
 /// A walk reads nothing but what is below its start: where directories differ elsewhere alone, the walk is the same.
 pub fn reads_below()
@@ -22,4 +22,9 @@ pub fn empty_path_is_no_entry()
 /// A `.` that isn't last counts for a component, and changes nothing else.
 pub fn dot_is_nothing()
     ensures { DotIsNothing }
+{}
+
+/// A path leads by the clauses of `specs/Relation.antt` where its walk ends, and nowhere else.
+pub fn walk_is_the_relation()
+    ensures { WalkIsTheRelation }
 {}
