@@ -45,3 +45,5 @@ pub mod Refusals
 pub mod Reaches
 pub mod Starts
 pub mod OpenLaws
+pub mod OpenConditions
+pub mod CallBounds

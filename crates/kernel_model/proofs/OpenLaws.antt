@@ -1,7 +1,6 @@
 -- Which file an open is of.
 --     opens_lead_below      what file_open opens is below the directory where it begins, or is made there
 --     grants_are_held      a launch begins with its grants
---     names_alone      calls on descriptors alone see nothing behind them
 use Rattle.std.proofs.Common.{◌≡◌, ℕ, true, List, [], Option, None, Some, inl, inr, refl, ap, ◌∙◌}
 use Rattle.std.specs.Prelude.{slice_get, if◌then◌else◌}
 use Rattle.std.specs.FinMap.{get, insert, empty}
@@ -24,7 +23,7 @@ use Rattle.kernel_model.specs.Families.LastNames.{name_at}
 use Rattle.kernel_model.specs.Families.FileChanges.{modified}
 use Rattle.kernel_model.specs.Families.NameMaking.{node_of, with_node}
 use Rattle.kernel_model.specs.Families.Opening.{open_walked}
-use Rattle.kernel_model.specs.OpenLaws.{GrantsAreHeld, IsOpenOf, LeadsBelow, NamesAlone, OpensLeadBelow}
+use Rattle.kernel_model.specs.OpenLaws.{GrantsAreHeld, IsOpenOf, LeadsBelow, OpensLeadBelow}
 use Rattle.kernel_model.specs.Start.{granted_descriptor, granted_table, open_of, open_of_node, start_state}
 use Rattle.kernel_model.specs.State.{Tree}
 use Rattle.kernel_model.proofs.FilePaths.{LeadsIn, leads_below}
@@ -86,8 +85,3 @@ grants_are_held tree grants stdin k grant begins there =
       opened = at.opened;
       of = target_is tree grant grant.target at.allowed;
     }
-
--- ---- bounds of calls
-
-pub names_alone : NamesAlone
-names_alone = record { close = λ fd. refl; dup = λ fd. refl; replace = λ from to. refl }

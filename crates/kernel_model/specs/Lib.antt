@@ -17,3 +17,5 @@ pub mod Start
 pub mod Proper
 pub mod Laws
 pub mod OpenLaws
+pub mod OpenConditions
+pub mod CallBounds

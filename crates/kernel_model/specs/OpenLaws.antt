@@ -1,12 +1,9 @@
--- Which file an open is of, and what bounds each call: the statements that are the contracts of the functions of
--- src/open_laws.rt.
-use Rattle.std.specs.Prelude.{◌≡◌, ◌⊎◌, ℕ, true, false, List, [], Option, None, Some, slice_get}
+-- Which file an open is of: the statements that are the contracts of the functions of src/open_laws.rt.
+use Rattle.std.specs.Prelude.{◌≡◌, ◌⊎◌, ℕ, true, List, Some, slice_get}
 use Rattle.std.specs.FinMap.{get}
-use Rattle.abi_base.specs.declared.errno.Errno.{Errno}
 use Rattle.abi_base.specs.declared.grant.Grant.{Grant}
 use Rattle.abi_base.specs.declared.grant.GrantTarget.{GrantTarget}
 use Rattle.abi_base.specs.declared.grant.GrantTarget.TheVariants as target
-use Rattle.abi_types.specs.declared.call.Call.TheVariants as call
 use Rattle.abi_types.specs.declared.descriptor.Descriptor.{Descriptor}
 use Rattle.abi_types.specs.declared.open_kind.OpenKind.{OpenKind}
 use Rattle.abi_types.specs.declared.open_kind.OpenKind.TheVariants.{File, Directory, Terminal}
@@ -15,7 +12,6 @@ use Rattle.path_lookup.specs.declared.ends.WalkMode.{WalkMode}
 use Rattle.tree_model.specs.Changes.{is_file}
 use Rattle.tree_model.specs.Grants.{MayBegin}
 use Rattle.tree_model.specs.Tree.{HasName, below, is_directory}
-use Rattle.kernel_model.specs.Calls.{seen}
 use Rattle.kernel_model.specs.Families.FilePaths.{walked}
 use Rattle.kernel_model.specs.Families.Opening.{Opened, NotOpened, OpenedOutside, Opens, open_walked}
 use Rattle.kernel_model.specs.Families.TreeUpdates.{Change}
@@ -69,11 +65,3 @@ abbrev pub GrantsAreHeld : Type 0
 GrantsAreHeld =
     (tree : Tree) (grants : List Grant) (stdin : List ℕ) (k : ℕ) (grant : Grant) → MayBegin tree grants → slice_get grants k ≡ Some grant
     → IsHeldAs (start_state tree grants stdin) k grant
-
--- ---- bounds of calls
-
--- Calls on descriptors alone see nothing behind them.
-pub record NamesAlone : Type 0 where
-  pub close : (fd : ℕ) → seen (call.FdClose fd) ≡ []
-  pub dup : (fd : ℕ) → seen (call.FdDup fd) ≡ []
-  pub replace : (from to : ℕ) → seen (call.FdReplace from to) ≡ []

@@ -3,9 +3,11 @@
 #![tactic(auto)]
 
 pub mod laws;
+mod call_bounds;
 mod open_laws;
 
-pub use open_laws::{calls_keep_bounds, opens_lead_below};
+pub use call_bounds::calls_keep_bounds;
+pub use open_laws::{open_is_listed, opens_lead_below};
 pub use laws::{
     end_keeps, end_keeps_valid, ends_are_least, error_keeps, meanings_are_proper, others_stay,
     reads_sight, refusal_names_lack, refusals_come_first, replies_are_listed, sight_decides,
