@@ -1,2 +1,3 @@
 pub mod ByPath
 pub mod ByNode
+pub mod Laws
