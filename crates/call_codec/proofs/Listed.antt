@@ -3,7 +3,7 @@ use Rattle.std.proofs.Common.{Decides, ◌≡◌, ◌≢◌, ℕ, ◌+◌, ◌*�
 use Rattle.std.proofs.lemmas.Bool.{leb-true, le-leb, eqb-true, eq-eqb}
 use Rattle.std.proofs.lemmas.Bool.Decides.{Decides-like, Decides-not, Decides-and, Decides-ltb, not_from_Decides, eqb_tells, leb_tells}
 use Rattle.std.specs.FinMap.{len}
-use Rattle.abi_types.specs.declared.call.Call.TheVariants.{MemMap, Memory}
+use Rattle.abi_types.specs.declared.call.Call.TheVariants.{MemMap}
 use Rattle.abi_types.specs.declared.call_number.CallNumber.TheVariants as number
 use Rattle.abi_types.specs.declared.place.Place.TheVariants as place
 use Rattle.abi_types.specs.declared.place.Place.TheVariants.{At}
@@ -57,7 +57,7 @@ itself b = (λ e. e, λ e. e)
 
 -- ---- mem_advise
 
-advise_flat : (x y z t : Bool) → errno_of (or_refused number.MemAdvise (refuse_when (not (x && y)) Inval >>= λ _. refuse_when (not z) Inval >>= λ _. Ok (Memory number.MemAdvise (cond t Success Fault))))
+advise_flat : (x y z t : Bool) → cond (x && y && z) (cond t Success Fault) Inval
     ≡ cond (not x) Inval (cond (not y) Inval (cond (not z) Inval (cond (not t) Fault Success)))
 advise_flat true true true true = refl
 advise_flat true true true false = refl
@@ -80,7 +80,7 @@ advise_listed m r =
 
 -- ---- mem_protect
 
-protect_flat : (x al w t : Bool) → errno_of (or_refused number.MemProtect (refuse_when (x || not al) Inval >>= λ _. refuse_when w Notsup >>= λ _. Ok (Memory number.MemProtect (cond t Success Fault))))
+protect_flat : (x al w t : Bool) → cond (x || not al) Inval (cond w Notsup (cond t Success Fault))
     ≡ cond x Inval (cond (not al) Inval (cond w Notsup (cond (not t) Fault Success)))
 protect_flat true al w t = refl
 protect_flat false false w t = refl
@@ -103,7 +103,7 @@ protect_listed m r =
 
 -- ---- mem_sync
 
-sync_flat : (k p q al t : Bool) → errno_of (or_refused number.MemSync (refuse_when (not (k && cond p (not q) q)) Inval >>= λ _. refuse_when (not al) Inval >>= λ _. Ok (Memory number.MemSync (cond t Success Fault))))
+sync_flat : (k p q al t : Bool) → cond (k && cond p (not q) q && al) (cond t Success Fault) Inval
     ≡ cond (not k) Inval (cond (p && q) Inval (cond (not p && not q) Inval (cond (not al) Inval (cond (not t) Fault Success))))
 sync_flat false p q al t = refl
 sync_flat true true true al t = refl
@@ -133,7 +133,7 @@ sync_listed m r =
 
 -- ---- mem_unmap
 
-unmap_flat : (al s f : Bool) → errno_of (or_refused number.MemUnmap (refuse_when (not al) Inval >>= λ _. refuse_when (not (s && f)) Inval >>= λ _. Ok (Memory number.MemUnmap Success)))
+unmap_flat : (al s f : Bool) → cond (al && (s && f)) Success Inval
     ≡ cond (not al) Inval (cond (not s) Inval (cond (not f) Inval Success))
 unmap_flat false s f = refl
 unmap_flat true false f = refl

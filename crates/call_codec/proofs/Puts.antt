@@ -1,7 +1,7 @@
 -- What registers and memory are like that encode a call.
---     call_suits      what a call gives has its room; a mapping goes where it may; mem_protect and mem_unmap are of a page's
---                     address, and mem_protect's pages are there
---     memory_is      what the calls about pages that are there answer
+--     call_suits      what a call gives has its room; a mapping goes where it may; mem_protect and mem_unmap that succeed are of
+--                     a page's address, and mem_protect's pages are there
+--     memory_listed      what the calls about pages that are there may answer
 --     few_of_pread, few_of_read      an iovec array to read into has at most 1024 iovecs
 --     guests_pages      pages that are there lie in the guest's part of the address space
 --     unmapped_within      pages past that part need not be taken away
@@ -35,13 +35,13 @@ use Rattle.call_codec.proofs.Readings.{not_refused, passed, test_false}
 use Rattle.codec_calls.specs.DescriptorCalls.{has_many}
 use Rattle.codec_arguments.specs.Arguments.{argument, low}
 use Rattle.call_codec.specs.Arguments.{args_of, read_of}
-use Rattle.call_codec.specs.MemoryCalls.{has_bits, is_aligned, is_guests, is_range, is_sync, pages_in, if_mapped, mem_map_of, may_map, placed_map, place_at, place_in, place_in_gap, place_of, writes_and_executes, has_one, MayMapAt, MayMapThere}
+use Rattle.call_codec.specs.MemoryCalls.{advise_errno, has_bits, is_aligned, is_guests, is_range, is_sync, pages_in, if_mapped, mem_map_of, protect_errno, sync_errno, unmap_errno, may_map, placed_map, place_at, place_in, place_in_gap, place_of, writes_and_executes, has_one, MayMapAt, MayMapThere}
 
 -- what these registers and this memory are like where they encode the call
 abbrev pub Suits : Pages → Registers → Call → Type 0
 Suits m r (MemMap place length prot flags fd offset) = MayMapThere m place (pages_in length)
 Suits m r (Memory it errno) =
-    IsPageAddress (argument r 0) × (it ≡ number.MemProtect → errno ≡ Success → AreThere m (argument r 0 / 4096) (pages_in (argument r 1)))
+    errno ≡ Success → IsPageAddress (argument r 0) × (it ≡ number.MemProtect → AreThere m (argument r 0 / 4096) (pages_in (argument r 1)))
 Suits m r call = IsEncodedBy m r call
 
 aligned_is : (a : ℕ) → is_aligned a ≡ true → IsPageAddress a
@@ -70,41 +70,92 @@ and_not false b h e = cc
 
 -- ---- calls about pages that are there
 
--- mem_advise, mem_protect, mem_sync and mem_unmap have a page's address; all but mem_unmap answer by the pages
-pub memory_is : (m : Pages) (r : Registers) (it : CallNumber) (errno : Errno) → IsEncodedBy m r (Memory it errno)
-    → (is_aligned (argument r 0) ≡ true) × ((if_mapped m (argument r 0) (argument r 1) ≡ errno) ⊎ ((it ≡ number.MemUnmap) × (errno ≡ Success)))
+-- the call with this number about pages that are there answers so
+abbrev IsAnsweredBy : Pages → Registers → Errno → CallNumber → Type 0
+IsAnsweredBy m r errno number.MemAdvise = advise_errno m r ≡ errno
+IsAnsweredBy m r errno number.MemProtect = protect_errno m r ≡ errno
+IsAnsweredBy m r errno number.MemSync = sync_errno m r ≡ errno
+IsAnsweredBy m r errno number.MemUnmap = unmap_errno r ≡ errno
+IsAnsweredBy m r errno other = ⊥
+
+memory_is : (m : Pages) (r : Registers) (it : CallNumber) (errno : Errno) → IsEncodedBy m r (Memory it errno) → IsAnsweredBy m r errno it
 unfolding read_of
-memory_is m r number.MemAdvise errno is =
-    let call = Memory number.MemAdvise errno in
-    let known = not_refused (not (nat_lt 0 (low (argument r 2)) && nat_le (low (argument r 2)) 6)) Inval _ call is in
-    let page = not_refused (not (is_aligned (argument r 0))) Inval _ call known.1 in
-    (not_false (is_aligned (argument r 0)) page.0, inl (cc page.1))
-memory_is m r number.MemProtect errno is =
-    let call = Memory number.MemProtect errno in
-    let known = not_refused (nat_lt 7 (low (argument r 2)) || not (is_aligned (argument r 0))) Inval _ call is in
-    let apart = not_refused (writes_and_executes (low (argument r 2))) Notsup _ call known.1 in
-    (or_not (nat_lt 7 (low (argument r 2))) (is_aligned (argument r 0)) known.0, inl (cc apart.1))
-memory_is m r number.MemSync errno is =
-    let call = Memory number.MemSync errno in
-    let known = not_refused (not (is_sync (low (argument r 2)))) Inval _ call is in
-    let page = not_refused (not (is_aligned (argument r 0))) Inval _ call known.1 in
-    (not_false (is_aligned (argument r 0)) page.0, inl (cc page.1))
-memory_is m r number.MemUnmap errno is =
-    let call = Memory number.MemUnmap errno in
-    let page = not_refused (not (is_aligned (argument r 0))) Inval _ call is in
-    let some = not_refused (not (is_range (argument r 0) (argument r 1))) Inval _ call page.1 in
-    (not_false (is_aligned (argument r 0)) page.0, inr (refl, cc some.1))
+memory_is m r number.MemAdvise errno is = cc is
+memory_is m r number.MemProtect errno is = cc is
+memory_is m r number.MemSync errno is = cc is
+memory_is m r number.MemUnmap errno is = cc is
 memory_is m r it errno is = absurd is
 
+-- an error that such a call may answer, or SUCCESS
+abbrev pub IsMemoryErrno : Errno → Type 0
+IsMemoryErrno Success = Unit {0}
+IsMemoryErrno Fault = Unit {0}
+IsMemoryErrno Inval = Unit {0}
+IsMemoryErrno Notsup = Unit {0}
+IsMemoryErrno other = ⊥
+
+either_errno : (test : Bool) (this that : Errno) → IsMemoryErrno this → IsMemoryErrno that → IsMemoryErrno (cond test this that)
+either_errno true this that h k = h
+either_errno false this that h k = k
+
+mapped_errno : (m : Pages) (a bytes : ℕ) → IsMemoryErrno (if_mapped m a bytes)
+mapped_errno m a bytes = either_errno (all_there m (a / 4096) (pages_in bytes)) Success Fault tt tt
+
+answer_listed : (m : Pages) (r : Registers) (it : CallNumber) (errno : Errno) → IsAnsweredBy m r errno it → IsMemoryErrno errno
+answer_listed m r number.MemAdvise errno is =
+    let a = argument r 0 in let bytes = argument r 1 in let advice = low (argument r 2) in
+    subst IsMemoryErrno is
+    (either_errno (nat_lt 0 advice && nat_le advice 6 && is_aligned a) (if_mapped m a bytes) Inval (mapped_errno m a bytes) tt)
+answer_listed m r number.MemProtect errno is =
+    let a = argument r 0 in let bytes = argument r 1 in let prot = low (argument r 2) in
+    subst IsMemoryErrno is
+    (either_errno (nat_lt 7 prot || not (is_aligned a)) Inval (cond (writes_and_executes prot) Notsup (if_mapped m a bytes)) tt
+    (either_errno (writes_and_executes prot) Notsup (if_mapped m a bytes) tt (mapped_errno m a bytes)))
+answer_listed m r number.MemSync errno is =
+    let a = argument r 0 in let bytes = argument r 1 in
+    subst IsMemoryErrno is
+    (either_errno (is_sync (low (argument r 2)) && is_aligned a) (if_mapped m a bytes) Inval (mapped_errno m a bytes) tt)
+answer_listed m r number.MemUnmap errno is =
+    subst IsMemoryErrno is (either_errno (is_aligned (argument r 0) && is_range (argument r 0) (argument r 1)) Success Inval tt tt)
+answer_listed m r it errno is = absurd is
+
+pub memory_listed : (m : Pages) (r : Registers) (it : CallNumber) (errno : Errno) → IsEncodedBy m r (Memory it errno) → IsMemoryErrno errno
+memory_listed m r it errno is = answer_listed m r it errno (memory_is m r it errno is)
+
+-- what isn't INVAL succeeded
+not_invalid : (test : Bool) (answered : Errno) → cond test answered Inval ≡ Success → (test ≡ true) × (answered ≡ Success)
+not_invalid true answered e = (refl, e)
+not_invalid false answered e = absurd (cc)
+
+not_unsupported : (invalid unsupported : Bool) (answered : Errno) → cond invalid Inval (cond unsupported Notsup answered) ≡ Success
+    → (invalid ≡ false) × (answered ≡ Success)
+not_unsupported true unsupported answered e = absurd (cc)
+not_unsupported false true answered e = absurd (cc)
+not_unsupported false false answered e = (refl, e)
+
+-- those that succeed have a page's address, and the pages of mem_protect are there
+success_suits : (m : Pages) (r : Registers) (it : CallNumber) → IsAnsweredBy m r Success it → Suits m r (Memory it Success)
+success_suits m r number.MemAdvise is done =
+    let a = argument r 0 in let advice = low (argument r 2) in let known = nat_lt 0 advice && nat_le advice 6 in
+    let succeeds = not_invalid (known && is_aligned a) (if_mapped m a (argument r 1)) is in
+    (aligned_is a (second_true known (is_aligned a) succeeds.0), λ protects. absurd (cc))
+success_suits m r number.MemProtect is done =
+    let a = argument r 0 in let prot = low (argument r 2) in
+    let succeeds = not_unsupported (nat_lt 7 prot || not (is_aligned a)) (writes_and_executes prot) (if_mapped m a (argument r 1)) is in
+    (aligned_is a (or_not (nat_lt 7 prot) (is_aligned a) succeeds.0), λ protects. mapped_there m a (argument r 1) succeeds.1)
+success_suits m r number.MemSync is done =
+    let a = argument r 0 in let known = is_sync (low (argument r 2)) in
+    let succeeds = not_invalid (known && is_aligned a) (if_mapped m a (argument r 1)) is in
+    (aligned_is a (second_true known (is_aligned a) succeeds.0), λ protects. absurd (cc))
+success_suits m r number.MemUnmap is done =
+    let a = argument r 0 in let within = is_range a (argument r 1) in
+    let succeeds = not_invalid (is_aligned a && within) Success is in
+    (aligned_is a (first_true (is_aligned a) within succeeds.0), λ protects. absurd (cc))
+success_suits m r it is done = absurd is
+
 memory_suits : (m : Pages) (r : Registers) (it : CallNumber) (errno : Errno) → IsEncodedBy m r (Memory it errno) → Suits m r (Memory it errno)
-memory_suits m r it errno is =
-    let of_pages = memory_is m r it errno is in (
-      aligned_is (argument r 0) of_pages.0,
-      λ protects succeeds. elim of_pages.1 [
-        | inl answered ↦ mapped_there m (argument r 0) (argument r 1) (answered ∙ succeeds)
-        | inr unmaps ↦ let same : number.MemUnmap ≡ number.MemProtect = sym unmaps.0 ∙ protects in absurd (cc)
-      ],
-    )
+memory_suits m r it errno is done =
+    success_suits m r it (subst (λ e. IsAnsweredBy m r e it) done (memory_is m r it errno is)) refl
 
 -- ---- where a mapping goes
 

@@ -53,47 +53,58 @@ is_aligned a = a % PAGE_SIZE == 0
 abbrev pub is_guests : ℕ → ℕ → Bool
 is_guests a k = nat_le GUEST_BEGIN a && nat_le (a + PAGE_SIZE * k) GUEST_END
 
--- ---- calls about pages that are there
+-- ---- calls about pages that are there: each has what it answers, also where its arguments are faulty
 
 -- SUCCESS where each page of the range is mapped, else FAULT
 abbrev pub if_mapped : Pages → ℕ → ℕ → Errno
 if_mapped m a bytes = if all_there m (a / PAGE_SIZE) (pages_in bytes) then Success else Fault
 
--- mem_advise: an address, a length and an advice from 1 to 6
-abbrev pub mem_advise_of : Pages → Registers → Result Call Errno
-mem_advise_of m r =
-    refuse_when (not (nat_lt 0 (low (argument r 2)) && nat_le (low (argument r 2)) 6)) Inval >>= λ _.
-    refuse_when (not (is_aligned (argument r 0))) Inval >>= λ _.
-    Ok (Memory MemAdvise (if_mapped m (argument r 0) (argument r 1)))
+-- mem_advise answers INVAL for an advice that isn't 1 to 6 and for an address that isn't a page's
+abbrev pub advise_errno : Pages → Registers → Errno
+advise_errno m r =
+    if nat_lt 0 (low (argument r 2)) && nat_le (low (argument r 2)) 6 && is_aligned (argument r 0) then if_mapped m (argument r 0) (argument r 1) else Inval
+
+-- mem_advise: an address, a length and an advice
+abbrev pub mem_advise_of : Pages → Registers → Call
+mem_advise_of m r = Memory MemAdvise (advise_errno m r)
+
+-- mem_protect answers INVAL for a prot over 7 and for an address that isn't a page's, and NOTSUP for a page that is both
+-- written and executed
+abbrev pub protect_errno : Pages → Registers → Errno
+protect_errno m r =
+    if nat_lt 7 (low (argument r 2)) || not (is_aligned (argument r 0)) then Inval
+    else if writes_and_executes (low (argument r 2)) then Notsup
+    else if_mapped m (argument r 0) (argument r 1)
 
 -- mem_protect: an address, a length and a prot
-abbrev pub mem_protect_of : Pages → Registers → Result Call Errno
-mem_protect_of m r =
-    refuse_when (nat_lt 7 (low (argument r 2)) || not (is_aligned (argument r 0))) Inval >>= λ _.
-    refuse_when (writes_and_executes (low (argument r 2))) Notsup >>= λ _.
-    Ok (Memory MemProtect (if_mapped m (argument r 0) (argument r 1)))
+abbrev pub mem_protect_of : Pages → Registers → Call
+mem_protect_of m r = Memory MemProtect (protect_errno m r)
 
 -- the flags of mem_sync: exactly one of ASYNC, which is 1, and SYNC, which is 4; INVALIDATE, which is 2, may be there too
 abbrev pub is_sync : ℕ → Bool
 is_sync flags = nat_le flags 7 && has_one flags 1 4
 
+-- mem_sync answers INVAL for other flags and for an address that isn't a page's
+abbrev pub sync_errno : Pages → Registers → Errno
+sync_errno m r =
+    if is_sync (low (argument r 2)) && is_aligned (argument r 0) then if_mapped m (argument r 0) (argument r 1) else Inval
+
 -- mem_sync: an address, a length and flags
-abbrev pub mem_sync_of : Pages → Registers → Result Call Errno
-mem_sync_of m r =
-    refuse_when (not (is_sync (low (argument r 2)))) Inval >>= λ _.
-    refuse_when (not (is_aligned (argument r 0))) Inval >>= λ _.
-    Ok (Memory MemSync (if_mapped m (argument r 0) (argument r 1)))
+abbrev pub mem_sync_of : Pages → Registers → Call
+mem_sync_of m r = Memory MemSync (sync_errno m r)
 
 -- some bytes from the address on, none of which stands at 2^64 or behind it
 abbrev pub is_range : ℕ → ℕ → Bool
 is_range a bytes = nat_lt 0 bytes && nat_le (a + bytes) (2 ^ 64)
 
--- mem_unmap: an address and a length. It passes over pages that aren't there.
-abbrev pub mem_unmap_of : Registers → Result Call Errno
-mem_unmap_of r =
-    refuse_when (not (is_aligned (argument r 0))) Inval >>= λ _.
-    refuse_when (not (is_range (argument r 0) (argument r 1))) Inval >>= λ _.
-    Ok (Memory MemUnmap Success)
+-- mem_unmap answers INVAL for an address that isn't a page's and for a range that is empty or passes 2^64. It passes over pages
+-- that aren't there.
+abbrev pub unmap_errno : Registers → Errno
+unmap_errno r = if is_aligned (argument r 0) && is_range (argument r 0) (argument r 1) then Success else Inval
+
+-- mem_unmap: an address and a length
+abbrev pub mem_unmap_of : Registers → Call
+mem_unmap_of r = Memory MemUnmap (unmap_errno r)
 
 -- ---- mem_map
 

@@ -116,16 +116,16 @@ map_conditions m r =
 
 -- The calls are answered as listed.
 abbrev pub AdviseIsListed : Type 0
-AdviseIsListed = (m : Pages) (r : Registers) → AnswersFirst (advise_conditions m r) (errno_of (or_refused number.MemAdvise (mem_advise_of m r)))
+AdviseIsListed = (m : Pages) (r : Registers) → AnswersFirst (advise_conditions m r) (errno_of (mem_advise_of m r))
 
 abbrev pub MapIsListed : Type 0
 MapIsListed = (m : Pages) (r : Registers) → AnswersFirst (map_conditions m r) (errno_of (or_refused number.MemMap (mem_map_of m r)))
 
 abbrev pub ProtectIsListed : Type 0
-ProtectIsListed = (m : Pages) (r : Registers) → AnswersFirst (protect_conditions m r) (errno_of (or_refused number.MemProtect (mem_protect_of m r)))
+ProtectIsListed = (m : Pages) (r : Registers) → AnswersFirst (protect_conditions m r) (errno_of (mem_protect_of m r))
 
 abbrev pub SyncIsListed : Type 0
-SyncIsListed = (m : Pages) (r : Registers) → AnswersFirst (sync_conditions m r) (errno_of (or_refused number.MemSync (mem_sync_of m r)))
+SyncIsListed = (m : Pages) (r : Registers) → AnswersFirst (sync_conditions m r) (errno_of (mem_sync_of m r))
 
 abbrev pub UnmapIsListed : Type 0
-UnmapIsListed = (r : Registers) → AnswersFirst (unmap_conditions r) (errno_of (or_refused number.MemUnmap (mem_unmap_of r)))
+UnmapIsListed = (r : Registers) → AnswersFirst (unmap_conditions r) (errno_of (mem_unmap_of r))

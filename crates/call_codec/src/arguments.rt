@@ -22,7 +22,8 @@ use guest_memory::GuestMemory;
 use std::alloc::{AllocError, Global};
 
 /// The call that the registers and the memory of a program that runs encode as a thread stands at an ECALL. A call that its
-/// arguments refuse is `Refused`, with its number and its error; so is one that isn't built, with NOSYS.
+/// arguments refuse is `Refused`, with its number and its error; so is one that isn't built, with NOSYS. Only mem_advise,
+/// mem_protect, mem_sync and mem_unmap are never refused so: they are `Memory`, with what they answer.
 #[tactic(auto, unfolding(crate::specs::Arguments::args_of))]
 pub fn args(alloc: Global, regs: &Regs, memory: &GuestMemory) -> Result<Call, AllocError>
     ensures ok { IfOk result (λ call. call ≡ args_of memory.now regs.now) }
@@ -185,11 +186,11 @@ fn read(
         CallNumber::FileSymlink => file_symlink(alloc, regs, memory),
         CallNumber::FileUnlink => file_unlink(alloc, regs, memory),
         CallNumber::LockUnlock => without_memory(lock_unlock(regs, memory)),
-        CallNumber::MemAdvise => without_memory(mem_advise(regs, memory)),
+        CallNumber::MemAdvise => Ok(mem_advise(regs, memory)),
         CallNumber::MemMap => without_memory(mem_map(regs, memory)),
-        CallNumber::MemProtect => without_memory(mem_protect(regs, memory)),
-        CallNumber::MemSync => without_memory(mem_sync(regs, memory)),
-        CallNumber::MemUnmap => without_memory(mem_unmap(regs)),
+        CallNumber::MemProtect => Ok(mem_protect(regs, memory)),
+        CallNumber::MemSync => Ok(mem_sync(regs, memory)),
+        CallNumber::MemUnmap => Ok(mem_unmap(regs)),
         CallNumber::Poll => poll(alloc, regs, memory),
         CallNumber::ProcExec => proc_exec(alloc, regs, memory),
         CallNumber::ProcExit => Ok(proc_exit(regs)),

@@ -78,47 +78,58 @@ fn if_mapped(memory: &GuestMemory, at: u64, bytes: u64) -> Errno
 }
 
 /// mem_advise: an address, a length and an advice. INVAL for an advice but 1 to 6, and for an address that isn't a page's.
-pub fn mem_advise(regs: &Regs, memory: &GuestMemory) -> Result<Call, Errno>
+pub fn mem_advise(regs: &Regs, memory: &GuestMemory) -> Call
     ensures { result ≡ mem_advise_of memory.now regs.now }
 {
     let at = regs.get(10);
     let advice = low(regs.get(12));
-    refuse_when(!(0 < advice && advice <= 6), Errno::Inval)?;
-    refuse_when(!is_aligned(at), Errno::Inval)?;
-    Ok(Call::Memory {
+    let errno = if 0 < advice && advice <= 6 && is_aligned(at) {
+        if_mapped(memory, at, regs.get(11))
+    } else {
+        Errno::Inval
+    };
+    Call::Memory {
         number: CallNumber::MemAdvise,
-        errno: if_mapped(memory, at, regs.get(11)),
-    })
+        errno,
+    }
 }
 
 /// mem_protect: an address, a length and a prot. INVAL for a prot over 7, and for an address that isn't a page's; NOTSUP for a
 /// page that is both written and executed.
-pub fn mem_protect(regs: &Regs, memory: &GuestMemory) -> Result<Call, Errno>
+pub fn mem_protect(regs: &Regs, memory: &GuestMemory) -> Call
     ensures { result ≡ mem_protect_of memory.now regs.now }
 {
     let at = regs.get(10);
     let prot = low(regs.get(12));
-    refuse_when(prot > 7 || !is_aligned(at), Errno::Inval)?;
-    refuse_when(has_bits(prot, WRITE_AND_EXEC), Errno::Notsup)?;
-    Ok(Call::Memory {
+    let errno = if prot > 7 || !is_aligned(at) {
+        Errno::Inval
+    } else if has_bits(prot, WRITE_AND_EXEC) {
+        Errno::Notsup
+    } else {
+        if_mapped(memory, at, regs.get(11))
+    };
+    Call::Memory {
         number: CallNumber::MemProtect,
-        errno: if_mapped(memory, at, regs.get(11)),
-    })
+        errno,
+    }
 }
 
 /// mem_sync: an address, a length, and flags with exactly one of ASYNC and SYNC, else INVAL; INVAL too for an address that isn't
 /// a page's.
-pub fn mem_sync(regs: &Regs, memory: &GuestMemory) -> Result<Call, Errno>
+pub fn mem_sync(regs: &Regs, memory: &GuestMemory) -> Call
     ensures { result ≡ mem_sync_of memory.now regs.now }
 {
     let at = regs.get(10);
     let flags = low(regs.get(12));
-    refuse_when(!(flags <= 7 && has_one(flags, ASYNC, SYNC)), Errno::Inval)?;
-    refuse_when(!is_aligned(at), Errno::Inval)?;
-    Ok(Call::Memory {
+    let errno = if flags <= 7 && has_one(flags, ASYNC, SYNC) && is_aligned(at) {
+        if_mapped(memory, at, regs.get(11))
+    } else {
+        Errno::Inval
+    };
+    Call::Memory {
         number: CallNumber::MemSync,
-        errno: if_mapped(memory, at, regs.get(11)),
-    })
+        errno,
+    }
 }
 
 // Whether there are some bytes from the address on, none of which stands at 2^64 or behind it.
@@ -129,16 +140,19 @@ fn is_range(at: u64, length: u64) -> bool
 }
 
 /// mem_unmap: an address and a length. INVAL for an address that isn't a page's, and for a range that is empty or passes 2^64.
-pub fn mem_unmap(regs: &Regs) -> Result<Call, Errno>
+pub fn mem_unmap(regs: &Regs) -> Call
     ensures { result ≡ mem_unmap_of regs.now }
 {
     let at = regs.get(10);
-    refuse_when(!is_aligned(at), Errno::Inval)?;
-    refuse_when(!is_range(at, regs.get(11)), Errno::Inval)?;
-    Ok(Call::Memory {
+    let errno = if is_aligned(at) && is_range(at, regs.get(11)) {
+        Errno::Success
+    } else {
+        Errno::Inval
+    };
+    Call::Memory {
         number: CallNumber::MemUnmap,
-        errno: Errno::Success,
-    })
+        errno,
+    }
 }
 
 // Whether mem_map may be made by its address, length, prot, flags and offset, with a file or without one.

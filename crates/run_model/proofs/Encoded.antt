@@ -1,11 +1,10 @@
 -- The errors that calls which registers encode answer of their own.
 --     args_no_lack      none is lack of memory
 --     args_not_denied      none is NOTCAPABLE
-use Rattle.std.proofs.Common.{◌≡◌, ◌≢◌, ℕ, ◌/◌, nat_le, ◌&&◌, inl, inr, Bool, true, false, cond, List, [], ◌∷◌, Option, Some, None, refl, sym, ap, subst, ◌∙◌}
+use Rattle.std.proofs.Common.{◌≡◌, ◌≢◌, ℕ, nat_le, ◌&&◌, Bool, true, false, cond, List, [], ◌∷◌, Option, Some, None, refl, sym, ap, subst, ◌∙◌}
 use Rattle.std.specs.List.{AllByRecursion}
 use Rattle.abi_types.specs.declared.call.Call.{Call}
 use Rattle.abi_types.specs.declared.call.Call.TheVariants.{FileSymlink, MemMap, Memory, Refused}
-use Rattle.abi_types.specs.declared.call_number.CallNumber.{CallNumber}
 use Rattle.abi_base.specs.declared.errno.Errno.{Errno}
 use Rattle.abi_base.specs.declared.errno.Errno.TheVariants.{Success, Fault, Inval, Nobufs, Nomem, Nosys, Notcapable, Notsup}
 use Rattle.abi_types.specs.declared.needed.Needed.{Needed}
@@ -22,7 +21,7 @@ use Rattle.kernel_model.specs.Families.NameMaking.{making, making_unless, text_e
 use Rattle.kernel_model.proofs.Lists.{all_weaker}
 use Rattle.kernel_model.proofs.Refusals.{IsNoLackOf}
 use Rattle.abi_types.specs.declared.node.NodeKind.TheVariants as kind
-use Rattle.guest_memory.specs.Changes.{all_there, lowest_gap}
+use Rattle.guest_memory.specs.Changes.{lowest_gap}
 use Rattle.guest_memory.specs.Mapping.{page_limit}
 use Rattle.guest_memory.specs.Page.{Pages}
 use Rattle.guest_memory.proofs.PageRanges.{first_true, second_true}
@@ -30,7 +29,7 @@ use Rattle.codec_arguments.specs.Arguments.{argument, low}
 use Rattle.call_codec.specs.Arguments.{args_of, read_of}
 use Rattle.call_codec.specs.MemoryCalls.{has_bits, may_map, pages_in, place_at, place_in, place_in_gap, place_of}
 use Rattle.call_codec.proofs.Calls.{IsEncodedBy, args_encoded}
-use Rattle.call_codec.proofs.Puts.{memory_is}
+use Rattle.call_codec.proofs.Puts.{IsMemoryErrno, memory_listed}
 use Rattle.call_codec.proofs.Readings.{IsListedRefusal, passed}
 
 -- an error of a call that registers encode
@@ -71,17 +70,13 @@ listed_plain Nosys listed = refl
 listed_plain Notsup listed = refl
 listed_plain _ listed = absurd listed
 
-mapped_plain : (there : Bool) → are_plain (cond there Success Fault ∷ []) ≡ true
-mapped_plain true = refl
-mapped_plain false = refl
-
-memory_plain : (m : Pages) (r : Registers) (it : CallNumber) (errno : Errno) → IsEncodedBy m r (Memory it errno) → are_plain (errno ∷ []) ≡ true
-memory_plain m r it errno is =
-    let of_pages = memory_is m r it errno is in elim of_pages.1 [
-      | inl answered ↦
-          subst (λ e. are_plain (e ∷ []) ≡ true) answered (mapped_plain (all_there m (argument r 0 / 4096) (pages_in (argument r 1))))
-      | inr unmaps ↦ subst (λ e. are_plain (e ∷ []) ≡ true) (sym unmaps.1) refl
-    ]
+-- what a call about pages that are there answers
+memory_plain : (errno : Errno) → IsMemoryErrno errno → are_plain (errno ∷ []) ≡ true
+memory_plain Success listed = refl
+memory_plain Fault listed = refl
+memory_plain Inval listed = refl
+memory_plain Notsup listed = refl
+memory_plain _ listed = absurd listed
 
 gap_plain : (gap : Option ℕ) → are_plain (place_errors (place_in gap)) ≡ true
 gap_plain (Some a) = refl
@@ -120,7 +115,7 @@ symlink_plain (Some errno) text path = refl
 
 call_plain : (m : Pages) (r : Registers) (call : Call) → IsEncodedBy m r call → are_plain (errors_of call) ≡ true
 call_plain m r (MemMap place length prot flags fd offset) is = map_plain m r place length prot flags fd offset is
-call_plain m r (Memory it errno) is = memory_plain m r it errno is
+call_plain m r (Memory it errno) is = memory_plain errno (memory_listed m r it errno is)
 call_plain m r (Refused it errno) is = listed_plain errno is
 call_plain m r (FileSymlink text fd path) is = symlink_plain (text_error text) text path
 call_plain m r call is = refl

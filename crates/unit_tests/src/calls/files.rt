@@ -1,4 +1,4 @@
-//! Files, and the memory that may be mapped of them. Which arguments are refused is shown by cases/calls/arguments-are-refused.calls.
+//! Files, and calls about memory. Which arguments are refused is shown by cases/calls/arguments-are-refused.calls.
 use crate::calls::showing::Want::Yes;
 use crate::calls::showing::{ABC, ABSENT, DATA, DATA_END, Row, TOP, WRITE_ONLY, first_other};
 use std::test::Fail;
@@ -108,8 +108,45 @@ const ROWS: &[Row] = &[
     (33, &[DATA, 1, 6, 7, 3, 0], &[], Yes(&[DATA, 1, 6, 7, 3, 0])),
 ];
 
+// The numbers of errors.
+const FAULT: u64 = 21;
+
+const INVAL: u64 = 28;
+
+const NOTSUP: u64 = 58;
+
+// Each of these calls has its number and what it answers.
+const ABOUT_PAGES: &[Row] = &[
+    // mem_advise
+    (32, &[DATA, 1, 6], &[], Yes(&[32, 0])),
+    (32, &[DATA, 1, 7], &[], Yes(&[32, INVAL])),
+    (32, &[DATA + 1, 1, 6], &[], Yes(&[32, INVAL])),
+    (32, &[ABSENT, 1, 6], &[], Yes(&[32, FAULT])),
+    // mem_protect
+    (34, &[DATA, 1, 4], &[], Yes(&[34, 0])),
+    (34, &[DATA, 1, 8], &[], Yes(&[34, INVAL])),
+    (34, &[DATA + 1, 1, 3], &[], Yes(&[34, INVAL])),
+    (34, &[ABSENT, 1, 3], &[], Yes(&[34, NOTSUP])),
+    (34, &[ABSENT, 1, 4], &[], Yes(&[34, FAULT])),
+    // mem_sync
+    (35, &[DATA, 1, 4], &[], Yes(&[35, 0])),
+    (35, &[DATA, 1, 5], &[], Yes(&[35, INVAL])),
+    (35, &[DATA + 1, 1, 4], &[], Yes(&[35, INVAL])),
+    (35, &[ABSENT, 1, 4], &[], Yes(&[35, FAULT])),
+    // mem_unmap
+    (36, &[ABSENT, 1], &[], Yes(&[36, 0])),
+    (36, &[DATA + 1, 1], &[], Yes(&[36, INVAL])),
+    (36, &[DATA, 0], &[], Yes(&[36, INVAL])),
+];
+
 #[test]
 fn file_calls_are_read(rt: HostRuntime) -> Result<(), Fail> {
     assert_eq!(rt; first_other(rt.alloc(), ROWS)?, None);
+    Ok(())
+}
+
+#[test]
+fn calls_about_pages_hold_their_answer(rt: HostRuntime) -> Result<(), Fail> {
+    assert_eq!(rt; first_other(rt.alloc(), ABOUT_PAGES)?, None);
     Ok(())
 }

@@ -12,11 +12,11 @@ map-requires c =
 
 pub change-requires-clause-aligned : goal.change-requires-clause-aligned
 change-requires-clause-aligned c =
-    (call_suits c.args.memory.now c.args.regs.now (Memory c.in-Memory.number c.in-Memory.errno) (sym c.in-Memory.is ∙ c.requires)).0
+    (call_suits c.args.memory.now c.args.regs.now (Memory c.in-Memory.number c.in-Memory.errno) (sym c.in-Memory.is ∙ c.requires) c.in-Success.is).0
 
 pub change-requires-clause-there : goal.change-requires-clause-there
 change-requires-clause-there c =
-    λ protects. (call_suits c.args.memory.now c.args.regs.now (Memory c.in-Memory.number c.in-Memory.errno) (sym c.in-Memory.is ∙ c.requires)).1 protects c.in-Success.is
+    (call_suits c.args.memory.now c.args.regs.now (Memory c.in-Memory.number c.in-Memory.errno) (sym c.in-Memory.is ∙ c.requires) c.in-Success.is).1
 
 pub put_content-requires : goal.put_content-requires
 put_content-requires c =
