@@ -6,8 +6,9 @@ pub mod laws;
 mod open_laws;
 
 pub use laws::{
-    end_keeps, end_keeps_valid, ends_are_least, error_keeps, meanings_are_proper, others_stay,
-    reads_sight, refusal_names_lack, refusals_come_first, replies_are_listed, sight_decides,
-    sight_is_reached, start_is_valid, step_decided, step_keeps_valid, steps_move_only,
+    end_keeps, end_keeps_valid, ends_are_least, error_keeps, errors_are_exact, meanings_are_proper,
+    others_stay, reads_sight, refusal_names_lack, refusals_come_first, replies_are_listed,
+    sight_decides, sight_is_reached, start_is_valid, step_decided, step_keeps_valid,
+    steps_move_only,
 };
 pub use open_laws::{calls_keep_bounds, opens_lead_below};
