@@ -16,11 +16,11 @@ abbrev pub failure_of : (TreeFault → Errno) → TreeFault → Failure
 failure_of errno_of fault.NoMemory = NoMemory
 failure_of errno_of f = Refused (path_fault.Errno (errno_of f))
 
--- it fails so: it is refused as the definition says, or memory runs out
+-- it fails so: it is refused as the definition says, or memory runs out where it would change the tree
 abbrev pub FailsAs : NameOutcome → Failure → Type 0
 FailsAs comes (Refused (path_fault.Errno errno)) = comes ≡ Refuses errno
 FailsAs comes (Refused (path_fault.Outside component)) = comes ≡ LeadsOut component
-FailsAs comes NoMemory = ⊤
+FailsAs comes NoMemory = (change : Change) × (comes ≡ Changes change)
 
 -- It comes to a change of the tree old to the tree new; or it fails, and the tree stays.
 abbrev pub IsDone : {A : Type 0} → NameOutcome → Tree → Tree → Result A Failure → Type 0

@@ -5,7 +5,7 @@ ghost use Rattle.tree_model.specs.Changes.{is_absent};
 ghost use Rattle.kernel_model.specs.Families.NameMaking as model;
 ghost use Rattle.entry_calls.specs.Done.{IsDone};
 
-use crate::failure::{Failure, failed, refused_with};
+use crate::failure::{Failure, errno_of, failed, refused_with};
 use crate::places::{NamePlace, last_name, name_at};
 use crate::times::node_of;
 use abi_types::{Bytes, Errno, NodeKind, ObjId, OpenKind};
@@ -84,6 +84,29 @@ pub fn text_error(text: &[u8]) -> Option<Errno>
     None
 }
 
+// A new symlink by a path from an open. Its text is copied once nothing refuses the name, so that memory runs out in place of
+// no refusal.
+fn make_link(
+    alloc: Global,
+    tree: &mut Tree,
+    here: &OpenKind,
+    now: u64,
+    new: ObjId,
+    text: &[u8],
+    path: &[u8],
+) -> Result<(), Failure>
+    requires { is_absent tree.old new ≡ true }
+    ensures { IsDone ((model.making (kind.Link text.now) path.now).effect now new tree.old (Some here.now) None) tree.old tree.new result }
+{
+    let place: NamePlace = last_name(tree, path, here)?;
+    let name = name_at(path, place.from, place.len);
+    if let Err(fault) = tree.check_make(place.dir, name) {
+        return Err(refused_with(errno_of(fault)));
+    }
+    let copy = Bytes::of(alloc, text)?;
+    make_in(tree, place.dir, name, NodeKind::Link(copy), now, new)
+}
+
 /// Makes a symlink with this text, which is looked at before the path is.
 pub fn file_symlink(
     alloc: Global,
@@ -102,6 +125,5 @@ pub fn file_symlink(
     if let Some(errno) = text_error(text) {
         return Err(refused_with(errno));
     }
-    let copy = Bytes::of(alloc, text)?;
-    make_by_path(tree, here, path, NodeKind::Link(copy), now, new)
+    make_link(alloc, tree, here, now, new, text, path)
 }

@@ -1,6 +1,7 @@
 //! What calls do at an open's offset.
 ghost use Rattle.std.specs.Prelude.{◌≡◌, true, IfOk, OnErr};
 ghost use Rattle.abi_types.specs.Families.{call_of_offset};
+ghost use Rattle.kernel_model.specs.Outcome.{IsSuccess};
 ghost use Rattle.fd_calls.specs.Calls as model;
 ghost use Rattle.fd_calls.specs.AtOffset.{IsAtOffset};
 ghost use Rattle.file_calls.specs.Done.{HasSameNodes};
@@ -13,7 +14,7 @@ use file_tree::Tree;
 use std::alloc::{AllocError, Global};
 
 /// Reads, writes or seeks by an open, at this time in nanoseconds since 1970: the reply, and the tree and the open after it.
-/// `Err` comes only of a call that takes memory, and changes nothing.
+/// `Err` comes only of a call that takes memory and would else succeed, and changes nothing.
 pub fn at_offset(
     alloc: Global,
     tree: &mut Tree,
@@ -23,7 +24,8 @@ pub fn at_offset(
 ) -> Result<Reply, AllocError>
     requires { IsThere tree.old kind.old }
     ensures ok { IfOk result (λ reply. IsAtOffset (model.offset_outcome_of now tree.old (call_of_offset call.entry) kind.old) tree.old tree.new kind.old kind.new reply) }
-    ensures only { OnErr result ((model.offset_meaning (call_of_offset call.entry)).takes_memory ≡ true) }
+    ensures takes { OnErr result ((model.offset_meaning (call_of_offset call.entry)).takes_memory ≡ true) }
+    ensures only { OnErr result (IsSuccess (model.offset_outcome_of now tree.old (call_of_offset call.entry) kind.old).outcome.answer) }
     ensures same_tree { OnErr result (tree.new ≡ tree.old) }
     ensures same_open { OnErr result (kind.new ≡ kind.old) }
     ensures nodes { HasSameNodes tree.old tree.new }

@@ -2,10 +2,11 @@
 --     Still t u n      the trees both have a node of this number, with as many names in both, or both have none
 --     nodes_stay      so it is of each number after a call that changes one node
 --     becomes_is      a tree with another node is what setting that node makes of it
---     unless_done, not_large      calls that might be refused
+--     becomes_succeeds      a node that was there is set with success
+--     unless_done, unless_succeeds, not_large      calls that might be refused
 --     below_limit      some bytes below the limit have room
 --     is_written, overwrites_is      they are written, and so a call is done
-use Rattle.std.proofs.Common.{◌≡◌, ◌<◌, ◌≤◌, ℕ, ◌==◌, ◌&&◌, Bool, true, false, not, cond, List, [], ◌∷◌, length, Option, Some, None, refl, sym, ap, ◌∙◌, arith}
+use Rattle.std.proofs.Common.{◌≡◌, ◌<◌, ◌≤◌, ℕ, ◌==◌, ◌&&◌, Bool, true, false, not, cond, List, [], ◌∷◌, length, Option, Some, None, is_some, refl, sym, ap, ◌∙◌, arith}
 use Rattle.std.proofs.lemmas.Bool.{false_from_ne_true, lt-leb, ltb-true}
 use Rattle.std.proofs.Math.Dec.{leb-suc-zero}
 use Rattle.std.specs.Prelude.{bit_and, max, nat_le, nat_lt}
@@ -26,7 +27,7 @@ use Rattle.tree_model.specs.Tree.{Tree}
 use Rattle.tree_model.specs.declared.limits.TheConstants.{MOST_FILE_BYTES}
 use Rattle.kernel_model.specs.Families.FileBytes.{overwritten, overwrites, write_bytes, written_count}
 use Rattle.kernel_model.specs.Families.FileChanges.{allocated, becomes, becomes_in, has_size, modified, put_size, put_stat, put_times, retimed, retimed_in, sized, times_put}
-use Rattle.kernel_model.specs.Outcome.{Outcome, replies}
+use Rattle.kernel_model.specs.Outcome.{Outcome, IsSuccess, replies}
 use Rattle.kernel_model.specs.Reply.{refused, success}
 use Rattle.kernel_model.specs.State.{State}
 use Rattle.kernel_model.specs.Families.TreeUpdates.{node_update}
@@ -138,10 +139,23 @@ pub becomes_is : (t w u : Tree) (n : ℕ) (reply : Reply) → Reworks t w n → 
     → IsDone (becomes_in n w) t u reply
 becomes_is t w u n reply works still is answered = (answered ∙ ap (λ (x : Tree). (becomes_in n x).answer) is, is ∙ becomes_done t w n works still)
 
+-- a node counts as many names as one that is there
+succeeds_by : (n : ℕ) (o p : Option Node) → count o ≡ count p → is_some p ≡ true → IsSuccess (becomes n o).answer
+succeeds_by n None None same there = absurd (not_true there)
+succeeds_by n None (Some node) same there = cc
+succeeds_by n (Some node) p same there = refl
+
+pub becomes_succeeds : (t w : Tree) (n : ℕ) → Still t w n → is_some (get t.nodes n) ≡ true → IsSuccess (becomes_in n w).answer
+becomes_succeeds t w n still there = succeeds_by n (get w.nodes n) (get t.nodes n) still there
+
 -- a call that goes on where this test fails
 pub unless_done : (b : Bool) (o p : Outcome) (t u : Tree) (reply : Reply) → b ≡ false → IsDone p t u reply → IsDone (cond b o p) t u reply
 unless_done true o p t u reply fails done = cc
 unless_done false o p t u reply fails done = done
+
+pub unless_succeeds : (b : Bool) (o p : Outcome) → b ≡ false → IsSuccess p.answer → IsSuccess (cond b o p).answer
+unless_succeeds true o p fails done = cc
+unless_succeeds false o p fails done = done
 
 pub not_large : (size : ℕ) → size ≤ MOST_FILE_BYTES → nat_lt MOST_FILE_BYTES size ≡ false
 not_large size small = false_from_ne_true (nat_lt MOST_FILE_BYTES size) (λ is. let more : MOST_FILE_BYTES < size = ltb-true MOST_FILE_BYTES size is in omega arith)

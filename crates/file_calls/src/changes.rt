@@ -6,6 +6,7 @@ ghost use Rattle.tree_model.specs.Changes.{is_file};
 ghost use Rattle.tree_model.specs.declared.limits.TheConstants.{MOST_FILE_BYTES};
 ghost use Rattle.kernel_model.specs.Families.FileChanges as model;
 ghost use Rattle.kernel_model.specs.Families.FilePaths as paths;
+ghost use Rattle.kernel_model.specs.Outcome.{IsSuccess};
 ghost use Rattle.file_calls.specs.Done.{HasSameNodes, IsDone};
 ghost use Rattle.file_calls.specs.Opens.{IsThere};
 
@@ -191,6 +192,7 @@ pub(crate) fn file_allocate(
 ) -> Result<Reply, AllocError>
     requires { IsThere tree.old kind.now }
     ensures ok { IfOk result (λ reply. IsDone (model.allocate (offset + length) now tree.old (Some kind.now)) tree.old tree.new reply) }
+    ensures only { OnErr result (IsSuccess (model.allocate (offset + length) now tree.old (Some kind.now)).answer) }
     ensures err { OnErr result (tree.new ≡ tree.old) }
     ensures nodes { HasSameNodes tree.old tree.new }
 {
@@ -220,6 +222,7 @@ pub(crate) fn file_stat_fput(
 ) -> Result<Reply, AllocError>
     requires { IsThere tree.old kind.now }
     ensures ok { IfOk result (λ reply. IsDone (model.put_open flags stat.now now tree.old (Some kind.now)) tree.old tree.new reply) }
+    ensures only { OnErr result (IsSuccess (model.put_open flags stat.now now tree.old (Some kind.now)).answer) }
     ensures err { OnErr result (tree.new ≡ tree.old) }
     ensures nodes { HasSameNodes tree.old tree.new }
 {

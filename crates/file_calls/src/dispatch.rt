@@ -2,6 +2,7 @@
 ghost use Rattle.std.specs.Prelude.{◌≡◌, true, IfOk, OnErr, Some};
 ghost use Rattle.abi_types.specs.Families.{call_of_file};
 ghost use Rattle.kernel_model.specs.Families.FileCalls as model;
+ghost use Rattle.kernel_model.specs.Outcome.{IsSuccess};
 ghost use Rattle.file_calls.specs.Done.{HasSameNodes, IsDone};
 ghost use Rattle.file_calls.specs.Opens.{IsThere};
 
@@ -16,7 +17,7 @@ use file_tree::Tree;
 use std::alloc::{AllocError, Global};
 
 /// Does a call on an open, at this time in nanoseconds since 1970: the reply, and the tree after it. `Err` comes only of a call
-/// that takes memory, and changes nothing.
+/// that takes memory and would else succeed, and changes nothing.
 pub fn on_open(
     alloc: Global,
     tree: &mut Tree,
@@ -26,7 +27,8 @@ pub fn on_open(
 ) -> Result<Reply, AllocError>
     requires { IsThere tree.old kind.now }
     ensures ok { IfOk result (λ reply. IsDone ((model.file_meaning (call_of_file call.entry)).effect now tree.old (Some kind.now)) tree.old tree.new reply) }
-    ensures only { OnErr result ((model.file_meaning (call_of_file call.entry)).takes_memory ≡ true) }
+    ensures takes { OnErr result ((model.file_meaning (call_of_file call.entry)).takes_memory ≡ true) }
+    ensures only { OnErr result (IsSuccess ((model.file_meaning (call_of_file call.entry)).effect now tree.old (Some kind.now)).answer) }
     ensures err { OnErr result (tree.new ≡ tree.old) }
     ensures nodes { HasSameNodes tree.old tree.new }
 {

@@ -3,7 +3,7 @@ ghost use Rattle.std.specs.Prelude.{◌≡◌, ◌+◌, ◌<◌, ◌^◌, length
 ghost use Rattle.tree_model.specs.Files.{read_bytes};
 ghost use Rattle.kernel_model.specs.Families.FileBytes as model;
 ghost use Rattle.kernel_model.specs.Families.MemoryCalls as maps;
-ghost use Rattle.kernel_model.specs.Outcome.{replies};
+ghost use Rattle.kernel_model.specs.Outcome.{IsSuccess, replies};
 
 use crate::listings::content;
 use abi_base::PAGE_SIZE;
@@ -44,7 +44,8 @@ pub(crate) fn fd_pread(
     most: u64,
     at: u64,
 ) -> Result<Reply, AllocError>
-    ensures { IfOk result (λ reply. replies reply ≡ model.read_at most at tree.now (Some kind.now)) }
+    ensures ok { IfOk result (λ reply. replies reply ≡ model.read_at most at tree.now (Some kind.now)) }
+    ensures only { OnErr result (IsSuccess (model.read_at most at tree.now (Some kind.now)).answer) }
 {
     match kind {
         OpenKind::File { node, .. } => Ok(content(read_file(alloc, tree, *node, at, most)?)),
@@ -73,7 +74,8 @@ pub(crate) fn map_file(
     offset: u64,
 ) -> Result<Reply, AllocError>
     ensures ok { IfOk result (λ reply. replies reply ≡ maps.map_open place length offset tree.now (Some kind.now)) }
-    ensures only { OnErr result (maps.has_place place ≡ true) }
+    ensures place { OnErr result (maps.has_place place ≡ true) }
+    ensures only { OnErr result (IsSuccess (maps.map_open place length offset tree.now (Some kind.now)).answer) }
 {
     let OpenKind::File { node, .. } = kind else {
         return Ok(refused(Errno::Badf));

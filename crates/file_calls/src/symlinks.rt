@@ -1,9 +1,9 @@
 //! The text of a symlink.
-ghost use Rattle.std.specs.Prelude.{◌≡◌, IfOk, Some};
+ghost use Rattle.std.specs.Prelude.{◌≡◌, IfOk, OnErr, Some};
 ghost use Rattle.path_lookup.specs.declared.ends.WalkMode.TheVariants.{NoFollow};
 ghost use Rattle.kernel_model.specs.Families.FileLooks as looks;
 ghost use Rattle.kernel_model.specs.Families.FilePaths as model;
-ghost use Rattle.kernel_model.specs.Outcome.{replies};
+ghost use Rattle.kernel_model.specs.Outcome.{IsSuccess, replies};
 
 use crate::listings::{content, room_of};
 use crate::path_fault::reply_of;
@@ -16,7 +16,8 @@ use std::alloc::{AllocError, Global};
 
 // The text of a symlink, as much as there is room for.
 fn read_link(alloc: Global, most: u64, kind: &NodeKind) -> Result<Reply, AllocError>
-    ensures { IfOk result (λ reply. replies reply ≡ looks.read_link most kind.now) }
+    ensures ok { IfOk result (λ reply. replies reply ≡ looks.read_link most kind.now) }
+    ensures only { OnErr result (IsSuccess (looks.read_link most kind.now).answer) }
 {
     match kind {
         NodeKind::Link(text) => {
@@ -30,7 +31,8 @@ fn read_link(alloc: Global, most: u64, kind: &NodeKind) -> Result<Reply, AllocEr
 
 // The text of the symlink of this number.
 fn read_node(alloc: Global, tree: &Tree, most: u64, id: ObjId) -> Result<Reply, AllocError>
-    ensures { IfOk result (λ reply. replies reply ≡ looks.read_link_in most tree.now id) }
+    ensures ok { IfOk result (λ reply. replies reply ≡ looks.read_link_in most tree.now id) }
+    ensures only { OnErr result (IsSuccess (looks.read_link_in most tree.now id).answer) }
 {
     match tree.node(id) {
         Some(node) => read_link(alloc, most, &node.kind),
@@ -46,8 +48,10 @@ pub(crate) fn file_readlink(
     path: &[u8],
     most: u64,
 ) -> Result<Reply, AllocError>
-    ensures { IfOk result (λ reply. replies reply
+    ensures ok { IfOk result (λ reply. replies reply
         ≡ model.at_walked (looks.read_link_in most tree.now) (model.walked tree.now NoFollow path.now (Some kind.now))) }
+    ensures only { OnErr result (IsSuccess
+        (model.at_walked (looks.read_link_in most tree.now) (model.walked tree.now NoFollow path.now (Some kind.now))).answer) }
 {
     match found(tree, WalkMode::NoFollow, path, kind) {
         Ok(node) => read_node(alloc, tree, most, node),

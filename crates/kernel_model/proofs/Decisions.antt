@@ -7,7 +7,6 @@ use Rattle.maps.specs.Maps.{get-retain, same_numbers}
 use Rattle.abi_types.specs.declared.call.Call.{Call}
 use Rattle.abi_types.specs.declared.constants.Constants.{Constants}
 use Rattle.abi_types.specs.declared.who.Who.{Who}
-use Rattle.kernel_model.specs.Calls.{refusal_of}
 use Rattle.kernel_model.specs.Outcome.{Outcome}
 use Rattle.kernel_model.specs.Laws.{HasSameSight, EndsAlike}
 use Rattle.kernel_model.specs.Release.{is_node_kept, is_released, release, without_ended}
@@ -54,15 +53,6 @@ unfolding outcome
 sight_decides constants S T who call same =
     ap (λ v. outcome_by constants v who call) (restrict_alike S T (sight S who call) (sees_clock S T who call same.1) same.1)
     ∙ ap (λ parts. outcome_by constants (restrict (tick T) parts) who call) same.0
-
--- and it is refused alike
-sees_table : (S T : State) (who : Who) (call : Call) → AgreeOn S T (sight S who call) → get S.tables who.pid ≡ get T.tables who.pid
-unfolding sight
-sees_table S T who call same = same.1.0.0
-
-pub same_refusal : (S T : State) (who : Who) (call : Call) → HasSameSight S T who call
-    → refusal_of call (get S.tables who.pid) ≡ refusal_of call (get T.tables who.pid)
-same_refusal S T who call same = ap (refusal_of call) (sees_table S T who call same.1)
 
 -- ---- after the step
 

@@ -278,7 +278,7 @@ OpensWell t new (NotOpened errno) = ⊤
 OpensWell t new (OpenedOutside component) = ⊤
 OpensWell t new (Opens kind c new_nodes) = IsFew new_nodes × IsChangeOf t new new_nodes c × IsThere c.tree kind
 
-file_is_some : (o : Option Node) → is_file_node o ≡ true → is_some o ≡ true
+pub file_is_some : (o : Option Node) → is_file_node o ≡ true → is_some o ≡ true
 file_is_some None file = file
 file_is_some (Some node) file = refl
 

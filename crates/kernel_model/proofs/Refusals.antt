@@ -1,5 +1,5 @@
 -- Why a call is refused: the denial of the first descriptor that lacks a right, that lack of memory stands in place of no
--- refusal, and that an error changes nothing.
+-- error, and that an error changes nothing.
 use Rattle.std.proofs.Common.{◌≡◌, ◌≢◌, ◌⊎◌, ℕ, Bool, true, false, cond, T, List, [], Option, Some, None, IsSome, is_some, inl, inr, refl, sym, ap, subst, ◌∙◌}
 use Rattle.std.specs.List.{AllByRecursion}
 use Rattle.std.specs.FinMap.{get}
@@ -18,7 +18,7 @@ use Rattle.abi_types.specs.declared.who.Who.{Who}
 use Rattle.kernel_model.specs.Calls.{meaning_of, named, need, errors_of, takes_memory, refusal, refusal_of}
 use Rattle.kernel_model.specs.Laws.{HasAll, IsFirstLack, IsOfFirstLack, IsOfPath, IsNotDeniedEarly, IsListed}
 use Rattle.kernel_model.specs.Need.{missing, some_absent, first_lack, denied_by}
-use Rattle.kernel_model.specs.Outcome.{Outcome, OnReply, replies}
+use Rattle.kernel_model.specs.Outcome.{Outcome, OnReply, IsSuccess, replies}
 use Rattle.kernel_model.specs.Proper.{IsIn, IsDeniedOutside}
 use Rattle.kernel_model.specs.Release.{release}
 use Rattle.kernel_model.specs.Reply.{refused, denied}
@@ -171,20 +171,63 @@ step_denial constants S who call given T reply denial (inl done) is denies =
 step_denial constants S who call given T reply denial (inr lacking) is denies =
     absurd (none_is_no denial (ap (λ (r : Reply). r.denial) (same_reply (refused Nomem) reply (sym lacking.1 ∙ is)) ∙ denies))
 
+-- ---- what a refusal is
+
+-- BADF, or a denial
+abbrev IsRefusal : Reply → Type 0
+IsRefusal reply = (reply ≡ refused Badf) ⊎ ((denial : Denial) × (reply ≡ denied denial))
+
+refusal_by : (absent : Bool) (lack : Option Denial) (reply : Reply) → cond absent (Some (refused Badf)) (denied_by lack) ≡ Some reply → IsRefusal reply
+refusal_by true lack reply is = inl (sym (same_some (refused Badf) reply is))
+refusal_by false None reply is = absurd (none_is_no reply is)
+refusal_by false (Some denial) reply is = inr (denial, sym (same_some (denied denial) reply is))
+
+refusal_is : (call : Call) (t : Option Table) (reply : Reply) → refusal_of call t ≡ Some reply → IsRefusal reply
+refusal_is call None reply is = inl (sym (same_some (refused Badf) reply is))
+refusal_is call (Some table) reply is = refusal_by (some_absent table (named call)) (first_lack table (need call)) reply is
+
+-- no refusal answers any other error
+pub refusal_is_other : (errno : Errno) → Badf ≢ errno → Notcapable ≢ errno → (call : Call) (t : Option Table) (reply : Reply) → refusal_of call t ≡ Some reply
+    → reply.errno ≢ errno
+refusal_is_other errno badf notcapable call t reply is e =
+    elim (refusal_is call t reply is) [
+      | inl absent ↦ badf (sym (ap (λ (r : Reply). r.errno) absent) ∙ e)
+      | inr lacks ↦ notcapable (sym (ap (λ (r : Reply). r.errno) lacks.1) ∙ e)
+    ]
+
 -- ---- lack of memory
 
--- a call that is refused may not lack memory
-refused_first : (S : State) (who : Who) (call : Call) (table : Table) (reply : Reply) → get S.tables who.pid ≡ Some table → refusal table call ≡ Some reply
-    → MayLackMemory S who call → ⊥
-refused_first S who call table reply own refuses lacks = none_is_no reply (sym lacks.1 ∙ ap (refusal_of call) own ∙ refuses)
+success_reply : (given : Answer) (reply : Reply) → IsSuccess given → given ≡ answer.Reply reply → reply.errno ≡ Success
+success_reply (answer.Reply r) reply success is = ap (λ (r : Reply). r.errno) (sym (same_reply r reply is)) ∙ success
+
+-- lack of memory stands in place of no error
+pub errors_are_exact : (constants : Constants) (S : State) (who : Who) (call : Call) (reply : Reply) (given : Answer) (T : State)
+    → step_answer constants S who call ≡ answer.Reply reply → reply.errno ≢ Success → IsStep constants S who call given T
+    → (given ≡ answer.Reply reply) × (T ≡ step_state constants S who call)
+errors_are_exact constants S who call reply given T is other (inl done) = (done.0 ∙ is, done.1)
+errors_are_exact constants S who call reply given T is other (inr lacking) =
+    absurd (other (success_reply (step_answer constants S who call) reply lacking.0.1 is))
+
+-- no call that may lack memory is refused
+pub lacks_unrefused : (constants : Constants) (S : State) (who : Who) (call : Call) → MayLackMemory constants S who call
+    → refusal_of call (get S.tables who.pid) ≡ None
+lacks_unrefused constants S who call lacks =
+    outcome_by_cases (λ (o : Outcome). IsSuccess o.answer → refusal_of call (get S.tables who.pid) ≡ None) constants S who call
+    (λ reply refuses success. absurd (refusal_is_other Success (λ e. cc) (λ e. cc) call (get S.tables who.pid) reply refuses success))
+    (λ table own unrefused success. ap (refusal_of call) own ∙ unrefused) lacks.1
 
 -- the answer of a call that is refused is the refusal
 pub refused_answer : (constants : Constants) (S : State) (who : Who) (call : Call) (given : Answer) (T : State) (table : Table) (reply : Reply)
     → IsStep constants S who call given T → get S.tables who.pid ≡ Some table → refusal table call ≡ Some reply → given ≡ answer.Reply reply
-refused_answer constants S who call given T table reply (inl done) own refuses =
-    done.0 ∙ refused_step_answer constants S who call table reply own refuses
-refused_answer constants S who call given T table reply (inr lacking) own refuses =
-    absurd (refused_first S who call table reply own refuses lacking.0)
+refused_answer constants S who call given T table reply step own refuses =
+    (errors_are_exact constants S who call reply given T (refused_step_answer constants S who call table reply own refuses)
+    (refusal_is_other Success (λ e. cc) (λ e. cc) call (Some table) reply refuses) step).0
+
+-- of a path that leads outside it is the denial
+pub leaving_is_denied : (constants : Constants) (S : State) (who : Who) (call : Call) (given : Answer) (T : State) (component : ℕ)
+    → IsStep constants S who call given T → outside S who call ≡ Some component → given ≡ answer.Reply (denied (Outside component))
+leaving_is_denied constants S who call given T component step leads =
+    (errors_are_exact constants S who call (denied (Outside component)) given T (outside_is_denied constants S who call component leads) (λ e. cc) step).0
 
 pub lack_is_denied : (constants : Constants) (S : State) (who : Who) (call : Call) (given : Answer) (T : State) (table : Table) (row : Needed) (d : Descriptor)
     → IsStep constants S who call given T → get S.tables who.pid ≡ Some table → HasAll table (named call) → IsFirstLack table (need call) row d
@@ -210,7 +253,7 @@ no_memory_is_exact constants S who call given T none (inl done) = done
 no_memory_is_exact constants S who call given T none (inr lacking) = absurd (true_is_other (takes_memory call) none lacking.0.0)
 
 pub replies_are_listed : (constants : Constants) (S : State) (who : Who) (call : Call) (reply : Reply) (T : State)
-    → IsStep constants S who call (answer.Reply reply) T → IsListed S who call reply
+    → IsStep constants S who call (answer.Reply reply) T → IsListed constants S who call reply
 replies_are_listed constants S who call reply T (inl done) =
     elim (reply_from constants S who call reply (sym done.0)) [
       | inl refuses ↦ inr (inl refuses.0)
@@ -218,31 +261,7 @@ replies_are_listed constants S who call reply T (inl done) =
       | inr (inr plain) ↦ elim plain.1 [ inl success ↦ inl success | inr error ↦ inr (inr (inr (inl error.1))) ]
     ]
 replies_are_listed constants S who call reply T (inr lacking) =
-    inr (inr (inr (inr (lacking.0.0, lacking.0.1, same_reply reply (refused Nomem) lacking.1))))
-
--- ---- what a refusal is
-
--- BADF, or a denial
-abbrev IsRefusal : Reply → Type 0
-IsRefusal reply = (reply ≡ refused Badf) ⊎ ((denial : Denial) × (reply ≡ denied denial))
-
-refusal_by : (absent : Bool) (lack : Option Denial) (reply : Reply) → cond absent (Some (refused Badf)) (denied_by lack) ≡ Some reply → IsRefusal reply
-refusal_by true lack reply is = inl (sym (same_some (refused Badf) reply is))
-refusal_by false None reply is = absurd (none_is_no reply is)
-refusal_by false (Some denial) reply is = inr (denial, sym (same_some (denied denial) reply is))
-
-refusal_is : (call : Call) (t : Option Table) (reply : Reply) → refusal_of call t ≡ Some reply → IsRefusal reply
-refusal_is call None reply is = inl (sym (same_some (refused Badf) reply is))
-refusal_is call (Some table) reply is = refusal_by (some_absent table (named call)) (first_lack table (need call)) reply is
-
--- no refusal answers any other error
-pub refusal_is_other : (errno : Errno) → Badf ≢ errno → Notcapable ≢ errno → (call : Call) (t : Option Table) (reply : Reply) → refusal_of call t ≡ Some reply
-    → reply.errno ≢ errno
-refusal_is_other errno badf notcapable call t reply is e =
-    elim (refusal_is call t reply is) [
-      | inl absent ↦ badf (sym (ap (λ (r : Reply). r.errno) absent) ∙ e)
-      | inr lacks ↦ notcapable (sym (ap (λ (r : Reply). r.errno) lacks.1) ∙ e)
-    ]
+    inr (inr (inr (inr (lacking.0, same_reply reply (refused Nomem) lacking.1))))
 
 -- ---- NOTCAPABLE
 
@@ -271,6 +290,17 @@ notcapable_is_denied constants S who call reply early is errno =
         | inr error ↦ absurd (in_all (λ e. e ≢ Notcapable) reply.errno (errors_of call) early error.1 errno)
       ]
     ]
+
+nomem_is_other : Nomem ≢ Notcapable
+nomem_is_other e = cc
+
+-- a step's answer with NOTCAPABLE says what is missing
+pub step_reported : (constants : Constants) (S : State) (who : Who) (call : Call) (given : Answer) (T : State) (reply : Reply) → IsNotDeniedEarly call
+    → IsStep constants S who call given T → given ≡ answer.Reply reply → reply.errno ≡ Notcapable → IsSome reply.denial
+step_reported constants S who call given T reply early (inl done) is lacks =
+    notcapable_is_denied constants S who call reply early (sym done.0 ∙ is) lacks
+step_reported constants S who call given T reply early (inr lacking) is lacks =
+    absurd (nomem_is_other (ap (λ (r : Reply). r.errno) (same_reply (refused Nomem) reply (sym lacking.1 ∙ is)) ∙ lacks))
 
 -- ---- no answer but the allowed one is lack of memory
 

@@ -26,7 +26,7 @@ use Rattle.kernel_model.specs.Sight.{process_parts, behind}
 use Rattle.tree_model.specs.Grants.{MayBegin}
 use Rattle.kernel_model.specs.Start.{start_state}
 use Rattle.kernel_model.specs.State.{State, Tree, Table, Part, at_open, at_node, at_names, has_part, Agree, AgreeOn, threads_of}
-use Rattle.kernel_model.specs.Step.{made_by, tick, sight, touch, outcome_by, outcome, outside, outside_by, unreleased, step_answer, step_state, failed, IsStep, IsUntouched, end_unreleased, end_state}
+use Rattle.kernel_model.specs.Step.{made_by, tick, sight, touch, outcome_by, outcome, outside, outside_by, unreleased, step_answer, step_state, failed, MayLackMemory, IsStep, IsUntouched, end_unreleased, end_state}
 use Rattle.kernel_model.specs.Valid.{IsValid}
 use Rattle.kernel_model.specs.View.{whole}
 
@@ -233,23 +233,38 @@ NotcapableIsDenied =
 -- ---- which errors a call answers, and where memory runs out
 
 -- A reply is a success, the refusal for lack of a descriptor or of rights, the denial of a path that leads outside, one of the
--- call's own errors, or lack of memory, and that only of a call that takes memory and isn't refused.
-abbrev pub IsListed : State → Who → Call → Reply → Type 0
-IsListed S who call reply =
+-- call's own errors, or lack of memory, and that only of a call that takes memory and would else succeed.
+abbrev pub IsListed : Constants → State → Who → Call → Reply → Type 0
+IsListed constants S who call reply =
     (reply.errno ≡ Success) ⊎ (refusal_of call (get S.tables who.pid) ≡ Some reply)
     ⊎ ((component : ℕ) × (outside S who call ≡ Some component) × (reply ≡ denied (Outside component))) ⊎ IsIn reply.errno (errors_of call)
-    ⊎ ((takes_memory call ≡ true) × (refusal_of call (get S.tables who.pid) ≡ None) × (reply ≡ refused Nomem))
+    ⊎ (MayLackMemory constants S who call × (reply ≡ refused Nomem))
 
 abbrev pub RepliesAreListed : Type 0
 RepliesAreListed =
     (constants : Constants) (S : State) (who : Who) (call : Call) (reply : Reply) (T : State) → IsStep constants S who call (answer.Reply reply) T
-    → IsListed S who call reply
+    → IsListed constants S who call reply
 
 -- A call that takes no memory has its answer and leaves its state: lack of memory stands in place of neither.
 abbrev pub NoMemoryIsExact : Type 0
 NoMemoryIsExact =
     (constants : Constants) (S : State) (who : Who) (call : Call) (given : Answer) (T : State) → takes_memory call ≡ false
     → IsStep constants S who call given T → (given ≡ step_answer constants S who call) × (T ≡ step_state constants S who call)
+
+-- Where the answer is an error, a step has no other and leaves the state that the call leaves: lack of memory stands in place of
+-- a success alone.
+abbrev pub ErrorsAreExact : Type 0
+ErrorsAreExact =
+    (constants : Constants) (S : State) (who : Who) (call : Call) (reply : Reply) (given : Answer) (T : State)
+    → step_answer constants S who call ≡ answer.Reply reply → reply.errno ≢ Success → IsStep constants S who call given T
+    → (given ≡ answer.Reply reply) × (T ≡ step_state constants S who call)
+
+-- So where no descriptor is absent, no right is missing and a path of the call leads outside, the answer is the denial for that,
+-- whether memory runs out or not.
+abbrev pub LeavingIsDenied : Type 0
+LeavingIsDenied =
+    (constants : Constants) (S : State) (who : Who) (call : Call) (given : Answer) (T : State) (component : ℕ)
+    → IsStep constants S who call given T → outside S who call ≡ Some component → given ≡ answer.Reply (denied (Outside component))
 
 -- Where a descriptor that the call names is absent, the answer is BADF, whether memory runs out or not.
 abbrev pub AbsentIsBadf : Type 0

@@ -9,9 +9,9 @@ use Rattle.abi_types.specs.declared.constants.Constants.{Constants}
 use Rattle.abi_base.specs.declared.errno.Errno.TheVariants.{Badf, Nomem}
 use Rattle.abi_types.specs.declared.status.Status.{Status}
 use Rattle.abi_types.specs.declared.who.Who.{Who}
-use Rattle.kernel_model.specs.Calls.{meaning_of, seen, takes_memory, refusal, refusal_of}
+use Rattle.kernel_model.specs.Calls.{meaning_of, seen, takes_memory, refusal}
 use Rattle.kernel_model.specs.Families.Numbers.{new_parts}
-use Rattle.kernel_model.specs.Outcome.{Outcome, replies}
+use Rattle.kernel_model.specs.Outcome.{Outcome, IsSuccess, replies}
 use Rattle.kernel_model.specs.Families.ProcessCalls.{end_updates}
 use Rattle.kernel_model.specs.Release.{release, is_released}
 use Rattle.kernel_model.specs.Reply.{refused}
@@ -108,9 +108,9 @@ step_answer constants S who call = (outcome constants S who call).answer
 abbrev pub step_state : Constants → State → Who → Call → State
 step_state constants S who call = release (unreleased constants S who call)
 
--- a call may answer that memory ran out: it takes memory, and no descriptor and no right is missing
-abbrev pub MayLackMemory : State → Who → Call → Type 0
-MayLackMemory S who call = (takes_memory call ≡ true) × (refusal_of call (get S.tables who.pid) ≡ None)
+-- a call may answer that memory ran out: it takes memory, and else it would succeed
+abbrev pub MayLackMemory : Constants → State → Who → Call → Type 0
+MayLackMemory constants S who call = (takes_memory call ≡ true) × IsSuccess (step_answer constants S who call)
 
 -- the state after a call that answers an error: only the clock has moved
 abbrev pub failed : State → Who → State
@@ -120,7 +120,7 @@ failed S who = tick S
 abbrev pub IsStep : Constants → State → Who → Call → Answer → State → Type 0
 IsStep constants S who call given T =
     ((given ≡ step_answer constants S who call) × (T ≡ step_state constants S who call))
-    ⊎ (MayLackMemory S who call × (given ≡ answer.Reply (refused Nomem)) × (T ≡ failed S who))
+    ⊎ (MayLackMemory constants S who call × (given ≡ answer.Reply (refused Nomem)) × (T ≡ failed S who))
 
 -- the part is outside what the call touches and what the release after it ends
 abbrev pub IsUntouched : Constants → State → Who → Call → Part → Type 0

@@ -2,7 +2,7 @@
 ghost use Rattle.kernel_model.specs.Laws.{MeaningsAreProper, ReadsSight, SightDecides, StepDecided, SightIsReached, TouchIsSeen, MadeIsNew};
 ghost use Rattle.kernel_model.specs.Laws.{OthersStay, EndKeeps, ErrorKeeps, StepMovesOnly, EndStateEndsOnly, EndsAreLeast};
 ghost use Rattle.kernel_model.specs.Laws.{FirstLackIsNamed, DenialIsOfFirstLack, NotcapableIsDenied, OutsideIsDenied, OutsideReadsSight};
-ghost use Rattle.kernel_model.specs.Laws.{RepliesAreListed, NoMemoryIsExact, AbsentIsBadf, LackIsDenied};
+ghost use Rattle.kernel_model.specs.Laws.{RepliesAreListed, NoMemoryIsExact, ErrorsAreExact, AbsentIsBadf, LackIsDenied, LeavingIsDenied};
 ghost use Rattle.kernel_model.specs.Laws.{StepKeepsValid, EndKeepsValid, StartIsValid};
 
 /// Each call's meaning keeps to what the laws stand on (`specs/Proper.antt`).
@@ -81,18 +81,24 @@ pub fn refusal_names_lack()
 {}
 
 /// A reply is a success, the refusal for lack of a descriptor or of rights, the denial of a path that leads outside, one of
-/// the errors that the call answers of its own, or lack of memory, and that only of a call that takes memory and is not
-/// refused.
+/// the errors that the call answers of its own, or lack of memory, and that only of a call that takes memory and would else
+/// succeed.
 pub fn replies_are_listed()
     ensures { RepliesAreListed }
 {}
 
+/// Lack of memory stands in place of a success alone: where the answer is an error, no step has another one.
+pub fn errors_are_exact()
+    ensures { ErrorsAreExact }
+{}
+
 /// Lack of memory stands in place of no other answer of a call that takes no memory, and of no refusal: an absent
-/// descriptor is `Badf`, and the first lack of rights is denied.
+/// descriptor is `Badf`, the first lack of rights is denied, and so is a path that leads outside.
 pub fn refusals_come_first()
     ensures exact { NoMemoryIsExact }
     ensures absent { AbsentIsBadf }
     ensures denied { LackIsDenied }
+    ensures outside { LeavingIsDenied }
 {}
 
 /// A step leaves a valid state valid.

@@ -2,7 +2,7 @@ use Rattle.std.proofs.Common.{◌∙◌, ap}
 use Rattle.tree_model.specs.Changes.{first_fault, made, make_faults}
 use Rattle.kernel_model.specs.Families.NameMaking.{errno_of, with_new_names, with_node}
 use Rattle.kernel_model.specs.Families.NameMeaning.{Changes}
-use Rattle.entry_calls.proofs.Endings.{failed_as, unless_none}
+use Rattle.entry_calls.proofs.Endings.{failed_as, first_is_of_table, unless_none}
 use Rattle.entry_calls.proofs.making.make_in.Goals as goal
 
 pub returns-in-Ok : goal.returns-in-Ok
@@ -18,4 +18,9 @@ returns-in-Ok c =
 
 pub returns-in-Err : goal.returns-in-Err
 returns-in-Err c =
-    (failed_as errno_of _ _ c.in-Err.fault c.failed.result c.in-Err.ensures.fault c.failed.ensures, c.in-Err.ensures.err)
+    let t = c.args.tree.now in
+    let faults = make_faults t c.args.dir c.args.name.now in (
+      failed_as errno_of (first_fault faults) (with_node c.args.kind c.args.now c.args.new t c.args.dir c.args.name.now) c.in-Err.fault c.failed.result
+          (first_is_of_table faults (tt, (tt, (tt, (tt, tt))))) c.in-Err.ensures.fault c.failed.ensures,
+      c.in-Err.ensures.err,
+    )

@@ -4,7 +4,7 @@ use Rattle.kernel_model.specs.Families.NameMaking.{with_new_names}
 use Rattle.kernel_model.specs.Families.NameMeaning.{Changes}
 use Rattle.kernel_model.specs.Families.NameMoving.{link_errno, with_link}
 use Rattle.kernel_model.specs.Families.NameRemoving.{with_new_count}
-use Rattle.entry_calls.proofs.Endings.{unless_none}
+use Rattle.entry_calls.proofs.Endings.{failed_as, first_is_of_table, unless_none}
 use Rattle.entry_calls.proofs.moving.link_in.Goals as goal
 
 pub returns-in-Ok : goal.returns-in-Ok
@@ -16,4 +16,13 @@ returns-in-Ok c =
       unless_none link_errno faults (Changes change) c.in-Ok.ensures.allowed,
       c.set_recounted.ensures ∙ ap (λ u. with_new_count c.args.now u c.args.node)
           (c.set_modified.ensures ∙ ap (λ u. with_new_names c.args.now u c.args.dir) c.in-Ok.ensures.ok),
+    )
+
+pub returns-in-Err : goal.returns-in-Err
+returns-in-Err c =
+    let t = c.args.tree.now in
+    let faults = link_faults t c.args.dir c.args.name.now c.args.node in (
+      failed_as link_errno (first_fault faults) (with_link c.args.now t c.args.node c.args.dir c.args.name.now) c.in-Err.fault c.link_failed.result
+          (first_is_of_table faults (tt, (tt, (tt, (tt, (tt, (tt, (tt, tt)))))))) c.in-Err.ensures.fault c.link_failed.ensures,
+      c.in-Err.ensures.err,
     )

@@ -1,13 +1,13 @@
 use Rattle.std.proofs.Common.{◌≡◌, Bool, true, false, Option, sym, ◌∙◌, ap, subst}
 use Rattle.std.specs.Prelude.{ℕ, if◌then◌else◌}
-use Rattle.tree_model.specs.Changes.{first_fault, is_same, moved_to, rename_faults, replaced}
+use Rattle.tree_model.specs.Changes.{first_fault, is_same, moved_to, rename_faults, replace_faults, replaced}
 use Rattle.tree_model.specs.Tree.{Tree, entry_of}
 use Rattle.kernel_model.specs.Families.NameMaking.{errno_of, with_new_names}
 use Rattle.kernel_model.specs.Families.NameMeaning.{NameOutcome, Changes}
 use Rattle.kernel_model.specs.Families.NameMoving.{move_or_stay, with_move, with_new_count_of}
 use Rattle.kernel_model.specs.Families.TreeUpdates.{no_change}
 use Rattle.entry_calls.specs.Done.{FailsAs}
-use Rattle.entry_calls.proofs.Endings.{failed_as, unless_none}
+use Rattle.entry_calls.proofs.Endings.{either_of_table, failed_as, first_is_of_table, unless_none}
 use Rattle.entry_calls.proofs.moving.rename_in.Goals as goal
 
 pub returns-then-not-stays : goal.returns-then-not-stays
@@ -51,10 +51,14 @@ pub returns-in-Err : goal.returns-in-Err
 returns-in-Err c =
     let t = c.args.tree.now in
     let name = c.args.name.now in
-    let new = c.args.new_name.now in (
+    let new = c.args.new_name.now in
+    let moved = entry_of t c.args.from name in
+    let old = entry_of t c.args.to new in
+    let same = is_same moved old in
+    let faults = rename_faults t c.args.from name c.args.to new in (
       subst (λ (comes : NameOutcome). FailsAs comes c.failed.result)
           (sym (c.names_lead.ensures c.args.to new _) ∙ sym (c.names_lead.ensures c.args.from name _))
-          (failed_as errno_of (first_fault (rename_faults t c.args.from name c.args.to new))
-          (Changes (move_or_stay c.args.now t c.args.from name c.args.to new)) c.in-Err.fault c.failed.result c.in-Err.ensures.fault c.failed.ensures),
+          (failed_as errno_of (first_fault faults) (move_or_stay c.args.now t c.args.from name c.args.to new) c.in-Err.fault c.failed.result
+          (first_is_of_table faults (tt, (tt, (tt, (tt, (tt, (tt, either_of_table same (replace_faults t moved c.args.to old) (tt, (tt, (tt, (tt, tt))))))))))) c.in-Err.ensures.fault c.failed.ensures),
       c.in-Err.ensures.err,
     )

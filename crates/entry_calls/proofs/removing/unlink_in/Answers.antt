@@ -1,10 +1,10 @@
 use Rattle.std.proofs.Common.{refl, sym, ap, subst, ◌∙◌}
-use Rattle.tree_model.specs.Changes.{IsRefusal, first_fault, unlink_faults}
+use Rattle.tree_model.specs.Changes.{first_fault, unlink_faults}
 use Rattle.tree_model.specs.Tree.{entry_of}
 use Rattle.kernel_model.specs.Families.NameMeaning.{NameOutcome}
 use Rattle.kernel_model.specs.Families.NameRemoving.{unlink_errno, unlink_node}
 use Rattle.entry_calls.specs.Done.{FailsAs}
-use Rattle.entry_calls.proofs.Endings.{done_as, failed_as, unless_none}
+use Rattle.entry_calls.proofs.Endings.{done_as, first_is_of_table, refused_as, unless_none}
 use Rattle.entry_calls.proofs.removing.unlink_in.Goals as goal
 
 pub returns-in-Ok : goal.returns-in-Ok
@@ -24,9 +24,9 @@ returns-in-Err c =
     let t = c.args.tree.now in
     let name = c.args.name.now in
     let fault = c.in-Err.fault in
-    let faults = first_fault (unlink_faults t c.args.dir name) in (
+    let faults = unlink_faults t c.args.dir name in (
       subst (λ (comes : NameOutcome). FailsAs comes c.unlink_failed.result) (sym (c.names_lead.ensures c.args.dir name _))
-          (failed_as (unlink_errno c.args.flags) faults (unlink_node c.args.flags c.args.now t c.args.dir name (entry_of t c.args.dir name)) fault
-          c.unlink_failed.result (subst (λ o. IsRefusal o fault) (sym c.in-Err.ensures.checks) refl) c.unlink_failed.ensures),
+          (refused_as (unlink_errno c.args.flags) (first_fault faults) (unlink_node c.args.flags c.args.now t c.args.dir name (entry_of t c.args.dir name)) fault
+          c.unlink_failed.result (first_is_of_table faults (tt, (tt, (tt, (tt, tt))))) (sym c.in-Err.ensures.checks) c.unlink_failed.ensures),
       refl,
     )

@@ -1,10 +1,14 @@
 use Rattle.std.proofs.Common.{Some, sym, subst, ◌∙◌, arith}
+use Rattle.std.specs.FinMap.{get}
 use Rattle.abi_types.specs.declared.open_kind.OpenKind.{OpenKind}
 use Rattle.kernel_model.specs.Families.FileChanges.{asked_size, put_open, put_stat, put_times}
+use Rattle.kernel_model.specs.Outcome.{IsSuccess}
 use Rattle.kernel_model.proofs.FileChanges.{put_stat_reworks, put_times_reworks}
+use Rattle.kernel_model.proofs.Opened.{file_is_some}
+use Rattle.file_tree.proofs.Behind.{on_err}
 use Rattle.file_calls.specs.Done.{IsDone}
 use Rattle.file_calls.specs.Opens.{IsThere}
-use Rattle.file_calls.proofs.Reworked.{becomes_is, nodes_stay, not_large, put_stat_still, put_times_still, unless_done}
+use Rattle.file_calls.proofs.Reworked.{becomes_is, becomes_succeeds, nodes_stay, not_large, put_stat_still, put_times_still, unless_done, unless_succeeds}
 use Rattle.file_calls.proofs.changes.file_stat_fput.Goals as goal
 
 pub returns-in_ok-put_stat-in-File-clause-ok : goal.returns-in_ok-put_stat-in-File-clause-ok
@@ -48,3 +52,14 @@ returns-else-has_size-clause-nodes c =
     let stat = c.args.stat.now in
     nodes_stay t (put_times c.args.flags stat c.args.now t node) c.put_times.new.tree node (put_times_reworks c.args.flags stat c.args.now t node)
     (put_times_still c.args.flags stat c.args.now t node) c.put_times.ensures
+
+pub returns-in_err-put_stat-in-File-clause-only : goal.returns-in_err-put_stat-in-File-clause-only
+returns-in_err-put_stat-in-File-clause-only c =
+    let t = c.args.tree.now in
+    let node = c.in-File.node in
+    let stat = c.args.stat.now in
+    on_err c.from_residual.result
+    (subst (λ (kind : OpenKind). IsSuccess (put_open c.args.flags stat c.args.now t (Some kind)).answer) (sym c.in-File.is)
+    (unless_succeeds _ _ _ (not_large (asked_size c.args.flags stat) (omega (arith, c.asked_size.ensures)))
+    (becomes_succeeds t (put_stat c.args.flags stat c.args.now t node) node (put_stat_still c.args.flags stat c.args.now t node)
+    (file_is_some (get t.nodes node) (subst (IsThere t) c.in-File.is c.requires)))))
