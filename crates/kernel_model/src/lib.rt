@@ -2,14 +2,14 @@
 //! The functions here are laws over these definitions: they do nothing, and their contracts say the law.
 #![tactic(auto)]
 
-pub mod laws;
 mod call_bounds;
+pub mod laws;
 mod open_laws;
 
 pub use call_bounds::calls_keep_bounds;
-pub use open_laws::{open_is_listed, opens_lead_below};
 pub use laws::{
     end_keeps, end_keeps_valid, ends_are_least, error_keeps, meanings_are_proper, others_stay,
     reads_sight, refusal_names_lack, refusals_come_first, replies_are_listed, sight_decides,
     sight_is_reached, start_is_valid, step_decided, step_keeps_valid, steps_move_only,
 };
+pub use open_laws::{open_is_listed, opens_lead_below};
