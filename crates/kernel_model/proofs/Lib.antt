@@ -46,4 +46,10 @@ pub mod Reaches
 pub mod Starts
 pub mod OpenLaws
 pub mod OpenConditions
+pub mod FoundOpens
+pub mod FoundPaths
+pub mod FoundNames
+pub mod FoundFiles
+pub mod FoundStreams
+pub mod Found
 pub mod CallBounds

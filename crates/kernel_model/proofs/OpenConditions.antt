@@ -64,7 +64,7 @@ both_tell a b (inr first) other = inr (ap (λ c. c && b) first.0, λ both. first
 either_tells : {A B : Type 0} (a b : Bool) → Tells A a → Tells B b → Tells (A ⊎ B) (a || b)
 either_tells a b (inl first) other = inl (ap (λ c. c || b) first.0, inl first.1)
 either_tells a b (inr first) (inl second) = inl (ap (λ c. c || b) first.0 ∙ second.0, inr second.1)
-either_tells a b (inr first) (inr second) = inr (ap (λ c. c || b) first.0 ∙ second.0, λ some. elim some [ | inl x ↦ first.1 x | inr y ↦ second.1 y ])
+either_tells a b (inr first) (inr second) = inr (ap (λ c. c || b) first.0 ∙ second.0, λ some. elim some [ inl x ↦ first.1 x | inr y ↦ second.1 y ])
 
 -- what a test chooses, where it holds and where it does not
 where_holds : {A : Type 0} {X : Type 0} (test : Bool) (x y : X) → Tells A test → A → x ≡ cond test x y
@@ -177,7 +177,7 @@ module _ (oflags flags : ℕ) (path : List ℕ) (now new : ℕ) (t : Tree) where
   only (end.Absent d from len) o (not_made d2 from2 len2 fault creat is) = is_made d from len (Some fault) creat is
   only (end.Found n) o (directory_opened k is uncreat untrunc) =
       where_fails (creates oflags || truncates oflags) (NotOpened Isdir) (Opens (Directory n flags) (no_change t) 0) (tells_changed oflags)
-      (λ changed. elim changed [ | inl creat ↦ uncreat creat | inr trunc ↦ untrunc trunc ])
+      (λ changed. elim changed [ inl creat ↦ uncreat creat | inr trunc ↦ untrunc trunc ])
       ∙ is_kind n kind.Directory is (λ asked. uncreat asked.0)
   only (end.Found n) o (file_opened k bytes is old plain whole) =
       is_file n bytes (no_change t) is old plain
