@@ -4,6 +4,7 @@
 --     unnumbered_is_one      a call that can't number what it makes makes one node
 --     numbered_is, unnumbered      a number was found, or none
 --     refused_left, counted_out, changed_left      what a call leaves that is refused;  that can't number its node;  that changes the tree
+--     changes_succeed      a call that changes the tree succeeds
 use Rattle.std.proofs.Common.{◌≡◌, ◌≢◌, ℕ, Bool, true, false, cond, ◌++◌, List, Option, None, Some, Err, IsSome, refl, sym, ap, subst, ◌∙◌}
 use Rattle.abi_base.specs.declared.errno.Errno.{Errno}
 use Rattle.abi_base.specs.declared.errno.Errno.TheVariants.{Again}
@@ -24,7 +25,7 @@ use Rattle.kernel_model.specs.Families.EntryCalls.{name_meaning, entry_fds}
 use Rattle.kernel_model.specs.Families.NameMaking.{making, making_unless, text_error}
 use Rattle.kernel_model.specs.Families.NameMeaning.{NameOutcome, Refuses, LeadsOut, Changes, NameMeaning, outcome_of}
 use Rattle.kernel_model.specs.Families.Numbers.{can_number, made_more, next_object, process_updates}
-use Rattle.kernel_model.specs.Outcome.{Outcome, replies}
+use Rattle.kernel_model.specs.Outcome.{Outcome, IsSuccess, replies}
 use Rattle.kernel_model.specs.Reply.{refused, success}
 use Rattle.kernel_model.specs.State.{ProcessState, Tree}
 use Rattle.kernel_model.specs.Families.TreeUpdates.{Change, change_updates}
@@ -133,3 +134,11 @@ module _ (p new_nodes : ℕ) (own new : ProcessState) (t u : Tree) (comes : Name
       subst (λ k. IsLeftBy p new_nodes own new t u k reply) (sym comes_is)
       (change_so c (own_is ∙ sym (ap (λ b. cond b (made_more new_nodes own) own) can)) (tree_is ∙ sym (ap (λ b. cond b c.tree t) can))
       (ap answer.Reply is ∙ sym (ap (λ b. (outcome_by c b).answer) can)))
+
+-- where it would change the tree, and the process can make so many, it succeeds
+pub changes_succeed : (p new_nodes : ℕ) (own : ProcessState) (comes : NameOutcome) (c : Change) → comes ≡ Changes c → can_number p new_nodes (Some own) ≡ true
+    → IsSuccess (outcome_of p (Some own) new_nodes comes).answer
+changes_succeed p new_nodes own comes c comes_is can =
+    subst (λ k. IsSuccess (outcome_of p (Some own) new_nodes k).answer) (sym comes_is)
+    (subst (λ b. IsSuccess (cond b (record { answer = answer.Reply (success 0 0); updates = process_updates p new_nodes (Some own) ++ change_updates c })
+    (replies (refused Again))).answer) (sym can) refl)

@@ -4,7 +4,9 @@ ghost use Rattle.std.specs.Prelude.{◌≡◌, true, Some, IfOk, OnErr, option_c
 ghost use Rattle.abi_types.specs.Families.{call_of_entry};
 ghost use Rattle.kernel_parts.specs.Entries.{IsLeftBy};
 ghost use Rattle.kernel_model.specs.Families.EntryCalls as model;
+ghost use Rattle.kernel_model.specs.Families.NameMeaning.{outcome_of};
 ghost use Rattle.kernel_model.specs.Families.Numbers.{can_number, next_object};
+ghost use Rattle.kernel_model.specs.Outcome.{IsSuccess};
 ghost use Rattle.entry_calls.specs.Done.{IsNew};
 
 use crate::process::ProcessState;
@@ -25,7 +27,7 @@ pub struct Caller {
 }
 
 /// Does a call on names from these opens. Where its process can't number what it would make, it is refused, though for any
-/// other reason first. `Err` changes nothing.
+/// other reason first. `Err` comes only where it would else succeed, and changes nothing.
 pub fn change_entries(
     alloc: Global,
     own: &mut ProcessState,
@@ -39,6 +41,8 @@ pub fn change_entries(
         → IsNew (model.name_meaning (call_of_entry call)).new_nodes tree.old (next_object caller.now.pid (Some own.old) (model.name_meaning (call_of_entry call)).new_nodes) }
     ensures done { IfOk result (IsLeftBy caller.now.pid (model.name_meaning (call_of_entry call.entry)).new_nodes own.old own.new tree.old tree.new
         ((model.name_meaning (call_of_entry call.entry)).effect caller.now.time (next_object caller.now.pid (Some own.old) 1) tree.old (Some here.now) (option_copied there.entry))) }
+    ensures only { OnErr result (IsSuccess (outcome_of caller.now.pid (Some own.old) (model.name_meaning (call_of_entry call.entry)).new_nodes
+        ((model.name_meaning (call_of_entry call.entry)).effect caller.now.time (next_object caller.now.pid (Some own.old) 1) tree.old (Some here.now) (option_copied there.entry))).answer) }
     ensures same_process { OnErr result (own.new ≡ own.old) }
     ensures same_tree { OnErr result (tree.new ≡ tree.old) }
 {

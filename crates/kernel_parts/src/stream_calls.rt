@@ -3,6 +3,7 @@ ghost use Rattle.std.specs.Prelude.{◌≡◌, ℕ, IsSome, IfOk, OnErr, true};
 ghost use Rattle.std.specs.FinMap as map;
 ghost use Rattle.abi_types.specs.Families.{call_of_offset};
 ghost use Rattle.fd_calls.specs.Calls as model;
+ghost use Rattle.kernel_model.specs.Outcome.{IsSuccess};
 ghost use Rattle.kernel_parts.specs.StreamCalls.{stream_outcome, terms_after};
 ghost use Rattle.kernel_model.specs.Families.StreamCalls.{read_term, write_term};
 
@@ -16,6 +17,7 @@ use std::alloc::{AllocError, Global};
 fn write_term(terms: &mut NumMap<Terminal>, which: u32, bytes: &[u8]) -> Result<Answer, AllocError>
     ensures ok { IfOk result (λ given. (given ≡ (write_term bytes.now which (map.get terms.old which)).answer)
         × (terms.new ≡ terms_after (write_term bytes.now which (map.get terms.old which)).updates terms.old)) }
+    ensures only { OnErr result (IsSuccess (write_term bytes.now which (map.get terms.old which)).answer) }
     ensures err { OnErr result (terms.new ≡ terms.old) }
     ensures there { (k : ℕ) → IsSome (map.get terms.old k) → IsSome (map.get terms.new k) }
 {
@@ -38,6 +40,7 @@ fn read_term(
 ) -> Result<Answer, AllocError>
     ensures ok { IfOk result (λ given. (given ≡ (read_term most which (map.get terms.old which)).answer)
         × (terms.new ≡ terms_after (read_term most which (map.get terms.old which)).updates terms.old)) }
+    ensures only { OnErr result (IsSuccess (read_term most which (map.get terms.old which)).answer) }
     ensures err { OnErr result (terms.new ≡ terms.old) }
     ensures there { (k : ℕ) → IsSome (map.get terms.old k) → IsSome (map.get terms.new k) }
 {
@@ -54,7 +57,7 @@ fn read_term(
     }
 }
 
-/// Does a call on a standard stream. `Err` changes nothing.
+/// Does a call on a standard stream. `Err` comes only of a call that takes memory and would else succeed, and changes nothing.
 pub fn on_stream(
     alloc: Global,
     terms: &mut NumMap<Terminal>,
@@ -63,7 +66,8 @@ pub fn on_stream(
 ) -> Result<Answer, AllocError>
     ensures ok { IfOk result (λ given. (given ≡ (stream_outcome (call_of_offset call.entry) which (map.get terms.old which)).answer)
         × (terms.new ≡ terms_after (stream_outcome (call_of_offset call.entry) which (map.get terms.old which)).updates terms.old)) }
-    ensures only { OnErr result ((model.offset_meaning (call_of_offset call.entry)).takes_memory ≡ true) }
+    ensures takes { OnErr result ((model.offset_meaning (call_of_offset call.entry)).takes_memory ≡ true) }
+    ensures only { OnErr result (IsSuccess (stream_outcome (call_of_offset call.entry) which (map.get terms.old which)).answer) }
     ensures err { OnErr result (terms.new ≡ terms.old) }
     ensures there { (k : ℕ) → IsSome (map.get terms.old k) → IsSome (map.get terms.new k) }
 {

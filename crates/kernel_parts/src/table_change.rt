@@ -5,6 +5,7 @@ ghost use Rattle.abi_types.specs.declared.reply.Answer.TheVariants as answer;
 ghost use Rattle.maps.specs.Maps.{number};
 ghost use Rattle.kernel_parts.specs.Changes.{change_outcome, opens_after, stat_put_at, table_after, HasReplaced, IsDup, IsMoved};
 ghost use Rattle.kernel_model.specs.Families.DescriptorCalls.{dup_of, replaced_by, with_flags};
+ghost use Rattle.kernel_model.specs.Outcome.{IsSuccess};
 ghost use Rattle.kernel_model.specs.Release.{count_in};
 
 use abi_base::MOST_DESCRIPTORS;
@@ -31,6 +32,7 @@ fn dup(table: &mut FdTable, objects: &mut Objects, fd: u32) -> Result<Reply, All
     requires covered { (o : ℕ) → count_in o table.old ≤ number (map.get objects.old.counts o) }
     requires few { (o : ℕ) → number (map.get objects.old.counts o) < 2 ^ 63 }
     ensures reply { IfOk result (λ reply. (p : ℕ) → answer.Reply reply ≡ (dup_of p table.old (map.get table.old fd)).answer) }
+    ensures only { OnErr result ((p : ℕ) → IsSuccess (dup_of p table.old (map.get table.old fd)).answer) }
     ensures table { OnOk result ((p : ℕ) → table.new ≡ table_after table.old (dup_of p table.old (map.get table.old fd)).updates) }
     ensures kinds { objects.new.kinds ≡ objects.old.kinds }
     ensures counts { OnOk result (IsMoved table.old table.new objects.old.counts objects.new.counts) }
@@ -122,7 +124,7 @@ fn stat_put(table: &mut FdTable, objects: &mut Objects, fd: u32, stat: &FdStat, 
 }
 
 /// Makes the change. The counts of holders change with the table; an open that nothing holds any more stays. Where
-/// memory runs out, which only `Dup` meets, nothing changes.
+/// memory runs out, which only `Dup` meets, and only where it would else succeed, nothing changes.
 pub fn change_table(
     table: &mut FdTable,
     objects: &mut Objects,
@@ -135,7 +137,8 @@ pub fn change_table(
     ensures table { OnOk result ((p : ℕ) → table.new ≡ table_after table.old (change_outcome p objects.old.kinds table.old change).updates) }
     ensures kinds { OnOk result ((p : ℕ) → objects.new.kinds ≡ opens_after objects.old.kinds (change_outcome p objects.old.kinds table.old change).updates) }
     ensures counts { OnOk result (IsMoved table.old table.new objects.old.counts objects.new.counts) }
-    ensures only { OnErr result (IsDup change) }
+    ensures takes { OnErr result (IsDup change) }
+    ensures only { OnErr result ((p : ℕ) → IsSuccess (change_outcome p objects.old.kinds table.old change).answer) }
     ensures same_table { OnErr result (table.new ≡ table.old) }
     ensures same_objects { OnErr result (objects.new ≡ objects.old) }
 {

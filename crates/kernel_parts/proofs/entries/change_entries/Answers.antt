@@ -1,12 +1,12 @@
-use Rattle.std.proofs.Common.{◌≡◌, ℕ, Some, option_copied, refl, sym, ap, subst, ◌∙◌}
+use Rattle.std.proofs.Common.{◌≡◌, ℕ, true, Some, option_copied, refl, sym, ap, subst, ◌∙◌}
 use Rattle.abi_types.specs.Families.{call_of_entry}
 use Rattle.entry_calls.specs.Done.{FailsAs}
-use Rattle.entry_calls.specs.declared.failure.Failure.TheVariants.{Refused}
+use Rattle.entry_calls.specs.declared.failure.Failure.TheVariants.{Refused, NoMemory}
 use Rattle.kernel_model.specs.Families.EntryCalls as model
 use Rattle.kernel_model.specs.Families.NameMeaning.{NameOutcome}
-use Rattle.kernel_model.specs.Families.Numbers.{next_object}
+use Rattle.kernel_model.specs.Families.Numbers.{can_number, next_object}
 use Rattle.kernel_parts.specs.Entries.{number_of}
-use Rattle.kernel_parts.proofs.Naming.{counted_out, entries_have_fds, failed_is, new_again, numbered_is, refused_left, reported_is, unnumbered, unnumbered_is_one}
+use Rattle.kernel_parts.proofs.Naming.{changes_succeed, counted_out, entries_have_fds, failed_is, new_again, numbered_is, refused_left, reported_is, unnumbered, unnumbered_is_one}
 use Rattle.kernel_parts.proofs.entries.change_entries.Goals as goal
 
 pub returns-in-Ok-clause-done : goal.returns-in-Ok-clause-done
@@ -51,3 +51,19 @@ returns-in-Err-Refused-clause-done c =
     let fails : FailsAs (comes c.in-Some.new) (Refused why) = subst (FailsAs (comes c.in-Some.new)) c.in-Err-Refused.field-0-is c.in-Err-Refused.ensures.0 in
     refused_left p m.new_nodes own own t c.on_entries.new.tree (comes (next_object p (Some own) 1)) c.reply_of-in-Err-Refused.result why
     (sym same ∙ failed_is (comes c.in-Some.new) why fails) refl c.in-Err-Refused.ensures.1 c.reply_of-in-Err-Refused.ensures
+
+pub returns-in-Err-NoMemory-clause-only : goal.returns-in-Err-NoMemory-clause-only
+returns-in-Err-NoMemory-clause-only c =
+    let p : ℕ = c.args.caller.now.pid in
+    let now : ℕ = c.args.caller.now.time in
+    let own = c.args.own.now in
+    let t = c.args.tree.now in
+    let m = model.name_meaning (call_of_entry c.args.call) in
+    let comes : ℕ → NameOutcome = λ n. m.effect now n t (Some c.args.here.now) (option_copied c.args.there) in
+    let numbered = numbered_is p c.new_nodes-count.result c.in-Some.new (Some own) (sym c.numbered.ensures.number ∙ c.in-Some.is) in
+    let number : c.in-Some.new ≡ next_object p (Some own) m.new_nodes = numbered.1 ∙ ap (next_object p (Some own)) c.new_nodes-count.ensures in
+    let same : comes c.in-Some.new ≡ comes (next_object p (Some own) 1) =
+    ap comes number ∙ new_again (call_of_entry c.args.call) (entries_have_fds c.args.call) p now (Some own) t (Some c.args.here.now) (option_copied c.args.there) in
+    let fails : FailsAs (comes c.in-Some.new) NoMemory = subst (FailsAs (comes c.in-Some.new)) c.in-Err-NoMemory.field-0-is c.in-Err-NoMemory.ensures.0 in
+    changes_succeed p m.new_nodes own (comes (next_object p (Some own) 1)) fails.0 (sym same ∙ fails.1)
+    (subst (λ k. can_number p k (Some own) ≡ true) c.new_nodes-count.ensures numbered.0)

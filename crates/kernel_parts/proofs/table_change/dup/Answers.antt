@@ -1,15 +1,16 @@
-use Rattle.std.proofs.Common.{◌+◌, sym, ap, ◌∙◌}
+use Rattle.std.proofs.Common.{◌+◌, refl, sym, ap, subst, ◌∙◌}
 use Rattle.std.specs.FinMap.{get}
 use Rattle.abi_types.specs.declared.reply.Answer.TheVariants as answer
 use Rattle.maps.specs.Maps.{number}
 use Rattle.object_store.specs.Objects.{Held}
-use Rattle.kernel_model.specs.Outcome.{Outcome}
+use Rattle.kernel_model.specs.Outcome.{Outcome, IsSuccess}
 use Rattle.kernel_model.specs.Reply.{success}
 use Rattle.kernel_model.specs.Release.{count_in}
 use Rattle.kernel_model.specs.State.{Table}
 use Rattle.kernel_parts.specs.Changes.{table_after}
 use Rattle.kernel_parts.proofs.Counts.{counted_there, moved_in}
 use Rattle.kernel_parts.proofs.Lowest.{dup_done, dup_full, full_is_none}
+use Rattle.kernel_parts.proofs.Tests.{on_err}
 use Rattle.kernel_parts.proofs.table_change.dup.Goals as goal
 
 pub hold-requires-clause-there : goal.hold-requires-clause-there
@@ -41,3 +42,8 @@ returns-clause-counts c = λ o.
     ap (λ (h : Held). number (get h.counts o) + count_in o c.args.table.now) c.hold.ensures
     ∙ moved_in c.args.table.now c.in-Some-lowest.number c.in-Some.held.now c.args.objects.now.counts c.in-Some-lowest.ensures.free.1 o
     ∙ ap (λ (t : Table). number (get c.args.objects.now.counts o) + count_in o t) (sym c.in_ok-insert_at.ensures.ok)
+
+pub returns-in_err-insert_at-clause-only : goal.returns-in_err-insert_at-clause-only
+returns-in_err-insert_at-clause-only c =
+    on_err c.from_residual.result (λ p. subst (λ (o : Outcome). IsSuccess o.answer)
+    (sym (dup_done p c.args.table.now c.args.fd c.in-Some-lowest.number c.in-Some.held.now (sym c.in-Some.ensures) c.in-Some-lowest.ensures.free)) refl)
