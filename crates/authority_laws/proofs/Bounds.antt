@@ -1,14 +1,15 @@
 -- What file_open of a legal history leaves: an open that its process made there, with rights among those that a descriptor passed on.
-use Rattle.std.proofs.Common.{◌≡◌, ◌≢◌, inl, inr, ℕ, ◌+◌, true, false, cond, List, [], ◌∷◌, ◌++◌, Option, Some, None, IsSome, is_some, refl, sym, ap, subst, ◌∙◌, arith}
+use Rattle.std.proofs.Common.{◌≡◌, inl, inr, ℕ, ◌+◌, true, false, cond, List, [], ◌∷◌, ◌++◌, Option, Some, None, IsSome, is_some, refl, sym, ap, subst, ◌∙◌, arith}
 use Rattle.std.specs.Prelude.{option_map}
 use Rattle.std.specs.FinMap.{get, insert}
 use Rattle.abi_base.proofs.Bits.{has-meet}
-use Rattle.abi_base.specs.declared.errno.Errno.TheVariants.{Again, Notcapable, Success}
+use Rattle.abi_base.specs.declared.errno.Errno.TheVariants.{Again, Success}
 use Rattle.abi_structures.specs.declared.structures.FdStat.{FdStat}
 use Rattle.abi_types.specs.declared.call.Call.{Call}
 use Rattle.abi_types.specs.declared.call.Call.TheVariants.{FileOpen}
 use Rattle.abi_types.specs.declared.call.Lookup.{Lookup}
 use Rattle.abi_types.specs.declared.constants.Constants.{Constants}
+use Rattle.abi_types.specs.declared.descriptor.Descriptor.{Descriptor}
 use Rattle.abi_types.specs.declared.open_kind.OpenKind.{OpenKind}
 use Rattle.abi_types.specs.declared.reply.Answer.TheVariants as answer
 use Rattle.abi_types.specs.declared.reply.Reply.{Reply}
@@ -32,19 +33,19 @@ use Rattle.kernel_model.specs.View.{View, whole}
 use Rattle.kernel_model.proofs.FilePaths.{walked_plainly}
 use Rattle.kernel_model.proofs.Outcomes.{outcome_holds}
 use Rattle.kernel_model.proofs.Refusals.{on_reply, refusal_is_other}
-use Rattle.kernel_model.proofs.Tests.{not_true}
+use Rattle.kernel_model.proofs.Tests.{not_true, same_some}
 use Rattle.run_model.specs.Legal.{Legal}
 use Rattle.run_model.specs.World.{World, acted, called_state, turned, who_of, world}
-use Rattle.run_model.proofs.Histories.{apply_is, legal_front, legal_more, legal_next, world_more}
+use Rattle.run_model.proofs.Histories.{apply_is, legal_front, world_more}
 use Rattle.run_model.proofs.Worlds.{world_is_valid}
-use Rattle.authority_laws.specs.Laws.{made_at, Succeeds}
+use Rattle.authority_laws.specs.Laws.{OpensAt}
 use Rattle.authority_laws.specs.Ledger.{Row, Made, with_held, opened_held}
-use Rattle.authority_laws.specs.Origins.{IsOpened}
-use Rattle.authority_laws.specs.Recorded.{ledger}
+use Rattle.authority_laws.specs.Recorded.{Succeeds, held_after, held_before, ledger, made_at}
 use Rattle.authority_laws.proofs.Copies.{before_is, free_is_absent, granted_after, stepped}
-use Rattle.authority_laws.proofs.Histories.{world_rows}
+use Rattle.authority_laws.proofs.Histories.{up_to, world_rows}
+use Rattle.authority_laws.proofs.Leads.{Leads, step_leads}
 use Rattle.authority_laws.proofs.Openings.{RefusesByError, row_has, walk_by_error}
-use Rattle.authority_laws.proofs.Rows.{row_in, row_of, held_here, held_elsewhere, mfile_is_error}
+use Rattle.authority_laws.proofs.Rows.{row_in, row_of, held_here, held_elsewhere, again_is_error, mfile_is_error, notcapable_is_error}
 use Rattle.authority_laws.proofs.Successes.{no_memory, opener_is}
 
 -- ---- the result was free, and then an open stands there
@@ -53,12 +54,6 @@ use Rattle.authority_laws.proofs.Successes.{no_memory, opener_is}
 abbrev GivesOpen : State → ℕ → Outcome → Type 0
 GivesOpen S p o =
     OnReply (λ (reply : Reply). reply.errno ≡ Success → (row_of S p reply.r1 ≡ None) × IsSome (row_of (put_all o.updates S) p reply.r1)) o.answer
-
-again_is_error : Again ≢ Success
-again_is_error e = cc
-
-notcapable_is_error : Notcapable ≢ Success
-notcapable_is_error e = cc
 
 module _ (S : State) (p : ℕ) (table : Table) (lookup : Lookup) (path : List ℕ) (oflags : ℕ) (stat : FdStat) (there : get S.tables p ≡ Some table) where
   number_opens : (own : Option ProcessState) (fd : ℕ) (o : Opened) → RefusesByError o → lowest_free table ≡ Some fd
@@ -127,10 +122,6 @@ called_is launch front e call reply done =
     ap (λ (w : World). w.state) (world_more launch front e ∙ apply_is (world launch front) e)
     ∙ ap (λ a. (acted (turned (world launch front) e.pid e.turns) (who_of e) a).state) done.is
 
--- the history up to an entry is legal
-up_to : (launch : Launch) (front : List Entry) (e : Entry) (rest : List Entry) → Legal launch (front ++ e ∷ rest) → Legal launch (front ++ e ∷ [])
-up_to launch front e rest legal = legal_more launch front e (legal_front launch front (e ∷ rest) legal) (legal_next launch front e rest legal)
-
 -- what its process then has in the kernel's tables
 rows_after : (launch : Launch) (front : List Entry) (e : Entry) (rest : List Entry) (call : Call) (reply : Reply) → Legal launch (front ++ e ∷ rest)
     → Succeeds e call reply
@@ -149,19 +140,30 @@ made_is_there made before after n stat None none is there =
     absurd (not_true (sym (ap is_some nothing) ∙ there))
 made_is_there made before after n stat (Some kind) some is there = (kind, some)
 
-pub opens_are_bounded : (launch : Launch) (front : List Entry) (e : Entry) (rest : List Entry) (lookup : Lookup) (path : List ℕ) (oflags : ℕ)
-    (stat : FdStat) (reply : Reply) → MayBegin launch.tree launch.grants → Legal launch (front ++ e ∷ rest) → Succeeds e (FileOpen lookup path oflags stat) reply
-    → IsOpened (made_at launch front e) ((ledger launch front).held e.pid) ((ledger launch (front ++ e ∷ [])).held e.pid) lookup.fd reply.r1 stat
-opens_are_bounded launch front e rest lookup path oflags stat reply begins legal done =
+-- where it leads
+leads_after : (launch : Launch) (front : List Entry) (e : Entry) (rest : List Entry) (lookup : Lookup) (path : List ℕ) (oflags : ℕ) (stat : FdStat)
+    (reply : Reply) → MayBegin launch.tree launch.grants → Legal launch (front ++ e ∷ rest) → Succeeds e (FileOpen lookup path oflags stat) reply
+    → Leads (world launch front).state (world launch (front ++ e ∷ [])).state e.pid lookup.fd
+leads_after launch front e rest lookup path oflags stat reply begins legal done =
+    let w = world launch front in
+    let call = FileOpen lookup path oflags stat in
+    subst (λ (U : State). Leads w.state U e.pid lookup.fd) (sym (called_is launch front e call reply done))
+    (step_leads w.constants w.state (who_of e) lookup path oflags stat reply (called_state w.constants w.state (who_of e) call (answer.Reply reply))
+    (stepped launch front e rest call reply legal done) done.success (world_is_valid launch front begins (legal_front launch front (e ∷ rest) legal)).nearly)
+
+pub opens_are_bounded : (launch : Launch) (front : List Entry) (e : Entry) (rest : List Entry) → MayBegin launch.tree launch.grants
+    → Legal launch (front ++ e ∷ rest) → OpensAt launch front e
+opens_are_bounded launch front e rest begins legal lookup path oflags stat reply done =
     let w = world launch front in
     let call = FileOpen lookup path oflags stat in
     let made : Made = made_at launch front e in
-    let before : Row = (ledger launch front).held e.pid in
-    let after : Row = (ledger launch (front ++ e ∷ [])).held e.pid in
+    let before : Row = held_before launch front e in
+    let after : Row = held_after launch front e in
     let T : State = called_state w.constants w.state (who_of e) call (answer.Reply reply) in
     let step = stepped launch front e rest call reply legal done in
     let valid = world_is_valid launch front begins (legal_front launch front (e ∷ rest) legal) in
     let by = opener_is w.constants w.state (who_of e) lookup path oflags stat reply T step done.success valid in
+    let leads = leads_after launch front e rest lookup path oflags stat reply begins legal done in
     let held : row_of w.state e.pid ≡ before = before_is launch front e rest legal in
     let gives = step_opens w.constants w.state (who_of e) lookup path oflags stat reply T step done.success in
     let is : after ≡ with_held before reply.r1 (opened_held made stat) = granted_after launch front e call reply done in
@@ -171,12 +173,16 @@ opens_are_bounded launch front e rest lookup path oflags stat reply begins legal
       d = opened_descriptor made.number opened.0 stat;
       x = by.x;
       kind = opened.0;
+      start = leads.start;
+      flags = leads.flags;
       source = (λ i. sym held i lookup.fd) ∙ by.held;
+      directory = ap (λ (x : Descriptor). get w.state.opens x.id) (same_some by.x leads.x (sym by.held ∙ leads.held)) ∙ leads.directory;
       free = (λ i. sym held i reply.r1) ∙ gives.0;
       stands = (λ i. is i reply.r1) ∙ held_here before reply.r1 (opened_held made stat)
           ∙ ap (option_map (λ (k : OpenKind). opened_descriptor made.number k stat)) opened.1;
       id = refl;
       opened = opened.1;
+      leads = leads.leads opened.0 opened.1;
       base = λ k. has-meet (fits opened.0) stat.base.0 k;
       inheriting = λ k. has-meet (fits_inheriting opened.0) stat.inheriting.0 k;
       within = by.inherits made.number opened.0;

@@ -1,5 +1,5 @@
 -- What a call that succeeded leaves of its process's descriptors, against what they were at that entry.
-use Rattle.std.proofs.Common.{◌≡◌, ◌≢◌, inl, inr, ℕ, zero, suc, ◌+◌, ◌==◌, cond, List, [], ◌∷◌, ◌++◌, Option, Some, None, IsSome, is_some, refl, sym, ap, subst, ◌∙◌}
+use Rattle.std.proofs.Common.{◌≡◌, ◌≢◌, inl, inr, ℕ, zero, suc, ◌+◌, ◌==◌, cond, List, [], ◌∷◌, ◌++◌, Option, Some, None, is_some, refl, sym, ap, subst, ◌∙◌}
 use Rattle.std.proofs.lemmas.Bool.Decides.{eqb_tells}
 use Rattle.std.specs.Prelude.{bit_and, option_map}
 use Rattle.std.specs.FinMap.{get}
@@ -27,10 +27,10 @@ use Rattle.kernel_model.proofs.Tests.{none_is_no, same_some}
 use Rattle.run_model.specs.Legal.{FitsAct, Legal}
 use Rattle.run_model.specs.World.{guest_of, called_state, who_of, world}
 use Rattle.run_model.proofs.Histories.{legal_front, legal_next}
-use Rattle.authority_laws.specs.Laws.{made_at, Succeeds}
+use Rattle.authority_laws.specs.Laws.{DuplicatesAt, LowersAt, ReplacesAt}
 use Rattle.authority_laws.specs.Ledger.{Row, Made, with_held, lowered_row, granted_row, by_success}
 use Rattle.authority_laws.specs.Origins.{IsCopied, IsLowered}
-use Rattle.authority_laws.specs.Recorded.{acted_row, ledger}
+use Rattle.authority_laws.specs.Recorded.{Succeeds, acted_row, held_after, held_before, ledger, made_at}
 use Rattle.authority_laws.proofs.Histories.{own_after, world_rows}
 use Rattle.authority_laws.proofs.Rows.{row_in, row_of, held_here, held_elsewhere, badf_is_error, mfile_is_error}
 use Rattle.authority_laws.proofs.Successes.{has_table, no_memory, no_success}
@@ -131,28 +131,24 @@ copied before after from to d there is = record {
   others = λ n apart. (λ i. is i n) ∙ held_elsewhere before to (before from) n apart;
 }
 
-pub duplicates_are_equal : (launch : Launch) (front : List Entry) (e : Entry) (rest : List Entry) (fd : ℕ) (reply : Reply) → Legal launch (front ++ e ∷ rest)
-    → Succeeds e (FdDup fd) reply → ((ledger launch front).held e.pid reply.r1 ≡ None)
-    × IsCopied ((ledger launch front).held e.pid) ((ledger launch (front ++ e ∷ [])).held e.pid) fd reply.r1
-duplicates_are_equal launch front e rest fd reply legal done =
+pub duplicates_are_equal : (launch : Launch) (front : List Entry) (e : Entry) (rest : List Entry) → Legal launch (front ++ e ∷ rest)
+    → DuplicatesAt launch front e
+duplicates_are_equal launch front e rest legal fd reply done =
     let w = world launch front in
     let found = named_held launch front e rest (FdDup fd) reply fd legal done ([], [], refl) in
     let free = result_free w.constants w.state (who_of e) fd reply (called_state w.constants w.state (who_of e) (FdDup fd) (answer.Reply reply))
     (stepped launch front e rest (FdDup fd) reply legal done) done.success in (
       (λ i. sym (before_is launch front e rest legal) i reply.r1) ∙ free,
-      copied ((ledger launch front).held e.pid) ((ledger launch (front ++ e ∷ [])).held e.pid) fd reply.r1 found.0 found.1
-          (granted_after launch front e (FdDup fd) reply done),
+      copied (held_before launch front e) (held_after launch front e) fd reply.r1 found.0 found.1 (granted_after launch front e (FdDup fd) reply done),
     )
 
-pub replacements_are_equal : (launch : Launch) (front : List Entry) (e : Entry) (rest : List Entry) (from to : ℕ) (reply : Reply) → Legal launch (front ++ e ∷ rest)
-    → Succeeds e (FdReplace from to) reply → IsSome ((ledger launch front).held e.pid to)
-    × IsCopied ((ledger launch front).held e.pid) ((ledger launch (front ++ e ∷ [])).held e.pid) from to
-replacements_are_equal launch front e rest from to reply legal done =
+pub replacements_are_equal : (launch : Launch) (front : List Entry) (e : Entry) (rest : List Entry) → Legal launch (front ++ e ∷ rest)
+    → ReplacesAt launch front e
+replacements_are_equal launch front e rest legal from to reply done =
     let found = named_held launch front e rest (FdReplace from to) reply from legal done ([], to ∷ [], refl) in
     let old = named_held launch front e rest (FdReplace from to) reply to legal done (from ∷ [], [], refl) in (
       ap is_some old.1,
-      copied ((ledger launch front).held e.pid) ((ledger launch (front ++ e ∷ [])).held e.pid) from to found.0 found.1
-          (granted_after launch front e (FdReplace from to) reply done),
+      copied (held_before launch front e) (held_after launch front e) from to found.0 found.1 (granted_after launch front e (FdReplace from to) reply done),
     )
 
 -- ---- rights that are lowered
@@ -176,11 +172,10 @@ lowered before after n stat x there is = record {
   others = λ m apart. (λ i. is i m) ∙ held_elsewhere before n _ m apart;
 }
 
-pub rights_are_lowered : (launch : Launch) (front : List Entry) (e : Entry) (rest : List Entry) (fd : ℕ) (stat : FdStat) (flags : ℕ) (reply : Reply)
-    → Legal launch (front ++ e ∷ rest) → Succeeds e (FdStatPut fd stat flags) reply → bit_and flags 2 ≢ 0
-    → IsLowered ((ledger launch front).held e.pid) ((ledger launch (front ++ e ∷ [])).held e.pid) fd stat
-rights_are_lowered launch front e rest fd stat flags reply legal done set =
-    let before = (ledger launch front).held e.pid in
+pub rights_are_lowered : (launch : Launch) (front : List Entry) (e : Entry) (rest : List Entry) → Legal launch (front ++ e ∷ rest)
+    → LowersAt launch front e
+rights_are_lowered launch front e rest legal fd stat flags reply done set =
+    let before = held_before launch front e in
     let found = named_held launch front e rest (FdStatPut fd stat flags) reply fd legal done ([], [], refl) in
-    lowered before ((ledger launch (front ++ e ∷ [])).held e.pid) fd stat found.0 found.1
+    lowered before (held_after launch front e) fd stat found.0 found.1
     (granted_after launch front e (FdStatPut fd stat flags) reply done ∙ where_set flags before (lowered_row before fd stat) set)

@@ -1,35 +1,27 @@
 -- The ledger of a history, beside its world.
-use Rattle.std.proofs.Common.{◌≡◌, ◌≢◌, inl, inr, ℕ, cond, List, [], ◌∷◌, ◌++◌, Some, refl, sym, ap, subst, ◌∙◌}
+use Rattle.std.proofs.Common.{◌≡◌, ◌≢◌, inl, inr, ℕ, cond, List, [], ◌∷◌, ◌++◌, refl, sym, ap, subst, ◌∙◌}
 use Rattle.std.proofs.lemmas.Bool.{eq-eqb}
 use Rattle.std.proofs.lemmas.Bool.Decides.{eqb_tells}
-use Rattle.std.specs.FinMap.{get}
-use Rattle.abi_base.specs.declared.grant.Grant.{Grant}
 use Rattle.abi_base.specs.declared.signal.Signal.TheVariants.{Xcpu}
 use Rattle.tree_model.specs.Grants.{MayBegin}
-use Rattle.abi_types.specs.declared.call.Call.{Call}
-use Rattle.abi_types.specs.declared.descriptor.Descriptor.{Descriptor}
 use Rattle.abi_types.specs.declared.status.Status.TheVariants.{Killed}
 use Rattle.abi_types.specs.declared.who.Who.{Who}
 use Rattle.run_types.specs.declared.history.Act.{Act}
 use Rattle.run_types.specs.declared.history.Act.TheVariants as act
 use Rattle.run_types.specs.declared.history.Entry.{Entry}
 use Rattle.run_types.specs.declared.launch.Launch.{Launch}
-use Rattle.kernel_model.specs.Calls.{need}
-use Rattle.kernel_model.specs.Laws.{IsReached, IsReachedByName}
-use Rattle.kernel_model.specs.State.{State, Table, Tree, Part}
+use Rattle.kernel_model.specs.State.{State}
 use Rattle.kernel_model.specs.Valid.{IsValid}
-use Rattle.kernel_model.proofs.Reaches.{sight_is_reached}
 use Rattle.run_model.specs.Legal.{FitsAct, Fits, FollowsFrom, Legal}
 use Rattle.run_model.specs.World.{World, Guest, start_world, guest_of, called_state, turned, acted, who_of, apply, apply_all, world}
-use Rattle.kernel_model.proofs.Starts.{start_valid}
-use Rattle.run_model.proofs.Histories.{legal_front, legal_next, apply_is, first_state, world_more}
-use Rattle.run_model.proofs.Worlds.{apply_valid, world_is_valid}
-use Rattle.authority_laws.specs.Laws.{made_at, Reports, IsReachedByHeld, IsReachedByNamed, SeesByHeld, IsRecordedAt, IsRecorded}
+use Rattle.run_model.proofs.Histories.{legal_front, legal_more, legal_next, apply_is, first_state, world_more}
+use Rattle.run_model.proofs.Worlds.{world_is_valid}
+use Rattle.authority_laws.specs.Laws.{Reports}
 use Rattle.authority_laws.specs.Ledger.{Ledger, Made, last_made, with_row, launch_ledger}
-use Rattle.authority_laws.specs.Origins.{Change, ComesFrom, ComesFromGrant, AllComeFromGrants}
-use Rattle.authority_laws.specs.Recorded.{acted_row, made_in, noted, noted_all, ledger}
+use Rattle.authority_laws.specs.Origins.{Change, ComesFrom}
+use Rattle.authority_laws.specs.Recorded.{acted_row, ledger, made_at, made_in, noted, noted_all}
 use Rattle.authority_laws.proofs.Changes.{acted_change}
-use Rattle.authority_laws.proofs.Origins.{ActIsWithin, noted_from, noted_granted, launch_granted}
+use Rattle.authority_laws.proofs.Origins.{ActIsWithin, noted_from}
 use Rattle.authority_laws.proofs.Rows.{row_in}
 use Rattle.authority_laws.proofs.States.{HasRows, step_rows, end_rows, start_rows, ended_row, row_is_held}
 use Rattle.authority_laws.proofs.Successes.{act_is_within}
@@ -97,6 +89,10 @@ pub ledger_reports : (launch : Launch) (history : List Entry) → MayBegin launc
 ledger_reports launch history begins legal =
     rows_report (world launch history).state (ledger launch history) (world_is_valid launch history begins legal) (world_rows launch history legal)
 
+-- the history up to an entry is legal
+pub up_to : (launch : Launch) (front : List Entry) (e : Entry) (rest : List Entry) → Legal launch (front ++ e ∷ rest) → Legal launch (front ++ e ∷ [])
+up_to launch front e rest legal = legal_more launch front e (legal_front launch front (e ∷ rest) legal) (legal_next launch front e rest legal)
+
 -- ---- how what is held may change
 
 -- what the entry's process holds
@@ -108,7 +104,7 @@ own_after launch front e =
     ∙ ap (λ b. cond b (acted_row (made_at launch front e) row e.act) row) (eq-eqb e.pid e.pid refl)
 
 -- what another process holds
-others_after : (launch : Launch) (front : List Entry) (e : Entry) (q : ℕ) → q ≢ e.pid
+pub others_after : (launch : Launch) (front : List Entry) (e : Entry) (q : ℕ) → q ≢ e.pid
     → (ledger launch (front ++ e ∷ [])).held q ≡ (ledger launch front).held q
 others_after launch front e q apart =
     elim (eqb_tells q e.pid) [
@@ -141,70 +137,3 @@ rights_never_grow launch front e rest begins legal =
     (noted_from made (ledger launch front) e
     (fits_within (world launch front) e made (ledger launch front) (legal_next launch front e rest legal) (world_is_valid launch front begins before)
     (world_rows launch front before)))
-
-follows_granted : (tree : Tree) (grants : List Grant) (w : World) (l : Ledger) (history : List Entry) → FollowsFrom w history → IsValid w.state
-    → HasRows w.state l → AllComeFromGrants tree grants l → AllComeFromGrants tree grants (noted_all w l history)
-unfolding FollowsFrom noted_all
-follows_granted tree grants w l [] follows valid rows before = before
-follows_granted tree grants w l (e ∷ history) follows valid rows before =
-    let made : Made = made_in (apply w e) e in
-    follows_granted tree grants (apply w e) (noted made l e) history follows.1 (apply_valid w e follows.0 valid) (apply_rows w e l follows.0 rows)
-    (noted_granted tree grants made l e (fits_within w e made l follows.0 valid rows) before)
-
-start_is_valid : (launch : Launch) → MayBegin launch.tree launch.grants → IsValid (start_world launch).state
-start_is_valid launch begins = subst IsValid (sym (first_state launch)) (start_valid launch.tree launch.grants launch.stdin begins)
-
-pub held_is_granted : (launch : Launch) (history : List Entry) → MayBegin launch.tree launch.grants → Legal launch history
-    → AllComeFromGrants launch.tree launch.grants (ledger launch history)
-unfolding Legal ledger
-held_is_granted launch history begins legal =
-    follows_granted launch.tree launch.grants (start_world launch) (launch_ledger launch.tree launch.grants) history legal (start_is_valid launch begins)
-    (start_has_rows launch) (launch_granted launch.tree launch.grants)
-
--- a table's descriptor is there by the ledger
-pub tables_are_recorded : (launch : Launch) (history : List Entry) → MayBegin launch.tree launch.grants → Legal launch history → (p n : ℕ) (table : Table) (d : Descriptor)
-    → get (world launch history).state.tables p ≡ Some table → get table n ≡ Some d
-    → ((ledger launch history).held p n ≡ Some d) × ComesFromGrant launch.tree launch.grants d
-tables_are_recorded launch history begins legal p n table d there here =
-    let recorded : (ledger launch history).held p n ≡ Some d = sym ((ledger_reports launch history begins legal).tables p table there n) ∙ here in
-    (recorded, held_is_granted launch history begins legal p n d recorded)
-
--- ---- what a call may read
-
-by_held : (launch : Launch) (history : List Entry) → MayBegin launch.tree launch.grants → Legal launch history → (who : Who) (call : Call) (part : Part) (table : Table)
-    → get (world launch history).state.tables who.pid ≡ Some table → IsReached (world launch history).state table (need call) part
-    → IsReachedByHeld (world launch history).state (ledger launch history) launch.tree launch.grants who.pid (need call) part
-by_held launch history begins legal who call part table own r =
-    let at = tables_are_recorded launch history begins legal who.pid r.row.fd table r.d own r.there in
-    record { row = r.row; asked = r.asked; d = r.d; held = at.0; has = r.has; granted = at.1; reached = r.part }
-
-by_named : (launch : Launch) (history : List Entry) → MayBegin launch.tree launch.grants → Legal launch history → (who : Who) (call : Call) (part : Part) (table : Table)
-    → get (world launch history).state.tables who.pid ≡ Some table → IsReachedByName (world launch history).state table call part
-    → IsReachedByNamed (world launch history).state (ledger launch history) launch.tree launch.grants who.pid call part
-by_named launch history begins legal who call part table own r =
-    let at = tables_are_recorded launch history begins legal who.pid r.fd table r.d own r.there in
-    record { none = r.none; fd = r.fd; asked = r.asked; d = r.d; held = at.0; granted = at.1; reached = r.part }
-
-pub sight_is_recorded : (launch : Launch) (history : List Entry) → MayBegin launch.tree launch.grants → Legal launch history
-    → SeesByHeld (world launch history).state (ledger launch history) launch.tree launch.grants
-sight_is_recorded launch history begins legal who call part seen =
-    elim (sight_is_reached (world launch history).state who call part seen) [
-      | inl own ↦ inl own
-      | inr by ↦ elim by.3 [
-        | inl needed ↦ inr (inl (by_held launch history begins legal who call part by.0 by.1 needed))
-        | inr named ↦ inr (inr (by_named launch history begins legal who call part by.0 by.1 named))
-      ]
-    ]
-
--- ---- each point of a history
-
-recorded_at : (launch : Launch) (front : List Entry) → Legal launch front → MayBegin launch.tree launch.grants → IsRecordedAt launch front
-recorded_at launch front legal begins = record {
-  reports = ledger_reports launch front begins legal;
-  granted = held_is_granted launch front begins legal;
-  sees = sight_is_recorded launch front begins legal;
-}
-
-pub legal_is_recorded : (launch : Launch) (history : List Entry) → Legal launch history → MayBegin launch.tree launch.grants → IsRecorded launch history
-legal_is_recorded launch history legal begins front rest is =
-    recorded_at launch front (legal_front launch front rest (subst (Legal launch) is legal)) begins

@@ -7,4 +7,7 @@ pub mod Origins
 pub mod Successes
 pub mod Histories
 pub mod Copies
+pub mod Leads
 pub mod Bounds
+pub mod Traces
+pub mod Records

@@ -1,5 +1,5 @@
 -- What file_open leaves of its process's table is what its line of `granted_row` says.
-use Rattle.std.proofs.Common.{◌≡◌, ◌≢◌, ℕ, zero, suc, ◌+◌, ◌≤◌, true, false, cond, List, ◌∷◌, ◌++◌, Option, Some, None, IsSome, is_some, refl, sym, ap, ◌∙◌, arith}
+use Rattle.std.proofs.Common.{◌≡◌, ◌≢◌, ℕ, zero, suc, ◌+◌, ◌≤◌, true, false, cond, List, ◌∷◌, ◌++◌, Option, Some, None, IsSome, is_some, refl, sym, ap, subst, ◌∙◌, arith}
 use Rattle.std.specs.Prelude.{⊤, option_map}
 use Rattle.std.specs.FinMap.{get, insert}
 use Rattle.std.specs.List.{AllByRecursion}
@@ -13,6 +13,7 @@ use Rattle.abi_types.specs.declared.descriptor.Descriptor.{Descriptor}
 use Rattle.abi_types.specs.declared.open_kind.OpenKind.{OpenKind}
 use Rattle.abi_types.specs.declared.reply.Answer.TheVariants as answer
 use Rattle.maps.specs.Maps.{get-insert-same}
+use Rattle.tree_model.specs.Tree.{IsTree}
 use Rattle.kernel_model.specs.Families.FilePaths.{Walked, Ends, Fails, LeadsOutside}
 use Rattle.kernel_model.specs.Families.Numbers.{can_number, made_more, next_object, object_of, process_updates}
 use Rattle.kernel_model.specs.Families.Opening.{Opened, NotOpened, OpenedOutside, Opens, open_at, open_end, open_walked, opened_descriptor, opened_outcome}
@@ -23,9 +24,10 @@ use Rattle.kernel_model.specs.State.{State, ProcessState, Table, Tree, tree_of, 
 use Rattle.kernel_model.specs.Families.TreeUpdates.{Change, change_updates}
 use Rattle.kernel_model.proofs.FilePaths.{FailsPlainly}
 use Rattle.kernel_model.proofs.Lists.{in_all}
+use Rattle.kernel_model.proofs.NameMeanings.{IsChangeOf}
 use Rattle.kernel_model.proofs.Opened.{OpensPlainly, open_errors, opens_plainly, path_among}
 use Rattle.kernel_model.proofs.Tests.{not_true}
-use Rattle.kernel_model.proofs.TreeUpdates.{change_of_tree, put_both, tree_same, with_tree}
+use Rattle.kernel_model.proofs.TreeUpdates.{change_of_tree, put_both, put_change, tree_same, with_tree}
 use Rattle.authority_laws.specs.Ledger.{with_held, last_made, opened_held}
 use Rattle.authority_laws.proofs.Rows.{LeavesRow, held_here, row_in, row_of, row_inserted, refused_reported, mfile_is_error}
 
@@ -67,6 +69,11 @@ process_opens T p zero own = refl
 process_opens T p (suc count) None = refl
 process_opens T p (suc count) (Some own) = refl
 
+process_tree : (T : State) (p count : ℕ) (own : Option ProcessState) → tree_of (put_all (process_updates p count own) T) ≡ tree_of T
+process_tree T p zero own = refl
+process_tree T p (suc count) None = refl
+process_tree T p (suc count) (Some own) = refl
+
 process_count : (T : State) (p count : ℕ) (own : Option ProcessState) → 1 ≤ count → can_number p count own ≡ true
     → (counts_in (get (put_all (process_updates p count own) T).processes p)).objects ≡ (counts_in own).objects + count
 process_count T p zero own some can = absurd (omega (arith, some))
@@ -103,10 +110,19 @@ module _ (S : State) (p : ℕ) (table : Table) (lookup : Lookup) (path : List �
     number_is =
         ap (λ (T : State). object_of p (counts_in (get T.processes p)).objects) after_is ∙ ap (object_of p) (process_count opened p count own some can)
 
-    kind_is : (last_made after p).kind ≡ Some kind
+    -- the open is of this kind
+    pub kind_is : (last_made after p).kind ≡ Some kind
     kind_is =
         ap (get after.opens) number_is ∙ ap (λ (T : State). get T.opens made) after_is ∙ ap (λ opens. get opens made) (process_opens opened p count own)
         ∙ get-insert-same S.opens made kind
+
+    -- and the file tree is the one that the change leads to
+    pub tree_is : (new new_nodes : ℕ) → IsTree (tree_of S) → IsChangeOf (tree_of S) new new_nodes change → tree_of after ≡ change.tree
+    tree_is new new_nodes tree is =
+        let same : tree_of counted ≡ tree_of S = process_tree opened p count own in
+        ap tree_of after_is
+        ∙ ap tree_of (put_change counted new new_nodes change (subst IsTree (sym same) tree)
+        (subst (λ t. IsChangeOf t new new_nodes change) (sym same) is))
 
     held_is : opened_held (last_made after p) stat ≡ Some given
     held_is = λ i. option_map (λ (k : OpenKind). opened_descriptor (number_is i) k stat) (kind_is i)

@@ -1,7 +1,7 @@
--- What a process holds after an entry is no more than what it held before it, and what is held at all comes from a grant.
+-- What a process holds after an entry is no more than what it held before it, and what is passed on stays within a grant.
 use Rattle.std.proofs.Common.{◌≡◌, inl, inr, ℕ, ◌==◌, Bool, true, false, cond, List, Option, Some, None, refl, sym, subst, ◌∙◌}
 use Rattle.std.proofs.lemmas.Bool.Decides.{eqb_tells}
-use Rattle.std.specs.Prelude.{⊤, bit_and, option_map, slice_get}
+use Rattle.std.specs.Prelude.{⊤, bit_and, option_map}
 use Rattle.abi_base.specs.declared.errno.Errno.{Errno}
 use Rattle.abi_base.specs.declared.errno.Errno.TheVariants.{Success}
 use Rattle.abi_base.specs.declared.grant.Grant.{Grant}
@@ -21,14 +21,14 @@ use Rattle.kernel_model.specs.Families.Opening.{opened_descriptor}
 use Rattle.kernel_model.specs.Start.{granted_descriptor}
 use Rattle.kernel_model.specs.State.{Tree}
 use Rattle.kernel_model.proofs.Tests.{none_is_no, same_some}
-use Rattle.authority_laws.specs.Ledger.{Row, no_row, with_held, Ledger, Made, with_row, launch_row, launch_ledger, lowered_row, opened_held, granted_row, by_success, answered_row}
-use Rattle.authority_laws.specs.Origins.{Origin, was_held, was_opened, ComesFrom, IsNoMoreThan, InheritsFrom, ComesFromGrant, AllComeFromGrants}
+use Rattle.authority_laws.specs.Ledger.{Row, no_row, with_held, Ledger, Made, with_row, lowered_row, opened_held, granted_row, by_success, answered_row}
+use Rattle.authority_laws.specs.Origins.{Origin, was_held, ComesFrom, IsNoMoreThan, InheritsFrom, ComesFromGrant}
 use Rattle.authority_laws.specs.Recorded.{acted_row, noted}
 use Rattle.authority_laws.proofs.Changes.{lowered_is_no_more}
 
 -- ---- no more than
 
-itself : (d : Descriptor) → IsNoMoreThan d d
+pub itself : (d : Descriptor) → IsNoMoreThan d d
 itself d = record { id = refl; base = λ k has. has; inheriting = λ k has. has }
 
 no_more_still : (d x y : Descriptor) → IsNoMoreThan d x → IsNoMoreThan x y → IsNoMoreThan d y
@@ -141,52 +141,21 @@ inherits_twice : (d x y : Descriptor) → InheritsFrom d x → InheritsFrom x y 
 inherits_twice d x y first second =
     record { base = λ k has. second.inheriting k (first.base k has); inheriting = λ k has. second.inheriting k (first.inheriting k has) }
 
-no_more_than_granted : (tree : Tree) (grants : List Grant) (d x : Descriptor) → IsNoMoreThan d x → ComesFromGrant tree grants x → ComesFromGrant tree grants d
-no_more_than_granted tree grants d x less by =
-    let g : Descriptor = granted_descriptor tree by.number by.grant in
-    record {
-      number = by.number;
-      grant = by.grant;
-      listed = by.listed;
-      comes = elim by.comes [ inl more ↦ inl (no_more_still d x g less more) | inr from ↦ inr (inherits_still d x g less from) ];
-    }
+module _ (tree : Tree) (grants : List Grant) (number : ℕ) (d x : Descriptor) where
+  pub no_more_than_granted : IsNoMoreThan d x → ComesFromGrant tree grants number x → ComesFromGrant tree grants number d
+  no_more_than_granted less by =
+      let g : Descriptor = granted_descriptor tree number by.grant in
+      record {
+        grant = by.grant;
+        listed = by.listed;
+        comes = elim by.comes [ inl more ↦ inl (no_more_still d x g less more) | inr from ↦ inr (inherits_still d x g less from) ];
+      }
 
-inherits_of_granted : (tree : Tree) (grants : List Grant) (d x : Descriptor) → InheritsFrom d x → ComesFromGrant tree grants x → ComesFromGrant tree grants d
-inherits_of_granted tree grants d x from by =
-    let g : Descriptor = granted_descriptor tree by.number by.grant in
-    record {
-      number = by.number;
-      grant = by.grant;
-      listed = by.listed;
-      comes = elim by.comes [ inl more ↦ inr (inherits_of_less d x g from more) | inr farther ↦ inr (inherits_twice d x g from farther) ];
-    }
-
-of_origin : (tree : Tree) (grants : List Grant) (made : Made) (l : Ledger) (p : ℕ) (d : Descriptor) → AllComeFromGrants tree grants l → Origin made l p d
-    → ComesFromGrant tree grants d
-of_origin tree grants made l p d before (was_held m x there less) = no_more_than_granted tree grants d x less (before p m x there)
-of_origin tree grants made l p d before (was_opened m x there new from) = inherits_of_granted tree grants d x from (before p m x there)
-
-pub noted_granted : (tree : Tree) (grants : List Grant) (made : Made) (l : Ledger) (e : Entry) → ActIsWithin made l e.pid e.act
-    → AllComeFromGrants tree grants l → AllComeFromGrants tree grants (noted made l e)
-noted_granted tree grants made l e within before p n d here = of_origin tree grants made l p d before (noted_from made l e within p n d here)
-
-by_grant : (tree : Tree) (grants : List Grant) (n : ℕ) (d : Descriptor) (o : Option Grant) → slice_get grants n ≡ o → option_map (granted_descriptor tree n) o ≡ Some d
-    → ComesFromGrant tree grants d
-by_grant tree grants n d None is here = absurd (none_is_no d here)
-by_grant tree grants n d (Some grant) is here = record {
-  number = n;
-  grant = grant;
-  listed = is;
-  comes = inl (subst (λ x. IsNoMoreThan x (granted_descriptor tree n grant)) (same_some (granted_descriptor tree n grant) d here)
-      (itself (granted_descriptor tree n grant)));
-}
-
--- the grants themselves
-pub launch_granted : (tree : Tree) (grants : List Grant) → AllComeFromGrants tree grants (launch_ledger tree grants)
-launch_granted tree grants p =
-    elim (eqb_tells p 0) [
-      | inl is ↦ subst (λ b. (n : ℕ) (d : Descriptor) → cond b (launch_row tree grants) no_row n ≡ Some d → ComesFromGrant tree grants d) (sym is.0)
-          (λ n d here. by_grant tree grants n d (slice_get grants n) refl here)
-      | inr other ↦ subst (λ b. (n : ℕ) (d : Descriptor) → cond b (launch_row tree grants) no_row n ≡ Some d → ComesFromGrant tree grants d) (sym other.0)
-          (λ n d here. absurd (none_is_no d here))
-    ]
+  pub inherits_of_granted : InheritsFrom d x → ComesFromGrant tree grants number x → ComesFromGrant tree grants number d
+  inherits_of_granted from by =
+      let g : Descriptor = granted_descriptor tree number by.grant in
+      record {
+        grant = by.grant;
+        listed = by.listed;
+        comes = elim by.comes [ inl more ↦ inr (inherits_of_less d x g from more) | inr farther ↦ inr (inherits_twice d x g from farther) ];
+      }

@@ -1,8 +1,6 @@
 -- What the ledger says of every legal history: the statements that are the contracts of the functions of src/laws.rt.
 use Rattle.std.specs.Prelude.{◌≡◌, ◌≢◌, ◌⊎◌, ℕ, bit_and, true, List, [], ◌∷◌, ◌++◌, None, Some, IsSome}
 use Rattle.std.specs.FinMap.{get}
-use Rattle.abi_base.specs.declared.errno.Errno.TheVariants.{Success}
-use Rattle.abi_base.specs.declared.grant.Grant.{Grant}
 use Rattle.tree_model.specs.Grants.{MayBegin}
 use Rattle.abi_structures.specs.declared.structures.FdStat.{FdStat}
 use Rattle.abi_types.specs.declared.call.Call.{Call}
@@ -10,34 +8,29 @@ use Rattle.abi_types.specs.declared.call.Call.TheVariants.{FdDup, FdReplace, FdS
 use Rattle.abi_types.specs.declared.call.Lookup.{Lookup}
 use Rattle.abi_types.specs.declared.descriptor.Descriptor.{Descriptor}
 use Rattle.abi_types.specs.declared.needed.Needed.{Needed}
-use Rattle.abi_types.specs.declared.reply.Answer.TheVariants as answer
 use Rattle.abi_types.specs.declared.reply.Reply.{Reply}
 use Rattle.abi_types.specs.declared.status.Status.TheVariants.{Live}
 use Rattle.abi_types.specs.declared.who.Who.{Who}
-use Rattle.run_types.specs.declared.history.Act.TheVariants as act
 use Rattle.run_types.specs.declared.history.Entry.{Entry}
 use Rattle.run_types.specs.declared.launch.Launch.{Launch}
 use Rattle.kernel_model.specs.Calls.{named, need}
 use Rattle.kernel_model.specs.Need.{has_needed}
 use Rattle.kernel_model.specs.Proper.{IsIn}
 use Rattle.kernel_model.specs.Sight.{process_parts, behind}
-use Rattle.kernel_model.specs.State.{State, Table, Tree, Part, at_open, has_part}
+use Rattle.kernel_model.specs.State.{State, Table, Part, at_open, has_part}
 use Rattle.kernel_model.specs.Step.{sight}
 use Rattle.run_model.specs.Legal.{Legal}
 use Rattle.run_model.specs.World.{world}
-use Rattle.authority_laws.specs.Ledger.{Ledger, Made, launch_ledger}
-use Rattle.authority_laws.specs.Origins.{ComesFrom, ComesFromGrant, AllComeFromGrants, Change, IsCopied, IsLowered, IsOpened}
-use Rattle.authority_laws.specs.Recorded.{made_in, noted, ledger}
+use Rattle.authority_laws.specs.Ledger.{Ledger, launch_ledger}
+use Rattle.authority_laws.specs.Origins.{Change, ComesFrom, ComesFromGrant, IsCopied, IsLowered, IsOpened}
+use Rattle.authority_laws.specs.Recorded.{Succeeds, held_after, held_before, ledger, made_at, noted}
+use Rattle.authority_laws.specs.Traces.{AllTraced, Traced, root}
 
 -- ---- the ledger of one more entry
 
 -- The ledger of no entry is the launch's.
 abbrev pub LedgerBegins : Type 0
 LedgerBegins = (launch : Launch) → ledger launch [] ≡ launch_ledger launch.tree launch.grants
-
--- what the entry's process has made last in the world after it
-abbrev pub made_at : Launch → List Entry → Entry → Made
-made_at launch front e = made_in (world launch (front ++ e ∷ [])) e
 
 -- The ledger of one more entry is the ledger before it, with that entry noted.
 abbrev pub LedgerGoesOn : Type 0
@@ -77,106 +70,136 @@ RightsNeverGrow =
 abbrev pub EntryChangesOne : Type 0
 EntryChangesOne =
     (launch : Launch) (front : List Entry) (e : Entry)
-    → Change (made_at launch front e) ((ledger launch front).held e.pid) ((ledger launch (front ++ e ∷ [])).held e.pid)
+    → Change (made_at launch front e) (held_before launch front e) (held_after launch front e)
     × ((q : ℕ) → q ≢ e.pid → (ledger launch (front ++ e ∷ [])).held q ≡ (ledger launch front).held q)
 
--- the entry is this call, which succeeded with this reply
-pub record Succeeds (e : Entry) (call : Call) (reply : Reply) : Type 0 where
-  pub is : e.act ≡ act.Call call (answer.Reply reply)
-  pub success : reply.errno ≡ Success
+-- After an fd_dup that succeeded there stands under its result, under which nothing stood, what stood under the descriptor's
+-- number before it.
+abbrev pub DuplicatesAt : Launch → List Entry → Entry → Type 0
+DuplicatesAt launch front e =
+    (fd : ℕ) (reply : Reply) → Succeeds e (FdDup fd) reply
+    → (held_before launch front e reply.r1 ≡ None) × IsCopied (held_before launch front e) (held_after launch front e) fd reply.r1
 
--- After fd_dup of a legal history there stands under its result, under which nothing stood, what stood under the descriptor's
--- number at that entry.
+-- So it is at each entry of a legal history.
 abbrev pub DuplicatesAreEqual : Type 0
-DuplicatesAreEqual =
-    (launch : Launch) (front : List Entry) (e : Entry) (rest : List Entry) (fd : ℕ) (reply : Reply) → Legal launch (front ++ e ∷ rest)
-    → Succeeds e (FdDup fd) reply → ((ledger launch front).held e.pid reply.r1 ≡ None)
-    × IsCopied ((ledger launch front).held e.pid) ((ledger launch (front ++ e ∷ [])).held e.pid) fd reply.r1
+DuplicatesAreEqual = (launch : Launch) (front : List Entry) (e : Entry) (rest : List Entry) → Legal launch (front ++ e ∷ rest) → DuplicatesAt launch front e
 
--- After fd_replace of a legal history there stands under `to`, under which something stood, what stood under `from` at that entry.
+-- After an fd_replace that succeeded there stands under `to`, under which something stood, what stood under `from` before it.
+abbrev pub ReplacesAt : Launch → List Entry → Entry → Type 0
+ReplacesAt launch front e =
+    (from to : ℕ) (reply : Reply) → Succeeds e (FdReplace from to) reply
+    → IsSome (held_before launch front e to) × IsCopied (held_before launch front e) (held_after launch front e) from to
+
+-- So it is at each entry of a legal history.
 abbrev pub ReplacementsAreEqual : Type 0
-ReplacementsAreEqual =
-    (launch : Launch) (front : List Entry) (e : Entry) (rest : List Entry) (from to : ℕ) (reply : Reply) → Legal launch (front ++ e ∷ rest)
-    → Succeeds e (FdReplace from to) reply → IsSome ((ledger launch front).held e.pid to)
-    × IsCopied ((ledger launch front).held e.pid) ((ledger launch (front ++ e ∷ [])).held e.pid) from to
+ReplacementsAreEqual = (launch : Launch) (front : List Entry) (e : Entry) (rest : List Entry) → Legal launch (front ++ e ∷ rest) → ReplacesAt launch front e
 
--- After fd_stat_put with RIGHTS (2) of a legal history the descriptor has exactly those of the rights which it had at that entry
--- that are asked.
+-- After an fd_stat_put with RIGHTS (2) that succeeded the descriptor has exactly those of the rights which it had before it that
+-- are asked.
+abbrev pub LowersAt : Launch → List Entry → Entry → Type 0
+LowersAt launch front e =
+    (fd : ℕ) (stat : FdStat) (flags : ℕ) (reply : Reply) → Succeeds e (FdStatPut fd stat flags) reply → bit_and flags 2 ≢ 0
+    → IsLowered (held_before launch front e) (held_after launch front e) fd stat
+
+-- So it is at each entry of a legal history.
 abbrev pub RightsAreLowered : Type 0
-RightsAreLowered =
-    (launch : Launch) (front : List Entry) (e : Entry) (rest : List Entry) (fd : ℕ) (stat : FdStat) (flags : ℕ) (reply : Reply)
-    → Legal launch (front ++ e ∷ rest) → Succeeds e (FdStatPut fd stat flags) reply → bit_and flags 2 ≢ 0
-    → IsLowered ((ledger launch front).held e.pid) ((ledger launch (front ++ e ∷ [])).held e.pid) fd stat
+RightsAreLowered = (launch : Launch) (front : List Entry) (e : Entry) (rest : List Entry) → Legal launch (front ++ e ∷ rest) → LowersAt launch front e
 
--- After file_open of a legal history there stands under its result, under which nothing stood, the open that it made, with exactly
--- those of the rights asked that are of its type, each among those that the directory's descriptor passed on at that entry.
+-- After a file_open that succeeded there stands under its result, under which nothing stood, the open that it made, with exactly
+-- those of the rights asked that are of its type, each among those that the descriptor passed on from which it began; and its open
+-- is of a file or a directory below the directory of that descriptor, or of a new file that is made below it.
+abbrev pub OpensAt : Launch → List Entry → Entry → Type 0
+OpensAt launch front e =
+    (lookup : Lookup) (path : List ℕ) (oflags : ℕ) (stat : FdStat) (reply : Reply) → Succeeds e (FileOpen lookup path oflags stat) reply
+    → IsOpened (world launch front).state (world launch (front ++ e ∷ [])).state (made_at launch front e) (held_before launch front e)
+    (held_after launch front e) lookup.fd reply.r1 stat
+
+-- So it is at each entry of a legal history.
 abbrev pub OpensAreBounded : Type 0
 OpensAreBounded =
-    (launch : Launch) (front : List Entry) (e : Entry) (rest : List Entry) (lookup : Lookup) (path : List ℕ) (oflags : ℕ) (stat : FdStat) (reply : Reply)
-    → MayBegin launch.tree launch.grants → Legal launch (front ++ e ∷ rest) → Succeeds e (FileOpen lookup path oflags stat) reply
-    → IsOpened (made_at launch front e) ((ledger launch front).held e.pid) ((ledger launch (front ++ e ∷ [])).held e.pid) lookup.fd reply.r1 stat
+    (launch : Launch) (front : List Entry) (e : Entry) (rest : List Entry) → MayBegin launch.tree launch.grants → Legal launch (front ++ e ∷ rest)
+    → OpensAt launch front e
 
--- What the ledger of a legal history says is held comes from one of the launch's grants.
-abbrev pub HeldIsGranted : Type 0
-HeldIsGranted =
-    (launch : Launch) (history : List Entry) → MayBegin launch.tree launch.grants → Legal launch history → AllComeFromGrants launch.tree launch.grants (ledger launch history)
+-- Each descriptor that the ledger of a legal history says is held is traced to one of the launch's grants.
+abbrev pub HeldIsTraced : Type 0
+HeldIsTraced = (launch : Launch) (history : List Entry) → MayBegin launch.tree launch.grants → Legal launch history → AllTraced launch history
 
--- Each descriptor in a table of a legal history's world is there by the ledger, and comes from one of the launch's grants.
+-- What is traced is held.
+abbrev pub TracedIsHeld : Type 0
+TracedIsHeld =
+    (launch : Launch) (history : List Entry) (p n : ℕ) (d : Descriptor) → Traced launch history p n d → (ledger launch history).held p n ≡ Some d
+
+-- A traced descriptor has no right but those that the grant at the root of its trace has or passes on.
+abbrev pub TracedIsWithinGrant : Type 0
+TracedIsWithinGrant =
+    (launch : Launch) (history : List Entry) (p n : ℕ) (d : Descriptor) (trace : Traced launch history p n d)
+    → ComesFromGrant launch.tree launch.grants (root launch history p n d trace) d
+
+-- Each descriptor in a table of a legal history's world is there by the ledger, and traced to one of the launch's grants.
 abbrev pub TablesAreRecorded : Type 0
 TablesAreRecorded =
     (launch : Launch) (history : List Entry) → MayBegin launch.tree launch.grants → Legal launch history
     → (p n : ℕ) (table : Table) (d : Descriptor) → get (world launch history).state.tables p ≡ Some table → get table n ≡ Some d
-    → ((ledger launch history).held p n ≡ Some d) × ComesFromGrant launch.tree launch.grants d
+    → ((ledger launch history).held p n ≡ Some d) × Traced launch history p n d
 
 -- ---- what a call may read
 
 -- the part is the open of a descriptor which the ledger says that process p holds, which has all rights that a row of the
--- call's needs asks of it, and which comes from one of the grants; or it stands behind that open
-pub record IsReachedByHeld (S : State) (l : Ledger) (tree : Tree) (grants : List Grant) (p : ℕ) (rows : List Needed) (part : Part) : Type 0 where
+-- call's needs asks of it, and which is traced to one of the grants; or it stands behind that open
+pub record IsReachedByHeld (launch : Launch) (history : List Entry) (p : ℕ) (rows : List Needed) (part : Part) : Type 0 where
   pub row : Needed
   pub asked : IsIn row rows
   pub d : Descriptor
-  pub held : l.held p row.fd ≡ Some d
+  pub held : (ledger launch history).held p row.fd ≡ Some d
   pub has : has_needed d row ≡ true
-  pub granted : ComesFromGrant tree grants d
-  pub reached : has_part (at_open d.id ∷ behind S (get S.opens d.id)) part ≡ true
+  pub traced : Traced launch history p row.fd d
+  pub reached : has_part (at_open d.id ∷ behind (world launch history).state (get (world launch history).state.opens d.id)) part ≡ true
 
 -- the call needs no right at all, and the part is the open of a descriptor that it names, which the ledger says that process p
--- holds, and which comes from one of the grants; or it stands behind that open
-pub record IsReachedByNamed (S : State) (l : Ledger) (tree : Tree) (grants : List Grant) (p : ℕ) (call : Call) (part : Part) : Type 0 where
+-- holds, and which is traced to one of the grants; or it stands behind that open
+pub record IsReachedByNamed (launch : Launch) (history : List Entry) (p : ℕ) (call : Call) (part : Part) : Type 0 where
   pub none : need call ≡ []
   pub fd : ℕ
   pub asked : IsIn fd (named call)
   pub d : Descriptor
-  pub held : l.held p fd ≡ Some d
-  pub granted : ComesFromGrant tree grants d
-  pub reached : has_part (at_open d.id ∷ behind S (get S.opens d.id)) part ≡ true
+  pub held : (ledger launch history).held p fd ≡ Some d
+  pub traced : Traced launch history p fd d
+  pub reached : has_part (at_open d.id ∷ behind (world launch history).state (get (world launch history).state.opens d.id)) part ≡ true
 
 -- what a call sees is the clock, its process's own and its status, or it is reached by what the ledger says that its process
 -- holds: with the rights needed, or by name alone where the call needs none
-abbrev pub SeesByHeld : State → Ledger → Tree → List Grant → Type 0
-SeesByHeld S l tree grants =
-    (who : Who) (call : Call) (part : Part) → has_part (sight S who call) part ≡ true
-    → (has_part (process_parts who.pid) part ≡ true) ⊎ (IsReachedByHeld S l tree grants who.pid (need call) part ⊎ IsReachedByNamed S l tree grants who.pid call part)
+abbrev pub SeesByHeld : Launch → List Entry → Type 0
+SeesByHeld launch history =
+    (who : Who) (call : Call) (part : Part) → has_part (sight (world launch history).state who call) part ≡ true
+    → (has_part (process_parts who.pid) part ≡ true)
+    ⊎ (IsReachedByHeld launch history who.pid (need call) part ⊎ IsReachedByNamed launch history who.pid call part)
 
 -- So it is in the world of a legal history.
 abbrev pub SightIsRecorded : Type 0
-SightIsRecorded =
-    (launch : Launch) (history : List Entry) → MayBegin launch.tree launch.grants → Legal launch history
-    → SeesByHeld (world launch history).state (ledger launch history) launch.tree launch.grants
+SightIsRecorded = (launch : Launch) (history : List Entry) → MayBegin launch.tree launch.grants → Legal launch history → SeesByHeld launch history
 
--- ---- all of it, at each point of a history
+-- ---- all of it, at each point and at each entry of a history
 
--- after these entries the ledger says who holds what, all that is held comes from one of the launch's grants, and what a call may
--- read is reached by it
+-- after these entries the ledger says who holds what, all that is held is traced to one of the launch's grants, and what a call
+-- may read is reached by it
 pub record IsRecordedAt (launch : Launch) (front : List Entry) : Type 0 where
   pub reports : Reports (world launch front).state (ledger launch front)
-  pub granted : AllComeFromGrants launch.tree launch.grants (ledger launch front)
-  pub sees : SeesByHeld (world launch front).state (ledger launch front) launch.tree launch.grants
+  pub traced : AllTraced launch front
+  pub sees : SeesByHeld launch front
 
--- so it is at each point of the history
-abbrev pub IsRecorded : Launch → List Entry → Type 0
-IsRecorded launch history = (front rest : List Entry) → history ≡ front ++ rest → IsRecordedAt launch front
+-- at this entry copies are equal, rights are lowered to those asked, what is opened is bounded, and no right comes that was neither
+-- held nor passed on
+pub record IsRecordedEntry (launch : Launch) (front : List Entry) (e : Entry) : Type 0 where
+  pub duplicated : DuplicatesAt launch front e
+  pub replaced : ReplacesAt launch front e
+  pub lowered : LowersAt launch front e
+  pub opened : OpensAt launch front e
+  pub never_grows : ComesFrom (made_at launch front e) (ledger launch front) (ledger launch (front ++ e ∷ []))
+
+-- so it is at each point of the history, and at each entry
+pub record IsRecorded (launch : Launch) (history : List Entry) : Type 0 where
+  pub points : (front rest : List Entry) → history ≡ front ++ rest → IsRecordedAt launch front
+  pub entries : (front : List Entry) (e : Entry) (rest : List Entry) → history ≡ front ++ e ∷ rest → IsRecordedEntry launch front e
 
 -- A legal history of a launch with proper grants is recorded.
 abbrev pub LegalIsRecorded : Type 0

@@ -1,4 +1,5 @@
 pub mod Ledger
 pub mod Recorded
 pub mod Origins
+pub mod Traces
 pub mod Laws

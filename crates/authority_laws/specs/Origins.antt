@@ -1,13 +1,18 @@
 -- Where a descriptor that a process holds comes from, and how what it holds may change.
-use Rattle.std.specs.Prelude.{◌≡◌, ◌≢◌, ◌↔◌, ◌⊎◌, ℕ, List, None, Some, slice_get}
+use Rattle.std.specs.Prelude.{◌≡◌, ◌≢◌, ◌↔◌, ◌⊎◌, ℕ, true, List, None, Some, slice_get}
+use Rattle.std.specs.FinMap.{get}
 use Rattle.abi_base.specs.declared.grant.Grant.{Grant}
 use Rattle.abi_base.specs.Rights.{Has}
 use Rattle.abi_structures.specs.declared.structures.FdStat.{FdStat}
 use Rattle.abi_types.specs.declared.descriptor.Descriptor.{Descriptor}
 use Rattle.abi_types.specs.declared.open_kind.OpenKind.{OpenKind}
+use Rattle.abi_types.specs.declared.open_kind.OpenKind.TheVariants.{File, Directory}
+use Rattle.maps.specs.Closure.{member}
+use Rattle.tree_model.specs.Changes.{is_file}
+use Rattle.tree_model.specs.Tree.{HasName, below}
 use Rattle.kernel_model.specs.Families.Opening.{opened_descriptor}
 use Rattle.kernel_model.specs.Start.{granted_descriptor}
-use Rattle.kernel_model.specs.State.{Tree}
+use Rattle.kernel_model.specs.State.{State, Tree, tree_of}
 use Rattle.kernel_model.specs.Valid.{fits, fits_inheriting}
 use Rattle.authority_laws.specs.Ledger.{Row, no_row, with_held, Ledger, Made}
 
@@ -38,16 +43,11 @@ pub data Origin (made : Made) (l : Ledger) (p : ℕ) (d : Descriptor) : Type 0 w
 abbrev pub ComesFrom : Made → Ledger → Ledger → Type 0
 ComesFrom made before after = (p n : ℕ) (d : Descriptor) → after.held p n ≡ Some d → Origin made before p d
 
--- the descriptor is no more than what one of the grants gave, or has no right but those which that passes on
-pub record ComesFromGrant (tree : Tree) (grants : List Grant) (d : Descriptor) : Type 0 where
-  pub number : ℕ
+-- the descriptor is no more than what the grant of this number gave, or has no right but those which that passes on
+pub record ComesFromGrant (tree : Tree) (grants : List Grant) (number : ℕ) (d : Descriptor) : Type 0 where
   pub grant : Grant
   pub listed : slice_get grants number ≡ Some grant
   pub comes : IsNoMoreThan d (granted_descriptor tree number grant) ⊎ InheritsFrom d (granted_descriptor tree number grant)
-
--- each descriptor that the ledger says is held is so, whichever process holds it, and under whatever number
-abbrev pub AllComeFromGrants : Tree → List Grant → Ledger → Type 0
-AllComeFromGrants tree grants l = (p n : ℕ) (d : Descriptor) → l.held p n ≡ Some d → ComesFromGrant tree grants d
 
 -- ---- how what a process holds may change
 
@@ -86,18 +86,40 @@ pub record IsLowered (before after : Row) (n : ℕ) (stat : FdStat) : Type 0 whe
   pub inheriting : (k : ℕ) → Has d.inheriting.0 k ↔ (Has x.inheriting.0 k × Has stat.inheriting.0 k)
   pub others : (m : ℕ) → m ≢ n → after m ≡ before m
 
+-- ---- where an open leads, by the file trees before and after an entry
+
+-- n is a file that was not there before, and a directory that was below this one then has it under some name
+pub record IsNewBelow (before after : Tree) (start n : ℕ) : Type 0 where
+  pub absent : get before.nodes n ≡ None
+  pub file : is_file after n ≡ true
+  pub directory : ℕ
+  pub name : List ℕ
+  pub under : member directory (below before start) ≡ true
+  pub named : HasName after directory name n
+
+-- the open is of a file or a directory that was below this directory, or of a new file below it
+abbrev pub IsOpenedBelow : Tree → Tree → ℕ → OpenKind → Type 0
+IsOpenedBelow before after start (File n offset flags) = (member n (below before start) ≡ true) ⊎ IsNewBelow before after start n
+IsOpenedBelow before after start (Directory n flags) = member n (below before start) ≡ true
+IsOpenedBelow before after start _ = ⊥
+
 -- under `to`, under which nothing stood, stands d, which names the open that was made, with exactly those of the rights asked that
--- are of its type; these are among the rights that x passes on, which stood under fd; and under each other number stands what
+-- are of its type; these are among the rights that x passes on, which stood under fd; the open of x, in the state S before, was of
+-- a directory, and the open that was made, in the state U after, is of what is below that; and under each other number stands what
 -- stood there
-pub record IsOpened (made : Made) (before after : Row) (fd to : ℕ) (stat : FdStat) : Type 0 where
+pub record IsOpened (S U : State) (made : Made) (before after : Row) (fd to : ℕ) (stat : FdStat) : Type 0 where
   pub d : Descriptor
   pub x : Descriptor
   pub kind : OpenKind
+  pub start : ℕ
+  pub flags : ℕ
   pub source : before fd ≡ Some x
+  pub directory : get S.opens x.id ≡ Some (Directory start flags)
   pub free : before to ≡ None
   pub stands : after to ≡ Some d
   pub id : d.id ≡ made.number
-  pub opened : made.kind ≡ Some kind
+  pub opened : get U.opens d.id ≡ Some kind
+  pub leads : IsOpenedBelow (tree_of S) (tree_of U) start kind
   pub base : (k : ℕ) → Has d.base.0 k ↔ (Has (fits kind) k × Has stat.base.0 k)
   pub inheriting : (k : ℕ) → Has d.inheriting.0 k ↔ (Has (fits_inheriting kind) k × Has stat.inheriting.0 k)
   pub within : InheritsFrom d x

@@ -1,5 +1,5 @@
 //! Laws of the ledger. The statements are in `specs/Laws.antt`, and each holds of every launch and history.
-ghost use Rattle.authority_laws.specs.Laws.{LedgerBegins, LedgerGoesOn, LedgerReports, RightsNeverGrow, EntryChangesOne, DuplicatesAreEqual, ReplacementsAreEqual, RightsAreLowered, OpensAreBounded, HeldIsGranted, TablesAreRecorded, SightIsRecorded, LegalIsRecorded};
+ghost use Rattle.authority_laws.specs.Laws.{LedgerBegins, LedgerGoesOn, LedgerReports, RightsNeverGrow, EntryChangesOne, DuplicatesAreEqual, ReplacementsAreEqual, RightsAreLowered, OpensAreBounded, HeldIsTraced, TracedIsHeld, TracedIsWithinGrant, TablesAreRecorded, SightIsRecorded, LegalIsRecorded};
 
 /// The ledger of no entry is the launch's, and that of one more entry is the ledger before it with the entry noted.
 pub fn ledger_goes_on()
@@ -44,27 +44,33 @@ pub fn rights_are_lowered()
 
 /// After a `file_open` of a legal history that succeeded there stands under its result, under which nothing stood, the open
 /// that it made, with exactly those of the rights asked that are of its type. Each is among those that the directory's
-/// descriptor passed on at that entry. Under each other number stands what stood there.
+/// descriptor passed on at that entry. Its open is of a file or a directory that was below that directory before the entry, or
+/// of a new file, which a directory below it then has. Under each other number stands what stood there.
 pub fn opens_are_bounded()
     ensures { OpensAreBounded }
 {}
 
-/// Each descriptor that the ledger of a legal history says is held names the open of one of the launch's grants, with no
-/// right that this grant lacks, or it was opened, and has no right but those which one of the grants passes on. The same
-/// holds of each descriptor in a table of its world, which is there by the ledger.
-pub fn held_is_granted()
-    ensures ledger { HeldIsGranted }
+/// Each descriptor that the ledger of a legal history says is held was granted by the launch, or copied, lowered or opened
+/// through a directory's descriptor which the process held at that entry and which is traced itself, with no right that this
+/// one does not pass on, and of what is below that directory. What is traced is held, and has no right but those that its
+/// grant has or passes on. Each descriptor in a table of the history's world is there by the ledger, and traced.
+pub fn held_is_traced()
+    ensures ledger { HeldIsTraced }
+    ensures held { TracedIsHeld }
+    ensures rights { TracedIsWithinGrant }
     ensures tables { TablesAreRecorded }
 {}
 
 /// What a call may read in the world of a legal history is the clock, what is its process's own and its status, or it is
 /// reached by a descriptor which the ledger says that its process holds. That has the rights needed, or the call names it and
-/// needs no right at all; and it comes from one of the launch's grants.
+/// needs no right at all; and it is traced to one of the launch's grants.
 pub fn sight_is_recorded()
     ensures { SightIsRecorded }
 {}
 
-/// At each point of a legal history of a launch with proper grants all of this holds.
+/// At each point of a legal history of a launch with proper grants the ledger says who holds what, all that is held is traced,
+/// and calls see by what is held. At each entry copies are equal, rights are lowered to those asked, opens are bounded, and
+/// rights never grow.
 pub fn legal_is_recorded()
     ensures { LegalIsRecorded }
 {}

@@ -6,6 +6,6 @@
 pub mod laws;
 
 pub use laws::{
-    copies_are_equal, entry_changes_one, held_is_granted, ledger_goes_on, ledger_reports,
+    copies_are_equal, entry_changes_one, held_is_traced, ledger_goes_on, ledger_reports,
     legal_is_recorded, rights_are_lowered, rights_never_grow, sight_is_recorded,
 };

@@ -9,7 +9,7 @@ use Rattle.run_types.specs.declared.history.Record.{Record}
 use Rattle.run_types.specs.declared.launch.Launch.{Launch}
 use Rattle.tree_model.specs.Grants.{MayBegin}
 use Rattle.run_model.proofs.Confinements.{legal_is_confined}
-use Rattle.authority_laws.proofs.Histories.{legal_is_recorded}
+use Rattle.authority_laws.proofs.Records.{legal_is_recorded}
 use Rattle.command_line.specs.Settings.{Settings}
 use Rattle.launch_reading.specs.Launch.{Described, unknown, refuses, describes, words_describe, inputs_with, history_with, AnswersDescribed, IsKnownAs, IsBuiltBy}
 use Rattle.launch_reading.specs.Refusal.{words_line, memory_line, status_of}

@@ -161,9 +161,9 @@ pub record HasFailed (lines : Bool) (before after : Option (List ℕ)) (r : Reco
   pub prefix : GrewByPrefix before after (record_report lines r)
 
 -- What every record that is kept is: its history is legal, each entry is confined to what its process's descriptors
--- reach with the rights needed, who holds which descriptors is shown by the entries, and each descriptor comes from one of the
--- launch's grants; and its launch is the one that is described, where anything is known of it, and in any case one of these
--- settings.
+-- reach with the rights needed, who holds which descriptors is shown by the entries, each descriptor is traced to one of the
+-- launch's grants, and each entry copies, lowers and opens as it is bounded; and its launch is the one that is described, where
+-- anything is known of it, and in any case one of these settings.
 pub record IsKept (given : Option Settings) (described : Described) (r : Record) : Type 0 where
   pub legal : Legal r.launch r.history
   pub confined : IsConfined r.launch r.history

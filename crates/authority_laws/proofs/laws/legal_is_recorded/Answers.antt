@@ -1,5 +1,5 @@
-use Rattle.authority_laws.proofs.Histories as histories
+use Rattle.authority_laws.proofs.Records as records
 use Rattle.authority_laws.proofs.laws.legal_is_recorded.Goals as goal
 
 pub returns : goal.returns
-returns c = histories.legal_is_recorded
+returns c = records.legal_is_recorded

@@ -1,0 +1,218 @@
+-- Each descriptor that is held after a legal history is traced to a grant.
+--     held_is_traced      so it is
+--     traced_is_held, traced_is_within_grant      what is traced is held, with no right that its grant neither has nor passes on
+use Rattle.std.proofs.Common.{◌≡◌, ◌≢◌, inl, inr, ℕ, cond, List, [], ◌∷◌, ◌++◌, Option, Some, None, refl, sym, ap, subst, ◌∙◌, append-nil, append_assoc}
+use Rattle.std.proofs.lemmas.Bool.Decides.{eqb_tells}
+use Rattle.std.specs.Prelude.{bit_and, option_map, slice_get}
+use Rattle.std.specs.FinMap.{get}
+use Rattle.abi_base.specs.declared.errno.Errno.{Errno}
+use Rattle.abi_base.specs.declared.errno.Errno.TheVariants.{Success}
+use Rattle.abi_base.specs.declared.grant.Grant.{Grant}
+use Rattle.abi_structures.specs.declared.structures.FdStat.{FdStat}
+use Rattle.tree_model.specs.Grants.{MayBegin}
+use Rattle.abi_types.specs.declared.call.Call.{Call}
+use Rattle.abi_types.specs.declared.call.Call.TheVariants.{FdClose, FdDup, FdReplace, FdStatPut, FileOpen, ProcExit}
+use Rattle.abi_types.specs.declared.descriptor.Descriptor.{Descriptor}
+use Rattle.abi_types.specs.declared.reply.Answer.{Answer}
+use Rattle.abi_types.specs.declared.reply.Answer.TheVariants as answer
+use Rattle.abi_types.specs.declared.reply.Reply.{Reply}
+use Rattle.run_types.specs.declared.history.Act.{Act}
+use Rattle.run_types.specs.declared.history.Act.TheVariants as act
+use Rattle.run_types.specs.declared.history.Entry.{Entry}
+use Rattle.run_types.specs.declared.launch.Launch.{Launch}
+use Rattle.kernel_model.specs.Start.{granted_descriptor, start_state}
+use Rattle.kernel_model.specs.State.{State}
+use Rattle.kernel_model.proofs.OpenLaws.{grants_are_held}
+use Rattle.kernel_model.proofs.Tests.{none_is_no, same_some}
+use Rattle.run_model.specs.Legal.{FitsAct, Legal}
+use Rattle.run_model.specs.World.{World, guest_of, who_of, world}
+use Rattle.run_model.proofs.Histories.{first_state, legal_next, world_none}
+use Rattle.authority_laws.specs.Ledger.{Ledger, Made, Row, no_row, with_held, launch_ledger, launch_row, lowered_row, granted_row, by_success}
+use Rattle.authority_laws.specs.Origins.{ComesFromGrant}
+use Rattle.authority_laws.specs.Recorded.{Succeeds, acted_row, held_after, held_before, ledger, made_at}
+use Rattle.authority_laws.specs.Traces.{AllTraced, IsGranted, Lowers, OpensFrom, Traced, root}
+use Rattle.authority_laws.specs.Traces as way
+use Rattle.authority_laws.proofs.Bounds.{opens_are_bounded}
+use Rattle.authority_laws.proofs.Copies.{duplicates_are_equal, granted_after, replacements_are_equal, rights_are_lowered}
+use Rattle.authority_laws.proofs.Histories.{ledger_none, others_after, own_after, up_to}
+use Rattle.authority_laws.proofs.Origins.{inherits_of_granted, itself, no_more_than_granted}
+use Rattle.authority_laws.proofs.Rows.{held_elsewhere, held_here, row_in, row_of}
+use Rattle.authority_laws.proofs.States.{start_rows}
+
+-- ---- the grants
+
+world_begins : (launch : Launch) → (world launch []).state ≡ start_state launch.tree launch.grants launch.stdin
+world_begins launch = ap (λ (w : World). w.state) (world_none launch) ∙ first_state launch
+
+is_granted : (launch : Launch) (k : ℕ) (grant : Grant) → MayBegin launch.tree launch.grants → slice_get launch.grants k ≡ Some grant → IsGranted launch k grant
+is_granted launch k grant begins listed =
+    let S : State = start_state launch.tree launch.grants launch.stdin in
+    let given : Descriptor = granted_descriptor launch.tree k grant in
+    let at = grants_are_held launch.tree launch.grants launch.stdin k grant begins listed in
+    let here : row_of S 0 k ≡ Some at.descriptor = ap (λ t. row_in t k) at.there ∙ at.held in
+    let row : row_of S 0 k ≡ Some given =
+    (λ i. start_rows launch.tree launch.grants 0 i k) ∙ ap (option_map (granted_descriptor launch.tree k)) listed in
+    let same : given ≡ at.descriptor = same_some given at.descriptor (sym row ∙ here) in
+    record {
+      listed = listed;
+      kind = at.kind;
+      opened = ap (λ (T : State). get T.opens given.id) (world_begins launch) ∙ ap (λ (d : Descriptor). get S.opens d.id) same ∙ at.opened;
+      of = at.of;
+    }
+
+grant_traced : (launch : Launch) (k : ℕ) (d : Descriptor) (o : Option Grant) → MayBegin launch.tree launch.grants → slice_get launch.grants k ≡ o
+    → option_map (granted_descriptor launch.tree k) o ≡ Some d → Traced launch [] 0 k d
+grant_traced launch k d None begins is here = absurd (none_is_no d here)
+grant_traced launch k d (Some grant) begins is here =
+    subst (Traced launch [] 0 k) (same_some (granted_descriptor launch.tree k grant) d here) (way.granted k grant (is_granted launch k grant begins is))
+
+begins_traced : (launch : Launch) → MayBegin launch.tree launch.grants → AllTraced launch []
+begins_traced launch begins p n d here =
+    let first : (launch_ledger launch.tree launch.grants).held p n ≡ Some d = ap (λ (l : Ledger). l.held p n) (sym (ledger_none launch)) ∙ here in
+    elim (eqb_tells p 0) [
+      | inl is ↦ subst (λ q. Traced launch [] q n d) (sym is.1)
+          (grant_traced launch n d (slice_get launch.grants n) begins refl
+          (sym (ap (λ b. cond b (launch_row launch.tree launch.grants) no_row n) is.0) ∙ first))
+      | inr other ↦ absurd (none_is_no d (sym (ap (λ b. cond b (launch_row launch.tree launch.grants) no_row n) other.0) ∙ first))
+    ]
+
+-- ---- one more entry
+
+module _ (launch : Launch) (front : List Entry) (e : Entry) (begins : MayBegin launch.tree launch.grants) (legal : Legal launch (front ++ e ∷ []))
+    (before : AllTraced launch front) where
+  -- the descriptor is traced after the entry
+  abbrev Is : ℕ → ℕ → Descriptor → Type 0
+  Is p n d = Traced launch (front ++ e ∷ []) p n d
+
+  abbrev row : Row
+  row = held_before launch front e
+
+  abbrev after : Row
+  after = held_after launch front e
+
+  abbrev made : Made
+  made = made_at launch front e
+
+  stays : (p n : ℕ) (d : Descriptor) → (ledger launch front).held p n ≡ Some d → (ledger launch (front ++ e ∷ [])).held p n ≡ Some d → Is p n d
+  stays p n d was here = way.kept front e p n d (before p n d was) here
+
+  -- what stands under each number, where one changes
+  changed_at : (to : ℕ) (c : Descriptor) → after to ≡ Some c → Is e.pid to c → ((m : ℕ) → m ≢ to → after m ≡ row m) → (n : ℕ) (d : Descriptor)
+      → after n ≡ Some d → Is e.pid n d
+  changed_at to c stands traced others n d here =
+      elim (eqb_tells n to) [
+        | inl is ↦ subst (λ m. Is e.pid m d) (sym is.1)
+            (subst (Is e.pid to) (same_some c d (sym stands ∙ sym (ap after is.1) ∙ here)) traced)
+        | inr other ↦ stays e.pid n d (sym (others n other.1) ∙ here) here
+      ]
+
+  none_traced : after ≡ no_row → (n : ℕ) (d : Descriptor) → after n ≡ Some d → Is e.pid n d
+  none_traced is n d here = absurd (none_is_no d ((λ i. sym is i n) ∙ here))
+
+  same_traced : after ≡ row → (n : ℕ) (d : Descriptor) → after n ≡ Some d → Is e.pid n d
+  same_traced is n d here = stays e.pid n d ((λ i. sym is i n) ∙ here) here
+
+  closed_traced : (fd : ℕ) → after ≡ with_held row fd None → (n : ℕ) (d : Descriptor) → after n ≡ Some d → Is e.pid n d
+  closed_traced fd is n d here =
+      elim (eqb_tells n fd) [
+        | inl same ↦ absurd (none_is_no d (sym ((λ i. is i n) ∙ ap (with_held row fd None) same.1 ∙ held_here row fd None) ∙ here))
+        | inr other ↦ stays e.pid n d (sym ((λ i. is i n) ∙ held_elsewhere row fd None n other.1) ∙ here) here
+      ]
+
+  lowered_traced : (fd : ℕ) (stat : FdStat) (flags : ℕ) (reply : Reply) → Succeeds e (FdStatPut fd stat flags) reply → (n : ℕ) (d : Descriptor)
+      → after n ≡ Some d → Is e.pid n d
+  lowered_traced fd stat flags reply done n d here =
+      elim (eqb_tells (bit_and flags 2) 0) [
+        | inl is ↦ same_traced (granted_after launch front e (FdStatPut fd stat flags) reply done ∙ ap (λ b. cond b row (lowered_row row fd stat)) is.0) n d here
+        | inr set ↦ (
+            let l = rights_are_lowered launch front e [] legal fd stat flags reply done set.1 in
+            let lowers : Lowers e fd stat = record { flags = flags; reply = reply; succeeds = done; rights = set.1 } in
+            changed_at fd l.d l.stands (way.lowered front e fd stat lowers l (before e.pid fd l.x l.stood)) l.others n d here)
+      ]
+
+  call_traced : (call : Call) (reply : Reply) → Succeeds e call reply → (n : ℕ) (d : Descriptor) → after n ≡ Some d → Is e.pid n d
+  call_traced (FdClose fd) reply done = closed_traced fd (granted_after launch front e (FdClose fd) reply done)
+  call_traced (FdDup fd) reply done =
+      let c = (duplicates_are_equal launch front e [] legal fd reply done).1 in
+      changed_at reply.r1 c.d c.copy (way.copied front e fd reply.r1 (inl (reply, done, refl)) c (before e.pid fd c.d c.source)) c.others
+  call_traced (FdReplace from to) reply done =
+      let c = (replacements_are_equal launch front e [] legal from to reply done).1 in
+      changed_at to c.d c.copy (way.copied front e from to (inr (reply, done)) c (before e.pid from c.d c.source)) c.others
+  call_traced (FdStatPut fd stat flags) reply done = lowered_traced fd stat flags reply done
+  call_traced (FileOpen lookup path oflags stat) reply done =
+      let o = opens_are_bounded launch front e [] begins legal lookup path oflags stat reply done in
+      let from : OpensFrom e lookup.fd reply.r1 stat = record { lookup = lookup; path = path; oflags = oflags; reply = reply; succeeds = done; from = refl; result = refl } in
+      changed_at reply.r1 o.d o.stands (way.opened front e lookup.fd reply.r1 stat from o (before e.pid lookup.fd o.x o.source)) o.others
+  call_traced (ProcExit code) reply done = none_traced (granted_after launch front e (ProcExit code) reply done)
+  call_traced call reply done = same_traced (granted_after launch front e call reply done)
+
+  errno_traced : (call : Call) (reply : Reply) (errno : Errno) → e.act ≡ act.Call call (answer.Reply reply) → reply.errno ≡ errno
+      → after ≡ by_success errno (granted_row made row call reply) row → (n : ℕ) (d : Descriptor) → after n ≡ Some d → Is e.pid n d
+  errno_traced call reply Success is success left = call_traced call reply (record { is = is; success = success })
+  errno_traced call reply _ is error left = same_traced left
+
+  answer_traced : (call : Call) (given : Answer) → e.act ≡ act.Call call given → after ≡ acted_row made row (act.Call call given)
+      → (n : ℕ) (d : Descriptor) → after n ≡ Some d → Is e.pid n d
+  answer_traced call (answer.Reply reply) is left = errno_traced call reply reply.errno is refl left
+
+  act_traced : (a : Act) → e.act ≡ a → FitsAct (world launch front).constants (world launch front).state (who_of e) (guest_of (world launch front) e.pid) e.turns a
+      → after ≡ acted_row made row a → (n : ℕ) (d : Descriptor) → after n ≡ Some d → Is e.pid n d
+  act_traced (act.Call call given) is fits left = answer_traced call given is left
+  act_traced (act.Wake call given answered) is fits left = absurd fits
+  act_traced (act.Trap signal) is fits left = none_traced left
+  act_traced act.Expire is fits left = none_traced left
+  act_traced act.Idle is fits left = absurd fits
+
+  entry_traced : AllTraced launch (front ++ e ∷ [])
+  entry_traced p n d here =
+      elim (eqb_tells p e.pid) [
+        | inl is ↦ subst (λ q. Is q n d) (sym is.1)
+            (act_traced e.act refl (legal_next launch front e [] legal).act (own_after launch front e) n d
+            (sym (ap (λ q. (ledger launch (front ++ e ∷ [])).held q n) is.1) ∙ here))
+        | inr other ↦ stays p n d ((λ i. sym (others_after launch front e p other.1) i n) ∙ here) here
+      ]
+
+-- ---- a history
+
+goes_on : (launch : Launch) (front rest : List Entry) → MayBegin launch.tree launch.grants → Legal launch (front ++ rest) → AllTraced launch front
+    → AllTraced launch (front ++ rest)
+goes_on launch front [] begins legal before = subst (AllTraced launch) (sym (append-nil front)) before
+goes_on launch front (e ∷ rest) begins legal before =
+    let same : (front ++ e ∷ []) ++ rest ≡ front ++ e ∷ rest = append_assoc front (e ∷ []) rest in
+    subst (AllTraced launch) same
+    (goes_on launch (front ++ e ∷ []) rest begins (subst (Legal launch) (sym same) legal)
+    (entry_traced launch front e begins (up_to launch front e rest legal) before))
+
+pub held_is_traced : (launch : Launch) (history : List Entry) → MayBegin launch.tree launch.grants → Legal launch history → AllTraced launch history
+held_is_traced launch history begins legal = goes_on launch [] history begins legal (begins_traced launch begins)
+
+-- ---- what is traced
+
+granted_held : (launch : Launch) (k : ℕ) (grant : Grant) → IsGranted launch k grant
+    → (ledger launch []).held 0 k ≡ Some (granted_descriptor launch.tree k grant)
+granted_held launch k grant is =
+    ap (λ (l : Ledger). l.held 0 k) (ledger_none launch) ∙ ap (option_map (granted_descriptor launch.tree k)) is.listed
+
+pub traced_is_held : (launch : Launch) (history : List Entry) (p n : ℕ) (d : Descriptor) → Traced launch history p n d → (ledger launch history).held p n ≡ Some d
+traced_is_held launch history p n d (way.granted k grant is) = granted_held launch k grant is
+traced_is_held launch history p n d (way.kept front e q m x before here) = here
+traced_is_held launch history p n d (way.copied front e from to copies c before) = c.copy
+traced_is_held launch history p n d (way.lowered front e m stat lowers l before) = l.stands
+traced_is_held launch history p n d (way.opened front e fd to stat opens o before) = o.stands
+
+pub traced_is_within_grant : (launch : Launch) (history : List Entry) (p n : ℕ) (d : Descriptor) (trace : Traced launch history p n d)
+    → ComesFromGrant launch.tree launch.grants (root launch history p n d trace) d
+traced_is_within_grant launch history p n d (way.granted k grant is) = record {
+  grant = grant;
+  listed = is.listed;
+  comes = inl (itself (granted_descriptor launch.tree k grant));
+}
+traced_is_within_grant launch history p n d (way.kept front e q m x before here) = traced_is_within_grant launch front q m x before
+traced_is_within_grant launch history p n d (way.copied front e from to copies c before) = traced_is_within_grant launch front e.pid from c.d before
+traced_is_within_grant launch history p n d (way.lowered front e m stat lowers l before) =
+    no_more_than_granted launch.tree launch.grants (root launch front e.pid m l.x before) l.d l.x
+    (record { id = l.id; base = λ k has. ((l.base k).0 has).0; inheriting = λ k has. ((l.inheriting k).0 has).0 })
+    (traced_is_within_grant launch front e.pid m l.x before)
+traced_is_within_grant launch history p n d (way.opened front e fd to stat opens o before) =
+    inherits_of_granted launch.tree launch.grants (root launch front e.pid fd o.x before) o.d o.x o.within
+    (traced_is_within_grant launch front e.pid fd o.x before)

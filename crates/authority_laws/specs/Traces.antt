@@ -1,0 +1,82 @@
+-- How each descriptor that is held came there, from a grant of the launch on.
+use Rattle.std.specs.Prelude.{◌≡◌, ◌≢◌, ◌⊎◌, ℕ, bit_and, List, [], ◌∷◌, ◌++◌, Some, slice_get}
+use Rattle.std.specs.FinMap.{get}
+use Rattle.abi_base.specs.declared.grant.Grant.{Grant}
+use Rattle.abi_structures.specs.declared.structures.FdStat.{FdStat}
+use Rattle.abi_types.specs.declared.call.Call.TheVariants.{FdDup, FdReplace, FdStatPut, FileOpen}
+use Rattle.abi_types.specs.declared.call.Lookup.{Lookup}
+use Rattle.abi_types.specs.declared.descriptor.Descriptor.{Descriptor}
+use Rattle.abi_types.specs.declared.open_kind.OpenKind.{OpenKind}
+use Rattle.abi_types.specs.declared.reply.Reply.{Reply}
+use Rattle.run_types.specs.declared.history.Entry.{Entry}
+use Rattle.run_types.specs.declared.launch.Launch.{Launch}
+use Rattle.kernel_model.specs.OpenLaws.{IsOpenOf}
+use Rattle.kernel_model.specs.Start.{granted_descriptor}
+use Rattle.run_model.specs.World.{world}
+use Rattle.authority_laws.specs.Origins.{IsCopied, IsLowered, IsOpened}
+use Rattle.authority_laws.specs.Recorded.{Succeeds, held_after, held_before, ledger, made_at}
+
+-- the launch lists this grant under number k, and the open that it gives at the start is of what the grant is of
+pub record IsGranted (launch : Launch) (k : ℕ) (grant : Grant) : Type 0 where
+  pub listed : slice_get launch.grants k ≡ Some grant
+  pub kind : OpenKind
+  pub opened : get (world launch []).state.opens (granted_descriptor launch.tree k grant).id ≡ Some kind
+  pub of : IsOpenOf launch.tree grant.target kind
+
+-- the entry is an fd_dup or an fd_replace that succeeded, by which a copy of what stands under `from` comes under `to`
+abbrev pub Copies : Entry → ℕ → ℕ → Type 0
+Copies e from to =
+    ((reply : Reply) × Succeeds e (FdDup from) reply × (to ≡ reply.r1)) ⊎ ((reply : Reply) × Succeeds e (FdReplace from to) reply)
+
+-- the entry is an fd_stat_put with RIGHTS (2) that succeeded, which asks that the descriptor under fd keep these rights alone
+pub record Lowers (e : Entry) (fd : ℕ) (stat : FdStat) : Type 0 where
+  pub flags : ℕ
+  pub reply : Reply
+  pub succeeds : Succeeds e (FdStatPut fd stat flags) reply
+  pub rights : bit_and flags 2 ≢ 0
+
+-- the entry is a file_open that succeeded from the descriptor under fd, which asks for these rights, and whose result is `to`
+pub record OpensFrom (e : Entry) (fd to : ℕ) (stat : FdStat) : Type 0 where
+  pub lookup : Lookup
+  pub path : List ℕ
+  pub oflags : ℕ
+  pub reply : Reply
+  pub succeeds : Succeeds e (FileOpen lookup path oflags stat) reply
+  pub from : fd ≡ lookup.fd
+  pub result : to ≡ reply.r1
+
+-- After these entries process p holds d under number n, and it came there so. Each way in which a descriptor may come to a process
+-- has a line; but for the first, the last of the entries is the one by which it came or after which it is still there.
+pub data Traced (launch : Launch) : List Entry → ℕ → ℕ → Descriptor → Type 0 where
+  -- the launch granted it to process 0, under the number of the grant
+  granted : (k : ℕ) (grant : Grant) → IsGranted launch k grant → Traced launch [] 0 k (granted_descriptor launch.tree k grant)
+  -- the process held it before the entry, under the same number, and holds it there still
+  kept : (front : List Entry) (e : Entry) (p n : ℕ) (d : Descriptor) → Traced launch front p n d
+      → (ledger launch (front ++ e ∷ [])).held p n ≡ Some d → Traced launch (front ++ e ∷ []) p n d
+  -- it is a copy of one that the process held before the entry, under whatever number
+  copied : (front : List Entry) (e : Entry) (from to : ℕ) → Copies e from to
+      → (c : IsCopied (held_before launch front e) (held_after launch front e) from to) → Traced launch front e.pid from c.d
+      → Traced launch (front ++ e ∷ []) e.pid to c.d
+  -- it names the open of one that the process held before the entry, under the same number, with exactly those of its rights that
+  -- the entry asks for
+  lowered : (front : List Entry) (e : Entry) (n : ℕ) (stat : FdStat) → Lowers e n stat
+      → (l : IsLowered (held_before launch front e) (held_after launch front e) n stat) → Traced launch front e.pid n l.x
+      → Traced launch (front ++ e ∷ []) e.pid n l.d
+  -- it was opened at the entry, through a descriptor of a directory that the process held before it: it has no right that this
+  -- one does not pass on, and its open is of what is below that directory
+  opened : (front : List Entry) (e : Entry) (fd to : ℕ) (stat : FdStat) → OpensFrom e fd to stat
+      → (o : IsOpened (world launch front).state (world launch (front ++ e ∷ [])).state (made_at launch front e)
+      (held_before launch front e) (held_after launch front e) fd to stat)
+      → Traced launch front e.pid fd o.x → Traced launch (front ++ e ∷ []) e.pid to o.d
+
+-- the number of the grant at the root of a trace
+abbrev pub root : (launch : Launch) (history : List Entry) (p n : ℕ) (d : Descriptor) → Traced launch history p n d → ℕ
+root launch history p n d (granted k grant is) = k
+root launch history p n d (kept front e q m x before here) = root launch front q m x before
+root launch history p n d (copied front e from to copies c before) = root launch front e.pid from c.d before
+root launch history p n d (lowered front e m stat lowers l before) = root launch front e.pid m l.x before
+root launch history p n d (opened front e fd to stat opens o before) = root launch front e.pid fd o.x before
+
+-- each descriptor that the ledger of these entries says is held is traced, whichever process holds it, and under whatever number
+abbrev pub AllTraced : Launch → List Entry → Type 0
+AllTraced launch history = (p n : ℕ) (d : Descriptor) → (ledger launch history).held p n ≡ Some d → Traced launch history p n d
