@@ -45,6 +45,7 @@ pub mod Refusals
 pub mod Reaches
 pub mod Starts
 pub mod OpenLaws
+pub mod OpenTargets
 pub mod OpenConditions
 pub mod FoundOpens
 pub mod FoundPaths

@@ -88,7 +88,7 @@ alike_outcome p new_nodes own (Changes c) b h =
     ∙ ap (outcome_of p own new_nodes) (sym h.1)
 
 -- what holds of a refusal, and of what a change sets where the process can make so many, holds of what such a change comes to
-change_holds : (P : Outcome → Type 0) (p new_nodes : ℕ) (own : Option ProcessState) (c : Change)
+pub change_holds : (P : Outcome → Type 0) (p new_nodes : ℕ) (own : Option ProcessState) (c : Change)
     → (can_number p new_nodes own ≡ false → P (replies (refused Again)))
     → (can_number p new_nodes own ≡ true → P (record { answer = answer.Reply (success 0 0); updates = process_updates p new_nodes own ++ change_updates c }))
     → P (outcome_of p own new_nodes (Changes c))

@@ -1,5 +1,6 @@
 -- States whose file tree is another one.
---     change_of_tree, put_both      updates of a change are of the tree alone;  updates after others
+--     all_of_both, node_of_tree, change_of_tree, put_both      what holds of both lists of updates;  updates of a node and of a change are of
+--         the tree alone;  updates after others
 --     with_tree u S, tree_same      the state S with the tree u;  updates of the tree lead to such a state
 --     put_change      the updates of a change of the state's tree give it the tree that the change leads to
 --     process_nearly_valid      a nearly valid state in which a process has made more is so
@@ -44,11 +45,11 @@ both_unset (u ∷ us) ws q first second =
     let apart = outside_cons (part_of u) (map part_of us) q first in
     ap (λ b. b || has_part (map part_of (us ++ ws)) q) apart.0 ∙ both_unset us ws q apart.1 second
 
-all_of_both : (P : Update → Type 0) (us ws : List Update) → AllByRecursion P us → AllByRecursion P ws → AllByRecursion P (us ++ ws)
+pub all_of_both : (P : Update → Type 0) (us ws : List Update) → AllByRecursion P us → AllByRecursion P ws → AllByRecursion P (us ++ ws)
 all_of_both P [] ws first second = second
 all_of_both P (u ∷ us) ws first second = (first.0, all_of_both P us ws first.1 second)
 
-node_of_tree : (n : ℕ) (o : Option Node) → AllByRecursion IsOfTree (node_update n o)
+pub node_of_tree : (n : ℕ) (o : Option Node) → AllByRecursion IsOfTree (node_update n o)
 node_of_tree n None = tt
 node_of_tree n (Some node) = (tt, tt)
 

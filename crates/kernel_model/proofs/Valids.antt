@@ -57,7 +57,7 @@ emptied_holders tables p o table there =
 
 -- ---- the release
 
-kept_some : {X : Type 0} (b : Bool) (o : Option X) (x : X) → cond b o None ≡ Some x → o ≡ Some x
+pub kept_some : {X : Type 0} (b : Bool) (o : Option X) (x : X) → cond b o None ≡ Some x → o ≡ Some x
 kept_some true o x e = e
 kept_some false o x e = absurd (none_is_no x e)
 

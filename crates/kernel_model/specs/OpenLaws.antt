@@ -1,12 +1,17 @@
--- Which file an open is of: the statements that are the contracts of the functions of src/open_laws.rt.
+-- Which file an open is of, and that it stays so: the statements that are the contracts of the functions of src/open_laws.rt.
 use Rattle.std.specs.Prelude.{◌≡◌, ◌⊎◌, ℕ, true, List, Some, slice_get}
 use Rattle.std.specs.FinMap.{get}
 use Rattle.abi_base.specs.declared.grant.Grant.{Grant}
 use Rattle.abi_base.specs.declared.grant.GrantTarget.{GrantTarget}
 use Rattle.abi_base.specs.declared.grant.GrantTarget.TheVariants as target
+use Rattle.abi_types.specs.declared.call.Call.{Call}
+use Rattle.abi_types.specs.declared.constants.Constants.{Constants}
 use Rattle.abi_types.specs.declared.descriptor.Descriptor.{Descriptor}
 use Rattle.abi_types.specs.declared.open_kind.OpenKind.{OpenKind}
-use Rattle.abi_types.specs.declared.open_kind.OpenKind.TheVariants.{File, Directory, Terminal}
+use Rattle.abi_types.specs.declared.open_kind.OpenKind.TheVariants.{File, Directory, End, Terminal, Process}
+use Rattle.abi_types.specs.declared.reply.Answer.{Answer}
+use Rattle.abi_types.specs.declared.status.Status.{Status}
+use Rattle.abi_types.specs.declared.who.Who.{Who}
 use Rattle.maps.specs.Closure.{member}
 use Rattle.path_lookup.specs.declared.ends.WalkMode.{WalkMode}
 use Rattle.tree_model.specs.Changes.{is_file}
@@ -17,6 +22,8 @@ use Rattle.kernel_model.specs.Families.Opening.{Opened, NotOpened, OpenedOutside
 use Rattle.kernel_model.specs.Families.TreeUpdates.{Change}
 use Rattle.kernel_model.specs.Start.{start_state}
 use Rattle.kernel_model.specs.State.{State, Table, Tree, tree_of}
+use Rattle.kernel_model.specs.Step.{IsStep, end_state}
+use Rattle.kernel_model.specs.Valid.{IsValid}
 
 -- ---- file_open
 
@@ -65,3 +72,29 @@ abbrev pub GrantsAreHeld : Type 0
 GrantsAreHeld =
     (tree : Tree) (grants : List Grant) (stdin : List ℕ) (k : ℕ) (grant : Grant) → MayBegin tree grants → slice_get grants k ≡ Some grant
     → IsHeldAs (start_state tree grants stdin) k grant
+
+-- ---- what an open is of
+
+-- both opens are of the same file, the same directory, the same standard stream, the same channels or the same process, whatever
+-- their offsets and their flags
+abbrev pub IsOfSame : OpenKind → OpenKind → Type 0
+IsOfSame (File n offset flags) (File m other_offset other_flags) = n ≡ m
+IsOfSame (Directory n flags) (Directory m other_flags) = n ≡ m
+IsOfSame (End reads writes flags) (End other_reads other_writes other_flags) = (reads ≡ other_reads) × (writes ≡ other_writes)
+IsOfSame (Terminal which flags) (Terminal other other_flags) = which ≡ other
+IsOfSame (Process p) (Process q) = p ≡ q
+IsOfSame _ _ = ⊥
+
+-- each open that is there in both states is of the same in both
+abbrev pub OpensStay : State → State → Type 0
+OpensStay S T = (o : ℕ) (before after : OpenKind) → get S.opens o ≡ Some before → get T.opens o ≡ Some after → IsOfSame before after
+
+-- An open that is there before and after a call is after it of what it was of before.
+abbrev pub OpensStayOfWhatTheyAre : Type 0
+OpensStayOfWhatTheyAre =
+    (constants : Constants) (S : State) (who : Who) (call : Call) (given : Answer) (T : State) → IsValid S → IsStep constants S who call given T
+    → OpensStay S T
+
+-- So it is where a process ends from outside.
+abbrev pub EndsKeepOpens : Type 0
+EndsKeepOpens = (S : State) (p : ℕ) (status : Status) → OpensStay S (end_state S p status)

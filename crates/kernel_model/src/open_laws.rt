@@ -1,6 +1,6 @@
-//! Laws of where opens lead. The statements are in `specs/OpenLaws.antt` and `specs/OpenConditions.antt`.
+//! Laws of where opens lead and of what they are. The statements are in `specs/OpenLaws.antt` and `specs/OpenConditions.antt`.
 ghost use Rattle.kernel_model.specs.OpenConditions.{OpenIsListed};
-ghost use Rattle.kernel_model.specs.OpenLaws.{GrantsAreHeld, OpensLeadBelow};
+ghost use Rattle.kernel_model.specs.OpenLaws.{EndsKeepOpens, GrantsAreHeld, OpensLeadBelow, OpensStayOfWhatTheyAre};
 
 /// What `file_open` opens is below the directory where its path begins, or is the new file, which is made there. What a launch
 /// grants is the stream or the node that the grant is of, with its rights, under its number.
@@ -13,4 +13,11 @@ pub fn opens_lead_below()
 /// listed.
 pub fn open_is_listed()
     ensures { OpenIsListed }
+{}
+
+/// An open stays of what it is of: one that is there before and after a call, or the end of a process from outside, is after it of
+/// the same file, directory, standard stream, channels or process as before. Only its offset and its flags may be others.
+pub fn opens_stay_of_what_they_are()
+    ensures step { OpensStayOfWhatTheyAre }
+    ensures end { EndsKeepOpens }
 {}
