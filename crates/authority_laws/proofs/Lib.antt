@@ -10,4 +10,5 @@ pub mod Copies
 pub mod Leads
 pub mod Bounds
 pub mod Traces
+pub mod OpenTargets
 pub mod Records

@@ -20,6 +20,7 @@ use Rattle.authority_laws.specs.Traces.{Traced}
 use Rattle.authority_laws.proofs.Bounds.{opens_are_bounded}
 use Rattle.authority_laws.proofs.Copies.{duplicates_are_equal, replacements_are_equal, rights_are_lowered}
 use Rattle.authority_laws.proofs.Histories.{ledger_reports, rights_never_grow}
+use Rattle.authority_laws.proofs.OpenTargets.{opens_stay}
 use Rattle.authority_laws.proofs.Traces.{held_is_traced}
 
 -- a table's descriptor is there by the ledger
@@ -71,6 +72,7 @@ recorded_entry launch front e rest legal begins = record {
   replaced = replacements_are_equal launch front e rest legal;
   lowered = rights_are_lowered launch front e rest legal;
   opened = opens_are_bounded launch front e rest begins legal;
+  stay = opens_stay launch front e rest begins legal;
   never_grows = rights_never_grow launch front e rest begins legal;
 }
 

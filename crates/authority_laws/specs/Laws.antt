@@ -15,6 +15,7 @@ use Rattle.run_types.specs.declared.history.Entry.{Entry}
 use Rattle.run_types.specs.declared.launch.Launch.{Launch}
 use Rattle.kernel_model.specs.Calls.{named, need}
 use Rattle.kernel_model.specs.Need.{has_needed}
+use Rattle.kernel_model.specs.OpenLaws.{OpensStay}
 use Rattle.kernel_model.specs.Proper.{IsIn}
 use Rattle.kernel_model.specs.Sight.{process_parts, behind}
 use Rattle.kernel_model.specs.State.{State, Table, Part, at_open, has_part}
@@ -120,6 +121,17 @@ OpensAreBounded =
     (launch : Launch) (front : List Entry) (e : Entry) (rest : List Entry) → MayBegin launch.tree launch.grants → Legal launch (front ++ e ∷ rest)
     → OpensAt launch front e
 
+-- Each open that is there before and after an entry is after it of the file, the directory, the stream, the channels or the process
+-- that it was of before it.
+abbrev pub OpensStayAt : Launch → List Entry → Entry → Type 0
+OpensStayAt launch front e = OpensStay (world launch front).state (world launch (front ++ e ∷ [])).state
+
+-- So it is at each entry of a legal history.
+abbrev pub OpensStayOfWhatTheyAre : Type 0
+OpensStayOfWhatTheyAre =
+    (launch : Launch) (front : List Entry) (e : Entry) (rest : List Entry) → MayBegin launch.tree launch.grants → Legal launch (front ++ e ∷ rest)
+    → OpensStayAt launch front e
+
 -- Each descriptor that the ledger of a legal history says is held is traced to one of the launch's grants.
 abbrev pub HeldIsTraced : Type 0
 HeldIsTraced = (launch : Launch) (history : List Entry) → MayBegin launch.tree launch.grants → Legal launch history → AllTraced launch history
@@ -187,13 +199,14 @@ pub record IsRecordedAt (launch : Launch) (front : List Entry) : Type 0 where
   pub traced : AllTraced launch front
   pub sees : SeesByHeld launch front
 
--- at this entry copies are equal, rights are lowered to those asked, what is opened is bounded, and no right comes that was neither
--- held nor passed on
+-- at this entry copies are equal, rights are lowered to those asked, what is opened is bounded, each open stays of what it was of, and
+-- no right comes that was neither held nor passed on
 pub record IsRecordedEntry (launch : Launch) (front : List Entry) (e : Entry) : Type 0 where
   pub duplicated : DuplicatesAt launch front e
   pub replaced : ReplacesAt launch front e
   pub lowered : LowersAt launch front e
   pub opened : OpensAt launch front e
+  pub stay : OpensStayAt launch front e
   pub never_grows : ComesFrom (made_at launch front e) (ledger launch front) (ledger launch (front ++ e ∷ []))
 
 -- so it is at each point of the history, and at each entry

@@ -1,5 +1,5 @@
 //! Laws of the ledger. The statements are in `specs/Laws.antt`, and each holds of every launch and history.
-ghost use Rattle.authority_laws.specs.Laws.{LedgerBegins, LedgerGoesOn, LedgerReports, RightsNeverGrow, EntryChangesOne, DuplicatesAreEqual, ReplacementsAreEqual, RightsAreLowered, OpensAreBounded, HeldIsTraced, TracedIsHeld, TracedIsWithinGrant, TablesAreRecorded, SightIsRecorded, LegalIsRecorded};
+ghost use Rattle.authority_laws.specs.Laws.{LedgerBegins, LedgerGoesOn, LedgerReports, RightsNeverGrow, EntryChangesOne, DuplicatesAreEqual, ReplacementsAreEqual, RightsAreLowered, OpensAreBounded, OpensStayOfWhatTheyAre, HeldIsTraced, TracedIsHeld, TracedIsWithinGrant, TablesAreRecorded, SightIsRecorded, LegalIsRecorded};
 
 /// The ledger of no entry is the launch's, and that of one more entry is the ledger before it with the entry noted.
 pub fn ledger_goes_on()
@@ -50,6 +50,12 @@ pub fn opens_are_bounded()
     ensures { OpensAreBounded }
 {}
 
+/// At each entry of a legal history an open that is there before and after it is after it of the same file, directory, standard
+/// stream, channels or process as before.
+pub fn opens_stay_of_what_they_are()
+    ensures { OpensStayOfWhatTheyAre }
+{}
+
 /// Each descriptor that the ledger of a legal history says is held was granted by the launch, or copied, lowered or opened
 /// through a directory's descriptor which the process held at that entry and which is traced itself, with no right that this
 /// one does not pass on, and of what is below that directory. What is traced is held, and has no right but those that its
@@ -69,8 +75,8 @@ pub fn sight_is_recorded()
 {}
 
 /// At each point of a legal history of a launch with proper grants the ledger says who holds what, all that is held is traced,
-/// and calls see by what is held. At each entry copies are equal, rights are lowered to those asked, opens are bounded, and
-/// rights never grow.
+/// and calls see by what is held. At each entry copies are equal, rights are lowered to those asked, opens are bounded, each open
+/// stays of what it is of, and rights never grow.
 pub fn legal_is_recorded()
     ensures { LegalIsRecorded }
 {}
