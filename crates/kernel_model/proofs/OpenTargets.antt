@@ -1,5 +1,6 @@
 -- An open stays of what it is of.
---     of_same_itself, opens_stay_here      an open is of the same as itself, and no open of a state becomes another there
+--     of_same_itself, of_same_through, opens_stay_here      an open is of the same as itself, and as what one of the same is of the same as;
+--         so each open of a state is of the same there
 --     AllKeep, all_kept      updates after which each open that the state has is of what it was of
 --     keeps      each call has such updates
 --     opens_stay, ends_keep_opens      so opens stay in a step, and where a process ends from outside
@@ -63,7 +64,7 @@ use Rattle.kernel_model.proofs.Valids.{get_released, kept_some, same_value, tick
 
 -- ---- opens of the same
 
-of_same_itself : (kind : OpenKind) → IsOfSame kind kind
+pub of_same_itself : (kind : OpenKind) → IsOfSame kind kind
 of_same_itself (File node offset flags) = refl
 of_same_itself (Directory node flags) = refl
 of_same_itself (End reads writes flags) = (refl, refl)
@@ -76,6 +77,17 @@ of_same_with_flags (Directory node flags) new = refl
 of_same_with_flags (End reads writes flags) new = (refl, refl)
 of_same_with_flags (Terminal which flags) new = refl
 of_same_with_flags (Process p) new = refl
+
+-- what is of the same as one of the same is so itself
+pub of_same_through : (a b c : OpenKind) → IsOfSame a b → IsOfSame b c → IsOfSame a c
+of_same_through (File n offset flags) (File m other_offset other_flags) c h i = subst (λ (k : ℕ). IsOfSame (File k offset flags) c) (sym h) i
+of_same_through (Directory n flags) (Directory m other_flags) c h i = subst (λ (k : ℕ). IsOfSame (Directory k flags) c) (sym h) i
+of_same_through (End reads writes flags) (End other_reads other_writes other_flags) c h i =
+    subst (λ (r : Option ℕ). IsOfSame (End r writes flags) c) (sym h.0)
+    (subst (λ (w : Option ℕ). IsOfSame (End other_reads w flags) c) (sym h.1) i)
+of_same_through (Terminal which flags) (Terminal other other_flags) c h i = subst (λ (k : ℕ). IsOfSame (Terminal k flags) c) (sym h) i
+of_same_through (Process p) (Process q) c h i = subst (λ (k : ℕ). IsOfSame (Process k) c) (sym h) i
+of_same_through a b c h i = absurd h
 
 pub opens_stay_here : (S : State) → OpensStay S S
 opens_stay_here S o before after there now = subst (IsOfSame before) (same_value before after (get S.opens o) there now) (of_same_itself before)
