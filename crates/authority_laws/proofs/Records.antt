@@ -20,7 +20,7 @@ use Rattle.authority_laws.specs.Traces.{Traced}
 use Rattle.authority_laws.proofs.Bounds.{opens_are_bounded}
 use Rattle.authority_laws.proofs.Copies.{duplicates_are_equal, replacements_are_equal, rights_are_lowered}
 use Rattle.authority_laws.proofs.Histories.{ledger_reports, rights_never_grow}
-use Rattle.authority_laws.proofs.OpenTargets.{opens_stay}
+use Rattle.authority_laws.proofs.OpenTargets.{opens_stay, traced_stays}
 use Rattle.authority_laws.proofs.Traces.{held_is_traced}
 
 -- a table's descriptor is there by the ledger
@@ -62,6 +62,7 @@ recorded_at : (launch : Launch) (front : List Entry) → Legal launch front → 
 recorded_at launch front legal begins = record {
   reports = ledger_reports launch front begins legal;
   traced = held_is_traced launch front begins legal;
+  stay = traced_stays launch front begins legal;
   sees = sight_is_recorded launch front begins legal;
 }
 

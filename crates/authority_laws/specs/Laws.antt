@@ -25,7 +25,7 @@ use Rattle.run_model.specs.World.{world}
 use Rattle.authority_laws.specs.Ledger.{Ledger, launch_ledger}
 use Rattle.authority_laws.specs.Origins.{Change, ComesFrom, ComesFromGrant, IsCopied, IsLowered, IsOpened}
 use Rattle.authority_laws.specs.Recorded.{Succeeds, held_after, held_before, ledger, made_at, noted}
-use Rattle.authority_laws.specs.Traces.{AllTraced, Traced, root}
+use Rattle.authority_laws.specs.Traces.{AllStay, AllTraced, Traced, root}
 
 -- ---- the ledger of one more entry
 
@@ -136,6 +136,10 @@ OpensStayOfWhatTheyAre =
 abbrev pub HeldIsTraced : Type 0
 HeldIsTraced = (launch : Launch) (history : List Entry) → MayBegin launch.tree launch.grants → Legal launch history → AllTraced launch history
 
+-- The open of each traced descriptor is of what it was of when the launch granted it or an entry opened it.
+abbrev pub TracedStays : Type 0
+TracedStays = (launch : Launch) (history : List Entry) → MayBegin launch.tree launch.grants → Legal launch history → AllStay launch history
+
 -- What is traced is held.
 abbrev pub TracedIsHeld : Type 0
 TracedIsHeld =
@@ -192,11 +196,12 @@ SightIsRecorded = (launch : Launch) (history : List Entry) → MayBegin launch.t
 
 -- ---- all of it, at each point and at each entry of a history
 
--- after these entries the ledger says who holds what, all that is held is traced to one of the launch's grants, and what a call
--- may read is reached by it
+-- after these entries the ledger says who holds what, all that is held is traced to one of the launch's grants, its open is of what it
+-- was of when it came, and what a call may read is reached by it
 pub record IsRecordedAt (launch : Launch) (front : List Entry) : Type 0 where
   pub reports : Reports (world launch front).state (ledger launch front)
   pub traced : AllTraced launch front
+  pub stay : AllStay launch front
   pub sees : SeesByHeld launch front
 
 -- at this entry copies are equal, rights are lowered to those asked, what is opened is bounded, each open stays of what it was of, and

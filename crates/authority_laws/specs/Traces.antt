@@ -10,8 +10,9 @@ use Rattle.abi_types.specs.declared.open_kind.OpenKind.{OpenKind}
 use Rattle.abi_types.specs.declared.reply.Reply.{Reply}
 use Rattle.run_types.specs.declared.history.Entry.{Entry}
 use Rattle.run_types.specs.declared.launch.Launch.{Launch}
-use Rattle.kernel_model.specs.OpenLaws.{IsOpenOf}
+use Rattle.kernel_model.specs.OpenLaws.{IsOfSame, IsOpenOf}
 use Rattle.kernel_model.specs.Start.{granted_descriptor}
+use Rattle.kernel_model.specs.State.{State}
 use Rattle.run_model.specs.World.{world}
 use Rattle.authority_laws.specs.Origins.{IsCopied, IsLowered, IsOpened}
 use Rattle.authority_laws.specs.Recorded.{Succeeds, held_after, held_before, ledger, made_at}
@@ -76,6 +77,24 @@ root launch history p n d (kept front e q m x before here) = root launch front q
 root launch history p n d (copied front e from to copies c before) = root launch front e.pid from c.d before
 root launch history p n d (lowered front e m stat lowers l before) = root launch front e.pid m l.x before
 root launch history p n d (opened front e fd to stat opens o before) = root launch front e.pid fd o.x before
+
+-- the open that a traced descriptor names as it was when it came: as the launch granted it, or as the last entry on the way opened it
+abbrev pub first_open : (launch : Launch) (history : List Entry) (p n : ℕ) (d : Descriptor) → Traced launch history p n d → OpenKind
+first_open launch history p n d (granted k grant is) = is.kind
+first_open launch history p n d (kept front e q m x before here) = first_open launch front q m x before
+first_open launch history p n d (copied front e from to copies c before) = first_open launch front e.pid from c.d before
+first_open launch history p n d (lowered front e m stat lowers l before) = first_open launch front e.pid m l.x before
+first_open launch history p n d (opened front e fd to stat opens o before) = o.kind
+
+-- the open of this number is there, and is of what this open is of
+abbrev pub IsStillOf : State → ℕ → OpenKind → Type 0
+IsStillOf S o first = (now : OpenKind) × (get S.opens o ≡ Some now) × IsOfSame first now
+
+-- The open of each traced descriptor is there after these entries, and is of what it was of when it came: where the launch granted it
+-- or where an entry opened it.
+abbrev pub AllStay : Launch → List Entry → Type 0
+AllStay launch history =
+    (p n : ℕ) (d : Descriptor) (trace : Traced launch history p n d) → IsStillOf (world launch history).state d.id (first_open launch history p n d trace)
 
 -- each descriptor that the ledger of these entries says is held is traced, whichever process holds it, and under whatever number
 abbrev pub AllTraced : Launch → List Entry → Type 0

@@ -1,5 +1,5 @@
 //! Laws of the ledger. The statements are in `specs/Laws.antt`, and each holds of every launch and history.
-ghost use Rattle.authority_laws.specs.Laws.{LedgerBegins, LedgerGoesOn, LedgerReports, RightsNeverGrow, EntryChangesOne, DuplicatesAreEqual, ReplacementsAreEqual, RightsAreLowered, OpensAreBounded, OpensStayOfWhatTheyAre, HeldIsTraced, TracedIsHeld, TracedIsWithinGrant, TablesAreRecorded, SightIsRecorded, LegalIsRecorded};
+ghost use Rattle.authority_laws.specs.Laws.{LedgerBegins, LedgerGoesOn, LedgerReports, RightsNeverGrow, EntryChangesOne, DuplicatesAreEqual, ReplacementsAreEqual, RightsAreLowered, OpensAreBounded, OpensStayOfWhatTheyAre, HeldIsTraced, TracedStays, TracedIsHeld, TracedIsWithinGrant, TablesAreRecorded, SightIsRecorded, LegalIsRecorded};
 
 /// The ledger of no entry is the launch's, and that of one more entry is the ledger before it with the entry noted.
 pub fn ledger_goes_on()
@@ -51,9 +51,11 @@ pub fn opens_are_bounded()
 {}
 
 /// At each entry of a legal history an open that is there before and after it is after it of the same file, directory, standard
-/// stream, channels or process as before.
+/// stream, channels or process as before. So the open of each traced descriptor is of what it was of when the launch granted it or
+/// an entry opened it.
 pub fn opens_stay_of_what_they_are()
-    ensures { OpensStayOfWhatTheyAre }
+    ensures entries { OpensStayOfWhatTheyAre }
+    ensures traced { TracedStays }
 {}
 
 /// Each descriptor that the ledger of a legal history says is held was granted by the launch, or copied, lowered or opened
@@ -75,8 +77,8 @@ pub fn sight_is_recorded()
 {}
 
 /// At each point of a legal history of a launch with proper grants the ledger says who holds what, all that is held is traced,
-/// and calls see by what is held. At each entry copies are equal, rights are lowered to those asked, opens are bounded, each open
-/// stays of what it is of, and rights never grow.
+/// its open is of what it was of when it came, and calls see by what is held. At each entry copies are equal, rights are lowered
+/// to those asked, opens are bounded, each open stays of what it is of, and rights never grow.
 pub fn legal_is_recorded()
     ensures { LegalIsRecorded }
 {}
