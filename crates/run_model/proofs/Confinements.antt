@@ -1,11 +1,11 @@
 -- Each entry of a legal history is confined.
-use Rattle.std.proofs.Common.{◌≡◌, ◌≢◌, inl, inr, ℕ, true, List, ◌∷◌, ◌++◌, IsSome, refl, sym, ap, subst, ◌∙◌}
+use Rattle.std.proofs.Common.{◌≡◌, inl, inr, ℕ, true, List, ◌∷◌, ◌++◌, refl, sym, ap, subst, ◌∙◌}
 use Rattle.abi_types.specs.declared.reply.Answer.{Answer}
 use Rattle.abi_types.specs.declared.reply.Answer.TheVariants as answer
 use Rattle.abi_types.specs.declared.call.Call.{Call}
 use Rattle.abi_types.specs.declared.reply.Reply.{Reply}
 use Rattle.abi_types.specs.declared.constants.Constants.{Constants}
-use Rattle.abi_base.specs.declared.errno.Errno.TheVariants.{Nomem, Notcapable}
+use Rattle.abi_base.specs.declared.errno.Errno.TheVariants.{Nomem}
 use Rattle.abi_base.specs.declared.signal.Signal.TheVariants.{Xcpu}
 use Rattle.abi_types.specs.declared.status.Status.TheVariants.{Killed}
 use Rattle.abi_types.specs.declared.who.Who.{Who}
@@ -15,15 +15,15 @@ use Rattle.run_types.specs.declared.history.Entry.{Entry}
 use Rattle.run_types.specs.declared.launch.Launch.{Launch}
 use Rattle.kernel_model.specs.Calls.{takes_memory}
 use Rattle.kernel_model.specs.Laws.{HasSameSight, EndsAlike, IsNotDeniedEarly}
-use Rattle.kernel_model.specs.Outcome.{Outcome}
+use Rattle.kernel_model.specs.Outcome.{Outcome, IsSuccess}
 use Rattle.kernel_model.specs.Reply.{refused}
 use Rattle.tree_model.specs.Grants.{MayBegin}
 use Rattle.kernel_model.specs.State.{State, AgreeOn}
 use Rattle.kernel_model.specs.Step.{tick, sight, unreleased, step_answer, step_state, failed, IsStep}
 use Rattle.kernel_model.specs.Valid.{IsValid}
 use Rattle.kernel_model.proofs.Calls.{proper}
-use Rattle.kernel_model.proofs.Decisions.{sight_decides, step_decided, ticks_alike, same_refusal}
-use Rattle.kernel_model.proofs.Refusals.{lack_is_denied, notcapable_is_denied, replies_are_listed, reply_no_lack, error_keeps, same_reply, step_denial}
+use Rattle.kernel_model.proofs.Decisions.{sight_decides, step_decided, ticks_alike}
+use Rattle.kernel_model.proofs.Refusals.{lack_is_denied, leaving_is_denied, replies_are_listed, reply_no_lack, error_keeps, step_denial, step_reported}
 use Rattle.kernel_model.proofs.Touches as touches
 use Rattle.run_model.specs.Confined.{MayAnswer, CallIsConfined, ActIsConfined, EntryIsConfined, IsConfined}
 use Rattle.run_model.specs.Legal.{FitsAct, Fits, Legal}
@@ -36,8 +36,14 @@ call_answers : (constants : Constants) (S : State) (who : Who) (call : Call) (gi
     → HasSameSight S U who call → MayAnswer constants U who call given
 call_answers constants S who call given T U (inl done) same =
     (step_state constants U who call, inl (done.0 ∙ ap (λ (o : Outcome). o.answer) (sight_decides constants S U who call same), refl))
-call_answers constants S who call given T U (inr lacking) same =
-    (failed U who, inr ((lacking.0.0, sym (same_refusal S U who call same) ∙ lacking.0.1), lacking.1, refl))
+call_answers constants S who call given T U (inr lacking) same = (
+  failed U who,
+  inr (
+    (lacking.0.0, subst (λ (o : Outcome). IsSuccess o.answer) (sight_decides constants S U who call same) lacking.0.1),
+    lacking.1,
+    refl,
+  ),
+)
 
 -- the answer of a call that takes memory is none of lack of memory
 answer_is_other : (constants : Constants) (S : State) (who : Who) (call : Call) (given : Answer) → takes_memory call ≡ true
@@ -59,16 +65,6 @@ call_leaves constants S who call given T U V (inr lacking) same ends (inr more) 
     subst (λ X. AgreeOn X V (sight S who call)) (sym lacking.2)
     (subst (λ X. AgreeOn (tick S) X (sight S who call)) (sym more.2) (ticks_alike S U (sight S who call) same.1))
 
-nomem_is_other : Nomem ≢ Notcapable
-nomem_is_other e = cc
-
-call_reported : (constants : Constants) (S : State) (who : Who) (call : Call) (given : Answer) (T : State) (reply : Reply) → IsNotDeniedEarly call
-    → IsStep constants S who call given T → given ≡ answer.Reply reply → reply.errno ≡ Notcapable → IsSome reply.denial
-call_reported constants S who call given T reply plain (inl done) is lacks =
-    notcapable_is_denied constants S who call reply plain (sym done.0 ∙ is) lacks
-call_reported constants S who call given T reply plain (inr lacking) is lacks =
-    absurd (nomem_is_other (ap (λ (r : Reply). r.errno) (same_reply (refused Nomem) reply (sym lacking.1 ∙ is)) ∙ lacks))
-
 -- a step is confined
 pub call_confined : (constants : Constants) (S : State) (who : Who) (call : Call) (given : Answer) (T : State) → IsValid S → IsNotDeniedEarly call
     → IsStep constants S who call given T → CallIsConfined constants S who call given T
@@ -79,7 +75,8 @@ call_confined constants S who call given T valid plain step = record {
   changes = λ part outside. touches.others_stay constants S who call given T part step outside;
   lacking = λ table row d own all first. lack_is_denied constants S who call given T table row d step own all first;
   only = λ reply denial is denies. step_denial constants S who call given T reply denial step is denies;
-  reported = λ reply is lacks. call_reported constants S who call given T reply plain step is lacks;
+  leaving = λ component leads. leaving_is_denied constants S who call given T component step leads;
+  reported = λ reply is lacks. step_reported constants S who call given T reply plain step is lacks;
   listed = λ reply is. replies_are_listed constants S who call reply T (subst (λ a. IsStep constants S who call a T) is step);
   error = λ reply is other. error_keeps constants S who call reply T (subst (λ a. IsStep constants S who call a T) is step) valid other;
 }
