@@ -207,7 +207,7 @@ pub enum Call {
         fd: u32,
         offset: u64,
     },
-    /// mem_advise, mem_protect, mem_sync or mem_unmap, and what it answers by the caller's memory.
+    /// mem_advise, mem_protect, mem_sync or mem_unmap, and what it answers by its arguments and the caller's memory.
     Memory {
         number: CallNumber,
         errno: Errno,

@@ -69,7 +69,7 @@ recorded_at launch front legal begins = record {
 recorded_entry : (launch : Launch) (front : List Entry) (e : Entry) (rest : List Entry) → Legal launch (front ++ e ∷ rest)
     → MayBegin launch.tree launch.grants → IsRecordedEntry launch front e
 recorded_entry launch front e rest legal begins = record {
-  duplicated = duplicates_are_equal launch front e rest legal;
+  copied = duplicates_are_equal launch front e rest legal;
   replaced = replacements_are_equal launch front e rest legal;
   lowered = rights_are_lowered launch front e rest legal;
   opened = opens_are_bounded launch front e rest begins legal;

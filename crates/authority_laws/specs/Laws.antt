@@ -207,7 +207,7 @@ pub record IsRecordedAt (launch : Launch) (front : List Entry) : Type 0 where
 -- at this entry copies are equal, rights are lowered to those asked, what is opened is bounded, each open stays of what it was of, and
 -- no right comes that was neither held nor passed on
 pub record IsRecordedEntry (launch : Launch) (front : List Entry) (e : Entry) : Type 0 where
-  pub duplicated : DuplicatesAt launch front e
+  pub copied : DuplicatesAt launch front e
   pub replaced : ReplacesAt launch front e
   pub lowered : LowersAt launch front e
   pub opened : OpensAt launch front e

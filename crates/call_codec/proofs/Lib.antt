@@ -11,3 +11,4 @@ pub mod SoundStarts
 pub mod Starts
 pub mod Listed
 pub mod StartBlocks
+pub mod Settings

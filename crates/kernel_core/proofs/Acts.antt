@@ -1,18 +1,21 @@
 -- What a call does, by the table of its process.
-use Rattle.std.proofs.Common.{◌≡◌, [], Option, None, Some, inl, refl, sym, ap, ◌∙◌}
+use Rattle.std.proofs.Common.{◌≡◌, true, [], Option, None, Some, inl, inr, refl, sym, ap, subst, ◌∙◌}
 use Rattle.std.specs.FinMap.{get}
+use Rattle.abi_base.specs.declared.errno.Errno.TheVariants.{Nomem}
 use Rattle.abi_types.specs.declared.reply.Answer.{Answer}
+use Rattle.abi_types.specs.declared.reply.Answer.TheVariants as answer
 use Rattle.abi_types.specs.declared.call.Call.{Call}
 use Rattle.abi_types.specs.declared.reply.Reply.{Reply}
 use Rattle.abi_types.specs.declared.constants.Constants.{Constants}
 use Rattle.abi_types.specs.declared.descriptor.Descriptor.{Descriptor}
 use Rattle.abi_types.specs.declared.open_kind.OpenKind.{OpenKind}
 use Rattle.abi_types.specs.declared.who.Who.{Who}
-use Rattle.kernel_model.specs.Calls.{meaning_of, refusal}
-use Rattle.kernel_model.specs.Outcome.{Outcome, replies}
+use Rattle.kernel_model.specs.Calls.{meaning_of, refusal, takes_memory}
+use Rattle.kernel_model.specs.Outcome.{Outcome, IsSuccess, replies}
 use Rattle.kernel_model.specs.Release.{release}
+use Rattle.kernel_model.specs.Reply.{refused}
 use Rattle.kernel_model.specs.State.{State, Table, put_all}
-use Rattle.kernel_model.specs.Step.{IsStep, outcome_by, outcome_on, outcome, tick, unless}
+use Rattle.kernel_model.specs.Step.{failed, IsStep, outcome_by, outcome_on, outcome, tick, unless}
 use Rattle.kernel_model.specs.Families.DescriptorCalls.{stat_get, stat_open}
 use Rattle.kernel_model.specs.View.{View, whole}
 use Rattle.kernel_model.proofs.Outcomes.{outcome_reads}
@@ -55,3 +58,10 @@ done_is_step constants S U who call given answered left =
       answered ∙ ap (λ (o : Outcome). o.answer) (sym same),
       left ∙ ap (λ (o : Outcome). release (put_all o.updates (tick S))) (sym same),
     )
+
+-- a call that takes memory and would else succeed, but answers that memory ran out, is one too
+pub lack_is_step : (constants : Constants) (S U : State) (who : Who) (call : Call) (given : Answer) → takes_memory call ≡ true
+    → IsSuccess (outcome_by constants (whole (tick S)) who call).answer → given ≡ answer.Reply (refused Nomem) → U ≡ failed S who
+    → IsStep constants S who call given U
+lack_is_step constants S U who call given takes succeeds answered left =
+    inr ((takes, subst (λ (o : Outcome). IsSuccess o.answer) (sym (outcome_reads constants S who call)) succeeds), answered, left)

@@ -1,8 +1,8 @@
 -- Calls that move the open of a descriptor: what their meanings come to by the table, and the state after them.
 --     offset_does      a call means what its outcome is;  offset_takes_memory      memory may run out in it
 --     lacking_answers      without a descriptor or an open it answers BADF, and leaves the state
---     stream_is, stream_valid, stream_answers      on a standard stream;  the state after it is valid, and that of its outcome
---     offset_is, offset_keeps      on any other open: it moves the open and changes the file tree;  it keeps what stands behind the open
+--     stream_is, stream_outcome_is, stream_answers      on a standard stream;  the state after it is that of its outcome
+--     offset_is, offset_outcome_is, offset_keeps      on any other open: it moves the open and changes the file tree;  it keeps what stands behind the open
 --     offset_valid, offset_answers      the state after it is valid, and that of its outcome, of which nothing is released
 use Rattle.std.proofs.Common.{◌≡◌, ◌≢◌, ◌<◌, ℕ, ◌+◌, ◌==◌, ◌&&◌, Bool, true, false, cond, List, [], ◌∷◌, ◌++◌, Option, None, Some, IsSome, refl, sym, ap, subst, ◌∙◌}
 use Rattle.std.specs.Ordering.{nat_cmp}
@@ -135,6 +135,12 @@ stream_is (call.FdSeek n offset whence) fd now S o which flags is = refl
 stream_is (call.FdWrite n bytes) fd now S o which flags is = refl
 stream_is other fd now S o which flags is = absurd (none_is_no fd is)
 
+-- so the call comes to that on the open of such a descriptor
+pub stream_outcome_is : (constants : Constants) (S : State) (table : Table) (fd : ℕ) (called : Call) (d : Descriptor) (which flags : ℕ) → offset_fd called ≡ Some fd
+    → get table fd ≡ Some d → get S.opens d.id ≡ Some (Terminal which flags) → offset_outcome constants S table fd called ≡ stream_outcome called which (get S.terms which)
+stream_outcome_is constants S table fd called d which flags is named there =
+    at_open constants S table fd called d (Some (Terminal which flags)) named there ∙ stream_is called fd (real_time constants S.clock) S d.id which flags is
+
 -- the state with other streams
 abbrev pub with_terms : State → FinMap nat_cmp Stream → State
 with_terms S terms = record S { terms = terms }
@@ -154,8 +160,7 @@ module _ (constants : Constants) (S : State) (table : Table) (fd : ℕ) (called 
       → terms ≡ terms_after (stream_outcome called which (get S.terms which)).updates S.terms → IsOffsetStep constants S table fd called given (with_terms S terms)
   stream_answers given answered left =
       step_of constants S (with_terms S terms) table fd called given (stream_outcome called which (get S.terms which))
-      (at_open constants S table fd called d (Some (Terminal which flags)) named there ∙ stream_is called fd (real_time constants S.clock) S d.id which flags is)
-      answered
+      (stream_outcome_is constants S table fd called d which flags is named there) answered
       (sym (release_valid (with_terms S terms) (written_valid S terms stays valid))
       ∙ ap release (ap (with_terms S) left ∙ sym (stream_puts called S which (get S.terms which))))
 
@@ -179,6 +184,13 @@ offset_is (call.FdWrite n bytes) fd now S o (End reads writes flags) is unlike =
 offset_is (call.FdWrite n bytes) fd now S o (Terminal which flags) is unlike = absurd (unlike which flags refl)
 offset_is (call.FdWrite n bytes) fd now S o (Process p) is unlike = refl
 offset_is other fd now S o kind is unlike = absurd (none_is_no fd is)
+
+-- so the call comes to that on the open of such a descriptor
+pub offset_outcome_is : (constants : Constants) (S : State) (table : Table) (fd : ℕ) (called : Call) (d : Descriptor) (kind : OpenKind) → offset_fd called ≡ Some fd
+    → get table fd ≡ Some d → get S.opens d.id ≡ Some kind → IsNoStream kind
+    → offset_outcome constants S table fd called ≡ with_offset d.id (offset_outcome_of (real_time constants S.clock) (tree_of S) called kind)
+offset_outcome_is constants S table fd called d kind is named there unlike =
+    at_open constants S table fd called d (Some kind) named there ∙ offset_is called fd (real_time constants S.clock) S d.id kind is unlike
 
 -- it sets the file tree alone beside the open, and the open stays one of the same node
 record Keeps (kind : OpenKind) (m : OffsetOutcome) : Type 0 where

@@ -3,6 +3,7 @@ ghost use Rattle.std.specs.Prelude.{◌≡◌, Some, IsSome, IfOk, OnErr};
 ghost use Rattle.std.specs.FinMap as map;
 ghost use Rattle.abi_types.specs.declared.reply.Answer.TheVariants as answer;
 ghost use Rattle.kernel_model.specs.Families.DescriptorCalls.{stat_get, stat_of, flags_of};
+ghost use Rattle.kernel_model.specs.Outcome.{IsSuccess};
 ghost use Rattle.kernel_model.specs.Release.{release};
 ghost use Rattle.kernel_model.specs.State.{put_all, Table};
 ghost use Rattle.kernel_model.specs.View.{whole};
@@ -66,7 +67,8 @@ impl Kernel {
         ensures ok { IfOk result (λ given. (table : Table) → map.get self.old.tables pid ≡ Some table →
             (given ≡ (change_outcome pid self.old.opens table change).answer)
             × (self.new ≡ release (put_all (change_outcome pid self.old.opens table change).updates self.old))) }
-        ensures only { OnErr result (IsDup change) }
+        ensures takes { OnErr result (IsDup change) }
+        ensures only { OnErr result ((table : Table) → map.get self.old.tables pid ≡ Some table → IsSuccess (change_outcome pid self.old.opens table change).answer) }
         ensures err { OnErr result (self.new ≡ self.old) }
     {
         let p = u64::from(pid.0);

@@ -1,9 +1,11 @@
 //! Which part of the kernel does a call.
-ghost use Rattle.std.specs.Prelude.{◌≡◌, ◌+◌, ◌<◌, ◌^◌, IsSome, IfOk, OnErr};
+ghost use Rattle.std.specs.Prelude.{◌≡◌, ◌+◌, ◌<◌, ◌^◌, true, IsSome, IfOk, OnErr};
 ghost use Rattle.std.specs.FinMap as map;
+ghost use Rattle.kernel_model.specs.Calls.{takes_memory};
+ghost use Rattle.kernel_model.specs.Outcome.{IsSuccess};
 ghost use Rattle.kernel_model.specs.Release.{release};
 ghost use Rattle.kernel_model.specs.State.{put_all};
-ghost use Rattle.kernel_model.specs.Step.{outcome_by, MayLackMemory};
+ghost use Rattle.kernel_model.specs.Step.{outcome_by};
 ghost use Rattle.kernel_model.specs.View.{whole};
 
 use crate::kernel::Kernel;
@@ -13,7 +15,7 @@ use right_rules::{refusal, refused, success};
 use std::alloc::AllocError;
 
 impl Kernel {
-    // Does a call, but for the clock. `Err` changes nothing.
+    // Does a call, but for the clock. `Err` comes only of a call that takes memory and would else succeed, and changes nothing.
     pub(crate) fn dispatch(
         &mut self,
         constants: &Constants,
@@ -24,7 +26,8 @@ impl Kernel {
         requires early { self.old.clock + constants.now.epoch < 2 ^ 64 }
         ensures ok { IfOk result (λ given. (given ≡ (outcome_by constants.now (whole self.old) who.now call.now).answer)
             × (self.new ≡ release (put_all (outcome_by constants.now (whole self.old) who.now call.now).updates self.old))) }
-        ensures err { OnErr result (MayLackMemory self.old who.now call.now × (self.new ≡ self.old)) }
+        ensures err { OnErr result ((takes_memory call.now ≡ true)
+            × IsSuccess (outcome_by constants.now (whole self.old) who.now call.now).answer × (self.new ≡ self.old)) }
     {
         let Some(table) = self.tables.get(u64::from(who.pid.0)) else {
             return Ok(Answer::Reply(refused(Errno::Badf)));

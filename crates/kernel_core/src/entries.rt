@@ -5,6 +5,7 @@ ghost use Rattle.abi_types.specs.Families.{call_of_entry};
 ghost use Rattle.kernel_core.specs.Entries.{entry_outcome};
 ghost use Rattle.kernel_model.specs.Calls.{takes_memory};
 ghost use Rattle.kernel_model.specs.Families.EntryCalls as model;
+ghost use Rattle.kernel_model.specs.Outcome.{IsSuccess};
 ghost use Rattle.kernel_model.specs.Release.{release};
 ghost use Rattle.kernel_model.specs.State.{put_all, Table};
 
@@ -31,7 +32,9 @@ impl Kernel {
         ensures ok { IfOk result (λ given. (table : Table) → map.get self.old.tables pid ≡ Some table →
             (given ≡ (entry_outcome constants.now self.old pid table fd other (call_of_entry call.entry)).answer)
             × (self.new ≡ release (put_all (entry_outcome constants.now self.old pid table fd other (call_of_entry call.entry)).updates self.old))) }
-        ensures only { OnErr result (takes_memory (call_of_entry call.entry) ≡ true) }
+        ensures takes { OnErr result (takes_memory (call_of_entry call.entry) ≡ true) }
+        ensures only { OnErr result ((table : Table) → map.get self.old.tables pid ≡ Some table →
+            IsSuccess (entry_outcome constants.now self.old pid table fd other (call_of_entry call.entry)).answer) }
         ensures err { OnErr result (self.new ≡ self.old) }
     {
         let Some((_, here)) = open_of(&self.tables, &self.objects, pid, fd) else {

@@ -4,11 +4,10 @@ ghost use Rattle.std.specs.FinMap as map;
 ghost use Rattle.abi_types.specs.declared.descriptor.Denial.TheVariants as denial;
 ghost use Rattle.kernel_core.specs.Kernel.{is_live, any_live};
 ghost use Rattle.kernel_model.specs.Calls.{named, need};
-ghost use Rattle.kernel_model.specs.Laws.{HasAll, IsFirstLack, IsOfFirstLack, IsOfPath};
+ghost use Rattle.kernel_model.specs.Laws.{HasAll, IsFirstLack, IsNotDeniedEarly, IsOfFirstLack, IsOfPath};
 ghost use Rattle.kernel_model.specs.Need.{missing};
 ghost use Rattle.kernel_model.specs.Families.ProcessCalls.{end_updates};
 ghost use Rattle.kernel_model.specs.Release.{release, is_released};
-ghost use Rattle.kernel_model.specs.Reply as lacks;
 ghost use Rattle.kernel_model.specs.Reply.{denied};
 ghost use Rattle.tree_model.specs.Grants.{MayBegin};
 ghost use Rattle.kernel_model.specs.Sight.{process_parts};
@@ -117,9 +116,10 @@ impl Kernel {
     }
 
     /// A call of a live process's runnable thread in a run with these constants: the answer, and the state after it. Each
-    /// call takes 1000 nanoseconds. `Errno::Nomem` comes only where memory runs out, and then only the clock has moved. A
-    /// call that answers any other error moves only the clock too. `Errno::Notcapable` comes with exactly the rights that
-    /// are missing, or with the component at which a path leads outside.
+    /// call takes 1000 nanoseconds. `Errno::Nomem` comes only where memory runs out in a call that would else succeed, and
+    /// then only the clock has moved. A call that answers any other error moves only the clock too. `Errno::Notcapable` comes
+    /// with exactly the rights that are missing, or with the component at which a path leads outside, whether memory runs out
+    /// or not.
     pub fn step(&mut self, constants: &Constants, who: &Who, call: &Call) -> Answer
         requires live { map.get self.old.statuses who.now.pid ≡ Some Status.Live }
         requires runnable { thread_of self.old who.now.pid who.now.tid ≡ Some Thread.Runnable }
@@ -134,7 +134,9 @@ impl Kernel {
         ensures only { (reply : Reply) (denial : Denial) → result ≡ Answer.Reply reply → reply.denial ≡ Some denial
             → IsOfFirstLack self.old who.now call.now denial ⊎ IsOfPath self.old who.now call.now denial }
         ensures outside { (component : ℕ) → outside self.old who.now call.now ≡ Some component
-            → result ≢ Answer.Reply (lacks.refused Errno.Nomem) → result ≡ Answer.Reply (denied (denial.Outside component)) }
+            → result ≡ Answer.Reply (denied (denial.Outside component)) }
+        ensures reported { (reply : Reply) → IsNotDeniedEarly call.now → result ≡ Answer.Reply reply → reply.errno ≡ Errno.Notcapable
+            → IsSome reply.denial }
         ensures refused { (reply : Reply) → result ≡ Answer.Reply reply → reply.errno ≢ Errno.Success → self.new ≡ failed self.old who.now }
     {
         self.run(constants, who, call)

@@ -5,6 +5,7 @@ ghost use Rattle.abi_types.specs.Families.{call_of_offset};
 ghost use Rattle.fd_calls.specs.Calls as model;
 ghost use Rattle.kernel_core.specs.OffsetCalls.{offset_outcome};
 ghost use Rattle.kernel_model.specs.Calls.{takes_memory};
+ghost use Rattle.kernel_model.specs.Outcome.{IsSuccess};
 ghost use Rattle.kernel_model.specs.Release.{release};
 ghost use Rattle.kernel_model.specs.State.{put_all, Table};
 
@@ -29,7 +30,9 @@ impl Kernel {
         ensures ok { IfOk result (λ given. (table : Table) → map.get self.old.tables pid ≡ Some table →
             (given ≡ (offset_outcome constants.now self.old table fd (call_of_offset call.entry)).answer)
             × (self.new ≡ release (put_all (offset_outcome constants.now self.old table fd (call_of_offset call.entry)).updates self.old))) }
-        ensures only { OnErr result (takes_memory (call_of_offset call.entry) ≡ true) }
+        ensures takes { OnErr result (takes_memory (call_of_offset call.entry) ≡ true) }
+        ensures only { OnErr result ((table : Table) → map.get self.old.tables pid ≡ Some table →
+            IsSuccess (offset_outcome constants.now self.old table fd (call_of_offset call.entry)).answer) }
         ensures err { OnErr result (self.new ≡ self.old) }
     {
         let Some((descriptor, kind)) = open_of(&self.tables, &self.objects, pid, fd) else {

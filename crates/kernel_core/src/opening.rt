@@ -3,7 +3,7 @@ ghost use Rattle.std.specs.Prelude.{◌≡◌, ◌+◌, ◌<◌, ◌^◌, ℕ, S
 ghost use Rattle.std.specs.FinMap as map;
 ghost use Rattle.kernel_core.specs.Opening.{IsOpening, open_outcome};
 ghost use Rattle.kernel_model.specs.Families.ClockCalls.{real_time};
-ghost use Rattle.kernel_model.specs.Outcome.{replies};
+ghost use Rattle.kernel_model.specs.Outcome.{IsSuccess, replies};
 ghost use Rattle.kernel_model.specs.Release.{release};
 ghost use Rattle.kernel_model.specs.State.{put_all, Table};
 
@@ -62,6 +62,8 @@ impl Kernel {
         ensures ok { IfOk result (λ given. (table : Table) → map.get self.old.tables pid ≡ Some table →
             (given ≡ (open_outcome (real_time constants.now self.old.clock) self.old pid table call.now.lookup call.now.path.now call.now.oflags call.now.stat).answer)
             × (self.new ≡ release (put_all (open_outcome (real_time constants.now self.old.clock) self.old pid table call.now.lookup call.now.path.now call.now.oflags call.now.stat).updates self.old))) }
+        ensures only { OnErr result ((table : Table) → map.get self.old.tables pid ≡ Some table →
+            IsSuccess (open_outcome (real_time constants.now self.old.clock) self.old pid table call.now.lookup call.now.path.now call.now.oflags call.now.stat).answer) }
         ensures err { OnErr result (self.new ≡ self.old) }
     {
         let opening = match self.plan_opening(pid, call) {

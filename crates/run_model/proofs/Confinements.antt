@@ -1,11 +1,11 @@
 -- Each entry of a legal history is confined.
-use Rattle.std.proofs.Common.{◌≡◌, ◌≢◌, inl, inr, ℕ, true, List, ◌∷◌, ◌++◌, IsSome, refl, sym, ap, subst, ◌∙◌}
+use Rattle.std.proofs.Common.{◌≡◌, inl, inr, ℕ, true, List, ◌∷◌, ◌++◌, refl, sym, ap, subst, ◌∙◌}
 use Rattle.abi_types.specs.declared.reply.Answer.{Answer}
 use Rattle.abi_types.specs.declared.reply.Answer.TheVariants as answer
 use Rattle.abi_types.specs.declared.call.Call.{Call}
 use Rattle.abi_types.specs.declared.reply.Reply.{Reply}
 use Rattle.abi_types.specs.declared.constants.Constants.{Constants}
-use Rattle.abi_base.specs.declared.errno.Errno.TheVariants.{Nomem, Notcapable}
+use Rattle.abi_base.specs.declared.errno.Errno.TheVariants.{Badf, Nomem}
 use Rattle.abi_base.specs.declared.signal.Signal.TheVariants.{Xcpu}
 use Rattle.abi_types.specs.declared.status.Status.TheVariants.{Killed}
 use Rattle.abi_types.specs.declared.who.Who.{Who}
@@ -13,22 +13,25 @@ use Rattle.run_types.specs.declared.history.Act.{Act}
 use Rattle.run_types.specs.declared.history.Act.TheVariants as act
 use Rattle.run_types.specs.declared.history.Entry.{Entry}
 use Rattle.run_types.specs.declared.launch.Launch.{Launch}
+use Rattle.kernel_model.specs.CallBounds.{IsAbsentIn, IsBadfBefore}
 use Rattle.kernel_model.specs.Calls.{takes_memory}
 use Rattle.kernel_model.specs.Laws.{HasSameSight, EndsAlike, IsNotDeniedEarly}
-use Rattle.kernel_model.specs.Outcome.{Outcome}
+use Rattle.kernel_model.specs.Outcome.{Outcome, IsSuccess}
 use Rattle.kernel_model.specs.Reply.{refused}
 use Rattle.tree_model.specs.Grants.{MayBegin}
 use Rattle.kernel_model.specs.State.{State, AgreeOn}
 use Rattle.kernel_model.specs.Step.{tick, sight, unreleased, step_answer, step_state, failed, IsStep}
 use Rattle.kernel_model.specs.Valid.{IsValid}
 use Rattle.kernel_model.proofs.Calls.{proper}
-use Rattle.kernel_model.proofs.Decisions.{sight_decides, step_decided, ticks_alike, same_refusal}
-use Rattle.kernel_model.proofs.Refusals.{lack_is_denied, notcapable_is_denied, replies_are_listed, reply_no_lack, error_keeps, same_reply, step_denial}
+use Rattle.kernel_model.proofs.Decisions.{sight_decides, step_decided, ticks_alike}
+use Rattle.kernel_model.proofs.Found.{badf_is_absent}
+use Rattle.kernel_model.proofs.Refusals.{lack_is_denied, leaving_is_denied, replies_are_listed, reply_no_lack, error_keeps, step_denial, step_reported}
 use Rattle.kernel_model.proofs.Touches as touches
 use Rattle.run_model.specs.Confined.{MayAnswer, CallIsConfined, ActIsConfined, EntryIsConfined, IsConfined}
 use Rattle.run_model.specs.Legal.{FitsAct, Fits, Legal}
 use Rattle.run_model.specs.World.{World, Guest, guest_of, registers_of, called_state, turned_guest_by, turned, acted, who_of, world}
 use Rattle.run_model.proofs.Encoded.{args_not_denied}
+use Rattle.run_model.proofs.EncodedBadf.{args_not_badf}
 use Rattle.run_model.proofs.Histories.{apply_is, legal_front, legal_next}
 use Rattle.run_model.proofs.Worlds.{world_is_valid}
 
@@ -37,7 +40,10 @@ call_answers : (constants : Constants) (S : State) (who : Who) (call : Call) (gi
 call_answers constants S who call given T U (inl done) same =
     (step_state constants U who call, inl (done.0 ∙ ap (λ (o : Outcome). o.answer) (sight_decides constants S U who call same), refl))
 call_answers constants S who call given T U (inr lacking) same =
-    (failed U who, inr ((lacking.0.0, sym (same_refusal S U who call same) ∙ lacking.0.1), lacking.1, refl))
+    (failed U who, inr (
+      (lacking.0.0, subst (λ (o : Outcome). IsSuccess o.answer) (sight_decides constants S U who call same) lacking.0.1),
+      lacking.1, refl,
+    ))
 
 -- the answer of a call that takes memory is none of lack of memory
 answer_is_other : (constants : Constants) (S : State) (who : Who) (call : Call) (given : Answer) → takes_memory call ≡ true
@@ -59,27 +65,28 @@ call_leaves constants S who call given T U V (inr lacking) same ends (inr more) 
     subst (λ X. AgreeOn X V (sight S who call)) (sym lacking.2)
     (subst (λ X. AgreeOn (tick S) X (sight S who call)) (sym more.2) (ticks_alike S U (sight S who call) same.1))
 
-nomem_is_other : Nomem ≢ Notcapable
-nomem_is_other e = cc
-
-call_reported : (constants : Constants) (S : State) (who : Who) (call : Call) (given : Answer) (T : State) (reply : Reply) → IsNotDeniedEarly call
-    → IsStep constants S who call given T → given ≡ answer.Reply reply → reply.errno ≡ Notcapable → IsSome reply.denial
-call_reported constants S who call given T reply plain (inl done) is lacks =
-    notcapable_is_denied constants S who call reply plain (sym done.0 ∙ is) lacks
-call_reported constants S who call given T reply plain (inr lacking) is lacks =
-    absurd (nomem_is_other (ap (λ (r : Reply). r.errno) (same_reply (refused Nomem) reply (sym lacking.1 ∙ is)) ∙ lacks))
+-- BADF comes only of a descriptor that is absent, where the call hadn't it before
+call_absent : (constants : Constants) (S : State) (who : Who) (call : Call) (reply : Reply) (T : State) → IsValid S → ¬ IsBadfBefore call
+    → IsStep constants S who call (answer.Reply reply) T → reply.errno ≡ Badf → IsAbsentIn S who call
+call_absent constants S who call reply T valid fine step badf =
+    elim (badf_is_absent constants S who call reply T valid step badf) [
+      | inl absent ↦ absent
+      | inr before ↦ absurd (fine before)
+    ]
 
 -- a step is confined
 pub call_confined : (constants : Constants) (S : State) (who : Who) (call : Call) (given : Answer) (T : State) → IsValid S → IsNotDeniedEarly call
-    → IsStep constants S who call given T → CallIsConfined constants S who call given T
-call_confined constants S who call given T valid plain step = record {
+    → ¬ IsBadfBefore call → IsStep constants S who call given T → CallIsConfined constants S who call given T
+call_confined constants S who call given T valid plain fine step = record {
   answers = λ U same. call_answers constants S who call given T U step same;
   sets = λ U same. sight_decides constants S U who call same;
   leaves = λ U V same ends again. call_leaves constants S who call given T U V step same ends again;
   changes = λ part outside. touches.others_stay constants S who call given T part step outside;
   lacking = λ table row d own all first. lack_is_denied constants S who call given T table row d step own all first;
   only = λ reply denial is denies. step_denial constants S who call given T reply denial step is denies;
-  reported = λ reply is lacks. call_reported constants S who call given T reply plain step is lacks;
+  leaving = λ component leads. leaving_is_denied constants S who call given T component step leads;
+  reported = λ reply is lacks. step_reported constants S who call given T reply plain step is lacks;
+  absent = λ reply is badf. call_absent constants S who call reply T valid fine (subst (λ a. IsStep constants S who call a T) is step) badf;
   listed = λ reply is. replies_are_listed constants S who call reply T (subst (λ a. IsStep constants S who call a T) is step);
   error = λ reply is other. error_keeps constants S who call reply T (subst (λ a. IsStep constants S who call a T) is step) valid other;
 }
@@ -88,7 +95,9 @@ act_confined : (w : World) (who : Who) (guest : Guest) (ts : List ℕ) (a : Act)
     → ActIsConfined w.constants w.state who a (acted w who a).state
 act_confined w who guest ts (act.Call call given) valid fits =
     call_confined w.constants w.state who call given (called_state w.constants w.state who call given) valid
-    (subst IsNotDeniedEarly (sym fits.1) (args_not_denied (turned_guest_by ts guest).memory (registers_of (turned_guest_by ts guest) who.tid))) fits.2
+    (subst IsNotDeniedEarly (sym fits.1) (args_not_denied (turned_guest_by ts guest).memory (registers_of (turned_guest_by ts guest) who.tid)))
+    (subst (λ (c : Call). ¬ IsBadfBefore c) (sym fits.1) (args_not_badf (turned_guest_by ts guest).memory (registers_of (turned_guest_by ts guest) who.tid)))
+    fits.2
 act_confined w who guest ts (act.Wake call given answered) valid fits = absurd fits
 act_confined w who guest ts (act.Trap signal) valid fits = touches.end_keeps w.state who.pid (Killed signal)
 act_confined w who guest ts act.Expire valid fits = touches.end_keeps w.state who.pid (Killed Xcpu)

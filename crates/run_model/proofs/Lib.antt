@@ -7,3 +7,4 @@ pub mod Followers
 pub mod Histories
 pub mod Encoded
 pub mod Worlds
+pub mod EncodedBadf

@@ -7,8 +7,9 @@ use Rattle.abi_types.specs.declared.call.Call.{Call}
 use Rattle.abi_types.specs.declared.reply.Reply.{Reply}
 use Rattle.abi_types.specs.declared.constants.Constants.{Constants}
 use Rattle.abi_types.specs.declared.descriptor.Denial.{Denial}
+use Rattle.abi_types.specs.declared.descriptor.Denial.TheVariants.{Outside}
 use Rattle.abi_types.specs.declared.descriptor.Descriptor.{Descriptor}
-use Rattle.abi_base.specs.declared.errno.Errno.TheVariants.{Success, Notcapable}
+use Rattle.abi_base.specs.declared.errno.Errno.TheVariants.{Success, Badf, Notcapable}
 use Rattle.abi_types.specs.declared.needed.Needed.{Needed}
 use Rattle.abi_base.specs.declared.signal.Signal.TheVariants.{Xcpu}
 use Rattle.abi_types.specs.declared.status.Status.{Status}
@@ -18,6 +19,7 @@ use Rattle.run_types.specs.declared.history.Act.TheVariants as act
 use Rattle.run_types.specs.declared.history.Entry.{Entry}
 use Rattle.run_types.specs.declared.launch.Launch.{Launch}
 use Rattle.abi_types.specs.declared.who.Who.{Who}
+use Rattle.kernel_model.specs.CallBounds.{IsAbsentIn}
 use Rattle.kernel_model.specs.Calls.{named, need}
 use Rattle.kernel_model.specs.Laws.{HasSameSight, EndsAlike, HasAll, IsFirstLack, IsOfFirstLack, IsOfPath, IsListed}
 use Rattle.kernel_model.specs.Need.{missing}
@@ -25,7 +27,7 @@ use Rattle.kernel_model.specs.Release.{is_released}
 use Rattle.kernel_model.specs.Reply.{denied}
 use Rattle.kernel_model.specs.Sight.{process_parts}
 use Rattle.kernel_model.specs.State.{State, Table, Part, at_clock, same_part, has_part, Agree, AgreeOn}
-use Rattle.kernel_model.specs.Step.{sight, outcome, unreleased, failed, IsStep, IsUntouched, end_unreleased}
+use Rattle.kernel_model.specs.Step.{sight, outcome, outside, unreleased, failed, IsStep, IsUntouched, end_unreleased}
 use Rattle.run_model.specs.World.{World, who_of, apply, world}
 
 -- the kernel may give this answer to the call
@@ -36,9 +38,10 @@ MayAnswer constants S who call given = (T : State) × IsStep constants S who cal
 -- sees the same, it may be answered so, and it answers and sets the same; and where the release after such an answer ends
 -- the same of the opens that it sees, each part that it sees has the same value after both. Each part that it does not
 -- touch and that the release after it does not end has the value it had. Where each descriptor that it names is there and
--- some lacks a right, it is denied with exactly what the first of these lacks. Beside that it is denied only where a path of
--- it leads outside, and an answer of NOTCAPABLE says what is missing or where. It answers no error but those that are listed
--- for it. An answer with an error changes only the clock.
+-- some lacks a right, it is denied with exactly what the first of these lacks. Where a path of it leads outside it is denied
+-- for that, with the component. It is denied in no other case, and an answer of NOTCAPABLE says what is missing or where. It
+-- answers BADF only where a descriptor that it names is absent, and no error but those that are listed for it. An answer with an
+-- error changes only the clock.
 pub record CallIsConfined (constants : Constants) (S : State) (who : Who) (call : Call) (given : Answer) (T : State) : Type 0 where
   pub answers : (U : State) → HasSameSight S U who call → MayAnswer constants U who call given
   pub sets : (U : State) → HasSameSight S U who call → outcome constants S who call ≡ outcome constants U who call
@@ -48,10 +51,12 @@ pub record CallIsConfined (constants : Constants) (S : State) (who : Who) (call 
   pub changes : (part : Part) → IsUntouched constants S who call part → Agree T S part
   pub lacking : (table : Table) (row : Needed) (d : Descriptor) → get S.tables who.pid ≡ Some table → HasAll table (named call)
       → IsFirstLack table (need call) row d → given ≡ answer.Reply (denied (missing d row))
+  pub leaving : (component : ℕ) → outside S who call ≡ Some component → given ≡ answer.Reply (denied (Outside component))
   pub only : (reply : Reply) (denial : Denial) → given ≡ answer.Reply reply → reply.denial ≡ Some denial
       → IsOfFirstLack S who call denial ⊎ IsOfPath S who call denial
   pub reported : (reply : Reply) → given ≡ answer.Reply reply → reply.errno ≡ Notcapable → IsSome reply.denial
-  pub listed : (reply : Reply) → given ≡ answer.Reply reply → IsListed S who call reply
+  pub absent : (reply : Reply) → given ≡ answer.Reply reply → reply.errno ≡ Badf → IsAbsentIn S who call
+  pub listed : (reply : Reply) → given ≡ answer.Reply reply → IsListed constants S who call reply
   pub error : (reply : Reply) → given ≡ answer.Reply reply → reply.errno ≢ Success → T ≡ failed S who
 
 -- The end of process p with this status is confined: each part but the clock, what is the process's own, its status and

@@ -9,6 +9,7 @@ use Rattle.run_types.specs.declared.history.Act.TheVariants as act
 use Rattle.run_types.specs.declared.history.Entry.{Entry}
 use Rattle.run_types.specs.declared.launch.Launch.{Launch}
 use Rattle.tree_model.specs.Grants.{MayBegin}
+use Rattle.kernel_model.specs.CallBounds.{IsBadfBefore}
 use Rattle.kernel_model.specs.Calls.{errors_of}
 use Rattle.kernel_model.specs.Valid.{IsValid}
 use Rattle.guest_memory.specs.Page.{Pages}
@@ -58,6 +59,10 @@ LegalIsConfined = (launch : Launch) (history : List Entry) → Legal launch hist
 abbrev pub EncodedIsPlain : Type 0
 EncodedIsPlain =
     (m : Pages) (r : Registers) → AllByRecursion (λ errno. (errno ≢ Nomem) × (errno ≢ Notcapable)) (errors_of (args_of m r))
+
+-- None has BADF before the kernel looks at it, and none is a file_stat_fput that sets nothing.
+abbrev pub EncodedIsNotBadf : Type 0
+EncodedIsNotBadf = (m : Pages) (r : Registers) → ¬ IsBadfBefore (args_of m r)
 
 -- ---- worlds
 

@@ -1,5 +1,5 @@
 //! Laws of legal histories. The statements are in `specs/Laws.antt`, and each holds of every launch and history.
-ghost use Rattle.run_model.specs.Laws.{LegalBegins, LegalGoesOn, EachEntryFits, EntryIsOne, LegalIsConfined, WorldIsValid, ClockCounts, EntryTakes, EncodedIsPlain};
+ghost use Rattle.run_model.specs.Laws.{LegalBegins, LegalGoesOn, EachEntryFits, EntryIsOne, LegalIsConfined, WorldIsValid, ClockCounts, EntryTakes, EncodedIsPlain, EncodedIsNotBadf};
 ghost use Rattle.run_model.specs.Laws.{OthersStay, HistoryIsShort, EndedIsFinal, StalledIsFinal, NeverStalled, EndsOrGoesOn, RunsToItsEnd};
 
 /// The empty history is legal, an entry that fits the world of a legal history may follow it, and no other history is
@@ -16,9 +16,11 @@ pub fn entry_is_one()
     ensures { EntryIsOne }
 {}
 
-/// No call that memory and registers encode answers `Errno::Nomem` or `Errno::Notcapable` of its own.
+/// No call that memory and registers encode answers `Errno::Nomem` or `Errno::Notcapable` of its own, and none has `Errno::Badf`
+/// before the kernel looks at it.
 pub fn encoded_calls_are_plain()
-    ensures { EncodedIsPlain }
+    ensures plain { EncodedIsPlain }
+    ensures badf { EncodedIsNotBadf }
 {}
 
 /// A legal history of a launch with proper grants is confined (`specs/Confined.antt`).

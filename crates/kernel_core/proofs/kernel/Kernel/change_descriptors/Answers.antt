@@ -6,7 +6,7 @@ use Rattle.maps.specs.Maps.{number, total, insert_self}
 use Rattle.fd_table.specs.Sizes.{below-insert_again}
 use Rattle.fd_table.specs.Table.{IsTable}
 use Rattle.object_store.specs.Objects.{Held, is_held}
-use Rattle.kernel_model.specs.Outcome.{Outcome}
+use Rattle.kernel_model.specs.Outcome.{Outcome, IsSuccess}
 use Rattle.tree_model.specs.Opens.{is_used}
 use Rattle.tree_model.specs.Retained.{retained}
 use Rattle.kernel_model.specs.Release.{count_in, holders, release, without_nodes}
@@ -72,6 +72,17 @@ invariant_of-self c = still_kept (goal.at.invariant_of-self c).In_err-reply
 
 pub returns-in_err-reply-clause-err : goal.returns-in_err-reply-clause-err
 returns-in_err-reply-clause-err c = on_err c.from_residual.result (as_before (goal.at.returns-in_err-reply-clause-err c).In_err-reply ∙ c.self.view_is)
+
+-- and the change would succeed
+pub returns-in_err-reply-clause-only : goal.returns-in_err-reply-clause-only
+returns-in_err-reply-clause-only c = on_err c.from_residual.result (λ table here.
+    let S = the_view c.self.inside in
+    let found : get S.tables c.args.pid ≡ Some c.get_mut.result.now = ap (get S.tables) (sym (c.from-p.ensures ∙ c.pid.view_is)) ∙ sym c.get_mut.ensures.value in
+    let same : c.get_mut.result.now ≡ table = same_value _ _ _ found (ap (λ (T : State). get T.tables c.args.pid) c.self.view_is ∙ here) in
+    subst (λ (o : Outcome). IsSuccess o.answer)
+    (ap (λ (t : Table). change_outcome c.args.pid S.opens t c.args.change) same
+    ∙ ap (λ (T : State). change_outcome c.args.pid T.opens table c.args.change) c.self.view_is)
+    (c.in_err-reply.ensures.only c.args.pid))
 
 -- ---- the change, and what ends after it
 

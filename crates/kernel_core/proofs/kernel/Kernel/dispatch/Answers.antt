@@ -8,17 +8,17 @@ use Rattle.abi_types.specs.declared.reply.Answer.{Answer}
 use Rattle.abi_types.specs.declared.reply.Answer.TheVariants as answer
 use Rattle.abi_types.specs.declared.reply.Reply.{Reply}
 use Rattle.abi_types.specs.declared.who.Who.{Who}
-use Rattle.kernel_model.specs.Calls.{meaning_of, named, refusal, refusal_of, takes_memory}
+use Rattle.kernel_model.specs.Calls.{meaning_of, named, refusal, takes_memory}
 use Rattle.kernel_model.specs.Families.ClockCalls.{real_time}
 use Rattle.kernel_model.specs.Families.DescriptorCalls.{stat_get}
 use Rattle.kernel_model.specs.Families.MemoryCalls.{placed}
 use Rattle.kernel_model.specs.Families.ProcessCalls.{exit_of}
 use Rattle.kernel_model.specs.Laws.{HasAll}
-use Rattle.kernel_model.specs.Outcome.{Outcome, replies}
+use Rattle.kernel_model.specs.Outcome.{Outcome, IsSuccess, replies}
 use Rattle.kernel_model.specs.Release.{release}
 use Rattle.kernel_model.specs.Reply.{refused}
 use Rattle.kernel_model.specs.State.{State, Table, put_all}
-use Rattle.kernel_model.specs.Step.{MayLackMemory, outcome_by}
+use Rattle.kernel_model.specs.Step.{outcome_by}
 use Rattle.kernel_model.specs.Valid.{IsValid}
 use Rattle.kernel_model.specs.View.{whole}
 use Rattle.kernel_model.proofs.Valids.{release_valid, same_value}
@@ -29,7 +29,7 @@ use Rattle.kernel_core.specs.OffsetCalls.{offset_outcome}
 use Rattle.kernel_core.specs.Opening.{open_outcome}
 use Rattle.kernel_core.proofs.Acts.{act_allowed, act_refused, by_outcome, stat_get_sets_nothing}
 use Rattle.kernel_core.proofs.EntryCalls.{entries_does, first_is_named}
-use Rattle.kernel_core.proofs.Families.{all_named, answered_does, answered_is, change_does, change_is, change_replaces, change_takes_memory, entries_is, entries_on, exit_is, file_is, file_on, offset_is, offset_on, on_err_both, open_is, state_is, unbuilt_does, unbuilt_is, zeros_does, zeros_is}
+use Rattle.kernel_core.proofs.Families.{all_named, answered_does, answered_is, change_does, change_is, change_replaces, change_takes_memory, entries_is, entries_on, exit_is, file_is, file_on, offset_is, offset_on, on_err_all, on_err_both, open_is, state_is, unbuilt_does, unbuilt_is, zeros_does, zeros_is}
 use Rattle.kernel_core.proofs.FileCalls.{file_does}
 use Rattle.kernel_core.proofs.OffsetCalls.{offset_does}
 use Rattle.kernel_core.proofs.OpenCalls.{open_does}
@@ -72,13 +72,18 @@ allowed c called o none same does =
     act_allowed c.args.constants.now c.args.self.now c.args.who.now c.args.call.now c.in-Some.table.now (there c) (rows c ∙ none)
     ∙ ap (λ (it : Call). (meaning_of it).effect c.args.constants.now (whole c.args.self.now) c.args.who.now c.in-Some.table.now) same ∙ does
 
--- where memory ran out it was for a call that takes some
-lacks : (c : After-refusal) (called : Call) → c.refusal.result ≡ None → c.args.call.now ≡ called → takes_memory called ≡ true
-    → MayLackMemory c.args.self.now c.args.who.now c.args.call.now
-lacks c called none same takes = (
-  ap takes_memory same ∙ takes,
-  ap (refusal_of c.args.call.now) (there c) ∙ rows c ∙ none,
-)
+-- where memory ran out it was for a call that takes some and would else succeed, and the state stays
+abbrev Lacks : After-refusal → State → Type 0
+Lacks c T =
+    (takes_memory c.args.call.now ≡ true)
+    × IsSuccess (outcome_by c.args.constants.now (whole c.args.self.now) c.args.who.now c.args.call.now).answer × (T ≡ c.args.self.now)
+
+lacks : (c : After-refusal) (T : State) (called : Call) (o : Outcome) → c.args.call.now ≡ called
+    → outcome_by c.args.constants.now (whole c.args.self.now) c.args.who.now c.args.call.now ≡ o
+    → takes_memory called ≡ true → IsSuccess o.answer → T ≡ c.args.self.now
+    → Lacks c T
+lacks c T called o same is takes succeeds unchanged =
+    (ap takes_memory same ∙ takes, subst (λ (x : Outcome). IsSuccess x.answer) (sym is) succeeds, unchanged)
 
 pub returns-in-Some-refusal-clause-ok : goal.returns-in-Some-refusal-clause-ok
 returns-in-Some-refusal-clause-ok c =
@@ -119,10 +124,14 @@ returns-in-Descriptors-clause-ok c =
 pub returns-in-Descriptors-clause-err : goal.returns-in-Descriptors-clause-err
 returns-in-Descriptors-clause-err c =
     let a = (goal.at.returns-in-Descriptors-clause-err c).After-refusal in
+    let S = c.args.self.now in
+    let who = c.args.who.now in
     let change = c.in-Descriptors.change in
+    let o = change_outcome who.pid S.opens c.in-Some.table.now change in
     let same = change_is c.args.call.now c.family.result c.family.ensures change c.in-Descriptors.is in
-    on_err_both c.change_descriptors.result c.change_descriptors.ensures.only c.change_descriptors.ensures.err
-    (λ dup unchanged. (lacks a (call_of_change change) c.in_default-refusal.is same (change_takes_memory change dup), unchanged))
+    let is = allowed a (call_of_change change) o c.in_default-refusal.is same (change_does c.args.constants.now S who c.in-Some.table.now change) in
+    on_err_all c.change_descriptors.result c.change_descriptors.ensures.takes c.change_descriptors.ensures.only c.change_descriptors.ensures.err
+    (λ dup succeeds unchanged. lacks a c.change_descriptors.new.self (call_of_change change) o same is (change_takes_memory change dup) (succeeds c.in-Some.table.now (there a)) unchanged)
 
 pub returns-in-DescriptorState-clause-ok : goal.returns-in-DescriptorState-clause-ok
 returns-in-DescriptorState-clause-ok c =
@@ -157,9 +166,14 @@ returns-in-File-clause-ok c =
 pub returns-in-File-clause-err : goal.returns-in-File-clause-err
 returns-in-File-clause-err c =
     let a = (goal.at.returns-in-File-clause-err c).After-refusal in
-    let of = file_is c.args.call.now c.family.result c.family.ensures c.in-File.view c.in-File.is in
-    on_err_both c.file_call.result c.file_call.ensures.only c.file_call.ensures.err
-    (λ takes unchanged. (lacks a (call_of_file c.in-File.view) c.in_default-refusal.is of.0 takes, unchanged))
+    let S = c.args.self.now in
+    let view = c.in-File.view in
+    let of = file_is c.args.call.now c.family.result c.family.ensures view c.in-File.is in
+    let o = file_outcome c.args.constants.now S c.in-Some.table.now c.fd.result (call_of_file view) in
+    let is = allowed a (call_of_file view) o c.in_default-refusal.is of.0
+    (file_does c.args.constants.now S c.args.who.now c.in-Some.table.now (call_of_file view) c.fd.result (file_on view of.1 ∙ ap Some (sym c.fd.ensures))) in
+    on_err_all c.file_call.result c.file_call.ensures.takes c.file_call.ensures.only c.file_call.ensures.err
+    (λ takes succeeds unchanged. lacks a c.file_call.new.self (call_of_file view) o of.0 is takes (succeeds c.in-Some.table.now (there a)) unchanged)
 
 -- ---- offsets of opens
 
@@ -178,9 +192,14 @@ returns-in-Offset-clause-ok c =
 pub returns-in-Offset-clause-err : goal.returns-in-Offset-clause-err
 returns-in-Offset-clause-err c =
     let a = (goal.at.returns-in-Offset-clause-err c).After-refusal in
-    let same = offset_is c.args.call.now c.family.result c.family.ensures c.in-Offset.view c.in-Offset.is in
-    on_err_both c.offset_call.result c.offset_call.ensures.only c.offset_call.ensures.err
-    (λ takes unchanged. (lacks a (call_of_offset c.in-Offset.view) c.in_default-refusal.is same takes, unchanged))
+    let S = c.args.self.now in
+    let view = c.in-Offset.view in
+    let same = offset_is c.args.call.now c.family.result c.family.ensures view c.in-Offset.is in
+    let o = offset_outcome c.args.constants.now S c.in-Some.table.now c.fd-in-Offset.result (call_of_offset view) in
+    let is = allowed a (call_of_offset view) o c.in_default-refusal.is same
+    (offset_does c.args.constants.now S c.args.who.now c.in-Some.table.now (call_of_offset view) c.fd-in-Offset.result (offset_on view ∙ ap Some (sym c.fd-in-Offset.ensures))) in
+    on_err_all c.offset_call.result c.offset_call.ensures.takes c.offset_call.ensures.only c.offset_call.ensures.err
+    (λ takes succeeds unchanged. lacks a c.offset_call.new.self (call_of_offset view) o same is takes (succeeds c.in-Some.table.now (there a)) unchanged)
 
 -- ---- entries of directories
 
@@ -208,9 +227,16 @@ returns-in-Entries-clause-ok c =
 pub returns-in-Entries-clause-err : goal.returns-in-Entries-clause-err
 returns-in-Entries-clause-err c =
     let a = (goal.at.returns-in-Entries-clause-err c).After-refusal in
-    let same = entries_is c.args.call.now c.family.result c.family.ensures c.in-Entries.view c.in-Entries.is in
-    on_err_both c.entry_call.result c.entry_call.ensures.only c.entry_call.ensures.err
-    (λ takes unchanged. (lacks a (call_of_entry c.in-Entries.view) c.in_default-refusal.is same takes, unchanged))
+    let S = c.args.self.now in
+    let who = c.args.who.now in
+    let view = c.in-Entries.view in
+    let fds = c.fds-fd.result in
+    let same = entries_is c.args.call.now c.family.result c.family.ensures view c.in-Entries.is in
+    let o = entry_outcome c.args.constants.now S who.pid c.in-Some.table.now fds.0 fds.1 (call_of_entry view) in
+    let is = allowed a (call_of_entry view) o c.in_default-refusal.is same
+    (entries_does c.args.constants.now S who c.in-Some.table.now (call_of_entry view) fds.0 fds.1 (entries_on view ∙ ap Some (sym c.fds-fd.ensures))) in
+    on_err_all c.entry_call.result c.entry_call.ensures.takes c.entry_call.ensures.only c.entry_call.ensures.err
+    (λ takes succeeds unchanged. lacks a c.entry_call.new.self (call_of_entry view) o same is takes (succeeds c.in-Some.table.now (there a)) unchanged)
 
 -- ---- opens
 
@@ -229,9 +255,15 @@ returns-in-Open-clause-ok c =
 pub returns-in-Open-clause-err : goal.returns-in-Open-clause-err
 returns-in-Open-clause-err c =
     let a = (goal.at.returns-in-Open-clause-err c).After-refusal in
-    let same = open_is c.args.call.now c.family.result c.family.ensures c.in-Open.view c.in-Open.is in
-    on_err_both c.file_open.result c.file_open.ensures.err c.file_open.ensures.err
-    (λ unchanged again. (lacks a (call_of_open c.in-Open.view) c.in_default-refusal.is same refl, unchanged))
+    let S = c.args.self.now in
+    let who = c.args.who.now in
+    let view = c.in-Open.view in
+    let same = open_is c.args.call.now c.family.result c.family.ensures view c.in-Open.is in
+    let o = open_outcome (real_time c.args.constants.now S.clock) S who.pid c.in-Some.table.now view.lookup view.path.now view.oflags view.stat in
+    let is = allowed a (call_of_open view) o c.in_default-refusal.is same
+    (open_does c.args.constants.now S who c.in-Some.table.now view.lookup view.path.now view.oflags view.stat) in
+    on_err_both c.file_open.result c.file_open.ensures.only c.file_open.ensures.err
+    (λ succeeds unchanged. lacks a c.file_open.new.self (call_of_open view) o same is refl (succeeds c.in-Some.table.now (there a)) unchanged)
 
 -- ---- calls that change nothing, and the end of the process
 

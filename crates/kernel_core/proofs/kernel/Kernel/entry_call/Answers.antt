@@ -5,9 +5,9 @@ use Rattle.tree_model.specs.Opens.{is_used}
 use Rattle.tree_model.specs.Retained.{retained}
 use Rattle.abi_types.specs.Families.{call_of_entry}
 use Rattle.kernel_model.specs.Families.EntryCalls.{name_meaning}
-use Rattle.kernel_model.specs.Families.NameMeaning.{NameOutcome}
+use Rattle.kernel_model.specs.Families.NameMeaning.{NameOutcome, outcome_of}
 use Rattle.kernel_model.specs.Families.Numbers.{next_object}
-use Rattle.kernel_model.specs.Outcome.{Outcome}
+use Rattle.kernel_model.specs.Outcome.{Outcome, IsSuccess}
 use Rattle.kernel_model.specs.Release.{release}
 use Rattle.kernel_model.specs.State.{State, Table, Tree, put_all, tree_of}
 use Rattle.kernel_model.specs.Valid.{IsValid}
@@ -71,6 +71,27 @@ invariant_of-self d =
 pub returns-in_err-reply-clause-err : goal.returns-in_err-reply-clause-err
 returns-in_err-reply-clause-err d =
     on_err d.from_residual.result (as_before (goal.at.returns-in_err-reply-clause-err d).In_err-reply ∙ d.self.view_is)
+
+-- and the call would succeed
+pub returns-in_err-reply-clause-only : goal.returns-in_err-reply-clause-only
+returns-in_err-reply-clause-only d = on_err d.from_residual.result (λ table here.
+    let constants = d.args.constants.now in
+    let S = the_view d.self.inside in
+    let p = d.args.pid in
+    let called = call_of_entry d.args.call in
+    let f : IsFound S.opens (get S.tables p) d.args.fd d.in-Some.field-0-0 d.in-Some.here = open_found _ _ _ _ _ (sym d.open_of.ensures ∙ d.in-Some.is) in
+    let own : get S.processes p ≡ Some d.get_mut-own.result.now = ap (get S.processes) (sym (d.from.ensures ∙ d.pid.view_is)) ∙ sym d.get_mut-own.ensures.value in
+    let first : Some d.in-Some.here ≡ open_in S.opens (get f.table d.args.fd) = sym (ap (open_in S.opens) f.named ∙ f.opened) in
+    let other : option_copied d.as_ref.result ≡ open_at S.opens f.table d.args.other =
+    d.as_ref.ensures.value ∙ d.kind_of-there.ensures ∙ ap (λ t. kind_with S.opens t d.args.other) f.there in
+    let same : _ ≡ entry_outcome constants S p f.table d.args.fd d.args.other called =
+    λ i. outcome_of p (sym own i) (name_meaning called).new_nodes
+    ((name_meaning called).effect (S.clock + constants.epoch) (next_object p (sym own i) 1) (tree_of S) (first i) (other i)) in
+    let at : f.table ≡ table = same_value _ _ _ f.there (ap (λ (T : State). get T.tables p) d.self.view_is ∙ here) in
+    subst (λ (o : Outcome). IsSuccess o.answer)
+    (same ∙ ap (λ (t : Table). entry_outcome constants S p t d.args.fd d.args.other called) at
+    ∙ ap (λ (T : State). entry_outcome constants T p table d.args.fd d.args.other called) d.self.view_is)
+    d.in_err-reply.ensures.only)
 
 -- ---- the call is done
 

@@ -1,8 +1,13 @@
-use Rattle.std.proofs.Common.{◌≡◌, ◌+◌, Some, refl, sym, subst, ◌∙◌}
+use Rattle.std.proofs.Common.{◌≡◌, ◌+◌, Option, Some, refl, sym, subst, ◌∙◌}
 use Rattle.std.specs.FinMap.{get}
 use Rattle.abi_types.specs.Families.{call_of_file}
+use Rattle.abi_types.specs.declared.open_kind.OpenKind.{OpenKind}
 use Rattle.abi_types.specs.declared.reply.Answer.TheVariants as answer
-use Rattle.kernel_model.specs.State.{State}
+use Rattle.kernel_model.specs.Families.FileCalls.{file_meaning}
+use Rattle.kernel_model.specs.Outcome.{IsSuccess}
+use Rattle.kernel_model.specs.State.{State, tree_of}
+use Rattle.kernel_parts.proofs.Tests.{on_err}
+use Rattle.kernel_core.specs.Files.{file_outcome}
 use Rattle.kernel_core.specs.contracts.kernel.Kernel.{the_view}
 use Rattle.kernel_core.proofs.EntryCalls.{opened_is}
 use Rattle.kernel_core.proofs.FileCalls.{IsFileStep, absent_answers, done_answers, done_valid, there_behind, with_tree}
@@ -52,3 +57,13 @@ returns-clause-ok d = λ table here.
     d.in_ok-reply.ensures.ok.1 d.in_ok-reply.ensures.nodes d.args.constants.now table d.in_ok-reply.reply refl
     (opened_is (the_view S) (get table d.args.fd) ∙ found_kind (the_view S) d.args.pid d.args.fd d.in-Some.field-0-0 d.in-Some.kind (found c) table there)
     d.in_ok-reply.ensures.ok.0) here
+
+pub returns-in_err-reply-clause-only : goal.returns-in_err-reply-clause-only
+returns-in_err-reply-clause-only d = on_err d.from_residual.result (λ table here.
+    let c = (goal.at.returns-in_err-reply-clause-only d).In-Some in
+    let S = the_view d.self.inside in
+    let called = call_of_file d.args.call in
+    subst (λ (X : State). get X.tables d.args.pid ≡ Some table → IsSuccess (file_outcome d.args.constants.now X table d.args.fd called).answer) d.self.view_is
+    (λ there. subst (λ (k : Option OpenKind). IsSuccess ((file_meaning called).effect (S.clock + d.args.constants.now.epoch) (tree_of S) k).answer)
+    (sym (opened_is S (get table d.args.fd) ∙ found_kind S d.args.pid d.args.fd d.in-Some.field-0-0 d.in-Some.kind (found c) table there))
+    d.in_err-reply.ensures.only) here)

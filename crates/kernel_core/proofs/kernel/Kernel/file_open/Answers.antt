@@ -1,4 +1,4 @@
-use Rattle.std.proofs.Common.{◌≡◌, ℕ, ◌+◌, ◌^◌, Some, is_some, sym, ap, subst, ◌∙◌, arith}
+use Rattle.std.proofs.Common.{◌≡◌, ℕ, ◌+◌, ◌^◌, Some, is_some, refl, sym, ap, subst, ◌∙◌, arith}
 use Rattle.std.specs.FinMap.{get, insert}
 use Rattle.abi_base.specs.declared.limits.TheConstants.{MOST_DESCRIPTORS}
 use Rattle.abi_types.specs.declared.reply.Answer.TheVariants as answer
@@ -9,7 +9,7 @@ use Rattle.tree_model.specs.Opens.{is_used}
 use Rattle.tree_model.specs.Retained.{retained}
 use Rattle.tree_model.specs.Tree.{IsTree}
 use Rattle.kernel_model.specs.Families.Numbers.{made_more, next_object}
-use Rattle.kernel_model.specs.Outcome.{Outcome}
+use Rattle.kernel_model.specs.Outcome.{Outcome, IsSuccess}
 use Rattle.kernel_model.specs.Release.{holders, release}
 use Rattle.kernel_model.specs.Reply.{success}
 use Rattle.kernel_model.specs.State.{State, Table, Tree, counts_in, put_all, tree_of}
@@ -98,6 +98,14 @@ invariant_of-self d =
       small = subst (λ (S : State). AreSmall S.tables) same d.self.invariant.small;
       processes = subst (λ (S : State). KeysBelow (2 ^ 32) S.tables) same d.self.invariant.processes;
     }
+
+-- what was planned succeeds
+pub returns-in_err-put_opening-clause-only : goal.returns-in_err-put_opening-clause-only
+returns-in_err-put_opening-clause-only d = on_err d.from_residual.result (λ table here.
+    let S = d.args.self.now in
+    let call = d.args.call.now in
+    subst IsSuccess (sym (open_answer S d.args.pid table call.lookup call.path.now call.oflags call.stat d.in-Ok.opening (d.in-Ok.ensures.ok table here)
+    (subst IsValid d.self.view_is d.self.invariant.valid) (S.clock + d.args.constants.now.epoch))) refl)
 
 pub returns-in_err-put_opening-clause-err : goal.returns-in_err-put_opening-clause-err
 returns-in_err-put_opening-clause-err d =

@@ -1,5 +1,5 @@
 use Rattle.std.proofs.Common.{◌≡◌, ℕ, ◌+◌, Option, Some, None, is_some, refl, sym, ap, subst, ◌∙◌}
-use Rattle.std.proofs.lemmas.Result.{IfOk-weaker}
+use Rattle.std.proofs.lemmas.Result.{IfOk-weaker, on_err_weaker}
 use Rattle.std.specs.FinMap.{get}
 use Rattle.std.specs.Option.{IfSome}
 use Rattle.abi_types.specs.declared.descriptor.Descriptor.{Descriptor}
@@ -10,14 +10,17 @@ use Rattle.maps.specs.Maps.{number}
 use Rattle.object_store.specs.Nodes.{IsOfSameNode}
 use Rattle.object_store.specs.Objects.{Held}
 use Rattle.abi_types.specs.Families.{call_of_offset}
+use Rattle.kernel_model.specs.Outcome.{Outcome, IsSuccess}
 use Rattle.kernel_model.specs.State.{State, Table}
 use Rattle.kernel_model.specs.Valid.{IsValid}
 use Rattle.kernel_model.proofs.Valids.{same_value}
 use Rattle.kernel_parts.specs.StreamCalls.{terms_after}
 use Rattle.kernel_parts.specs.StreamCalls.{stream_outcome}
+use Rattle.kernel_parts.proofs.Tests.{on_err}
+use Rattle.kernel_core.specs.OffsetCalls.{offset_outcome}
 use Rattle.kernel_core.specs.contracts.kernel.Kernel.{the_view}
 use Rattle.kernel_core.proofs.FileCalls.{there_behind}
-use Rattle.kernel_core.proofs.OffsetCalls.{IsOffsetStep, lacking_answers, offset_answers, offset_same, offset_valid, stream_answers, with_terms}
+use Rattle.kernel_core.proofs.OffsetCalls.{IsOffsetStep, lacking_answers, offset_answers, offset_outcome_is, offset_same, offset_valid, stream_answers, stream_outcome_is, with_terms}
 use Rattle.kernel_core.proofs.Opens.{IsFound, found_named, open_absent, open_found}
 use Rattle.kernel_core.proofs.Streams.{written_valid}
 use Rattle.kernel_core.proofs.kernel.Kernel.offset_call.Goals as goal
@@ -102,6 +105,33 @@ returns d = record {
       d.in-Some.kind d.at_offset.new.kind (found (goal.at.returns d).In-Some).opened d.in_default-kind.not-Terminal d.self.invariant.valid t d.in_ok-reply.reply
       d.in_ok-reply.ensures.ok d.in_ok-reply.ensures.nodes d.args.constants.now table d.in-Some.descriptor refl
       (found_named (the_view S) d.args.pid d.args.fd d.in-Some.descriptor d.in-Some.kind (found (goal.at.returns d).In-Some) table there) refl)) here;
+  takes = tt;
   only = tt;
   err = tt;
 }
+
+-- ---- where memory runs out the call would succeed
+
+pub returns-in-Terminal-clause-only : goal.returns-in-Terminal-clause-only
+returns-in-Terminal-clause-only d =
+    let S = the_view d.self.inside in
+    let c = (goal.at.returns-in-Terminal-clause-only d).In-Some in
+    let called = call_of_offset d.args.call in
+    on_err_weaker d.on_stream.result (λ succeeds table here.
+    subst (λ (X : State). get X.tables d.args.pid ≡ Some table → IsSuccess (offset_outcome d.args.constants.now X table d.args.fd called).answer) d.self.view_is
+    (λ there. subst (λ (o : Outcome). IsSuccess o.answer)
+    (sym (stream_outcome_is d.args.constants.now S table d.args.fd called d.in-Some.descriptor d.in-Terminal.which d.in-Terminal.flags d.requires.on
+    (found_named S d.args.pid d.args.fd d.in-Some.descriptor d.in-Some.kind (found c) table there) ((found c).opened ∙ ap Some d.in-Terminal.is)))
+    succeeds) here)
+    d.on_stream.ensures.only
+
+pub returns-in_err-reply-clause-only : goal.returns-in_err-reply-clause-only
+returns-in_err-reply-clause-only d = on_err d.from_residual.result (λ table here.
+    let S = the_view d.self.inside in
+    let c = (goal.at.returns-in_err-reply-clause-only d).In-Some in
+    let called = call_of_offset d.args.call in
+    subst (λ (X : State). get X.tables d.args.pid ≡ Some table → IsSuccess (offset_outcome d.args.constants.now X table d.args.fd called).answer) d.self.view_is
+    (λ there. subst (λ (o : Outcome). IsSuccess o.answer)
+    (sym (offset_outcome_is d.args.constants.now S table d.args.fd called d.in-Some.descriptor d.in-Some.kind d.requires.on
+    (found_named S d.args.pid d.args.fd d.in-Some.descriptor d.in-Some.kind (found c) table there) (found c).opened d.in_default-kind.not-Terminal))
+    d.in_err-reply.ensures.only) here)

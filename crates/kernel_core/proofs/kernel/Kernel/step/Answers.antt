@@ -1,7 +1,7 @@
-use Rattle.kernel_model.proofs.Refusals.{lack_is_denied, step_denial}
+use Rattle.kernel_model.proofs.Refusals.{lack_is_denied, leaving_is_denied, step_denial, step_reported}
 use Rattle.kernel_model.proofs.Touches.{others_stay}
 use Rattle.kernel_model.proofs.Steps.{step_keeps_valid}
-use Rattle.kernel_core.proofs.Steps.{denied_outside, step_refused}
+use Rattle.kernel_core.proofs.Steps.{step_refused}
 use Rattle.kernel_core.proofs.kernel.Kernel.step.Goals as goal
 
 pub returns-clause-valid : goal.returns-clause-valid
@@ -17,7 +17,10 @@ pub returns-clause-only : goal.returns-clause-only
 returns-clause-only c = λ reply denial is denies. step_denial _ _ _ _ _ _ reply denial c.run.ensures.step is denies
 
 pub returns-clause-outside : goal.returns-clause-outside
-returns-clause-outside c = λ component leads memory. denied_outside _ _ _ _ _ _ component leads memory c.run.ensures.step
+returns-clause-outside c = λ component leads. leaving_is_denied _ _ _ _ _ _ component c.run.ensures.step leads
+
+pub returns-clause-reported : goal.returns-clause-reported
+returns-clause-reported c = λ reply early is lacks. step_reported _ _ _ _ _ _ reply early c.run.ensures.step is lacks
 
 pub returns-clause-refused : goal.returns-clause-refused
 returns-clause-refused c = λ reply is fails. step_refused _ _ _ _ _ _ reply c.run.ensures.valid c.run.ensures.step is fails
