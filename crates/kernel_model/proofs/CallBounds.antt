@@ -2,20 +2,18 @@
 --     names_alone      calls on descriptors alone see nothing behind them
 --     readers_keep_tree      a call that reads touches no file or directory, and no name
 --     never_lack      calls that take no memory have their own answer
-use Rattle.std.proofs.Common.{◌≡◌, ℕ, ◌||◌, Bool, true, false, cond, List, [], ◌∷◌, ◌++◌, Option, Some, None, Result, Ok, Err, refl, sym, ap, subst, ◌∙◌}
+use Rattle.std.proofs.Common.{◌≡◌, ℕ, ◌||◌, Bool, true, false, cond, List, [], ◌++◌, Option, Some, None, Result, Ok, Err, refl, sym, ap, subst, ◌∙◌}
 use Rattle.std.specs.FinMap.{get}
 use Rattle.abi_types.specs.Numbers.{number_of_call}
 use Rattle.abi_types.specs.declared.call.Call.{Call}
 use Rattle.abi_types.specs.declared.call.Call.TheVariants as call
 use Rattle.abi_types.specs.declared.call_number.CallNumber.{CallNumber}
-use Rattle.abi_types.specs.declared.constants.Constants.{Constants}
 use Rattle.abi_types.specs.Families.{is_anonymous}
 use Rattle.abi_types.specs.declared.descriptor.Descriptor.{Descriptor}
 use Rattle.abi_types.specs.declared.needed.Needed.{Needed}
 use Rattle.abi_types.specs.declared.open_kind.OpenKind.{OpenKind}
 use Rattle.abi_types.specs.declared.open_kind.OpenKind.TheVariants.{File, Directory, End, Terminal, Process}
 use Rattle.abi_types.specs.declared.place.Place.{Place}
-use Rattle.abi_types.specs.declared.reply.Answer.{Answer}
 use Rattle.abi_types.specs.declared.reply.Reply.{Reply}
 use Rattle.abi_types.specs.declared.who.Who.{Who}
 use Rattle.kernel_model.specs.CallBounds.{NamesAlone, NeverLack, ReadersKeepTree, never_lacks, reads}
@@ -29,7 +27,7 @@ use Rattle.kernel_model.specs.Families.StreamCalls.{reading, seeking, stream_par
 use Rattle.kernel_model.specs.Meaning.{Meaning}
 use Rattle.kernel_model.specs.Sight.{process_parts}
 use Rattle.kernel_model.specs.State.{State, Table, Part, at_node, at_names, has_part}
-use Rattle.kernel_model.specs.Step.{changed, made_by, made_on, touch, unless_refused, IsStep, step_answer, step_state}
+use Rattle.kernel_model.specs.Step.{changed, made_by, made_on, touch, unless_refused}
 use Rattle.kernel_model.specs.View.{whole}
 use Rattle.kernel_model.proofs.Parts.{has_of_both}
 use Rattle.kernel_model.proofs.Refusals.{no_memory_is_exact}

@@ -1,6 +1,6 @@
 -- What file_open comes to where its path ends, by its conditions.
 --     open_is_listed      what is opened is as listed, and nothing else is listed
-use Rattle.std.proofs.Common.{◌≡◌, ◌≢◌, ◌⊎◌, ℕ, ◌*◌, ◌^◌, ◌==◌, ◌&&◌, ◌||◌, not, Bool, true, false, cond, List, [], ◌∷◌, Option, Some, None, inl, inr, refl, sym, ap, subst, ◌∙◌, arith}
+use Rattle.std.proofs.Common.{◌≡◌, ◌⊎◌, ℕ, ◌*◌, ◌^◌, ◌==◌, ◌&&◌, ◌||◌, not, Bool, true, false, cond, List, [], ◌∷◌, Option, Some, None, inl, inr, refl, sym, ap, subst, ◌∙◌, arith}
 use Rattle.std.proofs.lemmas.Bool.Decides.{eqb_tells}
 use Rattle.std.proofs.lemmas.Nat.{pow_pos}
 use Rattle.std.proofs.lemmas.Nat.Bits.{and_pow, bit_at-lt}
@@ -19,9 +19,9 @@ use Rattle.tree_model.specs.Changes.{first_fault, make_faults}
 use Rattle.tree_model.specs.declared.fault.TreeFault.{TreeFault}
 use Rattle.kernel_model.specs.Families.FileChanges.{sized}
 use Rattle.kernel_model.specs.Families.LastNames.{name_at}
-use Rattle.kernel_model.specs.Families.Opening.{Opened, NotOpened, Opens, creates, makes_new, make_file, open_absent, open_end, open_file, open_kind, open_node, truncated, truncates, wants_directory}
+use Rattle.kernel_model.specs.Families.Opening.{Opened, NotOpened, Opens, creates, makes_new, make_file, open_absent, open_end, open_kind, open_node, truncated, truncates, wants_directory}
 use Rattle.kernel_model.specs.Families.TreeUpdates.{Change, no_change}
-use Rattle.kernel_model.specs.OpenConditions.{AsksNew, ComesTo, HasCreat, HasDirectory, HasExcl, HasTrunc, IsOfKind, OpenIsListed, exists, symlink, directory_changed, file_for_directory, absent, not_made, directory_opened, file_opened, file_cut, file_made, missing, left}
+use Rattle.kernel_model.specs.OpenConditions.{AsksNew, ComesTo, HasCreat, HasDirectory, HasTrunc, IsOfKind, OpenIsListed, exists, symlink, directory_changed, file_for_directory, absent, not_made, directory_opened, file_opened, file_cut, file_made, missing, left}
 use Rattle.kernel_model.specs.State.{Tree}
 
 -- ---- flags

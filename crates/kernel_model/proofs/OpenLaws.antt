@@ -1,21 +1,20 @@
 -- Which file an open is of.
 --     opens_lead_below      what file_open opens is below the directory where it begins, or is made there
 --     grants_are_held      a launch begins with its grants
-use Rattle.std.proofs.Common.{◌≡◌, ℕ, true, List, [], Option, None, Some, inl, inr, refl, ap, ◌∙◌}
-use Rattle.std.specs.Prelude.{slice_get, if◌then◌else◌}
-use Rattle.std.specs.FinMap.{get, insert, empty}
+use Rattle.std.proofs.Common.{◌≡◌, ℕ, List, [], Option, None, Some, inl, inr, refl, ap, ◌∙◌}
+use Rattle.std.specs.Prelude.{if◌then◌else◌}
+use Rattle.std.specs.FinMap.{get, empty}
 use Rattle.abi_base.specs.declared.grant.Grant.{Grant}
 use Rattle.abi_base.specs.declared.grant.GrantTarget.{GrantTarget}
 use Rattle.abi_base.specs.declared.grant.GrantTarget.TheVariants as target
 use Rattle.abi_types.specs.declared.node.Node.{Node}
 use Rattle.abi_types.specs.declared.node.NodeKind.TheVariants as node_kind
-use Rattle.abi_types.specs.declared.open_kind.OpenKind.{OpenKind}
-use Rattle.abi_types.specs.declared.open_kind.OpenKind.TheVariants.{File, Directory, Terminal}
+use Rattle.abi_types.specs.declared.open_kind.OpenKind.TheVariants.{File, Directory}
 use Rattle.maps.specs.Closure.{member}
 use Rattle.maps.specs.Maps.{get-insert-same}
 use Rattle.path_lookup.specs.Laws.{IsIn}
 use Rattle.tree_model.specs.Changes.{is_file_kind, is_file_node, made}
-use Rattle.tree_model.specs.Grants.{AreGrants, HasRightsOfType, IsGrantOf, MayBegin, type_of_kind, type_of_node}
+use Rattle.tree_model.specs.Grants.{HasRightsOfType, IsGrantOf, type_of_kind, type_of_node}
 use Rattle.tree_model.specs.Outcomes.{made-name}
 use Rattle.tree_model.specs.Tree.{HasName, below, is_directory_kind, is_directory_node, names_in}
 use Rattle.kernel_model.specs.Families.FilePaths.{Walked, Ends, Fails, LeadsOutside, walked_in}
@@ -24,7 +23,7 @@ use Rattle.kernel_model.specs.Families.FileChanges.{modified}
 use Rattle.kernel_model.specs.Families.NameMaking.{node_of, with_node}
 use Rattle.kernel_model.specs.Families.Opening.{open_walked}
 use Rattle.kernel_model.specs.OpenLaws.{GrantsAreHeld, IsOpenOf, LeadsBelow, OpensLeadBelow}
-use Rattle.kernel_model.specs.Start.{granted_descriptor, granted_table, open_of, open_of_node, start_state}
+use Rattle.kernel_model.specs.Start.{granted_descriptor, granted_table, open_of, open_of_node}
 use Rattle.kernel_model.specs.State.{Tree}
 use Rattle.kernel_model.proofs.FilePaths.{LeadsIn, leads_below}
 use Rattle.kernel_model.proofs.Opened.{opened_holds}
