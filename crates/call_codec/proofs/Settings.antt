@@ -1,6 +1,6 @@
 -- What file_stat_fput sets, where registers and memory encode it.
 --     fput_sets_something      its flags have a size or a time
-use Rattle.std.proofs.Common.{◌≡◌, ◌≢◌, ℕ, ◌==◌, ◌||◌, not, Bool, true, false, T, Ok, inl, inr, refl, sym, ap, subst, ◌∙◌}
+use Rattle.std.proofs.Common.{◌≡◌, ◌≢◌, ℕ, ◌==◌, ◌||◌, not, Bool, true, false, T, inl, inr, refl, sym, ap, subst, ◌∙◌}
 use Rattle.std.proofs.lemmas.Bool.Decides.{eqb_tells}
 use Rattle.std.specs.Int.RustNames.{bit_and}
 use Rattle.abi_base.specs.Registers.{Registers}

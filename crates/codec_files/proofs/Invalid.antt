@@ -1,9 +1,8 @@
 -- Calls that their registers alone refuse.
 --     create_is_invalid      file_open with CREAT and DIRECTORY is INVAL
-use Rattle.std.proofs.Common.{◌≡◌, ℕ, ◌==◌, ◌||◌, ◌%◌, ◌/◌, ◌^◌, ◌-◌, Bool, true, false, Result, Err, Ok, refl, ap, ◌∙◌, arith}
+use Rattle.std.proofs.Common.{◌≡◌, ℕ, ◌==◌, ◌||◌, ◌/◌, Bool, true, false, Result, Err, refl, ap, arith}
 use Rattle.std.proofs.lemmas.Nat.{and_mask}
 use Rattle.std.proofs.lemmas.Nat.Bits.{bit_at_lowest, bit_at-suc}
-use Rattle.std.specs.Int.{bit_at}
 use Rattle.std.specs.Int.RustNames.{bit_and}
 use Rattle.abi_base.specs.Rights.{Has}
 use Rattle.abi_base.specs.declared.errno.Errno.{Errno}

@@ -9,10 +9,10 @@ pub use by_node::{
     file_advise, file_allocate, file_readdir, file_stat_fget, file_stat_fput, file_stat_get,
     file_stat_put,
 };
-pub use laws::create_of_directory_is_invalid;
 pub use by_path::{
     file_create, file_link, file_open, file_readlink, file_rename, file_symlink, file_unlink,
 };
+pub use laws::create_of_directory_is_invalid;
 
 mod by_node;
 mod by_path;

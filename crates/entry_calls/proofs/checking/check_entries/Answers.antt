@@ -1,4 +1,4 @@
-use Rattle.std.proofs.Common.{◌≡◌, ℕ, None, Some, ap, sym, subst, ◌∙◌}
+use Rattle.std.proofs.Common.{◌≡◌, None, Some, ap, sym, subst, ◌∙◌}
 use Rattle.abi_types.specs.Families.{call_of_entry}
 use Rattle.abi_types.specs.declared.family.EntryCall.{EntryCall}
 use Rattle.abi_types.specs.declared.node.NodeKind.TheVariants as kind

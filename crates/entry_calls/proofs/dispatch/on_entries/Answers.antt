@@ -6,12 +6,9 @@ use Rattle.abi_types.specs.declared.node.NodeKind.{NodeKind}
 use Rattle.abi_types.specs.declared.node.NodeKind.TheVariants as kind
 use Rattle.abi_types.specs.declared.open_kind.OpenKind.{OpenKind}
 use Rattle.tree_model.specs.Tree.{Tree}
-use Rattle.kernel_model.specs.Families.FilePaths.{lookup_mode}
 use Rattle.kernel_model.specs.Families.EntryCalls.{name_meaning}
 use Rattle.kernel_model.specs.Families.NameMaking.{making, making_unless, text_error}
 use Rattle.kernel_model.specs.Families.NameMeaning.{NameOutcome, NameMeaning}
-use Rattle.kernel_model.specs.Families.NameMoving.{linking, renaming}
-use Rattle.kernel_model.specs.Families.NameRemoving.{unlinking}
 use Rattle.entry_calls.proofs.Endings.{done_as}
 use Rattle.entry_calls.proofs.dispatch.on_entries.Goals as goal
 
