@@ -5,23 +5,17 @@
 --     entries_take_memory, first_is_named      memory may run out in it;  its first descriptor is there
 --     next_is_new      nothing in the tree has the number of the node that it makes
 --     entries_valid, entries_after      what it leaves is nearly valid;  the state after it
-use Rattle.std.proofs.Common.{◌≡◌, ◌≢◌, ℕ, zero, suc, Bool, true, false, cond, ◌++◌, List, Option, None, Some, Err, IsSome, is_none, is_some, refl, sym, ap, subst, ◌∙◌, arith}
+use Rattle.std.proofs.Common.{◌≡◌, ℕ, zero, suc, true, Option, None, Some, IsSome, is_none, is_some, refl, sym, ap, subst, ◌∙◌, arith}
 use Rattle.std.specs.FinMap.{get, insert}
-use Rattle.abi_base.specs.declared.errno.Errno.{Errno}
-use Rattle.abi_base.specs.declared.errno.Errno.TheVariants.{Again}
 use Rattle.abi_types.specs.declared.call.Call.{Call}
 use Rattle.abi_types.specs.declared.call.Call.TheVariants as call
 use Rattle.abi_types.specs.declared.constants.Constants.{Constants}
 use Rattle.abi_types.specs.declared.descriptor.Descriptor.{Descriptor}
-use Rattle.abi_types.specs.declared.node.NodeKind.{NodeKind}
 use Rattle.abi_types.specs.declared.node.NodeKind.TheVariants as kind
 use Rattle.abi_types.specs.declared.open_kind.OpenKind.{OpenKind}
 use Rattle.abi_types.specs.declared.reply.Answer.TheVariants as answer
 use Rattle.abi_types.specs.declared.reply.Reply.{Reply}
 use Rattle.abi_types.specs.declared.who.Who.{Who}
-use Rattle.file_calls.specs.Walks.{reply_of}
-use Rattle.file_calls.specs.declared.path_fault.PathFault.{PathFault}
-use Rattle.file_calls.specs.declared.path_fault.PathFault.TheVariants as path_fault
 use Rattle.tree_model.specs.Opens.{is_used}
 use Rattle.tree_model.specs.Retained.{retained}
 use Rattle.tree_model.specs.Tree.{IsTree}
@@ -31,14 +25,11 @@ use Rattle.kernel_model.specs.Families.FileMeaning.{open_of}
 use Rattle.kernel_model.specs.Families.FilePaths.{lookup_mode}
 use Rattle.kernel_model.specs.Laws.{HasAll}
 use Rattle.kernel_model.specs.Families.EntryCalls.{name_meaning, entry_fds}
-use Rattle.kernel_model.specs.Families.NameMaking.{making, making_unless, text_error}
-use Rattle.kernel_model.specs.Families.NameMeaning.{NameOutcome, Refuses, LeadsOut, Changes, NameMeaning, outcome_of}
-use Rattle.kernel_model.specs.Families.Numbers.{can_number, made_more, next_object, process_updates}
-use Rattle.kernel_model.specs.Outcome.{Outcome, replies}
+use Rattle.kernel_model.specs.Families.NameMeaning.{outcome_of}
+use Rattle.kernel_model.specs.Families.Numbers.{can_number, next_object}
+use Rattle.kernel_model.specs.Outcome.{Outcome}
 use Rattle.kernel_model.specs.Release.{release}
-use Rattle.kernel_model.specs.Reply.{refused, success}
 use Rattle.kernel_model.specs.State.{State, ProcessState, Table, Tree, put_all, tree_of}
-use Rattle.kernel_model.specs.Families.TreeUpdates.{Change, change_updates}
 use Rattle.kernel_model.specs.Valid.{IsNamed, IsNearlyValid, IsValid}
 use Rattle.kernel_model.specs.View.{whole}
 use Rattle.kernel_model.proofs.Calls.{proper}
@@ -50,11 +41,9 @@ use Rattle.kernel_model.proofs.NameMoving.{renaming_well}
 use Rattle.kernel_model.proofs.NameRemoving.{unlinking_well}
 use Rattle.kernel_model.proofs.ObjectNumbers.{fewer_fit, next_is_absent, numbers_fit}
 use Rattle.kernel_model.proofs.Tests.{none_is_no, not_true, same_some}
-use Rattle.entry_calls.specs.Checks.{IsReported}
-use Rattle.entry_calls.specs.Done.{FailsAs, IsNew}
-use Rattle.entry_calls.specs.declared.failure.Failure.TheVariants.{Refused}
+use Rattle.entry_calls.specs.Done.{IsNew}
 use Rattle.kernel_core.specs.Entries.{entry_outcome, entries_come}
-use Rattle.kernel_parts.specs.Entries.{IsLeftBy, number_of, open_at, open_in}
+use Rattle.kernel_parts.specs.Entries.{IsLeftBy, open_at, open_in}
 use Rattle.kernel_core.proofs.Leaving.{left_of, released_is}
 
 -- ---- the opens of descriptors

@@ -5,7 +5,7 @@
 --     change_replaces, change_takes_memory      a number that is replaced is there;  memory may run out for a new number
 --     all_named      where a call isn't refused each descriptor that it names is there
 --     on_err_both, on_err_all      what follows where there is an error
-use Rattle.std.proofs.Common.{◌≡◌, ℕ, Bool, true, false, cond, ◌∷◌, [], Option, None, Some, IsSome, Result, Ok, Err, OnErr, refl, sym, ap, subst, ◌∙◌}
+use Rattle.std.proofs.Common.{◌≡◌, ℕ, Bool, true, false, cond, Option, None, Some, Result, Ok, Err, OnErr, refl, sym, ap, subst}
 use Rattle.abi_base.specs.declared.errno.Errno.{Errno}
 use Rattle.abi_base.specs.declared.errno.Errno.TheVariants.{Badf, Nosys, Success}
 use Rattle.abi_types.specs.Families.{HasFile, IsOf, answer_of, call_of_change, call_of_entry, call_of_file, call_of_offset, call_of_open, fd_of_file, fd_of_offset, fds_of_entry, is_anonymous, is_unbuilt, zeros_of}

@@ -1,25 +1,22 @@
 -- What a launch's grants leave in the table and among the opens.
-use Rattle.std.proofs.Common.{◌≡◌, ◌≢◌, inl, inr, ℕ, ◌+◌, ◌^◌, ◌<◌, cond, IsSome, List, [], ◌∷◌, ◌++◌, length, take, get_or, Option, None, Some, sym, ap, subst, ◌∙◌, arith}
+use Rattle.std.proofs.Common.{◌≡◌, ◌≢◌, inl, inr, ℕ, ◌+◌, ◌^◌, ◌<◌, cond, IsSome, List, [], ◌∷◌, length, sym, ap, subst, ◌∙◌, arith}
 use Rattle.std.proofs.lemmas.Bool.Decides.{eqb_tells}
-use Rattle.std.proofs.lemmas.List.{take_more, length-take-le}
 use Rattle.std.specs.Ordering.{nat_cmp}
 use Rattle.std.specs.Cmp.{nat_cmp_total}
 use Rattle.std.specs.FinMap.{FinMap, get, get-empty, get-from_entries, insert, empty, from_entries}
 use Rattle.abi_base.specs.declared.grant.Grant.{Grant}
-use Rattle.abi_types.specs.declared.open_kind.OpenKind.{OpenKind}
-use Rattle.maps.specs.Maps.{number, get-insert-same, get-insert-other, insert-again, total, total-empty, total-insert_new}
+use Rattle.maps.specs.Maps.{number, get-insert-same, get-insert-other, total, total-empty, total-insert_new}
 use Rattle.kernel_core.specs.Kernel.{IsKept}
-use Rattle.object_store.specs.Objects.{Held}
 use Rattle.fd_table.specs.Sizes.{KeysBelow, below-empty, below-insert, none_there}
 use Rattle.kernel_model.proofs.Tests.{none_is_no}
 use Rattle.kernel_parts.specs.Start.{granted_objects}
 use Rattle.kernel_core.proofs.Kept.{AreSmall, small_set}
 use Rattle.kernel_model.specs.Release.{names_open, count_in, holders}
 use Rattle.tree_model.specs.Grants.{AreGrants, MayBegin}
-use Rattle.kernel_model.specs.Start.{first_open, numbered, granted_descriptor, granted_open, granted_table, start_state}
+use Rattle.kernel_model.specs.Start.{first_open, numbered, granted_descriptor, granted_table, start_state}
 use Rattle.kernel_model.specs.State.{State, Table, Tree}
 use Rattle.kernel_model.specs.Valid.{IsValid}
-use Rattle.kernel_model.proofs.Starts.{find_below, find_above, from_numbered-push, start_valid}
+use Rattle.kernel_model.proofs.Starts.{find_below, start_valid}
 
 -- each open's count is how many descriptors name it
 numbered_counts : (tree : Tree) (grants : List Grant) (n m o : ℕ) → m ≡ first_open tree + n

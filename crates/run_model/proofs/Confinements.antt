@@ -39,11 +39,14 @@ call_answers : (constants : Constants) (S : State) (who : Who) (call : Call) (gi
     → HasSameSight S U who call → MayAnswer constants U who call given
 call_answers constants S who call given T U (inl done) same =
     (step_state constants U who call, inl (done.0 ∙ ap (λ (o : Outcome). o.answer) (sight_decides constants S U who call same), refl))
-call_answers constants S who call given T U (inr lacking) same =
-    (failed U who, inr (
-      (lacking.0.0, subst (λ (o : Outcome). IsSuccess o.answer) (sight_decides constants S U who call same) lacking.0.1),
-      lacking.1, refl,
-    ))
+call_answers constants S who call given T U (inr lacking) same = (
+  failed U who,
+  inr (
+    (lacking.0.0, subst (λ (o : Outcome). IsSuccess o.answer) (sight_decides constants S U who call same) lacking.0.1),
+    lacking.1,
+    refl,
+  ),
+)
 
 -- the answer of a call that takes memory is none of lack of memory
 answer_is_other : (constants : Constants) (S : State) (who : Who) (call : Call) (given : Answer) → takes_memory call ≡ true

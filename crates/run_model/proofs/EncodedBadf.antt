@@ -1,6 +1,6 @@
 -- No call that registers and memory encode has BADF before the kernel looks at it.
 --     args_not_badf      none has that error of its own, and a file_stat_fput sets something
-use Rattle.std.proofs.Common.{◌≡◌, ◌≢◌, ℕ, ◌==◌, ◌||◌, nat_le, not, Bool, true, false, cond, Option, Some, None, refl, sym, ap, subst, ◌∙◌}
+use Rattle.std.proofs.Common.{◌≡◌, ◌≢◌, ℕ, nat_le, Bool, true, false, cond, Option, Some, None, subst}
 use Rattle.abi_base.specs.Registers.{Registers}
 use Rattle.abi_base.specs.declared.errno.Errno.{Errno}
 use Rattle.abi_base.specs.declared.errno.Errno.TheVariants.{Badf, Nobufs}

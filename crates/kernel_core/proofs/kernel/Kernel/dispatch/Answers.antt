@@ -1,7 +1,7 @@
 use Rattle.std.proofs.Common.{◌≡◌, true, Some, None, refl, sym, ap, subst, ◌∙◌}
 use Rattle.std.proofs.lemmas.Result.{IfOk-weaker}
 use Rattle.std.specs.FinMap.{get}
-use Rattle.abi_types.specs.Families.{IsOf, call_of_change, call_of_entry, call_of_file, call_of_offset, call_of_open, fd_of_file, fds_of_entry}
+use Rattle.abi_types.specs.Families.{call_of_change, call_of_entry, call_of_file, call_of_offset, call_of_open}
 use Rattle.abi_types.specs.declared.call.Call.{Call}
 use Rattle.abi_types.specs.declared.call.Call.TheVariants as call
 use Rattle.abi_types.specs.declared.reply.Answer.{Answer}
@@ -11,12 +11,10 @@ use Rattle.abi_types.specs.declared.who.Who.{Who}
 use Rattle.kernel_model.specs.Calls.{meaning_of, named, refusal, takes_memory}
 use Rattle.kernel_model.specs.Families.ClockCalls.{real_time}
 use Rattle.kernel_model.specs.Families.DescriptorCalls.{stat_get}
-use Rattle.kernel_model.specs.Families.MemoryCalls.{placed}
 use Rattle.kernel_model.specs.Families.ProcessCalls.{exit_of}
 use Rattle.kernel_model.specs.Laws.{HasAll}
 use Rattle.kernel_model.specs.Outcome.{Outcome, IsSuccess, replies}
 use Rattle.kernel_model.specs.Release.{release}
-use Rattle.kernel_model.specs.Reply.{refused}
 use Rattle.kernel_model.specs.State.{State, Table, put_all}
 use Rattle.kernel_model.specs.Step.{outcome_by}
 use Rattle.kernel_model.specs.Valid.{IsValid}

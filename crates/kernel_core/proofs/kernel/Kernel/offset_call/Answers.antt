@@ -1,8 +1,7 @@
-use Rattle.std.proofs.Common.{◌≡◌, ℕ, ◌+◌, Option, Some, None, is_some, refl, sym, ap, subst, ◌∙◌}
+use Rattle.std.proofs.Common.{◌≡◌, ◌+◌, Option, Some, is_some, refl, sym, ap, subst, ◌∙◌}
 use Rattle.std.proofs.lemmas.Result.{IfOk-weaker, on_err_weaker}
 use Rattle.std.specs.FinMap.{get}
 use Rattle.std.specs.Option.{IfSome}
-use Rattle.abi_types.specs.declared.descriptor.Descriptor.{Descriptor}
 use Rattle.abi_types.specs.declared.open_kind.OpenKind.{OpenKind}
 use Rattle.abi_types.specs.declared.reply.Answer.{Answer}
 use Rattle.abi_types.specs.declared.reply.Answer.TheVariants as answer
@@ -13,7 +12,6 @@ use Rattle.abi_types.specs.Families.{call_of_offset}
 use Rattle.kernel_model.specs.Outcome.{Outcome, IsSuccess}
 use Rattle.kernel_model.specs.State.{State, Table}
 use Rattle.kernel_model.specs.Valid.{IsValid}
-use Rattle.kernel_model.proofs.Valids.{same_value}
 use Rattle.kernel_parts.specs.StreamCalls.{terms_after}
 use Rattle.kernel_parts.specs.StreamCalls.{stream_outcome}
 use Rattle.kernel_parts.proofs.Tests.{on_err}
