@@ -90,7 +90,7 @@ unless_none errno_of first comes is = ap (λ o. unless_fault errno_of o comes) i
 
 -- ---- what a call comes to by its parts
 
-module _ {A : Type 0} (old new : Tree) (result : Result A Failure) where
+module _ (old new : Tree) (result : Result (Option ℕ) Failure) where
   pub done_as : (comes other : NameOutcome) → comes ≡ other → IsDone comes old new result → IsDone other old new result
   done_as comes other is done = subst (λ c. IsDone c old new result) is done
 
@@ -101,7 +101,7 @@ module _ {A : Type 0} (old new : Tree) (result : Result A Failure) where
       done_as (goes place.dir name) (at_name goes last) (ap (goes place.dir) named ∙ ap (at_name goes) is) done
 
 -- its path leads to no last name
-pub place_failed : {A : Type 0} (t : Tree) (result : Result A Failure) (goes : ℕ → List ℕ → NameOutcome) (path : List ℕ) (last : LastName) (failure : Failure)
+pub place_failed : (t : Tree) (result : Result (Option ℕ) Failure) (goes : ℕ → List ℕ → NameOutcome) (path : List ℕ) (last : LastName) (failure : Failure)
     (why : PathFault) → last_of_place path (Err why) ≡ last → result ≡ Err failure → failure ≡ Refused why → IsDone (at_name goes last) t t result
 place_failed t result goes path last failure (path_fault.Errno errno) is fails refused =
     subst (IsDone (at_name goes last) t t) (sym (fails ∙ ap (λ f. Err f) refused)) (sym (ap (at_name goes) is), refl)
@@ -109,7 +109,7 @@ place_failed t result goes path last failure (path_fault.Outside component) is f
     subst (IsDone (at_name goes last) t t) (sym (fails ∙ ap (λ f. Err f) refused)) (sym (ap (at_name goes) is), refl)
 
 -- memory runs out where it would change the tree
-pub lacks_done : {A : Type 0} (t : Tree) (result : Result A Failure) (comes : NameOutcome) (change : Change) (failure : Failure)
+pub lacks_done : (t : Tree) (result : Result (Option ℕ) Failure) (comes : NameOutcome) (change : Change) (failure : Failure)
     → comes ≡ Changes change → result ≡ Err failure → failure ≡ failures.NoMemory → IsDone comes t t result
 lacks_done t result comes change failure is fails lacks =
     subst (IsDone comes t t) (sym (fails ∙ ap (λ f. Err f) lacks)) ((change, is), refl)

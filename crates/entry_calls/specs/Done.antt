@@ -1,6 +1,9 @@
 -- How a call on names ends.
-use Rattle.std.specs.Prelude.{◌≡◌, ⊤, ℕ, zero, suc, true, Result, Ok, Err}
+use Rattle.std.specs.Prelude.{◌≡◌, ◌⊎◌, ⊤, ℕ, zero, suc, true, Option, Some, Result, Ok, Err}
+use Rattle.std.specs.FinMap.{get}
+use Rattle.std.specs.Option.{option_map}
 use Rattle.abi_base.specs.declared.errno.Errno.{Errno}
+use Rattle.abi_types.specs.declared.node.Node.{Node}
 use Rattle.file_calls.specs.declared.path_fault.PathFault.TheVariants as path_fault
 use Rattle.kernel_model.specs.Families.NameMeaning.{NameOutcome, Refuses, LeadsOut, Changes}
 use Rattle.kernel_model.specs.Families.TreeUpdates.{Change}
@@ -22,9 +25,18 @@ FailsAs comes (Refused (path_fault.Errno errno)) = comes ≡ Refuses errno
 FailsAs comes (Refused (path_fault.Outside component)) = comes ≡ LeadsOut component
 FailsAs comes NoMemory = (change : Change) × (comes ≡ Changes change)
 
--- It comes to a change of the tree old to the tree new; or it fails, and the tree stays.
-abbrev pub IsDone : {A : Type 0} → NameOutcome → Tree → Tree → Result A Failure → Type 0
-IsDone comes old new (Ok x) = (change : Change) × (comes ≡ Changes change) × (new ≡ change.tree)
+-- the node is there and counts no name
+abbrev pub IsNameless : Tree → ℕ → Type 0
+IsNameless t n = option_map (λ (node : Node). node.links) (get t.nodes n) ≡ Some 0
+
+-- each node without a name is this one, if one is named, or had none before
+abbrev pub LosesOnly : Tree → Tree → Option ℕ → Type 0
+LosesOnly old new lost = (n : ℕ) → IsNameless new n → (lost ≡ Some n) ⊎ IsNameless old n
+
+-- It comes to a change of the tree old to the tree new, by which no node but this one lost its last name; or it fails, and the
+-- tree stays.
+abbrev pub IsDone : NameOutcome → Tree → Tree → Result (Option ℕ) Failure → Type 0
+IsDone comes old new (Ok lost) = (change : Change) × (comes ≡ Changes change) × (new ≡ change.tree) × LosesOnly old new lost
 IsDone comes old new (Err failure) = FailsAs comes failure × (new ≡ old)
 
 -- the number of a node that is made, where one is, is none in the tree

@@ -24,7 +24,8 @@ pub fn new_nodes(call: EntryCall<'_>) -> u32
 }
 
 /// Does a call on names, at this time in nanoseconds since 1970: the tree after it. Its paths begin at these opens; a node that
-/// it makes has the number `new`. `Err` changes nothing.
+/// it makes has the number `new`. Returns the node that lost a name, where one did: no other has lost its last one. `Err` changes
+/// nothing.
 pub fn on_entries(
     alloc: Global,
     tree: &mut Tree,
@@ -33,7 +34,7 @@ pub fn on_entries(
     now: u64,
     new: ObjId,
     call: EntryCall<'_>,
-) -> Result<(), Failure>
+) -> Result<Option<ObjId>, Failure>
     requires { IsNew (model.name_meaning (call_of_entry call)).new_nodes tree.old new }
     ensures { IsDone ((model.name_meaning (call_of_entry call.entry)).effect now new tree.old (Some here.now) (option_copied there.entry)) tree.old tree.new result }
 {

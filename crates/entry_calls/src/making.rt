@@ -21,14 +21,14 @@ pub fn make_in(
     kind: NodeKind,
     now: u64,
     new: ObjId,
-) -> Result<(), Failure>
+) -> Result<Option<ObjId>, Failure>
     requires { is_absent tree.old new ≡ true }
     ensures { IsDone (model.make_in kind now new tree.old dir name.now) tree.old tree.new result }
 {
     match tree.make(dir, name, new, node_of(kind, now)) {
         Ok(()) => {
             set_modified(tree, dir, now);
-            Ok(())
+            Ok(None)
         }
         Err(fault) => Err(failed(fault)),
     }
@@ -42,7 +42,7 @@ fn make_by_path(
     kind: NodeKind,
     now: u64,
     new: ObjId,
-) -> Result<(), Failure>
+) -> Result<Option<ObjId>, Failure>
     requires { is_absent tree.old new ≡ true }
     ensures { IsDone ((model.making kind path.now).effect now new tree.old (Some here.now) None) tree.old tree.new result }
 {
@@ -64,7 +64,7 @@ pub fn file_create(
     now: u64,
     new: ObjId,
     path: &[u8],
-) -> Result<(), Failure>
+) -> Result<Option<ObjId>, Failure>
     requires { is_absent tree.old new ≡ true }
     ensures { IsDone ((model.making kind.Directory path.now).effect now new tree.old (Some here.now) None) tree.old tree.new result }
 {
@@ -94,7 +94,7 @@ fn make_link(
     new: ObjId,
     text: &[u8],
     path: &[u8],
-) -> Result<(), Failure>
+) -> Result<Option<ObjId>, Failure>
     requires { is_absent tree.old new ≡ true }
     ensures { IsDone ((model.making (kind.Link text.now) path.now).effect now new tree.old (Some here.now) None) tree.old tree.new result }
 {
@@ -116,7 +116,7 @@ pub fn file_symlink(
     new: ObjId,
     text: &[u8],
     path: &[u8],
-) -> Result<(), Failure>
+) -> Result<Option<ObjId>, Failure>
     requires { is_absent tree.old new ≡ true }
     ensures { IsDone
         ((model.making_unless (model.text_error text.now) (model.making (kind.Link text.now) path.now)).effect now new tree.old (Some here.now) None)

@@ -26,14 +26,20 @@ fn link_failed(fault: TreeFault) -> Failure
 }
 
 // One more name of a node.
-fn link_in(tree: &mut Tree, node: ObjId, dir: ObjId, name: &[u8], now: u64) -> Result<(), Failure>
+fn link_in(
+    tree: &mut Tree,
+    node: ObjId,
+    dir: ObjId,
+    name: &[u8],
+    now: u64,
+) -> Result<Option<ObjId>, Failure>
     ensures { IsDone (model.link_in now tree.old node dir name.now) tree.old tree.new result }
 {
     match tree.link(dir, name, node) {
         Ok(()) => {
             set_modified(tree, dir, now);
             set_recounted(tree, node, now);
-            Ok(())
+            Ok(None)
         }
         Err(fault) => Err(link_failed(fault)),
     }
@@ -48,7 +54,7 @@ pub fn file_link(
     lookup_flags: u32,
     path: &[u8],
     new_path: &[u8],
-) -> Result<(), Failure>
+) -> Result<Option<ObjId>, Failure>
     ensures { (new : ℕ) → IsDone
         ((model.linking (lookup_mode lookup_flags) path.now new_path.now).effect now new tree.old (Some here.now) (option_copied there.entry))
         tree.old tree.new result }
@@ -85,7 +91,7 @@ fn set_moved(tree: &mut Tree, from: ObjId, to: ObjId, replaced: &Option<ObjId>, 
     }
 }
 
-// A name moves, and a node that had the new name loses it. Two names of one node stay as they are.
+// A name moves, and a node that had the new name loses it, and is returned. Two names of one node stay as they are.
 fn rename_in(
     tree: &mut Tree,
     from: ObjId,
@@ -93,23 +99,24 @@ fn rename_in(
     to: ObjId,
     new_name: &[u8],
     now: u64,
-) -> Result<(), Failure>
+) -> Result<Option<ObjId>, Failure>
     ensures { IsDone (model.rename_in now tree.old from name.now to new_name.now) tree.old tree.new result }
 {
     names_lead(tree);
     let stays = is_same(&tree.entry(from, name), &tree.entry(to, new_name));
     match tree.rename(from, name, to, new_name) {
         Ok(replaced) => {
-            if !stays {
-                set_moved(tree, from, to, &replaced, now);
+            if stays {
+                return Ok(None);
             }
-            Ok(())
+            set_moved(tree, from, to, &replaced, now);
+            Ok(replaced)
         }
         Err(fault) => Err(failed(fault)),
     }
 }
 
-/// Moves a name to another place.
+/// Moves a name to another place. Returns the node that lost its name by that, where one did.
 pub fn file_rename(
     tree: &mut Tree,
     here: &OpenKind,
@@ -117,7 +124,7 @@ pub fn file_rename(
     now: u64,
     path: &[u8],
     new_path: &[u8],
-) -> Result<(), Failure>
+) -> Result<Option<ObjId>, Failure>
     ensures { (new : ℕ) → IsDone
         ((model.renaming path.now new_path.now).effect now new tree.old (Some here.now) (option_copied there.entry)) tree.old tree.new result }
 {

@@ -117,7 +117,7 @@ fn make_file(
     ensures err { OnErr result (tree.new ≡ tree.old) }
 {
     let kind = NodeKind::File(Bytes::new(alloc));
-    let Ok(()) = make_in(
+    let Ok(_) = make_in(
         tree,
         place.dir,
         name_at(path, place.from, place.len),

@@ -51,16 +51,16 @@ fn remove_name(
     name: &[u8],
     node: ObjId,
     now: u64,
-) -> Result<(), Failure>
+) -> Result<Option<ObjId>, Failure>
     requires { first_fault (unlink_faults tree.old dir name.now) ≡ None }
     ensures { IsDone (Changes (model.without_name now tree.old dir name.now node)) tree.old tree.new result }
 {
-    let Ok(_) = tree.unlink(dir, name) else {
+    let Ok(lost) = tree.unlink(dir, name) else {
         return Err(Failure::NoMemory);
     };
     set_modified(tree, dir, now);
     set_recounted(tree, node, now);
-    Ok(())
+    Ok(Some(lost))
 }
 
 // The same where the flags are those for the node.
@@ -71,7 +71,7 @@ fn unlink_node(
     node: ObjId,
     flags: u32,
     now: u64,
-) -> Result<(), Failure>
+) -> Result<Option<ObjId>, Failure>
     requires { first_fault (unlink_faults tree.old dir name.now) ≡ None }
     ensures { IsDone (model.unlink_node flags now tree.old dir name.now (Some node)) tree.old tree.new result }
 {
@@ -87,7 +87,13 @@ fn unlink_node(
 }
 
 // A name in a directory is taken away.
-fn unlink_in(tree: &mut Tree, dir: ObjId, name: &[u8], flags: u32, now: u64) -> Result<(), Failure>
+fn unlink_in(
+    tree: &mut Tree,
+    dir: ObjId,
+    name: &[u8],
+    flags: u32,
+    now: u64,
+) -> Result<Option<ObjId>, Failure>
     ensures { IsDone (model.unlink_in flags now tree.old dir name.now) tree.old tree.new result }
 {
     names_lead(tree);
@@ -97,14 +103,14 @@ fn unlink_in(tree: &mut Tree, dir: ObjId, name: &[u8], flags: u32, now: u64) -> 
     }
 }
 
-/// Takes a name away.
+/// Takes a name away. Returns the node that had it.
 pub fn file_unlink(
     tree: &mut Tree,
     here: &OpenKind,
     now: u64,
     path: &[u8],
     flags: u32,
-) -> Result<(), Failure>
+) -> Result<Option<ObjId>, Failure>
     ensures { (new : ℕ) → IsDone ((model.unlinking flags path.now).effect now new tree.old (Some here.now) None) tree.old tree.new result }
 {
     let place = last_name(tree, path, here)?;

@@ -9,4 +9,5 @@ pub use faults::{InsertFault, PickFault};
 pub use table::FdTable;
 
 mod faults;
+mod marks;
 mod table;

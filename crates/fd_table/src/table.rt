@@ -6,6 +6,7 @@ ghost use Rattle.fd_table.specs.declared.faults.InsertFault.TheVariants as inser
 ghost use Rattle.fd_table.specs.declared.faults.PickFault.TheVariants as pick_faults;
 
 use crate::faults::{InsertFault, PickFault};
+use crate::marks::{WORDS, lowest_unmarked, mark, unmark};
 use abi_base::MOST_DESCRIPTORS;
 use abi_types::{Descriptor, Rights, TryClone};
 use maps::NumMap;
@@ -18,11 +19,16 @@ use std::marker::Model;
 #[derive(Drop)]
 pub struct FdTable {
     slots: NumMap<Descriptor>,
+
+    // Which numbers have a descriptor, one bit a number, so that the lowest without one is found by few words.
+    taken: [u64; WORDS],
+
     alloc: Global,
 }
 
 impl Model for FdTable {
-    ghost use Rattle.fd_table.specs.Table.{Table, table_code, IsTable};
+    ghost use Rattle.fd_table.specs.Table.{Table, table_code};
+    ghost use Rattle.fd_table.specs.Marks.{IsKept};
 
     ghost Value = { Table };
 
@@ -30,7 +36,7 @@ impl Model for FdTable {
 
     ghost view = { λ t. t.slots };
 
-    ghost invariant = { λ t. IsTable t.slots };
+    ghost invariant = { λ t. IsKept t.slots t.taken };
 }
 
 impl FdTable {
@@ -40,6 +46,7 @@ impl FdTable {
     {
         FdTable {
             slots: NumMap::new(alloc),
+            taken: [0; WORDS],
             alloc,
         }
     }
@@ -79,12 +86,7 @@ impl FdTable {
         ensures free { IfSome result (λ number. IsLowestFree self.now number) }
         ensures full { IsNone result ↔ IsFull self.now }
     {
-        for number in 0..MOST_DESCRIPTORS as u32 {
-            if !self.slots.contains(u64::from(number)) {
-                return Some(number);
-            }
-        }
-        None
+        lowest_unmarked(&self.taken)
     }
 
     /// Puts a descriptor at the lowest free number, and returns that number. An error changes nothing.
@@ -108,6 +110,7 @@ impl FdTable {
         ensures absent { OnErr result (map.get self.old fd ≡ None) }
     {
         self.slots.insert(u64::from(fd), descriptor)?;
+        mark(&mut self.taken, fd);
         Ok(())
     }
 
@@ -116,6 +119,7 @@ impl FdTable {
         ensures value { result ≡ map.get self.old fd }
         ensures new { self.new ≡ map.remove self.old fd }
     {
+        unmark(&mut self.taken, fd);
         self.slots.remove(u64::from(fd))
     }
 
@@ -210,6 +214,7 @@ impl FdTable {
         ensures len { IfSome result (λ entry. map.len self.new + 1 ≡ map.len self.old) }
     {
         let (number, descriptor) = self.slots.pop_first()?;
+        unmark(&mut self.taken, number as u32);
         Some((number as u32, descriptor))
     }
 }
@@ -220,7 +225,7 @@ impl TryClone for FdTable {
         let mut next = 0;
         while let Some(number) = self.slots.first_from(next) {
             if let Some(descriptor) = self.slots.get(number) {
-                made.slots.insert(number, *descriptor)?;
+                made.insert_at(number as u32, *descriptor)?;
             }
             next = number + 1;
         }

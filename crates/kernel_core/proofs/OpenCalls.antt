@@ -4,10 +4,11 @@
 --     opens_from      what it opens by the open of its descriptor
 --     planned_before      a plan is one for the state as it is kept
 --     open_fits, open_is_new, none_holds_it, node_is_new      the numbers of the open and of the node fit, and are free
---     open_changes, open_answer, open_left      the change of the tree;  the reply;  the state before the release
+--     open_changes, open_keeps      the change of the tree;  by which no node goes
+--     open_answer, open_left      the reply;  the state before the release
 --     open_held, open_released      each open is held;  the state after the release
 --     open_does, open_valid      the call means what its outcome is;  what it leaves is nearly valid
-use Rattle.std.proofs.Common.{◌≡◌, ℕ, zero, suc, ◌+◌, ◌-◌, ◌<◌, ◌^◌, false, cond, eq-eqb, List, ◌∷◌, ◌++◌, Option, None, Some, Err, IsSome, inl, inr, is_none, is_some, refl, sym, ap, subst, ◌∙◌, arith}
+use Rattle.std.proofs.Common.{◌≡◌, ℕ, zero, suc, ◌+◌, ◌-◌, ◌<◌, ◌≤◌, ◌^◌, false, cond, eq-eqb, List, ◌∷◌, ◌++◌, Option, None, Some, Err, IsSome, inl, inr, is_none, is_some, refl, sym, ap, subst, ◌∙◌, arith}
 use Rattle.std.proofs.lemmas.Bool.Decides.{eqb_tells}
 use Rattle.std.specs.FinMap.{get, insert}
 use Rattle.abi_base.specs.declared.errno.Errno.TheVariants.{Again, Mfile}
@@ -24,7 +25,7 @@ use Rattle.file_calls.specs.Walks.{reply_of}
 use Rattle.file_calls.specs.declared.path_fault.PathFault.{PathFault}
 use Rattle.file_calls.specs.declared.path_fault.PathFault.TheVariants as path_fault
 use Rattle.maps.specs.Maps.{get-insert-other, total, total-insert, total-insert_new, weight}
-use Rattle.tree_model.specs.Opens.{is_used}
+use Rattle.tree_model.specs.Opens.{is_used, one_of_node, opens_of_node}
 use Rattle.tree_model.specs.Retained.{retained}
 use Rattle.kernel_model.specs.Families.ClockCalls.{real_time}
 use Rattle.kernel_model.specs.Families.DescriptorCalls.{lowest_free}
@@ -46,11 +47,13 @@ use Rattle.kernel_model.proofs.Opening.{file_open_is_proper, rest_beside, walk_w
 use Rattle.kernel_model.proofs.TreeUpdates.{put_counted, with_tree}
 use Rattle.entry_calls.specs.Done.{IsNew}
 use Rattle.entry_calls.specs.Plans.{change_of, kind_of, new_nodes_of, opened_by, opened_of}
+use Rattle.entry_calls.proofs.Losing.{loses-opened}
 use Rattle.entry_calls.specs.declared.plans.OpenPlan.{OpenPlan}
 use Rattle.kernel_parts.specs.Entries.{open_in}
 use Rattle.kernel_core.specs.Opening.{IsOpening, open_outcome, opened_at}
 use Rattle.kernel_parts.specs.declared.opens.Opening.{Opening}
 use Rattle.kernel_core.proofs.Leaving.{counted_is, none_holds, released_is}
+use Rattle.kernel_parts.proofs.Forgetting.{forgetting_none, used_still}
 use Rattle.kernel_parts.proofs.Lowest.{lowest_is}
 use Rattle.kernel_core.proofs.EntryCalls.{opened_is}
 
@@ -167,6 +170,17 @@ module _ (S : State) (p : ℕ) (table : Table) (lookup : Lookup) (path : List �
 
     pub open_changes : IsChangeOf (tree_of S) (next_object p (get S.processes p) 1) (new_nodes_of o.plan) (change_of o.plan path now (next_object p (get S.processes p) 1) (tree_of S))
     open_changes = well.1
+
+    -- each node of the tree after it is used
+    one_open_more : (n : ℕ) → opens_of_node S.opens n ≤ opens_of_node (insert S.opens o.descriptor.id o.kind) n
+    one_open_more n =
+        let grown = total-insert_new (one_of_node n) S.opens o.descriptor.id o.kind open_is_new in
+        omega (arith, grown)
+
+    pub open_keeps : (let u : Tree = (change_of o.plan path now (next_object p (get S.processes p) 1) (tree_of S)).tree in u ≡ retained u (is_used (insert S.opens o.descriptor.id o.kind) u))
+    open_keeps =
+        forgetting_none (insert S.opens o.descriptor.id o.kind) change.tree change.tree open_changes.tree
+        (used_still S.opens (insert S.opens o.descriptor.id o.kind) (tree_of S) change.tree None one_open_more v.kept (loses-opened o.plan path now first (tree_of S))) refl
 
     -- the kind of the open
     kind_is : kind_of o.plan stat.flags first ≡ o.kind

@@ -46,7 +46,7 @@ impl Kernel {
             time: self.clock + constants.epoch,
         };
         let own = self.processes.get_mut(u64::from(pid.0));
-        let reply = change_entries(
+        let done = change_entries(
             self.alloc,
             own,
             &mut self.tree,
@@ -55,7 +55,7 @@ impl Kernel {
             there.as_ref(),
             call,
         )?;
-        forget_nameless(&mut self.tree, &self.objects);
-        Ok(Answer::Reply(reply))
+        forget_nameless(&mut self.tree, &self.objects, done.lost);
+        Ok(Answer::Reply(done.reply))
     }
 }

@@ -11,7 +11,7 @@ use crate::kernel::Kernel;
 use abi_types::{Answer, Constants, Errno, ObjId, OpenCall, Pid, Reply};
 use entry_calls::plan_open;
 use file_calls::reply_of;
-use kernel_parts::{Opening, forget_nameless, open_of, put_opening};
+use kernel_parts::{Opening, open_of, put_opening};
 use right_rules::{refused, success};
 use std::alloc::AllocError;
 
@@ -50,7 +50,7 @@ impl Kernel {
         })
     }
 
-    // Opens what the path leads to. `Err` changes nothing.
+    // Opens what the path leads to. No node loses a name or an open by it, so none goes. `Err` changes nothing.
     pub(crate) fn file_open(
         &mut self,
         constants: &Constants,
@@ -83,7 +83,6 @@ impl Kernel {
             now,
         )?;
         self.processes.get_mut(p).make(opening.plan.new_nodes() + 1);
-        forget_nameless(&mut self.tree, &self.objects);
         Ok(Answer::Reply(success(u64::from(opening.fd), 0)))
     }
 }

@@ -2,7 +2,7 @@
 //! that it holds, what a process has of its own, the standard streams, and the nodes of the file tree that nothing holds any more.
 #![tactic(auto)]
 
-pub use entries::{Caller, change_entries};
+pub use entries::{Caller, EntryReply, change_entries};
 pub use opens::{Opening, kind_of, open_of, put_opening};
 pub use places::placed;
 pub use process::ProcessState;

@@ -1,5 +1,5 @@
 //! What ends because nothing holds it, and the nodes of the file tree that go with it.
-ghost use Rattle.std.specs.Prelude.{◌≡◌, ℕ, None, IsSome, true, false};
+ghost use Rattle.std.specs.Prelude.{◌≡◌, ◌⊎◌, ℕ, None, Some, IsSome, true, false};
 ghost use Rattle.std.specs.FinMap as map;
 ghost use Rattle.object_store.specs.Objects.{unheld_removed};
 ghost use Rattle.tree_model.specs.Changes.{forgotten};
@@ -41,14 +41,14 @@ pub fn release(objects: &mut Objects, tree: &mut Tree)
     }
 }
 
-/// Takes each node away that has neither a name nor an open. Looks at the nodes without a name alone. Takes no memory.
-pub fn forget_nameless(tree: &mut Tree, objects: &Objects)
-    requires { IsTree tree.old }
+/// Takes the node away that has lost a name, where it has neither another nor an open. Looks at that node alone, since each other
+/// has one of them. Takes no memory.
+pub fn forget_nameless(tree: &mut Tree, objects: &Objects, lost: Option<ObjId>)
+    requires tree { IsTree tree.old }
+    requires others { (n : ℕ) → IsSome (map.get tree.old.nodes n) → (lost ≡ Some n) ⊎ (is_used objects.now.kinds tree.old n ≡ true) }
     ensures { tree.new ≡ retained tree.old (is_used objects.now.kinds tree.old) }
 {
-    let mut last: Option<ObjId> = None;
-    while let Some(node) = tree.nameless(last) {
+    if let Some(node) = lost {
         forget_unused(tree, objects, node);
-        last = Some(node);
     }
 }

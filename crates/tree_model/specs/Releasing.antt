@@ -3,6 +3,7 @@
 --     releasing_start      at first all nodes are used
 --     releasing_other, releasing_kept, releasing_gone      an open ends that is of no node;  of one that stays;  of one that goes
 --     releasing_next      all three, by what becomes of the tree;  used-set      another open of the same node changes nothing
+--     used_by_links, used_by_opens, used_more      a node is used by a name, or by an open;  and no less with more opens
 --     releasing_end      in the end the nodes are left that are used
 use Rattle.std.proofs.Common.{◌≡◌, ◌≢◌, ℕ, ◌+◌, ◌≤◌, ◌==◌, ◌||◌, Bool, true, false, cond, inl, inr, Option, None, Some, IsSome, is_some, refl, sym, ap, subst, ◌∙◌, arith}
 use Rattle.std.proofs.lemmas.Bool.{false≢true, lt-ltb, ltb-true}
@@ -92,7 +93,7 @@ used_by_opens kinds t n some =
     ∙ ap (λ b. (n == ROOT) || b) (or_true (nat_lt 0 (links_of t n))) ∙ or_true (n == ROOT)
 
 -- more opens and as many names make no node less used
-used_more : (few many : FinMap nat_cmp OpenKind) (t u : Tree) (n : ℕ) → links_of u n ≡ links_of t n → opens_of_node few n ≤ opens_of_node many n
+pub used_more : (few many : FinMap nat_cmp OpenKind) (t u : Tree) (n : ℕ) → links_of u n ≡ links_of t n → opens_of_node few n ≤ opens_of_node many n
     → is_used few t n ≡ true → is_used many u n ≡ true
 used_more few many t u n links opens used =
     elim (n == ROOT) as (λ b. (b || (nat_lt 0 (links_of t n) || nat_lt 0 (opens_of_node few n))) ≡ true

@@ -7,7 +7,7 @@ use Rattle.fd_table.proofs.table.FdTableTryClone.copy.Given as goal
 abbrev pub invariant-loop-number : goal.invariant-loop-number
 invariant-loop-number l = record {
   few : l.next ≤ MOST_DESCRIPTORS;
-  so_far : CopiesBelow l.next l.self-inside.slots l.made-inside.slots;
+  so_far : CopiesBelow l.next l.self-inside.slots l.made;
 }
 
 abbrev pub decreases-loop-number : goal.decreases-loop-number

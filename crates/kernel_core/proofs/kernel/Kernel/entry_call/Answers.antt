@@ -1,4 +1,4 @@
-use Rattle.std.proofs.Common.{◌≡◌, ℕ, ◌+◌, Some, option_copied, sym, ap, subst, ◌∙◌}
+use Rattle.std.proofs.Common.{◌≡◌, ℕ, ◌+◌, Some, option_copied, sym, ap, subst, ◌∙◌, arith}
 use Rattle.std.specs.FinMap.{get, insert}
 use Rattle.maps.specs.Maps.{insert_self}
 use Rattle.tree_model.specs.Opens.{is_used}
@@ -17,22 +17,23 @@ use Rattle.kernel_core.specs.Entries.{entry_outcome, entries_come}
 use Rattle.kernel_parts.specs.Entries.{IsLeftBy, kind_with, open_at, open_in}
 use Rattle.kernel_core.specs.contracts.kernel.Kernel.{the_view}
 use Rattle.kernel_core.proofs.EntryCalls.{entries_after, entries_answer, entries_tree, entries_valid, open_there}
+use Rattle.kernel_parts.proofs.Forgetting.{used_still}
 use Rattle.kernel_parts.proofs.Tests.{on_err}
 use Rattle.kernel_core.proofs.Opens.{IsFound, open_absent, open_found}
 use Rattle.kernel_core.proofs.kernel.Kernel.entry_call.Goals as goal
-use Rattle.kernel_core.proofs.kernel.Kernel.entry_call.Goals.{In_err-reply, In_ok-reply}
+use Rattle.kernel_core.proofs.kernel.Kernel.entry_call.Goals.{In_err-done, In_ok-done}
 
 -- the first descriptor and its open, by the process's table
-found : (c : In_ok-reply) → IsFound c.self.inside.objects.kinds (get c.self.inside.tables c.args.pid) c.args.fd c.in-Some.field-0-0 c.in-Some.here
+found : (c : In_ok-done) → IsFound c.self.inside.objects.kinds (get c.self.inside.tables c.args.pid) c.args.fd c.in-Some.field-0-0 c.in-Some.here
 found c = open_found _ _ _ _ _ (sym c.open_of.ensures ∙ c.in-Some.is)
 
-abbrev table_of : In_ok-reply → Table
+abbrev table_of : In_ok-done → Table
 table_of c = (found c).table
 
-there : (c : In_ok-reply) → get c.self.inside.tables c.args.pid ≡ Some (table_of c)
+there : (c : In_ok-done) → get c.self.inside.tables c.args.pid ≡ Some (table_of c)
 there c = (found c).there
 
-had : (c : In_ok-reply) → get c.args.self.now.tables c.args.pid ≡ Some (table_of c)
+had : (c : In_ok-done) → get c.args.self.now.tables c.args.pid ≡ Some (table_of c)
 had c = ap (λ (S : State). get S.tables c.args.pid) (sym c.self.view_is) ∙ there c
 
 -- the first descriptor is there, and so is its open
@@ -45,36 +46,36 @@ returns-in_default-clause-ok d = λ table here.
 
 -- ---- where memory runs out nothing has changed
 
-abbrev unchanged : In_err-reply → State
+abbrev unchanged : In_err-done → State
 unchanged c = record (the_view c.self.inside) {
   processes = insert c.self.inside.processes c.from.result c.change_entries.new.own;
   nodes = c.change_entries.new.tree.nodes;
   names = c.change_entries.new.tree.names;
 }
 
-as_before : (c : In_err-reply) → unchanged c ≡ the_view c.self.inside
+as_before : (c : In_err-done) → unchanged c ≡ the_view c.self.inside
 as_before c =
     let own : insert c.self.inside.processes c.from.result c.change_entries.new.own ≡ c.self.inside.processes =
-    ap (insert c.self.inside.processes c.from.result) c.in_err-reply.ensures.same_process
+    ap (insert c.self.inside.processes c.from.result) c.in_err-done.ensures.same_process
     ∙ insert_self c.self.inside.processes c.from.result c.get_mut-own.result.now (sym c.get_mut-own.ensures.value) in
     λ i. record (the_view c.self.inside) {
       processes = own i;
-      nodes = (c.in_err-reply.ensures.same_tree i).nodes;
-      names = (c.in_err-reply.ensures.same_tree i).names;
+      nodes = (c.in_err-done.ensures.same_tree i).nodes;
+      names = (c.in_err-done.ensures.same_tree i).names;
     }
 
 pub invariant_of-self : goal.invariant_of-self
 invariant_of-self d =
-    let c = (goal.at.invariant_of-self d).In_err-reply in
+    let c = (goal.at.invariant_of-self d).In_err-done in
     subst (λ (S : State). IsKept S d.self.inside.objects.counts) (sym (as_before c)) d.self.invariant
 
-pub returns-in_err-reply-clause-err : goal.returns-in_err-reply-clause-err
-returns-in_err-reply-clause-err d =
-    on_err d.from_residual.result (as_before (goal.at.returns-in_err-reply-clause-err d).In_err-reply ∙ d.self.view_is)
+pub returns-in_err-done-clause-err : goal.returns-in_err-done-clause-err
+returns-in_err-done-clause-err d =
+    on_err d.from_residual.result (as_before (goal.at.returns-in_err-done-clause-err d).In_err-done ∙ d.self.view_is)
 
 -- and the call would succeed
-pub returns-in_err-reply-clause-only : goal.returns-in_err-reply-clause-only
-returns-in_err-reply-clause-only d = on_err d.from_residual.result (λ table here.
+pub returns-in_err-done-clause-only : goal.returns-in_err-done-clause-only
+returns-in_err-done-clause-only d = on_err d.from_residual.result (λ table here.
     let constants = d.args.constants.now in
     let S = the_view d.self.inside in
     let p = d.args.pid in
@@ -91,19 +92,19 @@ returns-in_err-reply-clause-only d = on_err d.from_residual.result (λ table her
     subst (λ (o : Outcome). IsSuccess o.answer)
     (same ∙ ap (λ (t : Table). entry_outcome constants S p t d.args.fd d.args.other called) at
     ∙ ap (λ (T : State). entry_outcome constants T p table d.args.fd d.args.other called) d.self.view_is)
-    d.in_err-reply.ensures.only)
+    d.in_err-done.ensures.only)
 
 -- ---- the call is done
 
 -- what the process had of its own
-owned : (c : In_ok-reply) → get c.self.inside.processes c.args.pid ≡ Some c.get_mut-own.result.now
+owned : (c : In_ok-done) → get c.self.inside.processes c.args.pid ≡ Some c.get_mut-own.result.now
 owned c = ap (get c.self.inside.processes) (sym (c.from.ensures ∙ c.pid.view_is)) ∙ sym c.get_mut-own.ensures.value
 
-abbrev comes : In_ok-reply → NameOutcome
+abbrev comes : In_ok-done → NameOutcome
 comes c = entries_come c.args.constants.now (the_view c.self.inside) c.args.pid (table_of c) c.args.fd c.args.other (call_of_entry c.args.call)
 
-done : (c : In_ok-reply) → IsLeftBy c.args.pid (name_meaning (call_of_entry c.args.call)).new_nodes c.get_mut-own.result.now c.change_entries.new.own c.self.inside.tree
-    c.change_entries.new.tree (comes c) c.in_ok-reply.reply
+done : (c : In_ok-done) → IsLeftBy c.args.pid (name_meaning (call_of_entry c.args.call)).new_nodes c.get_mut-own.result.now c.change_entries.new.own c.self.inside.tree
+    c.change_entries.new.tree (comes c) c.in_ok-done.done.reply
 done c =
     let S = the_view c.self.inside in
     let f = found c in
@@ -113,34 +114,39 @@ done c =
     let same : _ ≡ comes c =
     λ i. (name_meaning (call_of_entry c.args.call)).effect (c.self.inside.clock + c.args.constants.now.epoch) (next_object c.args.pid (sym (owned c) i) 1) (tree_of S) (here i) (other i) in
     subst (λ k. IsLeftBy c.args.pid (name_meaning (call_of_entry c.args.call)).new_nodes c.get_mut-own.result.now c.change_entries.new.own c.self.inside.tree c.change_entries.new.tree k
-    c.in_ok-reply.reply) same c.in_ok-reply.ensures.done
+    c.in_ok-done.done.reply) same c.in_ok-done.ensures.done
 
-pub forget_nameless-requires : goal.forget_nameless-requires
-forget_nameless-requires d =
-    let c = (goal.at.forget_nameless-requires d).In_ok-reply in
+pub forget_nameless-requires-clause-tree : goal.forget_nameless-requires-clause-tree
+forget_nameless-requires-clause-tree d =
+    let c = (goal.at.forget_nameless-requires-clause-tree d).In_ok-done in
     let S = the_view d.self.inside in
-    entries_tree d.args.constants.now S d.args.pid (table_of (goal.at.forget_nameless-requires d).In_ok-reply) d.args.fd d.args.other (call_of_entry d.args.call) d.requires.on d.get_mut-own.result.now d.change_entries.new.own (owned c)
-    d.self.invariant.valid d.change_entries.new.tree d.in_ok-reply.reply (done c) (there (goal.at.forget_nameless-requires d).In_ok-reply)
+    entries_tree d.args.constants.now S d.args.pid (table_of c) d.args.fd d.args.other (call_of_entry d.args.call) d.requires.on d.get_mut-own.result.now d.change_entries.new.own (owned c)
+    d.self.invariant.valid d.change_entries.new.tree d.in_ok-done.done.reply (done c) (there c)
+
+pub forget_nameless-requires-clause-others : goal.forget_nameless-requires-clause-others
+forget_nameless-requires-clause-others d =
+    let S = the_view d.self.inside in
+    used_still S.opens S.opens (tree_of S) d.change_entries.new.tree d.in_ok-done.done.lost (λ n. omega arith) d.self.invariant.valid.kept d.in_ok-done.ensures.lost
 
 -- the fields as they are in the end
-abbrev fields : In_ok-reply → Tree → State
+abbrev fields : In_ok-done → Tree → State
 fields c t = record (the_view c.self.inside) { processes = insert c.self.inside.processes c.from.result c.change_entries.new.own; nodes = t.nodes; names = t.names }
 
-after : (c : In_ok-reply) (t : Tree) → t ≡ retained c.change_entries.new.tree (is_used c.self.inside.objects.kinds c.change_entries.new.tree)
+after : (c : In_ok-done) (t : Tree) → t ≡ retained c.change_entries.new.tree (is_used c.self.inside.objects.kinds c.change_entries.new.tree)
     → fields c t ≡ release (put_all (entry_outcome c.args.constants.now (the_view c.self.inside) c.args.pid (table_of c) c.args.fd c.args.other (call_of_entry c.args.call)).updates (the_view c.self.inside))
 after c t rest =
     let S = the_view c.self.inside in
     ap (λ (p : ℕ). record S { processes = insert S.processes p c.change_entries.new.own; nodes = t.nodes; names = t.names }) (c.from.ensures ∙ c.pid.view_is)
     ∙ entries_after c.args.constants.now S c.args.pid (table_of c) c.args.fd c.args.other (call_of_entry c.args.call) c.requires.on c.get_mut-own.result.now c.change_entries.new.own
-    (owned c) c.self.invariant.valid c.change_entries.new.tree c.in_ok-reply.reply (done c) t rest
+    (owned c) c.self.invariant.valid c.change_entries.new.tree c.in_ok-done.done.reply (done c) t rest
 
 pub invariant_of-self-2 : goal.invariant_of-self-2
 invariant_of-self-2 d =
-    let c = (goal.at.invariant_of-self-2 d).In_ok-reply in
+    let c = (goal.at.invariant_of-self-2 d).In_ok-done in
     let S = the_view d.self.inside in
     record {
       valid = subst IsValid (sym (after c d.forget_nameless.new.tree d.forget_nameless.ensures)) (release_restores _
-          (entries_valid d.args.constants.now S d.args.pid (table_of (goal.at.invariant_of-self-2 d).In_ok-reply) d.args.fd d.args.other (call_of_entry d.args.call) d.requires.on (there (goal.at.invariant_of-self-2 d).In_ok-reply)
+          (entries_valid d.args.constants.now S d.args.pid (table_of (goal.at.invariant_of-self-2 d).In_ok-done) d.args.fd d.args.other (call_of_entry d.args.call) d.requires.on (there (goal.at.invariant_of-self-2 d).In_ok-done)
           d.self.invariant.valid.nearly));
       counted = d.self.invariant.counted;
       small = d.self.invariant.small;
@@ -149,15 +155,15 @@ invariant_of-self-2 d =
 
 pub returns-clause-ok : goal.returns-clause-ok
 returns-clause-ok d = λ table here.
-    let c = (goal.at.returns-clause-ok d).In_ok-reply in
+    let c = (goal.at.returns-clause-ok d).In_ok-done in
     let S = the_view d.self.inside in
-    let same : (table_of (goal.at.returns-clause-ok d).In_ok-reply) ≡ table = same_value _ _ _ (had (goal.at.returns-clause-ok d).In_ok-reply) here in
-    let outcome : entry_outcome d.args.constants.now S d.args.pid (table_of (goal.at.returns-clause-ok d).In_ok-reply) d.args.fd d.args.other (call_of_entry d.args.call)
+    let same : (table_of (goal.at.returns-clause-ok d).In_ok-done) ≡ table = same_value _ _ _ (had (goal.at.returns-clause-ok d).In_ok-done) here in
+    let outcome : entry_outcome d.args.constants.now S d.args.pid (table_of (goal.at.returns-clause-ok d).In_ok-done) d.args.fd d.args.other (call_of_entry d.args.call)
     ≡ entry_outcome d.args.constants.now d.args.self.now d.args.pid table d.args.fd d.args.other (call_of_entry d.args.call) =
     ap (λ (t : Table). entry_outcome d.args.constants.now S d.args.pid t d.args.fd d.args.other (call_of_entry d.args.call)) same
     ∙ ap (λ (T : State). entry_outcome d.args.constants.now T d.args.pid table d.args.fd d.args.other (call_of_entry d.args.call)) d.self.view_is in (
-      entries_answer d.args.constants.now S d.args.pid (table_of (goal.at.returns-clause-ok d).In_ok-reply) d.args.fd d.args.other (call_of_entry d.args.call) d.requires.on d.get_mut-own.result.now d.change_entries.new.own
-          (owned c) d.self.invariant.valid d.change_entries.new.tree d.in_ok-reply.reply (done c)
+      entries_answer d.args.constants.now S d.args.pid (table_of (goal.at.returns-clause-ok d).In_ok-done) d.args.fd d.args.other (call_of_entry d.args.call) d.requires.on d.get_mut-own.result.now d.change_entries.new.own
+          (owned c) d.self.invariant.valid d.change_entries.new.tree d.in_ok-done.done.reply (done c)
           ∙ ap (λ (o : Outcome). o.answer) outcome,
       after c d.forget_nameless.new.tree d.forget_nameless.ensures ∙ ap (λ (o : Outcome). release (put_all o.updates S)) outcome
           ∙ ap (λ (T : State). release (put_all (entry_outcome d.args.constants.now d.args.self.now d.args.pid table d.args.fd d.args.other (call_of_entry d.args.call)).updates T)) d.self.view_is,

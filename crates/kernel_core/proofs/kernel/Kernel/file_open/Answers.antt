@@ -7,7 +7,6 @@ use Rattle.fd_table.specs.Table.{IsTable}
 use Rattle.maps.specs.Maps.{insert_self}
 use Rattle.tree_model.specs.Opens.{is_used}
 use Rattle.tree_model.specs.Retained.{retained}
-use Rattle.tree_model.specs.Tree.{IsTree}
 use Rattle.kernel_model.specs.Families.Numbers.{made_more, next_object}
 use Rattle.kernel_model.specs.Outcome.{Outcome, IsSuccess}
 use Rattle.kernel_model.specs.Release.{holders, release}
@@ -20,7 +19,7 @@ use Rattle.kernel_core.specs.Opening.{IsOpening, open_outcome}
 use Rattle.kernel_core.specs.contracts.kernel.Kernel.{the_view}
 use Rattle.kernel_core.proofs.Changes.{moved_holders}
 use Rattle.kernel_core.proofs.Kept.{AreSmall, small_set}
-use Rattle.kernel_core.proofs.OpenCalls.{none_holds_it, node_is_new, open_answer, open_changes, open_fits, open_is_new, open_released, open_valid, planned_before}
+use Rattle.kernel_core.proofs.OpenCalls.{none_holds_it, node_is_new, open_answer, open_fits, open_is_new, open_keeps, open_released, open_valid, planned_before}
 use Rattle.kernel_parts.proofs.Tests.{on_err}
 use Rattle.kernel_core.proofs.kernel.Kernel.file_open.Goals as goal
 use Rattle.kernel_core.proofs.kernel.Kernel.file_open.Goals.{After-get_mut-table, In_err-put_opening, After-success}
@@ -125,14 +124,6 @@ make-requires d =
     let new_nodes = d.new_nodes.ensures in
     omega (arith, fits.1, made, new_nodes)
 
-pub forget_nameless-requires : goal.forget_nameless-requires
-forget_nameless-requires d =
-    let S = the_view d.self.inside in
-    let plan = planned (goal.at.forget_nameless-requires d).After-get_mut-table in
-    let now : ℕ = d.self.inside.clock + d.args.constants.now.epoch in
-    let changes = open_changes S d.args.pid d.get_mut-table.result.now d.args.call.now.lookup d.args.call.now.path.now d.args.call.now.oflags d.args.call.now.stat d.in-Ok.opening plan d.self.invariant.valid now in
-    subst IsTree (sym (d.in_ok-put_opening.ensures.tree ∙ ap (λ n. (change_of d.in-Ok.opening.plan d.args.call.now.path.now now n (tree_of S)).tree) plan.new)) changes.tree
-
 -- what its process had
 there : (c : After-success) → get c.self.inside.tables c.args.pid ≡ Some c.get_mut-table.result.now
 there c = ap (get c.self.inside.tables) (sym (c.from-p.ensures ∙ c.pid.view_is)) ∙ sym c.get_mut-table.ensures.value
@@ -154,8 +145,8 @@ fields c = record (the_view c.self.inside) {
   tables = insert c.self.inside.tables c.from-p.result c.put_opening.new.table;
   processes = insert c.self.inside.processes c.from-p.result c.make.new.self;
   opens = c.put_opening.new.objects.kinds;
-  nodes = c.forget_nameless.new.tree.nodes;
-  names = c.forget_nameless.new.tree.names;
+  nodes = c.put_opening.new.tree.nodes;
+  names = c.put_opening.new.tree.names;
 }
 
 after : (c : After-success) → Plans c → fields c ≡ release (put_all (outcome c).updates (the_view c.self.inside))
@@ -175,8 +166,8 @@ after c plan =
     let u : Tree = (change_of o.plan c.args.call.now.path.now now (next_object p (get S.processes p) 1) (tree_of S)).tree in
     let changed : c.put_opening.new.tree ≡ u =
     c.in_ok-put_opening.ensures.tree ∙ ap (λ n. (change_of o.plan c.args.call.now.path.now now n (tree_of S)).tree) plan.new in
-    let tree : c.forget_nameless.new.tree ≡ retained u (is_used (insert S.opens o.descriptor.id o.kind) u) =
-    c.forget_nameless.ensures ∙ (λ i. retained (changed i) (is_used (opens i) (changed i))) in
+    let tree : c.put_opening.new.tree ≡ retained u (is_used (insert S.opens o.descriptor.id o.kind) u) =
+    changed ∙ open_keeps S p c.get_mut-table.result.now c.args.call.now.lookup c.args.call.now.path.now c.args.call.now.oflags c.args.call.now.stat o plan c.self.invariant.valid now in
     (λ i. record S { tables = tables i; processes = own i; opens = opens i; nodes = (tree i).nodes; names = (tree i).names })
     ∙ open_released S p c.get_mut-table.result.now c.args.call.now.lookup c.args.call.now.path.now c.args.call.now.oflags c.args.call.now.stat o plan c.self.invariant.valid (there c) now
     c.get_mut.result.now (owned c)
