@@ -6,6 +6,7 @@ pub mod MemoryCalls
 pub mod Puts
 pub mod Outputs
 pub mod Mappings
+pub mod KeptCode
 pub mod Rooms
 pub mod SoundStarts
 pub mod Starts

@@ -172,6 +172,18 @@ with_change m r MemProtect = protected m (argument r 0 / PAGE_SIZE) (pages_in (a
 with_change m r MemUnmap = without_pages m (argument r 0 / PAGE_SIZE) (pages_in (argument r 1))
 with_change m r other = m
 
+-- the address from which on a call with this number changes pages or their rights, where it succeeds, and of how many pages
+abbrev pub changed_by : Registers → CallNumber → ℕ × ℕ
+changed_by r MemProtect = (argument r 0, pages_in (argument r 1))
+changed_by r MemUnmap = (argument r 0, pages_in (argument r 1))
+changed_by r other = (0, 0)
+
+-- the same of any call: mem_map's pages are those of its place
+abbrev pub changed_pages : Registers → Call → ℕ × ℕ
+changed_pages r (MemMap (At a) length prot flags fd offset) = (a, pages_in length)
+changed_pages r (Memory number errno) = changed_by r number
+changed_pages r other = (0, 0)
+
 -- the first on SUCCESS, and else the second
 abbrev pub on_success : {X : Type 0} → Errno → X → X → X
 on_success Success done undone = done

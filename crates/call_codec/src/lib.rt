@@ -3,12 +3,14 @@
 #![tactic(auto)]
 
 pub use arguments::{args, read_call};
+pub use code::may_change_code;
 pub use image::load;
 pub use laws::{output_is_written, refusals_are_listed, start_block_stands};
 pub use replies::put_answer;
 pub use start::start_memory;
 
 mod arguments;
+mod code;
 mod image;
 mod laws;
 mod memory_calls;

@@ -5,7 +5,7 @@ use Rattle.abi_base.specs.declared.address_space.TheConstants.{PAGE_LIMIT, PAGE_
 use Rattle.abi_base.specs.declared.prot.Prot.{Prot}
 use Rattle.guest_memory.specs.declared.fault.MemFault.{MemFault}
 use Rattle.guest_memory.specs.declared.fault.MemFault.TheVariants.{NotMapped, NoRight, PageLimit, Overlaps, NoMemory}
-use Rattle.guest_memory.specs.Page.{Pages, zero_page, with_prot}
+use Rattle.guest_memory.specs.Page.{Page, Pages, zero_page, with_prot}
 use Rattle.guest_memory.specs.Ranges.{in_range, IsPageAddress, IsFirstPage}
 
 -- the most pages of a memory
@@ -15,6 +15,10 @@ page_limit = PAGE_LIMIT
 -- none of the k pages from n on is there
 abbrev pub AreFree : Pages → ℕ → ℕ → Type 0
 AreFree m n k = (q : ℕ) → in_range n k q ≡ true → get m q ≡ None
+
+-- none of the k pages from n on can be executed
+abbrev pub NoneExecutable : Pages → ℕ → ℕ → Type 0
+NoneExecutable m n k = (q : ℕ) (p : Page) → in_range n k q ≡ true → get m q ≡ Some p → p.prot.exec ≡ false
 
 -- each of the k pages from n on is there
 abbrev pub AreThere : Pages → ℕ → ℕ → Type 0

@@ -1,5 +1,5 @@
 -- A guest's memory after bytes of it were written.
-use Rattle.std.specs.Prelude.{◌≡◌, ◌≢◌, ℕ, ◌+◌, ◌/◌, ◌%◌, ◌^◌, ◌<◌, false, List, [], ◌∷◌, length, slice_index, slice_set, Option, Some, None, Result, Ok, Err}
+use Rattle.std.specs.Prelude.{◌≡◌, ◌≢◌, ℕ, ◌+◌, ◌/◌, ◌%◌, ◌^◌, ◌<◌, true, false, List, [], ◌∷◌, length, slice_index, slice_set, Option, Some, None, Result, Ok, Err}
 use Rattle.std.specs.FinMap.{get, insert}
 use Rattle.abi_base.specs.declared.address_space.TheConstants.{PAGE_SIZE}
 use Rattle.guest_memory.specs.declared.access.Access.{Access}
@@ -39,6 +39,11 @@ write_of m a bytes = written_over m a bytes (bytes_from Write m a (length bytes)
 -- every page that may not be written is the same in the second memory
 abbrev pub KeepsUnwritable : Pages → Pages → Type 0
 KeepsUnwritable m n = (number : ℕ) (p : Page) → get m number ≡ Some p → p.prot.write ≡ false → get n number ≡ Some p
+
+-- every page that may be executed, but not written, is the same in the second memory
+abbrev pub KeepsCode : Pages → Pages → Type 0
+KeepsCode m n =
+    (number : ℕ) (p : Page) → get m number ≡ Some p → p.prot.write ≡ false → p.prot.exec ≡ true → get n number ≡ Some p
 
 -- What the second memory has at each address, for each access, after bytes were written to the first from an address a
 -- on: where a byte was written, that byte, if the access is allowed there; where the access was refused, the same fault;

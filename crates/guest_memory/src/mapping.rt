@@ -1,14 +1,14 @@
 //! Which pages a memory has.
-ghost use Rattle.std.specs.Prelude.{◌≡◌, ◌+◌, ◌*◌, ◌/◌, ◌^◌, ◌≤◌, IfErr, OnOk, OnErr, IfSome, IfNone};
+ghost use Rattle.std.specs.Prelude.{◌≡◌, ◌↔◌, ◌+◌, ◌*◌, ◌/◌, ◌^◌, ◌≤◌, IfErr, OnOk, OnErr, IfSome, IfNone, IsFalse};
 ghost use Rattle.std.specs.FinMap as map;
 ghost use Rattle.guest_memory.specs.Ranges.{IsPageAddress};
-ghost use Rattle.guest_memory.specs.Mapping.{AreThere, AreMapped, AreUnmapped, AreProtected, MayMap, MapFails, ProtectFails, IsLowestGap, HasNoGap};
+ghost use Rattle.guest_memory.specs.Mapping.{AreThere, NoneExecutable, AreMapped, AreUnmapped, AreProtected, MayMap, MapFails, ProtectFails, IsLowestGap, HasNoGap};
 ghost use Rattle.guest_memory.specs.Changes.{without_pages};
 
 use crate::fault::MemFault;
 use crate::memory::GuestMemory;
 use crate::page_map::{
-    add_pages, count_pages, first_absent, first_page, protect_pages, remove_pages,
+    add_pages, count_pages, first_absent, first_page, has_executable, protect_pages, remove_pages,
 };
 use abi_base::{GUEST_BEGIN, GUEST_END, PAGE_LIMIT, PAGE_SIZE, Prot};
 use std::alloc::Global;
@@ -104,6 +104,14 @@ impl GuestMemory {
             Some(absent) => Err(MemFault::NotMapped(absent * PAGE_SIZE)),
             None => Ok(()),
         }
+    }
+
+    /// Whether some page from that of an address on can be executed. It takes a step for each that is there.
+    pub fn has_executable(&self, at: u64, pages: u64) -> bool
+        requires { pages ≤ 2 ^ 52 }
+        ensures { IsFalse result ↔ NoneExecutable self.now (at / PAGE_SIZE) pages }
+    {
+        has_executable(&self.pages, at / PAGE_SIZE, pages)
     }
 
     /// How many pages the memory has: at most 65,536.

@@ -1,8 +1,8 @@
 //! Ranges of pages in a map of pages by number: the `count` pages from the number `first` on.
-ghost use Rattle.std.specs.Prelude.{◌≡◌, ◌+◌, ◌^◌, ◌<◌, ◌≤◌, None, IsSome, OnOk, OnErr, MatchOption};
+ghost use Rattle.std.specs.Prelude.{◌≡◌, ◌↔◌, ◌+◌, ◌^◌, ◌<◌, ◌≤◌, None, IsFalse, IsSome, OnOk, OnErr, MatchOption};
 ghost use Rattle.std.specs.FinMap.{get, len};
 ghost use Rattle.guest_memory.specs.Ranges.{IsFirstNumber};
-ghost use Rattle.guest_memory.specs.Mapping.{AreFree, AreThere, AreMapped, AreUnmapped, AreProtected, AreSameOutside};
+ghost use Rattle.guest_memory.specs.Mapping.{AreFree, AreThere, NoneExecutable, AreMapped, AreUnmapped, AreProtected, AreSameOutside};
 ghost use Rattle.guest_memory.specs.Changes.{without_pages};
 
 use abi_base::Prot;
@@ -48,6 +48,22 @@ pub fn count_pages(pages: &PageTable, first: u64, count: u64) -> u64
         from = number + 1;
     }
     found
+}
+
+/// Whether some page of the range can be executed.
+pub fn has_executable(pages: &PageTable, first: u64, count: u64) -> bool
+    requires { first + count < 2 ^ 64 }
+    ensures { IsFalse result ↔ NoneExecutable pages.now first count }
+{
+    let end = first + count;
+    let mut from = first;
+    while let Some(number) = first_page(pages, from, end - from) {
+        if pages.get(number).unwrap().prot().exec {
+            return true;
+        }
+        from = number + 1;
+    }
+    false
 }
 
 /// Puts a page of zeros at each number of the range, which has none. Where memory runs out, some may be there.

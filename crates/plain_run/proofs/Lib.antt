@@ -1,4 +1,3 @@
 pub mod Runs
 pub mod Entries
 pub mod Begins
-pub mod Guests

@@ -5,13 +5,12 @@ ghost use Rattle.call_codec.specs.Arguments.{args_of, is_built, is_copied, AsksF
 ghost use Rattle.call_codec.specs.Put.{TakesRoom};
 ghost use Rattle.call_codec.specs.Start.{MayStart, canary};
 ghost use Rattle.guest_memory.specs.Page.{Pages};
-ghost use Rattle.guest_memory.specs.Written.{KeepsUnwritable};
-ghost use Rattle.plain_run.specs.Code.{changes_pages};
+ghost use Rattle.guest_memory.specs.Written.{KeepsCode};
 ghost use Rattle.rv_interp.specs.Cache.{AreTrue};
 ghost use Rattle.run_model.specs.World.{first_guest, registers_of, turned_guest, turn_end, called_guest};
 
 use abi_types::{Answer, Call, Pid, Regs, Tid};
-use call_codec::{args, put_answer, start_memory};
+use call_codec::{args, may_change_code, put_answer, start_memory};
 use guest_memory::GuestMemory;
 use maps::NumMap;
 use run_types::Launch;
@@ -52,21 +51,13 @@ impl Model for Guest {
     ghost invariant = { λ g. AreTrue g.memory g.code };
 }
 
-// Whether an answer to the call may change which pages there are, or their rights.
-fn changes_pages(call: &Call) -> bool
-    ensures { result ≡ changes_pages call.now }
+// Forgets each instruction, where a page that can be executed and not written may change.
+fn forget_where(code: &mut Cache, may_change: bool)
+    ensures { (m n : Pages) → AreTrue m code.old → (IsFalse may_change → KeepsCode m n) → AreTrue n code.new }
 {
-    matches!(call, Call::MemMap { .. } | Call::Memory { .. })
-}
-
-// Forgets each instruction, where an answer to the call may change pages that can't be written.
-fn forget_unless_kept(code: &mut Cache, call: &Call)
-    ensures { (m n : Pages) → AreTrue m code.old → (IsFalse (changes_pages call.now) → KeepsUnwritable m n) → AreTrue n code.new }
-{
-    if !changes_pages(call) {
-        return;
+    if may_change {
+        code.forget();
     }
-    code.forget();
 }
 
 impl Guest {
@@ -136,8 +127,9 @@ impl Guest {
         ensures err { OnErr result (self.new ≡ self.old) }
         ensures only { OnErr result (TakesRoom call.now) }
     {
-        forget_unless_kept(&mut self.code, call);
         let regs = self.regs.get_mut(u64::from(tid.0));
+        let may_change = may_change_code(regs, &self.memory, call, answer);
+        forget_where(&mut self.code, may_change);
         put_answer(alloc, regs, &mut self.memory, call, answer)
     }
 }

@@ -1,6 +1,7 @@
 -- Slots of decoded instructions.
 --     empty_true, all_empty      a slot of an odd address is true of every memory
---     kept_true, all_kept      what is true stays true where pages that can't be written stay
+--     code_kept      a page that can't be written stays, so one that can be executed too
+--     kept_true, all_kept      what is true stays true where pages that can be executed and not written stay
 --     filled_true, kept_instruction      an instruction of a page that can't be written makes a true slot
 --     holds_kept, holds_filled, holds_names      a slot has the instruction at an address
 --     decoded, none      the instruction that is next
@@ -17,7 +18,7 @@ use Rattle.guest_memory.specs.declared.fault.MemFault.{MemFault}
 use Rattle.guest_memory.specs.Bytes.{byte_in, in_front, bytes_from}
 use Rattle.guest_memory.specs.Page.{Page, Pages}
 use Rattle.guest_memory.specs.Words.{number_in}
-use Rattle.guest_memory.specs.Written.{KeepsUnwritable}
+use Rattle.guest_memory.specs.Written.{KeepsCode, KeepsUnwritable}
 use Rattle.rv_code.specs.declared.instr.Instr.{Instr}
 use Rattle.rv_code.specs.declared.instr.Op.TheVariants as op
 use Rattle.rv_code.specs.Formats.{NamesRegisters}
@@ -63,9 +64,26 @@ pub all_empty : (m : Pages) (slots : List Slot) (n : ℕ) → slots ≡ replicat
 all_empty m slots n e =
     subst (AreTrue m) (sym e) (All-replicate (IsTrue m) n empty_slot (empty_true m empty_slot refl (omega arith, omega arith, omega arith)))
 
-kept_fixed : (m n : Pages) (pc : ℕ) (i : Instr) → KeepsUnwritable m n → pc % 4 ≡ 0 → IsFixedAt m pc i → IsFixedAt n pc i
+-- a page from which an instruction was fetched can be executed
+executable_in : (p : Page) (a : ℕ) (b : Bool) (i : Instr) (rest : Result (List ℕ) MemFault) → p.prot.exec ≡ b
+    → fetched_in (number_in (in_front (byte_in Exec a (Some p)) rest)) ≡ Ok i → p.prot.exec ≡ true
+executable_in p a true i rest e had = e
+executable_in p a false i rest e had = absurd (cc)
+
+executable_page : (m : Pages) (pc : ℕ) (p : Page) (i : Instr) → get m (pc / 4096) ≡ Some p → instruction_at m pc ≡ Ok i → p.prot.exec ≡ true
+unfolding instruction_at bytes_from
+executable_page m pc p i there had =
+    let rest = bytes_from Exec m ((pc + 1) % 2 ^ 64) 3 in
+    executable_in p pc p.prot.exec i rest refl (ap (λ o. fetched_in (number_in (in_front (byte_in Exec pc o) rest))) (sym there) ∙ had)
+
+-- pages that can't be written are those that can be executed and not written, and others
+pub code_kept : (m n : Pages) → KeepsUnwritable m n → KeepsCode m n
+code_kept m n keeps q p there locked exec = keeps q p there locked
+
+kept_fixed : (m n : Pages) (pc : ℕ) (i : Instr) → KeepsCode m n → pc % 4 ≡ 0 → IsFixedAt m pc i → IsFixedAt n pc i
 kept_fixed m n pc i keeps place h =
-    let there : get n (pc / 4096) ≡ Some h.page = keeps (pc / 4096) h.page h.there h.unwritable in
+    let exec = executable_page m pc h.page i h.there h.instruction in
+    let there : get n (pc / 4096) ≡ Some h.page = keeps (pc / 4096) h.page h.there h.unwritable exec in
     record {
       small = h.small;
       page = h.page;
@@ -74,11 +92,11 @@ kept_fixed m n pc i keeps place h =
       instruction = same_instruction n m pc (there ∙ sym h.there) h.small place ∙ h.instruction;
     }
 
-pub kept_true : (m n : Pages) → KeepsUnwritable m n → (slot : Slot) → IsTrue m slot → IsTrue n slot
+pub kept_true : (m n : Pages) → KeepsCode m n → (slot : Slot) → IsTrue m slot → IsTrue n slot
 kept_true m n keeps slot h =
     record { registers = h.registers; fixed = λ place. kept_fixed m n slot.pc slot.instr keeps place (h.fixed place) }
 
-pub all_kept : (m n : Pages) (slots : List Slot) → KeepsUnwritable m n → AreTrue m slots → AreTrue n slots
+pub all_kept : (m n : Pages) (slots : List Slot) → KeepsCode m n → AreTrue m slots → AreTrue n slots
 all_kept m n slots keeps h = All-weaker (IsTrue m) (IsTrue n) (λ slot. kept_true m n keeps slot) slots h
 
 -- ---- a page that can't be written

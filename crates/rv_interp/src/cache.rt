@@ -48,8 +48,8 @@ pub struct Cache {
     slots: Vec<Slot>,
     // Which bits of an instruction's number, its address by 4, name its slot.
     mask: u64,
-    // How many were decoded since there were as many slots as now.
-    decoded: usize,
+    // How many took a slot in which another one was, since there were as many slots as now.
+    replaced: usize,
 }
 
 impl Model for Cache {
@@ -72,7 +72,7 @@ impl Cache {
         Ok(Cache {
             slots,
             mask: (FEWEST_SLOTS as u64).wrapping_sub(1),
-            decoded: 0,
+            replaced: 0,
         })
     }
 
@@ -83,16 +83,16 @@ impl Cache {
         self.slots.fill(EMPTY);
     }
 
-    /// Takes more slots, if many more instructions were decoded than there are slots. Where there is no memory for them, all
-    /// stays as it is.
+    /// Takes more slots, if many more instructions took another one's slot than there are slots. Where there is no memory for
+    /// them, all stays as it is.
     pub fn widen(&mut self)
         ensures { (m : Pages) → AreTrue m self.old → AreTrue m self.new }
     {
         let count = self.slots.len();
-        if self.decoded / 4 < count || count >= MOST_SLOTS {
+        if self.replaced / 4 < count || count >= MOST_SLOTS {
             return;
         }
-        self.decoded = 0;
+        self.replaced = 0;
         let count = count.saturating_mul(4);
         let Ok(slots) = vec![in *self.slots.allocator(); EMPTY; count] else {
             return;
@@ -156,8 +156,9 @@ impl Cache {
     {
         let instr = instruction(mem, pc)?;
         let kept = kept_address(mem, pc);
+        let is_replaced = self.slots[place].pc != EMPTY.pc;
+        self.replaced = self.replaced.wrapping_add(usize::from(is_replaced));
         self.slots[place] = Slot { instr, pc: kept };
-        self.decoded = self.decoded.wrapping_add(1);
         Ok(())
     }
 }

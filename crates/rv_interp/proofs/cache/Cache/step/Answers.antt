@@ -4,7 +4,7 @@ use Rattle.rv_interp.specs.declared.cache.Slot.{Slot}
 use Rattle.rv_interp.specs.Cache.{AreTrue}
 use Rattle.rv_interp.specs.Instructions.{execute_of, instruction_at}
 use Rattle.rv_interp.specs.Machine.{machine}
-use Rattle.rv_interp.proofs.Slots.{all_kept, decoded, holds_names, none}
+use Rattle.rv_interp.proofs.Slots.{all_kept, code_kept, decoded, holds_names, none}
 use Rattle.rv_interp.proofs.cache.Cache.step.Goals as goal
 
 pub index-slot-requires : goal.index-slot-requires
@@ -26,7 +26,8 @@ returns-clause-exact c =
     (ap (λ m. execute_of slot.instr (machine regs m c.args.held.now)) (sym c.place_of.ensures.same) ∙ c.execute.ensures.exact)
 
 pub returns-clause-slots : goal.returns-clause-slots
-returns-clause-slots c = all_kept c.place_of.new.mem c.execute.new.mem c.place_of.new.self c.execute.ensures.unwritable c.place_of.ensures.slots
+returns-clause-slots c = all_kept c.place_of.new.mem c.execute.new.mem c.place_of.new.self
+    (code_kept c.place_of.new.mem c.execute.new.mem c.execute.ensures.unwritable) c.place_of.ensures.slots
 
 pub returns-in-Err-clause-exact : goal.returns-in-Err-clause-exact
 returns-in-Err-clause-exact c =

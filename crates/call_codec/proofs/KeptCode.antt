@@ -1,0 +1,130 @@
+-- What an answer leaves of a guest's pages that can't be written, and of those that can be executed and not written.
+--     code_is_kept      an answer leaves the latter where none of the pages that it changes can be executed
+use Rattle.std.proofs.Common.{◌≡◌, ℕ, true, false, List, [], ◌∷◌, ◌/◌, take, drop, length, Some, None, option_map, Result, Ok, Err, IsOk, refl, sym, subst, ◌∙◌}
+use Rattle.std.specs.FinMap.{get}
+use Rattle.abi_base.specs.declared.errno.Errno.{Errno}
+use Rattle.abi_base.specs.declared.errno.Errno.TheVariants.{Success}
+use Rattle.abi_base.specs.Registers.{Registers}
+use Rattle.abi_structures.specs.declared.structures.Iovec.{Iovec}
+use Rattle.abi_types.specs.declared.call.Call.{Call}
+use Rattle.abi_types.specs.declared.call.Call.TheVariants.{FdPread, FdRead, FdStatGet, FileReaddir, FileReadlink, FileStatFget, FileStatGet, MemMap, Memory}
+use Rattle.abi_types.specs.declared.call_number.CallNumber.{CallNumber}
+use Rattle.abi_types.specs.declared.call_number.CallNumber.TheVariants.{MemProtect, MemUnmap}
+use Rattle.abi_types.specs.declared.place.Place.TheVariants as place
+use Rattle.abi_types.specs.declared.place.Place.TheVariants.{At}
+use Rattle.abi_types.specs.declared.reply.Answer.{Answer}
+use Rattle.abi_types.specs.declared.reply.Answer.TheVariants as answer
+use Rattle.abi_types.specs.declared.reply.Payload.{Payload}
+use Rattle.abi_types.specs.declared.reply.Payload.TheVariants as payload
+use Rattle.codec_arguments.specs.Arguments.{argument, low}
+use Rattle.codec_arguments.specs.Ranges.{ranges_at}
+use Rattle.call_codec.specs.Arguments.{args_of}
+use Rattle.call_codec.specs.MemoryCalls.{changed_by, changed_pages, on_success, pages_in, prot_of, with_change}
+use Rattle.call_codec.specs.Output.{into_ranges, or_unwritten, scattered, with_bytes, with_content, with_payload, fdstat_bytes, filestat_bytes}
+use Rattle.call_codec.specs.Put.{answered_memory, memory_after}
+use Rattle.call_codec.proofs.Mappings.{mapping_filled}
+use Rattle.guest_memory.specs.declared.access.Access.TheVariants.{Write}
+use Rattle.guest_memory.specs.declared.fault.MemFault.{MemFault}
+use Rattle.guest_memory.specs.Bytes.{bytes_from}
+use Rattle.guest_memory.specs.Changes.{protected, without_pages}
+use Rattle.guest_memory.specs.Mapping.{AreSameOutside, NoneExecutable}
+use Rattle.guest_memory.specs.Page.{Pages, with_prot}
+use Rattle.guest_memory.specs.Ranges.{in_range}
+use Rattle.guest_memory.specs.Written.{KeepsCode, KeepsUnwritable, written_over}
+use Rattle.guest_memory.proofs.Changes.{are_protected, are_unmapped}
+use Rattle.guest_memory.proofs.PageRanges.{changed_outside, not_both}
+use Rattle.guest_memory.proofs.Writes.{unwritable_kept}
+
+-- ---- pages that can't be written
+
+same_keeps : (m : Pages) → KeepsUnwritable m m
+same_keeps m q p there locked = there
+
+keeps_both : (m n o : Pages) → KeepsUnwritable m n → KeepsUnwritable n o → KeepsUnwritable m o
+keeps_both m n o f g q p there locked = g q p (f q p there locked) locked
+
+keeps_over : (m : Pages) (a : ℕ) (bytes : List ℕ) (before : Result (List ℕ) MemFault) → bytes_from Write m a (length bytes) ≡ before
+    → KeepsUnwritable m (or_unwritten m (written_over m a bytes before))
+keeps_over m a bytes (Ok before) e = unwritable_kept bytes m a (subst IsOk (sym e) refl)
+keeps_over m a bytes (Err fault) e = same_keeps m
+
+keeps_bytes : (m : Pages) (a : ℕ) (bytes : List ℕ) → KeepsUnwritable m (with_bytes m a bytes)
+keeps_bytes m a bytes = keeps_over m a bytes (bytes_from Write m a (length bytes)) refl
+
+keeps_scattered : (m : Pages) (ranges : List Iovec) (bytes : List ℕ) → KeepsUnwritable m (scattered m ranges bytes)
+keeps_scattered m [] bytes = same_keeps m
+keeps_scattered m (range ∷ ranges) bytes =
+    keeps_both m (with_bytes m range.address (take range.length bytes)) _ (keeps_bytes m range.address (take range.length bytes))
+    (keeps_scattered (with_bytes m range.address (take range.length bytes)) ranges (drop range.length bytes))
+
+keeps_ranges : (m : Pages) (ranges : Result (List Iovec) MemFault) (bytes : List ℕ) → KeepsUnwritable m (into_ranges m ranges bytes)
+keeps_ranges m (Ok ranges) bytes = keeps_scattered m ranges bytes
+keeps_ranges m (Err fault) bytes = same_keeps m
+
+keeps_content : (m : Pages) (r : Registers) (given : Payload) → KeepsUnwritable m (with_content m r given)
+keeps_content m r (payload.Content bytes) = keeps_ranges m (ranges_at m (argument r 1) (argument r 2)) bytes
+keeps_content m r _ = same_keeps m
+
+keeps_payload : (m : Pages) (a : ℕ) (given : Payload) → KeepsUnwritable m (with_payload m a given)
+keeps_payload m a (payload.Content bytes) = keeps_bytes m a bytes
+keeps_payload m a (payload.FdStat stat) = keeps_bytes m a (fdstat_bytes stat)
+keeps_payload m a (payload.FileStat stat) = keeps_bytes m a (filestat_bytes stat)
+keeps_payload m a _ = same_keeps m
+
+-- ---- pages that can be executed and not written
+
+as_code : (m n : Pages) → KeepsUnwritable m n → KeepsCode m n
+as_code m n keeps q p there locked exec = keeps q p there locked
+
+same_code : (m : Pages) → KeepsCode m m
+same_code m q p there locked exec = there
+
+-- they stay where none of the pages that change can be executed
+outside_code : (m n : Pages) (first k : ℕ) → NoneExecutable m first k → AreSameOutside m first k n → KeepsCode m n
+outside_code m n first k none same q p there locked exec =
+    elim (in_range first k q) as (λ b. in_range first k q ≡ b → get n q ≡ Some p) [
+      | true ↦ λ e. absurd (not_both p.prot.exec exec (none q p e there))
+      | false ↦ λ e. same q e ∙ there
+    ] refl
+
+-- the pages that a call changes, if it succeeds, are among those of its range
+changed_code : (m : Pages) (r : Registers) (number : CallNumber)
+    → NoneExecutable m ((changed_by r number).0 / 4096) (changed_by r number).1 → KeepsCode m (with_change m r number)
+changed_code m r MemProtect none =
+    let n = argument r 0 / 4096 in let k = pages_in (argument r 1) in let prot = prot_of (low (argument r 2)) in
+    outside_code m (protected m n k prot) n k none
+    (changed_outside (option_map (with_prot prot)) m n k (protected m n k prot) (are_protected k m n prot))
+changed_code m r MemUnmap none =
+    let n = argument r 0 / 4096 in let k = pages_in (argument r 1) in
+    outside_code m (without_pages m n k) n k none (changed_outside (λ _. None) m n k (without_pages m n k) (are_unmapped m n k))
+changed_code m r other none = same_code m
+
+succeeded_code : (m n : Pages) (errno : Errno) → (errno ≡ Success → KeepsCode m n) → KeepsCode m (on_success errno n m)
+succeeded_code m n Success h = h refl
+succeeded_code m n other h = same_code m
+
+code_after : (m : Pages) (r : Registers) (call : Call) (given : Payload) → call ≡ args_of m r
+    → NoneExecutable m ((changed_pages r call).0 / 4096) (changed_pages r call).1 → KeepsCode m (memory_after m r call given)
+code_after m r (FdPread fd size offset) given encoded none = as_code m _ (keeps_content m r given)
+code_after m r (FdRead fd size) given encoded none = as_code m _ (keeps_content m r given)
+code_after m r (FdStatGet fd) given encoded none = as_code m _ (keeps_payload m (argument r 1) given)
+code_after m r (FileReaddir fd size cookie) given encoded none = as_code m _ (keeps_payload m (argument r 1) given)
+code_after m r (FileReadlink fd path size) given encoded none = as_code m _ (keeps_payload m (argument r 3) given)
+code_after m r (FileStatFget fd) given encoded none = as_code m _ (keeps_payload m (argument r 1) given)
+code_after m r (FileStatGet lookup path) given encoded none = as_code m _ (keeps_payload m (argument r 3) given)
+code_after m r (MemMap (At a) size prot flags fd offset) given encoded none =
+    let filled = mapping_filled m r a size prot flags fd offset given (sym encoded) in
+    outside_code m _ (a / 4096) (pages_in size) none filled.others
+code_after m r (MemMap (place.Refused errno) size prot flags fd offset) given encoded none = same_code m
+code_after m r (Memory number errno) given encoded none =
+    succeeded_code m (with_change m r number) errno (λ done. changed_code m r number none)
+code_after m r _ given encoded none = same_code m
+
+-- the errors of an answer that leaves nothing
+abbrev pub errno_of : Answer → Errno
+errno_of (answer.Reply reply) = reply.errno
+
+pub code_is_kept : (m : Pages) (r : Registers) (call : Call) (given : Answer) → call ≡ args_of m r
+    → (errno_of given ≡ Success → NoneExecutable m ((changed_pages r call).0 / 4096) (changed_pages r call).1) → KeepsCode m (answered_memory m r call given)
+code_is_kept m r call (answer.Reply reply) encoded none =
+    succeeded_code m (memory_after m r call reply.payload) reply.errno (λ done. code_after m r call reply.payload encoded (none done))
