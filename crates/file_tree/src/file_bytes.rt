@@ -42,6 +42,7 @@ pub fn resize(alloc: Global, bytes: &mut Bytes, size: usize) -> Result<(), Alloc
     done
 }
 
+// The same of a list of bytes.
 fn resize_content(content: &mut Vec<u8>, size: usize) -> Result<(), AllocError>
     ensures ok { OnOk result (content.new.items ≡ resized content.old.items size) }
     ensures err { OnErr result (content.new.items ≡ content.old.items) }
