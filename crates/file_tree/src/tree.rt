@@ -124,8 +124,7 @@ impl Tree {
     }
 
     /// The name at this place, counted from 0, of the names in a directory in the order of their bytes, and its node. `None`
-    /// past the last one, and where there is no such directory. It takes a step for each name before the place: who lists a
-    /// directory uses [`Tree::names_from`].
+    /// past the last one, and where there is no such directory. It takes as many steps as the directory's search tree is deep.
     pub fn name_at(&self, dir: ObjId, place: u64) -> Option<(&[u8], ObjId)>
         ensures { option_map shown result ≡ slice_get (map.entries (names_of self.now dir)) place }
     {
@@ -136,8 +135,8 @@ impl Tree {
     }
 
     /// The names in a directory from this place on, counted from 0, in the order of their bytes, each with its node, one
-    /// after another. `None` where there is no such directory. It takes a step for each name before the place, and then one
-    /// for each name that is read.
+    /// after another. `None` where there is no such directory. It costs nothing to begin at a later place; each name that is
+    /// read takes as many steps as the directory's search tree is deep.
     pub fn names_from(&self, dir: ObjId, place: u64) -> Option<NameEntries<'_, ObjId>>
         ensures { result ≡ option_map (λ names. drop place (map.entries names)) (map.get self.now.names dir) }
     {

@@ -1,3 +1,6 @@
 pub mod NumberEntries
 pub mod Variants
-pub mod NameEntryLists
+pub mod Places
+pub mod OrderedNames
+pub mod Revalued
+pub mod NameMaps

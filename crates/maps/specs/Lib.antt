@@ -1,5 +1,6 @@
 pub mod Closure
 pub mod Borrowing
 pub mod Maps
-pub mod Named
+pub mod NameTrees
 pub mod Names
+pub mod Placed

@@ -7,6 +7,7 @@
 
 pub mod name_entries;
 pub mod name_map;
+mod name_tree;
 pub mod num_map;
 
 pub use name_entries::NameEntries;

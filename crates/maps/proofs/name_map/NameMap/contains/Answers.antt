@@ -1,6 +1,6 @@
-use Rattle.std.proofs.Common.{is_some, ap, ◌∙◌}
-use Rattle.maps.proofs.NameEntryLists.{get_of}
+use Rattle.std.proofs.Common.{is_some, sym, ap, ◌∙◌}
+use Rattle.maps.proofs.OrderedNames.{get_of}
 use Rattle.maps.proofs.name_map.NameMap.contains.Goals as goal
 
 pub returns : goal.returns
-returns g c = c.contains_key.ensures ∙ ap is_some (get_of _ _ c.self.view_is c.args.name.now)
+returns g c = c.is_at.ensures ∙ ap is_some (sym (get_of _ _ c.self.view_is c.self.invariant c.args.name.now))

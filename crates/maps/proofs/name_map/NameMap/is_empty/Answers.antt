@@ -1,4 +1,4 @@
-use Rattle.maps.proofs.NameEntryLists.{zero_len_iff}
+use Rattle.maps.proofs.OrderedNames.{zero_len_iff}
 use Rattle.maps.proofs.name_map.NameMap.is_empty.Goals as goal
 
 pub returns-clause-empty : goal.returns-clause-empty
