@@ -1,4 +1,5 @@
-# What the scripts bench/held, bench/nameless and bench/cut share: they run the guest bench/guests/files.elf in an empty file tree.
+# What the scripts bench/held, bench/nameless, bench/cut and bench/names share: they run a guest, bench/guests/files.elf if they name no
+# other as `guest`, in an empty file tree, or in that of the document that they name as `tree`.
 #
 # The program is the proved one, which the command builds where it is not there; the variable PROGRAM names another one. Times are of
 # the processor, as the system counts them for the program; other work on the computer still changes them.
@@ -10,14 +11,15 @@ guest=$top/bench/guests/files.elf
 
 work=$(mktemp -d)
 trap 'rm -rf "$work"' EXIT
-: >"$work/empty"
+tree=$work/empty
+: >"$tree"
 
 # Runs the guest once with this argument data, behind these words of a command.
 run_guest() {
     local arguments=$1
     shift
     echo "{in: !file {path: ''}, $arguments}" >"$work/launch.yaml"
-    if ! "$@" "$program" --turns 1000000 --tree "$work/empty" "$guest" <"$work/launch.yaml" >"$work/report"; then
+    if ! "$@" "$program" --turns 1000000 --tree "$tree" "$guest" <"$work/launch.yaml" >"$work/report"; then
         echo "bench: {$arguments} ends with '$(sed -n 's/^== status //p' "$work/report")', not with 'exit 0'" >&2
         exit 1
     fi
