@@ -36,5 +36,13 @@ mutual
       let key = encoding (value_of n k) in
       let value = encoding (value_of (n + count k) v) in
       let rest = pair_fields (pair_values (n + count k + count v) ps) in
-      omega (arith, at_least n k, at_least (n + count k) v, pairs_at_least (n + count k + count v) ps, field_longer key, field_longer value,
-      length-append (field_of key) (field_of value ++ rest), length-append (field_of value) rest)
+      omega (
+        arith,
+        at_least n k,
+        at_least (n + count k) v,
+        pairs_at_least (n + count k + count v) ps,
+        field_longer key,
+        field_longer value,
+        length-append (field_of key) (field_of value ++ rest),
+        length-append (field_of value) rest,
+      )

@@ -45,6 +45,10 @@ impl Integer {
         ensures { result ≡ self.now }
     {
         let distance = self.distance as i128;
-        if self.is_negative { -1 - distance } else { distance }
+        if self.is_negative {
+            -1 - distance
+        } else {
+            distance
+        }
     }
 }

@@ -200,7 +200,15 @@ fn items(
     let mut rest = others;
     while let Some(first) = next {
         let (mine, after) = entries::split(text, line.column as usize, false, rest);
-        items.push(item(alloc, text, depth, line.column as usize, is_root, first, mine)?)?;
+        items.push(item(
+            alloc,
+            text,
+            depth,
+            line.column as usize,
+            is_root,
+            first,
+            mine,
+        )?)?;
         (next, rest) = entries::split_first(after);
     }
     Ok(items)
