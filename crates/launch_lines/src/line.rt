@@ -12,11 +12,11 @@ pub struct Line {
     /// The number of the line, from 1.
     pub number: u32,
     /// How many bytes of the line stand before.
-    pub column: usize,
+    pub column: u32,
     /// The place of the first byte.
-    pub start: usize,
+    pub start: u32,
     /// The place behind the last byte of the line.
-    pub end: usize,
+    pub end: u32,
 }
 
 /// What stands from a line's column to its end.
@@ -24,7 +24,7 @@ pub fn content(text: &[u8], line: Line) -> &[u8]
     requires { IsWithin text.now line }
     ensures { result.now ≡ (row text.now line).content }
 {
-    &text[line.start..line.end]
+    &text[line.start as usize..line.end as usize]
 }
 
 /// The rest of a line, of which so many bytes are left, as a line of its own.
@@ -34,7 +34,7 @@ pub fn from(text: &[u8], line: Line, rest: &[u8]) -> Line
     ensures within { IsWithin text.now result }
     ensures row { row text.now result ≡ from (row text.now line) rest.now }
 {
-    let taken = content(text, line).len() - rest.len();
+    let taken = (content(text, line).len() - rest.len()) as u32;
     Line {
         number: line.number,
         column: line.column + taken,
@@ -51,7 +51,7 @@ pub fn place_in(text: &[u8], line: Line, fault: LineFault) -> Fault
     let length = content(text, line).len();
     Fault {
         line: line.number,
-        column: line.column + length.saturating_sub(fault.left),
+        column: line.column as usize + length.saturating_sub(fault.left),
         kind: fault.kind,
     }
 }
@@ -62,7 +62,7 @@ pub fn at_line(line: Line, kind: YamlKind) -> Fault
 {
     Fault {
         line: line.number,
-        column: line.column,
+        column: line.column as usize,
         kind,
     }
 }

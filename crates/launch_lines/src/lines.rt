@@ -134,6 +134,7 @@ fn indentation(line: &[u8]) -> usize
 fn row_of(text: &[u8], number: u32, start: usize, end: usize) -> Option<Line>
     requires order { start ≤ end }
     requires inside { end ≤ length text.now }
+    requires short { end < 2 ^ 32 }
     ensures row { map (row text.now) (option_to_list result) ≡ row_of number (take (end - start) (drop start text.now)) }
     ensures within { IfSome result (IsWithin text.now) }
 {
@@ -147,18 +148,21 @@ fn row_of(text: &[u8], number: u32, start: usize, end: usize) -> Option<Line>
     }
     Some(Line {
         number,
-        column,
-        start: start + column,
-        end,
+        column: column as u32,
+        start: (start + column) as u32,
+        end: end as u32,
     })
 }
 
-/// The lines in which something stands. There is no memory for more than 2^32 - 1 lines.
+/// The lines in which something stands. There is no memory for those of a text of 2^32 bytes or more.
 pub fn rows(alloc: Global, text: &[u8]) -> Result<Vec<Line>, AllocError>
     ensures rows { IfOk result (λ ls. rows text.now ls.items ≡ rows_from 1 (lines_of text.now)) }
     ensures within { IfOk result (λ ls. AllWithin text.now ls.items) }
     ensures count { OnOk result (length (lines_of text.now) < 2 ^ 32) }
 {
+    if text.len() > u32::MAX as usize {
+        return Err(AllocError);
+    }
     let mut rows = Vec::new(alloc);
     let mut number: u32 = 1;
     let mut start = 0;

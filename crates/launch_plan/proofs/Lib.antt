@@ -5,4 +5,5 @@ pub mod Soundness
 pub mod FileParts
 pub mod FileGrants
 pub mod Asked
+pub mod LeastSizes
 pub mod Plans

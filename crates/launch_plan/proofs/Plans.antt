@@ -1,5 +1,6 @@
 -- The plan, case by case.
-use Rattle.std.proofs.Common.{◌≡◌, ℕ, ◌<◌, ◌≤◌, Bool, true, false, List, length, nat_lt, if◌then◌else◌, Result, Ok, Err, refl, sym, ap, subst, ◌∙◌}
+use Rattle.std.proofs.Common.{◌≡◌, ℕ, ◌<◌, ◌≤◌, Bool, true, false, List, length, nat_lt, if◌then◌else◌, Option, Some, None, Result, Ok, Err, refl, sym, ap, subst, ◌∙◌, arith}
+use Rattle.std.specs.Prelude.{is_some}
 use Rattle.std.proofs.lemmas.Bool.{lt-ltb, le-ltb, ltb-false}
 use Rattle.abi_base.specs.declared.grant.Grant.{Grant}
 use Rattle.argdata_codec.specs.Writing.{encoding}
@@ -12,7 +13,9 @@ use Rattle.lists.specs.Results.{◌>>=◌}
 use Rattle.launch_plan.specs.Tagged.{tagged, grants_of}
 use Rattle.launch_plan.specs.Values.{value_of}
 use Rattle.launch_plan.specs.Plan.{plan_of, unless_large}
+use Rattle.launch_plan.specs.Sizes.{values_in, IsLeft}
 use Rattle.launch_plan.proofs.Asked.{asked_are}
+use Rattle.launch_plan.proofs.LeastSizes.{at_least}
 
 abbrev plan_ok : List ℕ × List Grant → Result (List ℕ × List Grant) PlanFault
 plan_ok p = Ok p
@@ -40,6 +43,16 @@ pub too_large : (tree : Tree) (x : Shape) (grants : List Grant) (bytes : List �
 too_large tree x grants bytes h le encoded many =
     few tree x grants h le ∙ ap (λ (b : List ℕ). unless_large b grants) (sym encoded)
     ∙ ap (λ (b : Bool). if b then Err faults.TooLarge else Ok (bytes, grants)) (lt-ltb _ _ many)
+
+-- where nothing is left of the room, more is taken
+pub none_left : (room taken : ℕ) (left : Option ℕ) → is_some left ≡ false → IsLeft room taken left → room < taken
+none_left room taken None none h = h
+none_left room taken (Some n) none h = absurd (cc (none))
+
+-- the values in lists alone are too many
+pub too_many_values : (tree : Tree) (x : Shape) (grants : List Grant) → grants_of tree (tagged x) ≡ Ok grants → length grants ≤ 1024
+    → 65536 < values_in x → plan_of tree x ≡ Err faults.TooLarge
+too_many_values tree x grants h le many = too_large tree x grants (encoding (value_of 0 x)) h le refl (omega (arith, many, at_least 0 x))
 
 pub planned : (tree : Tree) (x : Shape) (grants : List Grant) (bytes : List ℕ) → grants_of tree (tagged x) ≡ Ok grants → length grants ≤ 1024
     → bytes ≡ encoding (value_of 0 x) → length bytes ≤ 65536 → plan_of tree x ≡ Ok (bytes, grants)

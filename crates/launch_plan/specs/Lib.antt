@@ -1,5 +1,6 @@
 pub mod Files
 pub mod Tagged
 pub mod Values
+pub mod Sizes
 pub mod Plan
 pub mod Answers

@@ -9,7 +9,7 @@ ghost use Rattle.launch_plan.specs.Values.{count, value_of, content_value, item_
 
 use argdata_codec::Value;
 use launch_values::{Node, NodeValue};
-use lists::TryClone;
+use lists::{Text, TryClone};
 use std::alloc::{AllocError, Global};
 
 /// The value of a node, whose descriptors are numbered from the next number on.
@@ -38,8 +38,8 @@ fn content(alloc: Global, next: &mut u32, value: &NodeValue) -> Result<Value, Al
     Ok(match value {
         NodeValue::Null => Value::Null,
         NodeValue::Bool(b) => Value::Bool(*b),
-        NodeValue::Int(integer) => Value::Int(*integer),
-        NodeValue::Str(text) => Value::Str(text.copy()?),
+        NodeValue::Int(integer) => Value::Int(integer.value()),
+        NodeValue::Str(text) => Value::Str(Text::of(alloc, text.as_str())?),
         NodeValue::Binary(bytes) => Value::Binary(bytes.copy()?),
         NodeValue::Map(pairs) => Value::Map(content_of_pairs(alloc, next, pairs.as_slice())?),
         NodeValue::Seq(items) => Value::Seq(content_of_items(alloc, next, items.as_slice())?),

@@ -8,8 +8,7 @@ use crate::fault::PlanFault;
 use abi_base::{Grant, GrantTarget, ObjId, Rights};
 use abi_types::NodeKind;
 use file_tree::Tree;
-use launch_values::{Node, NodeValue};
-use lists::Text;
+use launch_values::{Node, NodeText, NodeValue};
 use path_lookup::{End, WalkMode};
 use tree_model::ROOT;
 
@@ -24,7 +23,7 @@ const OPENED: Rights = Rights(0x11ffff7ff);
 #[derive(Clone, Copy)]
 enum Part<'a> {
     /// The line of the path, and the path.
-    Path(u32, &'a Text),
+    Path(u32, &'a NodeText),
     /// The names of base rights.
     Base(&'a [Node]),
     /// The names of inheriting rights.
@@ -43,7 +42,7 @@ struct Asked {
 }
 
 // The text that a node without a tag is.
-fn text_of(node: &Node) -> Option<&Text>
+fn text_of(node: &Node) -> Option<&NodeText>
     ensures { option_copied result ≡ spec.text_of (shape_of node.now) }
 {
     match (&node.tag, &node.value) {
@@ -133,7 +132,7 @@ fn whole_of(tree: &Tree, id: ObjId) -> Option<Grant>
 }
 
 // A descriptor of the file or directory to which a path leads.
-fn target_at(tree: &Tree, path: &Text) -> Option<Grant>
+fn target_at(tree: &Tree, path: &NodeText) -> Option<Grant>
     ensures { result ≡ spec.target_at tree.now path.now }
 {
     whole_of(tree, node_at(tree, without_slashes(path.as_bytes()))?)

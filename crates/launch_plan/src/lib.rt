@@ -8,4 +8,5 @@ mod arguments;
 mod fault;
 mod files;
 mod planning;
+mod sizes;
 mod tagged_nodes;

@@ -10,6 +10,7 @@ ghost use Rattle.launch_plan.specs.Answers.{Adds, Plans};
 
 use crate::arguments::argument;
 use crate::fault::PlanFault;
+use crate::sizes::room_behind;
 use crate::tagged_nodes::push_grants;
 use abi_base::{GrantList, MOST_ARGDATA, MOST_DESCRIPTORS};
 use argdata_codec::encode;
@@ -41,6 +42,10 @@ pub fn plan(alloc: Global, doc: &Doc, tree: &Tree) -> Result<Planned, PlanFault>
     push_grants(&mut grants, tree, &doc.root)?;
     if grants.len() > MOST_DESCRIPTORS {
         return Err(PlanFault::TooMany);
+    }
+    // Argument data that is much too large isn't made.
+    if room_behind(MOST_ARGDATA, &doc.root).is_none() {
+        return Err(PlanFault::TooLarge);
     }
     let Ok(argdata) = argdata(alloc, &doc.root) else {
         return Err(PlanFault::NoMemory);

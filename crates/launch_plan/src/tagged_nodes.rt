@@ -9,8 +9,7 @@ use crate::fault::PlanFault;
 use crate::files::file_grant;
 use abi_base::{Grant, GrantList, GrantTarget, Rights};
 use file_tree::Tree;
-use launch_values::{Node, NodeValue};
-use lists::Text;
+use launch_values::{Node, NodeTag, NodeValue};
 
 // The rights of standard input, and those of standard output and standard error.
 const READING: Rights = Rights(0x1008_000a);
@@ -42,7 +41,7 @@ fn stream(which: u32) -> Grant
 }
 
 // The descriptor that a node with a tag asks for.
-fn grant(tree: &Tree, line: u32, name: &Text, value: &NodeValue) -> Result<Grant, PlanFault>
+fn grant(tree: &Tree, line: u32, name: &NodeTag, value: &NodeValue) -> Result<Grant, PlanFault>
     ensures { result ≡ grant_of tree.now (record { line = line; name = name.now; value = content_of_value value.now }) }
 {
     match name.as_str() {
@@ -61,7 +60,7 @@ fn push_grant(
     grants: &mut GrantList,
     tree: &Tree,
     line: u32,
-    name: &Text,
+    name: &NodeTag,
     value: &NodeValue,
 ) -> Result<(), PlanFault>
     ensures { Adds tree.now result grants.old grants.new (record { line = line; name = name.now; value = content_of_value value.now } ∷ []) }

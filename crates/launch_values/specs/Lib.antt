@@ -1,5 +1,7 @@
 pub mod Shape
 pub mod Code
+pub mod Integers
+pub mod Texts
 pub mod Views
 pub mod Sizes
 pub mod Resolution

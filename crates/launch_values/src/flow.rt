@@ -16,12 +16,13 @@ use crate::mode::Mode;
 use crate::node::{Node, NodeValue};
 use crate::node_list::NodeList;
 use crate::node_pairs::NodePairs;
+use crate::node_tag::NodeTag;
 use crate::resolution::scalar_value;
 use crate::tags::{Tag, tag_at};
 use launch_scalars::plain::is_behind_key;
 use launch_scalars::spaces::after_gap;
 use launch_scalars::{LineFault, YamlKind};
-use lists::{Stop, Text};
+use lists::Stop;
 use std::alloc::Global;
 
 /// The value at the front of a line's rest in a block: a scalar or a flow value, in which so many maps and sequences may
@@ -196,7 +197,7 @@ fn named(
     alloc: Global,
     depth: usize,
     line: u32,
-    name: Text,
+    name: NodeTag,
     bytes: &[u8],
 ) -> Result<(Node, &[u8]), Stop<LineFault>>
     ensures reads { Gives (λ v. (shape_of v.0, v.1.now)) result (tagged_with (collection_at depth line) line 0 (named name) bytes.now) }

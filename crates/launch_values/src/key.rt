@@ -29,7 +29,7 @@ impl Key {
         match value {
             NodeValue::Null => Ok(Key::Null),
             NodeValue::Bool(answer) => Ok(Key::Bool(*answer)),
-            NodeValue::Int(number) => Ok(Key::Int(*number)),
+            NodeValue::Int(number) => Ok(Key::Int(number.value())),
             NodeValue::Str(text) => Ok(Key::Str(text.as_bytes().to_vec(alloc)?)),
             _ => unreachable!(),
         }

@@ -1,8 +1,11 @@
 //! Nodes of a document.
 
+use crate::integer::Integer;
 use crate::node_list::NodeList;
 use crate::node_pairs::NodePairs;
-use lists::{Bytes, Text};
+use crate::node_tag::NodeTag;
+use crate::node_text::NodeText;
+use lists::Bytes;
 
 /// A value of a document, with its tag.
 #[cycle(node)]
@@ -11,7 +14,7 @@ pub struct Node {
     /// The line on which the tag stands, or the value where it has no tag, from 1.
     pub line: u32,
     /// The name of the tag, without its `!`. `!!binary` is no tag here: it makes a value of bytes.
-    pub tag: Option<Text>,
+    pub tag: Option<NodeTag>,
     /// The value.
     pub value: NodeValue,
 }
@@ -25,9 +28,9 @@ pub enum NodeValue {
     /// True or false.
     Bool(bool),
     /// An integer from -2^63 to 2^64 - 1.
-    Int(i128),
+    Int(Integer),
     /// A text without zero bytes.
-    Str(Text),
+    Str(NodeText),
     /// Bytes that were written in base64.
     Binary(Bytes),
     /// Keys and values in their order. No two keys are equal.

@@ -39,6 +39,9 @@ impl NodeList {
     pub fn from_vec(items: Vec<Node>) -> Self
         ensures { result ≡ map shape_of items.items }
     {
+        let mut items = items;
+        // Room for more would stay unused.
+        items.shrink_to_fit();
         NodeList { items }
     }
 

@@ -39,6 +39,9 @@ impl NodePairs {
     pub fn from_vec(pairs: Vec<(Node, Node)>) -> Self
         ensures { result ≡ map pair_of pairs.items }
     {
+        let mut pairs = pairs;
+        // Room for more would stay unused.
+        pairs.shrink_to_fit();
         NodePairs { pairs }
     }
 

@@ -11,8 +11,10 @@ ghost use Rattle.launch_scalars.specs.Spaces.{begins_with};
 ghost use Rattle.launch_values.specs.Resolution.{ranged, number_or_text, resolved, decoded, meaning, scalar_value};
 ghost use Rattle.launch_values.specs.KeySets.{IsScalarKey, IsScalarOf, is_bytes};
 
+use crate::integer::Integer;
 use crate::mode::Mode;
 use crate::node::NodeValue;
+use crate::node_text::NodeText;
 use base64::DecodeAllocError;
 use base64::engine::general_purpose::STANDARD;
 use launch_scalars::numbers::{integer, is_float};
@@ -45,14 +47,14 @@ fn ranged(integer: i128) -> Result<NodeValue, YamlKind>
     ensures scalar { IfOk result (λ v. IsScalarKey (content_of_value v)) }
 {
     if -(1 << 63) <= integer && integer < 1 << 64 {
-        Ok(NodeValue::Int(integer))
+        Ok(NodeValue::Int(Integer::of(integer)))
     } else {
         Err(YamlKind::IntegerRange)
     }
 }
 
 // What is neither null, nor a bool, nor an integer.
-fn float_or_text(content: Text) -> Result<NodeValue, YamlKind>
+fn float_or_text(content: NodeText) -> Result<NodeValue, YamlKind>
     ensures means { result_map_both content_of_value (λ kind. kind) result ≡ number_or_text content None }
     ensures scalar { IfOk result (λ v. IsScalarKey (content_of_value v)) }
 {
@@ -64,7 +66,7 @@ fn float_or_text(content: Text) -> Result<NodeValue, YamlKind>
 }
 
 // What is neither null nor a bool.
-fn number_or_text(content: Text) -> Result<NodeValue, YamlKind>
+fn number_or_text(content: NodeText) -> Result<NodeValue, YamlKind>
     ensures means { result_map_both content_of_value (λ kind. kind) result ≡ number_or_text content (integer_of content) }
     ensures scalar { IfOk result (λ v. IsScalarKey (content_of_value v)) }
 {
@@ -76,7 +78,7 @@ fn number_or_text(content: Text) -> Result<NodeValue, YamlKind>
 
 // What a plain scalar without a tag means.
 #[tactic(auto, unfolding(crate::specs::Resolution::resolved))]
-fn resolved(content: Text) -> Result<NodeValue, YamlKind>
+fn resolved(content: NodeText) -> Result<NodeValue, YamlKind>
     ensures means { result_map_both content_of_value (λ kind. kind) result ≡ resolved content }
     ensures scalar { IfOk result (λ v. IsScalarKey (content_of_value v)) }
 {
@@ -127,12 +129,15 @@ fn meaning(
 {
     let Scalar { is_plain, content } = scalar;
     match mode {
-        Mode::Resolved => if is_plain {
-            at_place(place, resolved(content))
-        } else {
-            Ok(NodeValue::Str(content))
-        },
-        Mode::Verbatim => Ok(NodeValue::Str(content)),
+        Mode::Resolved => {
+            let text = NodeText::of(alloc, content.as_str())?;
+            if is_plain {
+                at_place(place, resolved(text))
+            } else {
+                Ok(NodeValue::Str(text))
+            }
+        }
+        Mode::Verbatim => Ok(NodeValue::Str(NodeText::of(alloc, content.as_str())?)),
         Mode::Base64 => decoded(alloc, place, content),
     }
 }

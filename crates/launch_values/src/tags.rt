@@ -5,9 +5,10 @@ ghost use Rattle.launch_scalars.specs.Scalars.{unless_bad};
 ghost use Rattle.launch_values.specs.Tags.{Tag as TagOf, ends_name, name_length, is_name, is_binary, named, tag_with, tag_at};
 ghost use Rattle.launch_values.specs.TagViews.{tag_view};
 
+use crate::node_tag::NodeTag;
 use launch_scalars::characters::bad_at;
 use launch_scalars::{LineFault, YamlKind};
-use lists::{Stop, Text};
+use lists::Stop;
 use std::alloc::Global;
 use std::str;
 
@@ -15,7 +16,7 @@ use std::str;
 #[derive(Drop)]
 pub enum Tag {
     /// A tag with a name.
-    Named(Text),
+    Named(NodeTag),
     /// `!!binary`.
     Base64,
 }
@@ -72,7 +73,7 @@ fn named(alloc: Global, bytes: &[u8], count: usize) -> Result<(Tag, &[u8]), Stop
         return Err(LineFault::stop(bytes.len() - place, YamlKind::Character));
     }
     match str::from_utf8(name) {
-        Ok(name) => Ok((Tag::Named(Text::of(alloc, name)?), rest)),
+        Ok(name) => Ok((Tag::Named(NodeTag::of(alloc, name)?), rest)),
         Err(_) => unreachable!(),
     }
 }

@@ -199,8 +199,16 @@ fn items(
     let mut next = Some(line);
     let mut rest = others;
     while let Some(first) = next {
-        let (mine, after) = entries::split(text, line.column, false, rest);
-        items.push(item(alloc, text, depth, line.column, is_root, first, mine)?)?;
+        let (mine, after) = entries::split(text, line.column as usize, false, rest);
+        items.push(item(
+            alloc,
+            text,
+            depth,
+            line.column as usize,
+            is_root,
+            first,
+            mine,
+        )?)?;
         (next, rest) = entries::split_first(after);
     }
     Ok(items)
@@ -221,7 +229,7 @@ fn item(
     ensures { Gives shape_of result (item_of (block_at depth) depth column is_root (record { first = row text.now line; others = rows text.now others.now })) }
 {
     match content(text, line) {
-        bytes @ [_, rest @ ..] if line.column == column && rows::is_dash(bytes) => {
+        bytes @ [_, rest @ ..] if line.column as usize == column && rows::is_dash(bytes) => {
             let rest = spaces::after_gap(rest);
             let behind = from(text, line, rest);
             value(
@@ -259,8 +267,8 @@ fn pairs(
     let mut rest = others;
     while let Some(first) = next {
         let awaits = rows::awaits_value(content(text, first));
-        let (mine, after) = entries::split(text, line.column, awaits, rest);
-        let key = key_at(alloc, text, line.column, is_root, &mut keys, first)?;
+        let (mine, after) = entries::split(text, line.column as usize, awaits, rest);
+        let key = key_at(alloc, text, line.column as usize, is_root, &mut keys, first)?;
         let value = entry_value(alloc, text, depth, first, mine)?;
         pairs.push((untagged(first.number, key), value))?;
         (next, rest) = entries::split_first(after);

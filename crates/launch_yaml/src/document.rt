@@ -45,7 +45,7 @@ pub enum YamlFault {
         /// What is wrong.
         kind: YamlKind,
     },
-    /// There is no memory, or the text has 2^32 lines or more.
+    /// There is no memory, or the text has 2^32 bytes or more.
     #[error("no memory")]
     NoMemory,
 }
@@ -109,7 +109,7 @@ fn is_inside(text: &[u8], column: usize, line: Line) -> bool
     requires { IsWithin text.now line }
     ensures { result ≡ is_inside column (row text.now line) }
 {
-    !is_marker(text, line) && column <= line.column
+    !is_marker(text, line) && column <= line.column as usize
 }
 
 // How many lines at the front are of the document whose first line stands at the column: none is a marker, and none left of it.
@@ -137,7 +137,7 @@ fn end_at(lines: &[Line]) -> Option<Fault>
     let line = lines.first()?;
     Some(Fault {
         line: line.number,
-        column: line.column,
+        column: line.column as usize,
         kind: YamlKind::End,
     })
 }
@@ -190,7 +190,7 @@ fn first_column(lines: &[Line]) -> usize
 {
     match lines {
         [] => 0,
-        [first, ..] => first.column,
+        [first, ..] => first.column as usize,
     }
 }
 

@@ -12,7 +12,7 @@ fn is_item_at(text: &[u8], column: usize, line: Line) -> bool
     requires { IsWithin text.now line }
     ensures { result ≡ is_item_at column (row text.now line) }
 {
-    line.column == column && rows::is_dash(content(text, line))
+    line.column as usize == column && rows::is_dash(content(text, line))
 }
 
 // A deeper line that has only a tag.
@@ -20,7 +20,7 @@ fn is_tag_deeper(text: &[u8], column: usize, line: Line) -> bool
     requires { IsWithin text.now line }
     ensures { result ≡ (is_deeper column (row text.now line) && is_open (row text.now line).content) }
 {
-    column < line.column && rows::is_open(content(text, line))
+    column < line.column as usize && rows::is_open(content(text, line))
 }
 
 // An item stands at the column, perhaps behind deeper lines that have only a tag.
@@ -46,7 +46,7 @@ fn belongs(text: &[u8], column: usize, items: bool, line: Line) -> bool
     requires { IsWithin text.now line }
     ensures { result ≡ belongs_there column items (row text.now line) }
 {
-    column < line.column || items && is_item_at(text, column, line)
+    column < line.column as usize || items && is_item_at(text, column, line)
 }
 
 // An entry that awaits its value has the items at its column, if the lines behind it begin with one.

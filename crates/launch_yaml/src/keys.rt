@@ -75,7 +75,7 @@ pub fn key_at(
     ensures keys { IfOk result (λ key. (k : Content) → list_any (same_key k) keys.new ≡ (same_key k (content_of_value key) || list_any (same_key k) keys.old)) }
 {
     let bytes = content(text, line);
-    if line.column != column {
+    if line.column as usize != column {
         return Err(Stop::At(at_line(line, kind_of_end(is_root))));
     }
     if !rows::begins_key(bytes) {

@@ -6,8 +6,8 @@ ghost use Rattle.lists.specs.Results.{Gives};
 ghost use Rattle.launch_yaml.specs.TaggingViews.{tagging_view};
 
 use launch_lines::fault::Fault;
-use launch_values::{Mode, Node, NodeValue};
-use lists::{Stop, Text};
+use launch_values::{Mode, Node, NodeTag, NodeValue};
+use lists::Stop;
 
 /// What stands before a value.
 #[derive(Drop)]
@@ -19,7 +19,7 @@ pub enum Tagging {
         /// The number of its line.
         line: u32,
         /// Its name.
-        name: Text,
+        name: NodeTag,
     },
     /// `!!binary`, with its place.
     Base64(Fault),

@@ -32,7 +32,7 @@ impl Printer {
         match &node.value {
             NodeValue::Null => self.out.push('~'),
             NodeValue::Bool(value) => write!(self.out, "{value}"),
-            NodeValue::Int(value) => write!(self.out, "{value}"),
+            NodeValue::Int(value) => write!(self.out, "{}", value.value()),
             NodeValue::Str(value) => write!(self.out, "'{}'", value.as_str()),
             NodeValue::Binary(bytes) => self.bytes(bytes.as_slice()),
             NodeValue::Map(pairs) => self.pairs(pairs.as_slice(), depth),

@@ -11,6 +11,7 @@ invariant-loop-row l = record {
   within : AllWithin l.text l.rows.items;
   there : l.rest ≡ drop l.start l.text;
   whole : l.start + length l.rest ≡ length l.text;
+  short : length l.text < 2 ^ 32;
   fits : l.number < 2 ^ 32;
   numbered : l.number + length (lines_of l.rest) ≡ 1 + length (lines_of l.fn.text);
 }

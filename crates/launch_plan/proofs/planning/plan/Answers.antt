@@ -1,13 +1,14 @@
 -- The plan, case by case.
-use Rattle.std.proofs.Common.{◌≡◌, List, [], Ok, ap, sym, ◌∙◌, arith}
+use Rattle.std.proofs.Common.{rules, ◌≡◌, List, [], Ok, ap, sym, ◌∙◌, arith}
 use Rattle.std.proofs.lemmas.Result.{err_from_is_err_and}
 use Rattle.abi_base.specs.declared.grant.Grant.{Grant}
 use Rattle.tree_model.specs.Tree.{Tree}
 use Rattle.launch_values.specs.Shape.{Shape}
 use Rattle.launch_values.specs.Views.{shape_of}
 use Rattle.launch_plan.specs.Tagged.{tagged, grants_of, grants_behind}
+use Rattle.launch_plan.specs.Sizes.{values_in}
 use Rattle.launch_plan.proofs.Grants.{behind_none, all_there, refused}
-use Rattle.launch_plan.proofs.Plans.{faulty, too_many, too_large, planned}
+use Rattle.launch_plan.proofs.Plans.{faulty, too_many, too_many_values, none_left, too_large, planned}
 use Rattle.launch_plan.proofs.Asked.{asked_are}
 use Rattle.launch_plan.proofs.planning.plan.Goals as goal
 
@@ -34,6 +35,13 @@ argdata-requires-clause-few c =
     let x = shape_of c.args.doc.now.root in
     let tree = c.args.tree.now in
     omega (arith, c.len.ensures, c.if-len-gt-MOST_DESCRIPTORS.false, all_there tree (tagged x) c.push_grants.new.grants (asked tree _ x _ c.new-grants.ensures c.in_ok-push_grants.ensures))
+
+pub returns-then-is_none-clause-plan : goal.returns-then-is_none-clause-plan
+returns-then-is_none-clause-plan c =
+    let x = shape_of c.args.doc.now.root in
+    let tree = c.args.tree.now in
+    too_many_values tree x c.push_grants.new.grants (asked tree _ x _ c.new-grants.ensures c.in_ok-push_grants.ensures) (omega (arith, c.len.ensures, c.if-len-gt-MOST_DESCRIPTORS.false))
+    (none_left 65536 (values_in x) c.room_behind.result (search (rules, c.is_none.ensures, c.if-is_none.true)) c.room_behind.ensures)
 
 pub returns-then-len-gt-MOST_ARGDATA-clause-plan : goal.returns-then-len-gt-MOST_ARGDATA-clause-plan
 returns-then-len-gt-MOST_ARGDATA-clause-plan c =
