@@ -21,7 +21,7 @@ is_own p e = not (is_idle e.act) && (e.pid == p)
 abbrev pub own : ℕ → List Entry → List Entry
 own p history = filter (is_own p) history
 
--- the processes that an act makes. No call makes one yet.
+-- The processes that an act makes. No call makes one yet, so no law says of them that they are new.
 abbrev pub born : Act → List ℕ
 born a = []
 
