@@ -97,7 +97,7 @@ pub stepped : (launch : Launch) (front : List Entry) (e : Entry) (rest : List En
 stepped launch front e rest call reply legal done =
     let w = world launch front in
     let fits : FitsAct w.constants w.state (who_of e) (guest_of w e.pid) e.turns e.act = (legal_next launch front e rest legal).act in
-    (subst (FitsAct w.constants w.state (who_of e) (guest_of w e.pid) e.turns) done.is fits).2
+    (subst (FitsAct w.constants w.state (who_of e) (guest_of w e.pid) e.turns) done.is fits).1
 
 -- what the process of an entry held before it
 pub before_is : (launch : Launch) (front : List Entry) (e : Entry) (rest : List Entry) → Legal launch (front ++ e ∷ rest)

@@ -50,11 +50,11 @@ ledger_more launch history e =
 acted_rows : (w : World) (who : Who) (guest : Guest) (ts : List ℕ) (a : Act) (l : Ledger) → FitsAct w.constants w.state who guest ts a → HasRows w.state l
     → HasRows (acted w who a).state (with_row l who.pid (acted_row (last_made (acted w who a).state who.pid) (l.held who.pid) a))
 acted_rows w who guest ts (act.Call call given) l fits before =
-    step_rows w.constants w.state who call given (called_state w.constants w.state who call given) l fits.2 before
-acted_rows w who guest ts (act.Wake call given answered) l fits before = absurd fits
+    step_rows w.constants w.state who call given (called_state w.constants w.state who call given) l fits.1 before
+acted_rows w who guest ts (act.Wake call given answered) l fits before = absurd fits.0
 acted_rows w who guest ts (act.Trap signal) l fits before = end_rows w.state who.pid (Killed signal) l before
 acted_rows w who guest ts act.Expire l fits before = end_rows w.state who.pid (Killed Xcpu) l before
-acted_rows w who guest ts act.Idle l fits before = absurd fits
+acted_rows w who guest ts act.Idle l fits before = absurd fits.0
 
 apply_rows : (w : World) (e : Entry) (l : Ledger) → Fits w e → HasRows w.state l → HasRows (apply w e).state (noted (made_in (apply w e) e) l e)
 apply_rows w e l fits before =

@@ -31,11 +31,11 @@ use Rattle.authority_laws.proofs.Histories.{ledger_reports}
 acted_stay : (w : World) (who : Who) (guest : Guest) (ts : List ℕ) (a : Act) → IsValid w.state → FitsAct w.constants w.state who guest ts a
     → OpensStay w.state (acted w who a).state
 acted_stay w who guest ts (act.Call call given) valid fits =
-    targets.opens_stay w.constants w.state who call given (called_state w.constants w.state who call given) valid fits.2
-acted_stay w who guest ts (act.Wake call given answered) valid fits = absurd fits
+    targets.opens_stay w.constants w.state who call given (called_state w.constants w.state who call given) valid fits.1
+acted_stay w who guest ts (act.Wake call given answered) valid fits = absurd fits.0
 acted_stay w who guest ts (act.Trap signal) valid fits = targets.ends_keep_opens w.state who.pid (Killed signal)
 acted_stay w who guest ts act.Expire valid fits = targets.ends_keep_opens w.state who.pid (Killed Xcpu)
-acted_stay w who guest ts act.Idle valid fits = absurd fits
+acted_stay w who guest ts act.Idle valid fits = absurd fits.0
 
 -- the entry's turns change no open
 applied_stay : (w : World) (e : Entry) → IsValid w.state → Fits w e → OpensStay w.state (apply w e).state

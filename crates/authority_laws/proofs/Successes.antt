@@ -220,8 +220,8 @@ answer_is_within constants S who made l call (answer.Reply reply) T step valid r
 pub act_is_within : (constants : Constants) (S : State) (who : Who) (guest : Guest) (ts : List ℕ) (made : Made) (l : Ledger) (a : Act)
     → FitsAct constants S who guest ts a → IsValid S → HasRows S l → ActIsWithin made l who.pid a
 act_is_within constants S who guest ts made l (act.Call call given) fits valid rows =
-    answer_is_within constants S who made l call given (called_state constants S who call given) fits.2 valid rows
-act_is_within constants S who guest ts made l (act.Wake call given answered) fits valid rows = absurd fits
+    answer_is_within constants S who made l call given (called_state constants S who call given) fits.1 valid rows
+act_is_within constants S who guest ts made l (act.Wake call given answered) fits valid rows = absurd fits.0
 act_is_within constants S who guest ts made l (act.Trap signal) fits valid rows = tt
 act_is_within constants S who guest ts made l act.Expire fits valid rows = tt
-act_is_within constants S who guest ts made l act.Idle fits valid rows = absurd fits
+act_is_within constants S who guest ts made l act.Idle fits valid rows = absurd fits.0

@@ -158,10 +158,10 @@ module _ (launch : Launch) (front : List Entry) (e : Entry) (begins : MayBegin l
   act_traced : (a : Act) → e.act ≡ a → FitsAct (world launch front).constants (world launch front).state (who_of e) (guest_of (world launch front) e.pid) e.turns a
       → after ≡ acted_row made row a → (n : ℕ) (d : Descriptor) → after n ≡ Some d → Is e.pid n d
   act_traced (act.Call call given) is fits left = answer_traced call given is left
-  act_traced (act.Wake call given answered) is fits left = absurd fits
+  act_traced (act.Wake call given answered) is fits left = absurd fits.0
   act_traced (act.Trap signal) is fits left = none_traced left
   act_traced act.Expire is fits left = none_traced left
-  act_traced act.Idle is fits left = absurd fits
+  act_traced act.Idle is fits left = absurd fits.0
 
   entry_traced : AllTraced launch (front ++ e ∷ [])
   entry_traced p n d here =

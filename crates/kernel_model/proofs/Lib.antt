@@ -38,6 +38,7 @@ pub mod NameMoving
 pub mod Calls
 pub mod Outcomes
 pub mod Touches
+pub mod Threads
 pub mod Steps
 pub mod Decisions
 pub mod Lacks

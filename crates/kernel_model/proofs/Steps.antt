@@ -1,13 +1,16 @@
--- What each step keeps: a valid state, the clock's pace, other processes, and the threads of a process that lives on.
-use Rattle.std.proofs.Common.{◌≡◌, ◌≢◌, inl, inr, ℕ, false, List, [], ◌∷◌, map, Some, refl, sym, subst, ◌∙◌}
-use Rattle.std.specs.FinMap.{get}
+-- What each step keeps: a valid state, the clock's pace, other processes, and of a process that lives on the threads that its call
+-- neither makes nor ends.
+use Rattle.std.proofs.Common.{◌≡◌, ◌≢◌, inl, inr, ℕ, false, List, [], ◌∷◌, map, Some, IsSome, refl, sym, subst, ◌∙◌}
+use Rattle.std.proofs.lemmas.Bool.Decides.{eqb_tells}
+use Rattle.std.specs.Ordering.{nat_cmp}
+use Rattle.std.specs.FinMap.{FinMap, get, insert}
 use Rattle.abi_types.specs.declared.reply.Answer.{Answer}
 use Rattle.abi_types.specs.declared.call.Call.{Call}
 use Rattle.abi_types.specs.declared.constants.Constants.{Constants}
 use Rattle.abi_types.specs.declared.status.Status.{Status}
 use Rattle.abi_types.specs.declared.status.Status.TheVariants.{Live}
 use Rattle.abi_types.specs.declared.who.Who.{Who}
-use Rattle.maps.specs.Maps.{get-insert-same}
+use Rattle.maps.specs.Maps.{get-insert-same, get-insert-other}
 use Rattle.kernel_model.specs.Laws.{HasSameProcess, MovesOnly, EndsOnly}
 use Rattle.kernel_model.specs.Outcome.{Outcome}
 use Rattle.kernel_model.specs.Families.ProcessCalls.{end_updates}
@@ -20,6 +23,7 @@ use Rattle.kernel_model.proofs.Calls.{proper}
 use Rattle.kernel_model.proofs.Outcomes.{outcome_holds}
 use Rattle.kernel_model.proofs.Parts.{KeepsThreads, put_keeps}
 use Rattle.kernel_model.proofs.ProcessCalls.{end_others}
+use Rattle.kernel_model.proofs.Threads.{leaves_threads}
 use Rattle.kernel_model.proofs.Valids.{release_restores, tick_nearly_valid, tick_valid, end_nearly_valid}
 
 -- ---- valid states
@@ -76,6 +80,42 @@ step_others constants S who call q apart =
     let unset = outcome_others constants S who call q apart in
     put_others (outcome constants S who call).updates (tick S) q unset.0 unset.1
 
+-- ---- a process that was made stays made
+
+pub insert_some : {X : Type 0} (m : FinMap nat_cmp X) (k : ℕ) (x : X) (q : ℕ) → IsSome (get m q) → IsSome (get (insert m k x) q)
+insert_some m k x q some =
+    elim (eqb_tells q k) [
+      | inl is ↦ subst (λ j. IsSome (get (insert m k x) j)) (sym is.1) (subst IsSome (sym (get-insert-same m k x)) refl)
+      | inr other ↦ subst IsSome (sym (get-insert-other m k x q other.1)) some
+    ]
+
+-- the process lives, or it has ended
+abbrev IsMade : State → ℕ → Type 0
+IsMade S q = IsSome (get S.statuses q)
+
+put_one_made : (u : Update) (S : State) (q : ℕ) → IsMade S q → IsMade (put_one u S) q
+put_one_made (set_table p t) S q made = made
+put_one_made (set_process p own) S q made = made
+put_one_made (set_status p s) S q made = insert_some S.statuses p s q made
+put_one_made (set_open o kind) S q made = made
+put_one_made (set_node n node) S q made = made
+put_one_made (set_names n names) S q made = made
+put_one_made (set_term k stream) S q made = made
+
+put_made : (us : List Update) (S : State) (q : ℕ) → IsMade S q → IsMade (put_all us S) q
+put_made [] S q made = made
+put_made (u ∷ us) S q made = put_made us (put_one u S) q (put_one_made u S q made)
+
+pub step_keeps_made : (constants : Constants) (S : State) (who : Who) (call : Call) (given : Answer) (T : State) (q : ℕ)
+    → IsStep constants S who call given T → IsSome (get S.statuses q) → IsSome (get T.statuses q)
+step_keeps_made constants S who call given T q (inl done) made =
+    subst (λ U. IsMade U q) (sym done.1) (put_made (outcome constants S who call).updates (tick S) q made)
+step_keeps_made constants S who call given T q (inr lacking) made = subst (λ U. IsMade U q) (sym lacking.2) made
+
+pub end_keeps_made : (S : State) (p : ℕ) (status : Status) (q : ℕ) → IsSome (get S.statuses q) → IsSome (get (end_state S p status).statuses q)
+unfolding end_state
+end_keeps_made S p status q made = put_made (end_updates p (get S.processes p) status) (tick S) q made
+
 -- ---- threads
 
 step_threads : (constants : Constants) (S : State) (who : Who) (call : Call) → get (step_state constants S who call).statuses who.pid ≡ Some Live
@@ -87,15 +127,19 @@ step_threads constants S who call =
 -- ---- all of them
 
 pub step_moves_only : (constants : Constants) (S : State) (who : Who) (call : Call) (given : Answer) (T : State)
-    → IsStep constants S who call given T → MovesOnly S who T
+    → IsStep constants S who call given T → MovesOnly S who call given T
 step_moves_only constants S who call given T (inl done) =
-    subst (MovesOnly S who) (sym done.1) (record {
+    subst (MovesOnly S who call given) (sym done.1) (record {
       clock = put_clock (outcome constants S who call).updates (tick S);
       others = λ q apart. step_others constants S who call q apart;
-      threads = λ live. step_threads constants S who call live;
+      threads = λ live. leaves_threads S who call given (step_state constants S who call) (step_threads constants S who call live);
     })
 step_moves_only constants S who call given T (inr lacking) =
-    subst (MovesOnly S who) (sym lacking.2) (record { clock = refl; others = λ q apart. (refl, refl, refl); threads = λ live. refl })
+    subst (MovesOnly S who call given) (sym lacking.2) (record {
+      clock = refl;
+      others = λ q apart. (refl, refl, refl);
+      threads = λ live. leaves_threads S who call given (tick S) refl;
+    })
 
 pub end_ends_only : (S : State) (p : ℕ) (status : Status) → EndsOnly S p status (end_state S p status)
 unfolding end_state

@@ -25,8 +25,9 @@ use Rattle.kernel_model.specs.Reply.{refused, denied}
 use Rattle.kernel_model.specs.Sight.{process_parts, behind}
 use Rattle.tree_model.specs.Grants.{MayBegin}
 use Rattle.kernel_model.specs.Start.{start_state}
-use Rattle.kernel_model.specs.State.{State, Tree, Table, Part, at_open, at_node, at_names, has_part, Agree, AgreeOn, threads_of}
+use Rattle.kernel_model.specs.State.{State, Tree, Table, Part, at_open, at_node, at_names, has_part, Agree, AgreeOn}
 use Rattle.kernel_model.specs.Step.{made_by, tick, sight, touch, outcome_by, outcome, outside, outside_by, unreleased, step_answer, step_state, failed, MayLackMemory, IsStep, IsUntouched, end_unreleased, end_state}
+use Rattle.kernel_model.specs.Threads.{LeavesThreads, ends_caller, ends_others, makes_thread}
 use Rattle.kernel_model.specs.Valid.{IsValid}
 use Rattle.kernel_model.specs.View.{whole}
 
@@ -149,15 +150,23 @@ ErrorKeeps =
 abbrev pub HasSameProcess : State → State → ℕ → Type 0
 HasSameProcess S T q = (get S.tables q ≡ get T.tables q) × (get S.processes q ≡ get T.processes q) × (get S.statuses q ≡ get T.statuses q)
 
--- A step takes 1000 nanoseconds, changes nothing of other processes, and leaves a process that lives on its threads.
-pub record MovesOnly (S : State) (who : Who) (T : State) : Type 0 where
+-- A step takes 1000 nanoseconds, changes nothing of other processes, and changes the threads of a process that lives on as
+-- its call and its answer say.
+pub record MovesOnly (S : State) (who : Who) (call : Call) (given : Answer) (T : State) : Type 0 where
   pub clock : T.clock ≡ S.clock + 1000
   pub others : (q : ℕ) → q ≢ who.pid → HasSameProcess T S q
-  pub threads : get T.statuses who.pid ≡ Some Live → threads_of T who.pid ≡ threads_of S who.pid
+  pub threads : get T.statuses who.pid ≡ Some Live → LeavesThreads S who call given T
 
 abbrev pub StepMovesOnly : Type 0
 StepMovesOnly =
-    (constants : Constants) (S : State) (who : Who) (call : Call) (given : Answer) (T : State) → IsStep constants S who call given T → MovesOnly S who T
+    (constants : Constants) (S : State) (who : Who) (call : Call) (given : Answer) (T : State) → IsStep constants S who call given T
+    → MovesOnly S who call given T
+
+-- No call makes or ends a thread yet: none of the three calls that may succeeds.
+abbrev pub NoThreadIsMadeOrEnded : Type 0
+NoThreadIsMadeOrEnded =
+    (constants : Constants) (S : State) (who : Who) (call : Call) (given : Answer) (T : State) → IsStep constants S who call given T
+    → (ends_caller call given ≡ false) × (ends_others call given ≡ false) × (makes_thread call given ≡ false)
 
 -- The end of a process from outside takes as long, changes nothing of other processes, and leaves it its status.
 pub record EndsOnly (S : State) (p : ℕ) (status : Status) (T : State) : Type 0 where

@@ -15,6 +15,7 @@ pub mod Calls
 pub mod Step
 pub mod Start
 pub mod Proper
+pub mod Threads
 pub mod Laws
 pub mod OpenLaws
 pub mod OpenConditions

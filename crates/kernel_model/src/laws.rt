@@ -1,6 +1,6 @@
 //! Laws of the kernel's steps. The statements are in `specs/Laws.antt`, and each holds of every state, process and call.
 ghost use Rattle.kernel_model.specs.Laws.{MeaningsAreProper, ReadsSight, SightDecides, StepDecided, SightIsReached, TouchIsSeen, MadeIsNew};
-ghost use Rattle.kernel_model.specs.Laws.{OthersStay, EndKeeps, ErrorKeeps, StepMovesOnly, EndStateEndsOnly, EndsAreLeast};
+ghost use Rattle.kernel_model.specs.Laws.{OthersStay, EndKeeps, ErrorKeeps, StepMovesOnly, NoThreadIsMadeOrEnded, EndStateEndsOnly, EndsAreLeast};
 ghost use Rattle.kernel_model.specs.Laws.{FirstLackIsNamed, DenialIsOfFirstLack, NotcapableIsDenied, OutsideIsDenied, OutsideReadsSight};
 ghost use Rattle.kernel_model.specs.Laws.{RepliesAreListed, NoMemoryIsExact, ErrorsAreExact, AbsentIsBadf, LackIsDenied, LeavingIsDenied};
 ghost use Rattle.kernel_model.specs.Laws.{StepKeepsValid, EndKeepsValid, StartIsValid};
@@ -51,12 +51,17 @@ pub fn end_keeps()
     ensures { EndKeeps }
 {}
 
-/// A step takes 1000 nanoseconds, changes nothing that another process has of its own, and leaves a process that lives on
-/// its threads. The end of a process from outside takes as long, changes nothing of other processes either, and leaves the
-/// process the status that it was given.
+/// A step takes 1000 nanoseconds and changes nothing that another process has of its own. A process that lives on keeps its
+/// threads, but for those that its call makes or ends (`specs/Threads.antt`). The end of a process from outside takes as long,
+/// changes nothing of other processes either, and leaves the process the status that it was given.
 pub fn steps_move_only()
     ensures step { StepMovesOnly }
     ensures end { EndStateEndsOnly }
+{}
+
+/// No call makes or ends a thread yet, since neither thread_create nor thread_exit nor proc_exec succeeds.
+pub fn no_thread_is_made_or_ended()
+    ensures { NoThreadIsMadeOrEnded }
 {}
 
 /// The opens that a release ends are the least set that has each open which nothing holds once the set has ended.

@@ -11,18 +11,19 @@ use Rattle.abi_types.specs.declared.who.Who.{Who}
 use Rattle.run_types.specs.declared.history.Act.{Act}
 use Rattle.run_types.specs.declared.history.Act.TheVariants as act
 use Rattle.run_types.specs.declared.history.Entry.{Entry}
-use Rattle.kernel_model.specs.State.{State, thread_in}
+use Rattle.kernel_model.specs.State.{State}
 use Rattle.kernel_model.specs.Step.{end_state, IsStep}
-use Rattle.kernel_model.proofs.Steps.{step_moves_only}
 use Rattle.maps.specs.Maps.{get-insert-same, insert_self}
 use Rattle.rv_interp.specs.declared.turns.TurnEnd.TheVariants as turn_end_is
 use Rattle.call_codec.specs.Arguments.{args_of}
+use Rattle.run_model.specs.Ends.{EndsBy}
 use Rattle.run_model.specs.Legal.{Legal, Fits, FitsAct}
 use Rattle.run_model.specs.World.{World, Guest, or_no_guest, world, apply, acted, turned, who_of, guest_of, registers_of, called_state, called_guest}
-use Rattle.run_model.proofs.Calls.{called_is, ended_by}
+use Rattle.run_model.proofs.Calls.{called_is, runs_on, ended_by}
+use Rattle.run_model.proofs.Ends.{apply_end, ends_not_live}
 use Rattle.run_model.proofs.Histories.{world_more, world_constants, legal_more, apply_is}
 use Rattle.plain_run.specs.declared.run.Run.{Run}
-use Rattle.plain_run.specs.Run.{IsAt, IsBetweenTurns, IsStopped, IsLiveProcess, GoesOn, EndsBy, recorded_guest, guest_now, entry_now}
+use Rattle.plain_run.specs.Run.{IsAt, IsBetweenTurns, IsStopped, IsLiveProcess, GoesOn, recorded_guest, guest_now, entry_now}
 use Rattle.plain_run.proofs.Runs.{guest_put, guest_there, now_is}
 
 -- the run after an entry, with no turn that has none
@@ -63,23 +64,6 @@ at_entry r p kernel guests history e at fits more state same some =
 
 -- ---- a process that is ended from outside
 
-acted_stop : (w : World) (who : Who) (a : Act) (status : Status) → EndsBy a status → acted w who a ≡ record w { state = end_state w.state who.pid status }
-acted_stop w who (act.Call call given) status by = absurd by
-acted_stop w who (act.Wake call given answered) status by = absurd by
-acted_stop w who (act.Trap signal) status by = ap (λ (s : Status). record w { state = end_state w.state who.pid s }) (sym by)
-acted_stop w who act.Expire status by = ap (λ (s : Status). record w { state = end_state w.state who.pid s }) (sym by)
-acted_stop w who act.Idle status by = absurd by
-
-apply_stop : (w : World) (e : Entry) (status : Status) → EndsBy e.act status → apply w e ≡ record (turned w e.pid e.turns) { state = end_state w.state e.pid status }
-apply_stop w e status by = apply_is w e ∙ acted_stop (turned w e.pid e.turns) (who_of e) e.act status by
-
-not_live : (a : Act) (status : Status) → EndsBy a status → status ≢ Live
-not_live (act.Call call given) status by = absurd by
-not_live (act.Wake call given answered) status by = absurd by
-not_live (act.Trap signal) status by = λ e. cc
-not_live act.Expire status by = λ e. cc
-not_live act.Idle status by = absurd by
-
 -- the entry of an act of a thread that leaves the kernel in this state
 abbrev pub entry_of : Run → Who → State → Act → Entry
 entry_of r who kernel a = entry_now (record r { kernel = kernel }) who a
@@ -98,15 +82,15 @@ module _ (r : Run) (who : Who) (kernel : State) (a : Act) (status : Status) (by 
     (state : kernel ≡ end_state r.kernel who.pid status) where
   stop_state : (apply (world_now r) (entry_of r who kernel a)).state ≡ end_state r.kernel who.pid status
   stop_state =
-      ap (λ (w : World). w.state) (apply_stop (world_now r) (entry_of r who kernel a) status by) ∙ ap (λ (S : State). end_state S who.pid status) (sym at.state)
+      ap (λ (w : World). w.state) (apply_end (world_now r) (entry_of r who kernel a) status by) ∙ ap (λ (S : State). end_state S who.pid status) (sym at.state)
 
   stop_guests : r.guests ≡ (apply (world_now r) (entry_of r who kernel a)).guests
-  stop_guests = at.guests ∙ sym (ap (λ (w : World). w.guests) (apply_stop (world_now r) (entry_of r who kernel a) status by))
+  stop_guests = at.guests ∙ sym (ap (λ (w : World). w.guests) (apply_end (world_now r) (entry_of r who kernel a) status by))
 
   pub stop_fits : IsLiveProcess r who.pid → FitsAct r.launch.constants r.kernel who (recorded_guest r who.pid) r.turns a
       → Fits (world_now r) (entry_of r who kernel a)
   stop_fits live fits = record {
-    live = live_there r who.pid at live;
+    live = λ _. live_there r who.pid at live;
     act = fits_there r who a at fits;
     moment = ap (λ (S : State). S.clock) (state ∙ sym stop_state);
   }
@@ -116,7 +100,7 @@ module _ (r : Run) (who : Who) (kernel : State) (a : Act) (status : Status) (by 
       → IsBetweenTurns (entered r kernel r.guests history) who × ¬ (get kernel.statuses who.pid ≡ Some Live)
   stop_between history more fits =
       let dead : ¬ (get kernel.statuses who.pid ≡ Some Live) =
-      λ live. ended_by r.kernel who.pid status (not_live a status by) (ap (λ (S : State). get S.statuses who.pid) (sym state) ∙ live) in (
+      λ live. ended_by r.kernel who.pid status (ends_not_live a status by) (ap (λ (S : State). get S.statuses who.pid) (sym state) ∙ live) in (
         record {
           at = at_entry r who.pid kernel r.guests history (entry_of r who kernel a) at fits more (state ∙ sym stop_state) stop_guests (guest_there r who.pid at);
           whole = tt;
@@ -158,10 +142,9 @@ module _ (r : Run) (who : Who) (call : Call) (given : Answer) (kernel : State) (
 
   pub call_fits : Fits (world_now r) (entry_of r who kernel (act.Call call given))
   call_fits = record {
-    live = live_there r who.pid stopped.at stopped.live;
+    live = λ _. live_there r who.pid stopped.at stopped.live;
     act = fits_there r who (act.Call call given) stopped.at (
-      stopped.last,
-      encoded ∙ ap (λ (g : Guest). args_of g.memory (registers_of g who.tid)) (now_is r who.pid stopped.at),
+      (stopped.last, encoded ∙ ap (λ (g : Guest). args_of g.memory (registers_of g who.tid)) (now_is r who.pid stopped.at)),
       subst (IsStep r.launch.constants r.kernel who call given) recorded_state step,
     );
     moment = ap (λ (S : State). S.clock) (sym call_state);
@@ -179,13 +162,11 @@ module _ (r : Run) (who : Who) (call : Call) (given : Answer) (kernel : State) (
 
     -- while the process is live after the call, its thread is runnable
     still_on : IsLiveProcess (entered r kernel guests history) who.pid → GoesOn (entered r kernel guests history) who
-    still_on live =
-        let moves = step_moves_only r.launch.constants r.kernel who call given kernel step in
-        record {
-          runnable = ap (λ o. thread_in o who.tid) (moves.threads live) ∙ stopped.goes_on.runnable;
-          registers = subst (λ (g : Guest). IsSome (get g.regs who.tid)) (sym called_now)
-              (subst IsSome (sym (get-insert-same (guest_now r who.pid).regs who.tid _)) refl);
-        }
+    still_on live = record {
+      runnable = runs_on r.launch.constants r.kernel who call given kernel who.tid step live stopped.goes_on.runnable;
+      registers = subst (λ (g : Guest). IsSome (get g.regs who.tid)) (sym called_now)
+          (subst IsSome (sym (get-insert-same (guest_now r who.pid).regs who.tid _)) refl);
+    }
 
     pub call_between : history ≡ r.history ++ entry_of r who kernel (act.Call call given) ∷ [] → IsBetweenTurns (entered r kernel guests history) who
     call_between more = record {

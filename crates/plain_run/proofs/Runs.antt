@@ -1,5 +1,5 @@
 -- How a run's guests follow its world as turns are taken.
-use Rattle.std.proofs.Common.{◌≡◌, ℕ, ◌+◌, ◌-◌, ◌*◌, ◌^◌, ◌<◌, ◌≤◌, List, [], ◌∷◌, ◌++◌, length, Option, Some, None, IsSome, refl, sym, ap, subst, ◌∙◌, arith}
+use Rattle.std.proofs.Common.{◌≡◌, ℕ, ◌+◌, ◌-◌, ◌^◌, ◌<◌, ◌≤◌, List, [], ◌∷◌, ◌++◌, Option, Some, None, IsSome, refl, sym, ap, subst, ◌∙◌, arith}
 use Rattle.std.specs.Ordering.{nat_cmp}
 use Rattle.std.specs.FinMap.{FinMap, get, insert}
 use Rattle.abi_types.specs.declared.status.Status.{Status}
@@ -11,9 +11,8 @@ use Rattle.rv_interp.specs.declared.turns.TurnEnd.{TurnEnd}
 use Rattle.rv_interp.specs.declared.turns.TurnEnd.TheVariants as turn_end_is
 use Rattle.run_model.specs.Legal.{AreWhole, LastEnds, MayTurn}
 use Rattle.run_model.specs.World.{Guest, or_no_guest, world, turned_guest, turned_guest_by, turn_end}
-use Rattle.run_model.proofs.Potentials.{history_is_short}
+use Rattle.run_model.proofs.Bounds as bounds
 use Rattle.run_model.proofs.Histories.{guest_turned, turned_more, whole_more}
-use Rattle.run_model.proofs.Worlds.{clock_counts}
 use Rattle.plain_run.specs.declared.run.Run.{Run}
 use Rattle.plain_run.specs.Run.{IsAt, IsLiveProcess, IsBetweenTurns, IsStopped, GoesOn, recorded_guest, guest_now, live_number, pending}
 
@@ -45,10 +44,7 @@ guest_there r p at =
 
 -- the clock of a run is far from its end, since its history is legal and so it is short
 pub early : (r : Run) (p : ℕ) → IsAt r p → r.kernel.clock < 2 ^ 63
-early r p at =
-    let moment : r.kernel.clock ≡ 1000 * length r.history = ap (λ (S : State). S.clock) at.state ∙ clock_counts r.launch r.history at.legal in
-    let short : length r.history ≤ r.launch.turns + 1 = history_is_short r.launch r.history at.legal in
-    omega (arith, moment, short, at.bounded.turns)
+early r p at = subst (λ (S : State). S.clock < 2 ^ 63) (sym at.state) (bounds.early r.launch r.history at.bounded at.legal)
 
 -- ---- a turn
 

@@ -3,10 +3,8 @@ use Rattle.std.specs.Prelude.{◌≡◌, ℕ, ◌+◌, Option, Some, None, IsSom
 use Rattle.std.specs.FinMap.{get}
 use Rattle.abi_types.specs.declared.status.Status.{Status}
 use Rattle.abi_types.specs.declared.status.Status.TheVariants.{Live, Exit, Killed}
-use Rattle.abi_base.specs.declared.signal.Signal.TheVariants.{Xcpu}
 use Rattle.abi_types.specs.declared.who.Who.{Who}
 use Rattle.run_types.specs.declared.history.Act.{Act}
-use Rattle.run_types.specs.declared.history.Act.TheVariants as act
 use Rattle.run_types.specs.declared.history.Entry.{Entry}
 use Rattle.rv_interp.specs.declared.turns.TurnEnd.{TurnEnd}
 use Rattle.run_model.specs.Legal.{Legal, AreWhole, LastEnds, IsRunnable}
@@ -74,14 +72,6 @@ live_number (Some (Killed signal)) = 0
 -- how many turns and ends process p has left
 abbrev pub pending : Run → ℕ → ℕ
 pending r p = (guest_now r p).left + live_number (get r.kernel.statuses p)
-
--- the status of a process that an act ends from outside
-abbrev pub EndsBy : Act → Status → Type 0
-EndsBy (act.Call call given) status = ⊥
-EndsBy (act.Wake call given answered) status = ⊥
-EndsBy (act.Trap signal) status = status ≡ Killed signal
-EndsBy act.Expire status = status ≡ Killed Xcpu
-EndsBy act.Idle status = ⊥
 
 -- the entry of an act that a thread did up to this moment, after the turns that no entry has yet
 abbrev pub entry_now : Run → Who → Act → Entry

@@ -1,9 +1,10 @@
 //! The plain run of a launch: process 0's thread takes turns, and each call, trap and expiry is an entry.
 ghost use Rattle.std.specs.Prelude.{◌≡◌, ◌<◌, [], ◌∷◌, ◌++◌, IfOk, OnOk, OnErr};
+ghost use Rattle.run_model.specs.Ends.{EndsBy};
 ghost use Rattle.run_model.specs.Legal.{Legal, FitsAct};
 ghost use Rattle.rv_interp.specs.declared.turns.TurnEnd.TheVariants as turn_end;
 ghost use Rattle.call_codec.specs.Bounded.{IsBounded};
-ghost use Rattle.plain_run.specs.Run.{IsAt, IsBetween, IsBetweenTurns, IsStopped, IsLive, IsLiveProcess, EndsBy, recorded_guest, guest_now, pending, entry_now};
+ghost use Rattle.plain_run.specs.Run.{IsAt, IsBetween, IsBetweenTurns, IsStopped, IsLive, IsLiveProcess, recorded_guest, guest_now, pending, entry_now};
 
 use crate::guest::{FIRST, FIRST_THREAD, Guest};
 use abi_types::{Pid, Signal, Status, TidList, Who};

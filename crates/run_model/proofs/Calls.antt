@@ -1,7 +1,9 @@
 -- What a call leaves of the kernel's state, and the end of a process from outside.
 --     called_is      a step of a call that registers encode leaves what its answer says
+--     runs_on      a runnable thread of a process that lives on is runnable after a call
 --     ended_by      a process that is ended is not live
-use Rattle.std.proofs.Common.{◌≡◌, ◌≢◌, inl, inr, ℕ, Option, Some, refl, sym, ap, ◌∙◌}
+use Rattle.std.proofs.Common.{◌≡◌, ◌≢◌, inl, inr, ℕ, Option, Some, IsSome, refl, sym, ap, subst, ◌∙◌}
+use Rattle.std.proofs.lemmas.Bool.Decides.{eqb_tells}
 use Rattle.std.specs.FinMap.{get}
 use Rattle.abi_types.specs.declared.reply.Answer.{Answer}
 use Rattle.abi_types.specs.declared.reply.Answer.TheVariants as answer
@@ -11,14 +13,19 @@ use Rattle.abi_base.specs.declared.errno.Errno.{Errno}
 use Rattle.abi_base.specs.declared.errno.Errno.TheVariants.{Nomem}
 use Rattle.abi_types.specs.declared.status.Status.{Status}
 use Rattle.abi_types.specs.declared.status.Status.TheVariants.{Live}
+use Rattle.abi_types.specs.declared.thread.Thread.{Thread}
+use Rattle.abi_types.specs.declared.thread.Thread.TheVariants.{Runnable}
 use Rattle.abi_types.specs.declared.who.Who.{Who}
 use Rattle.abi_base.specs.Registers.{Registers}
-use Rattle.kernel_model.specs.State.{State}
+use Rattle.kernel_model.specs.State.{State, thread_of}
 use Rattle.kernel_model.specs.Step.{failed, step_state, IsStep, end_state}
 use Rattle.kernel_model.proofs.Refusals.{IsNoLackOf, reply_no_lack}
-use Rattle.kernel_model.proofs.Steps.{end_ends_only}
+use Rattle.kernel_model.specs.Threads.{IsCallerAfter}
+use Rattle.kernel_model.proofs.Steps.{step_moves_only, end_ends_only}
+use Rattle.kernel_model.proofs.Threads.{keeps_caller, keeps_others}
 use Rattle.guest_memory.specs.Page.{Pages}
 use Rattle.call_codec.specs.Arguments.{args_of}
+use Rattle.run_model.specs.Legal.{IsRunnable}
 use Rattle.run_model.specs.World.{by_errno, called_state}
 use Rattle.run_model.proofs.Encoded.{args_no_lack}
 
@@ -40,6 +47,23 @@ called_by constants S who call (answer.Reply reply) T none (inr lacking) =
 pub called_is : (m : Pages) (r : Registers) (constants : Constants) (S : State) (who : Who) (given : Answer) (T : State)
     → IsStep constants S who (args_of m r) given T → T ≡ called_state constants S who (args_of m r) given
 called_is m r constants S who given T step = called_by constants S who (args_of m r) given T (args_no_lack m r) step
+
+-- ---- a thread that runs on
+
+caller_runs : (given : Answer) (before after : Option Thread) → IsCallerAfter given before after → before ≡ Some Runnable → after ≡ Some Runnable
+caller_runs (answer.Reply reply) before after same runs = same ∙ runs
+
+-- a runnable thread of a process that is live after its call is runnable then
+pub runs_on : (constants : Constants) (S : State) (who : Who) (call : Call) (given : Answer) (T : State) (t : ℕ) → IsStep constants S who call given T
+    → get T.statuses who.pid ≡ Some Live → IsRunnable S who.pid t → IsRunnable T who.pid t
+runs_on constants S who call given T t step live runs =
+    let left = (step_moves_only constants S who call given T step).threads live in
+    elim (eqb_tells t who.tid) [
+      | inl is ↦ subst (IsRunnable T who.pid) (sym is.1)
+          (caller_runs given (thread_of S who.pid who.tid) (thread_of T who.pid who.tid) (left.caller (keeps_caller constants S who call given T step))
+          (subst (IsRunnable S who.pid) is.1 runs))
+      | inr other ↦ left.others t other.1 (subst IsSome (sym runs) refl) (keeps_others constants S who call given T step) ∙ runs
+    ]
 
 -- ---- the end of a process
 

@@ -98,13 +98,13 @@ act_confined : (w : World) (who : Who) (guest : Guest) (ts : List ℕ) (a : Act)
     → ActIsConfined w.constants w.state who a (acted w who a).state
 act_confined w who guest ts (act.Call call given) valid fits =
     call_confined w.constants w.state who call given (called_state w.constants w.state who call given) valid
-    (subst IsNotDeniedEarly (sym fits.1) (args_not_denied (turned_guest_by ts guest).memory (registers_of (turned_guest_by ts guest) who.tid)))
-    (subst (λ (c : Call). ¬ IsBadfBefore c) (sym fits.1) (args_not_badf (turned_guest_by ts guest).memory (registers_of (turned_guest_by ts guest) who.tid)))
-    fits.2
-act_confined w who guest ts (act.Wake call given answered) valid fits = absurd fits
+    (subst IsNotDeniedEarly (sym fits.0.1) (args_not_denied (turned_guest_by ts guest).memory (registers_of (turned_guest_by ts guest) who.tid)))
+    (subst (λ (c : Call). ¬ IsBadfBefore c) (sym fits.0.1) (args_not_badf (turned_guest_by ts guest).memory (registers_of (turned_guest_by ts guest) who.tid)))
+    fits.1
+act_confined w who guest ts (act.Wake call given answered) valid fits = absurd fits.0
 act_confined w who guest ts (act.Trap signal) valid fits = touches.end_keeps w.state who.pid (Killed signal)
 act_confined w who guest ts act.Expire valid fits = touches.end_keeps w.state who.pid (Killed Xcpu)
-act_confined w who guest ts act.Idle valid fits = absurd fits
+act_confined w who guest ts act.Idle valid fits = absurd fits.0
 
 -- an entry that fits a valid world is confined
 pub entry_confined : (w : World) (e : Entry) → IsValid w.state → Fits w e → EntryIsConfined w e

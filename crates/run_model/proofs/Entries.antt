@@ -61,30 +61,30 @@ answer_is constants S who call given T (inr lacking) plenty = absurd (subst (λ 
 act_is_one : (constants : Constants) (S : State) (who : Who) (guest : Guest) (ts : List ℕ) (a b : Act) → FitsAct constants S who guest ts a
     → FitsAct constants S who guest ts b → LacksNothing a → LacksNothing b → a ≡ b
 act_is_one constants S who guest ts (act.Call call given) (act.Call other answered) fits again plenty more =
-    let calls : call ≡ other = fits.1 ∙ sym again.1 in
-    let here = answer_is constants S who call given (called_state constants S who call given) fits.2 plenty in
-    let there = answer_is constants S who other answered (called_state constants S who other answered) again.2 more in
+    let calls : call ≡ other = fits.0.1 ∙ sym again.0.1 in
+    let here = answer_is constants S who call given (called_state constants S who call given) fits.1 plenty in
+    let there = answer_is constants S who other answered (called_state constants S who other answered) again.1 more in
     let answers : given ≡ answered = here ∙ ap (step_answer constants S who) calls ∙ sym there in
     λ i. act.Call (calls i) (answers i)
 act_is_one constants S who guest ts (act.Call call given) (act.Trap signal) fits again plenty more =
-    absurd (ecall_is_no_trap signal (one_end S who.pid guest ts who.tid turn_end_is.Ecall (turn_end_is.Trap signal) fits.0 again))
+    absurd (ecall_is_no_trap signal (one_end S who.pid guest ts who.tid turn_end_is.Ecall (turn_end_is.Trap signal) fits.0.0 again.0))
 act_is_one constants S who guest ts (act.Call call given) act.Expire fits again plenty more =
-    absurd (ecall_is_not_whole (whole_end S who.pid guest ts who.tid turn_end_is.Ecall fits.0 again.0))
-act_is_one constants S who guest ts (act.Wake call given answered) b fits again plenty more = absurd fits
-act_is_one constants S who guest ts a (act.Wake call given answered) fits again plenty more = absurd again
+    absurd (ecall_is_not_whole (whole_end S who.pid guest ts who.tid turn_end_is.Ecall fits.0.0 again.0.0))
+act_is_one constants S who guest ts (act.Wake call given answered) b fits again plenty more = absurd fits.0
+act_is_one constants S who guest ts a (act.Wake call given answered) fits again plenty more = absurd again.0
 act_is_one constants S who guest ts (act.Trap signal) (act.Call call given) fits again plenty more =
-    absurd (ecall_is_no_trap signal (one_end S who.pid guest ts who.tid turn_end_is.Ecall (turn_end_is.Trap signal) again.0 fits))
+    absurd (ecall_is_no_trap signal (one_end S who.pid guest ts who.tid turn_end_is.Ecall (turn_end_is.Trap signal) again.0.0 fits.0))
 act_is_one constants S who guest ts (act.Trap signal) (act.Trap other) fits again plenty more =
-    ap act.Trap (same_signal signal other (one_end S who.pid guest ts who.tid (turn_end_is.Trap signal) (turn_end_is.Trap other) fits again))
+    ap act.Trap (same_signal signal other (one_end S who.pid guest ts who.tid (turn_end_is.Trap signal) (turn_end_is.Trap other) fits.0 again.0))
 act_is_one constants S who guest ts (act.Trap signal) act.Expire fits again plenty more =
-    absurd (trap_is_not_whole signal (whole_end S who.pid guest ts who.tid (turn_end_is.Trap signal) fits again.0))
+    absurd (trap_is_not_whole signal (whole_end S who.pid guest ts who.tid (turn_end_is.Trap signal) fits.0 again.0.0))
 act_is_one constants S who guest ts act.Expire (act.Call call given) fits again plenty more =
-    absurd (ecall_is_not_whole (whole_end S who.pid guest ts who.tid turn_end_is.Ecall again.0 fits.0))
+    absurd (ecall_is_not_whole (whole_end S who.pid guest ts who.tid turn_end_is.Ecall again.0.0 fits.0.0))
 act_is_one constants S who guest ts act.Expire (act.Trap signal) fits again plenty more =
-    absurd (trap_is_not_whole signal (whole_end S who.pid guest ts who.tid (turn_end_is.Trap signal) again fits.0))
+    absurd (trap_is_not_whole signal (whole_end S who.pid guest ts who.tid (turn_end_is.Trap signal) again.0 fits.0.0))
 act_is_one constants S who guest ts act.Expire act.Expire fits again plenty more = refl
-act_is_one constants S who guest ts act.Idle b fits again plenty more = absurd fits
-act_is_one constants S who guest ts a act.Idle fits again plenty more = absurd again
+act_is_one constants S who guest ts act.Idle b fits again plenty more = absurd fits.0
+act_is_one constants S who guest ts a act.Idle fits again plenty more = absurd again.0
 
 -- ---- entries
 

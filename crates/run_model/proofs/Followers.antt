@@ -1,13 +1,12 @@
 -- Some entry follows each legal history whose run is not ended, so each launch has a run that ends.
-use Rattle.std.proofs.Common.{◌≡◌, ◌≢◌, ◌⊎◌, inl, inr, ℕ, zero, suc, ◌+◌, ◌-◌, ◌≤◌, List, [], ◌∷◌, ◌++◌, length, Option, Some, None, refl, sym, ap, subst, ◌∙◌, arith, length-append}
+use Rattle.std.proofs.Common.{◌≡◌, ◌≢◌, ◌⊎◌, inl, inr, ℕ, zero, suc, ◌+◌, ◌-◌, ◌≤◌, List, [], ◌∷◌, ◌++◌, length, Option, Some, None, refl, sym, ap, subst, arith, length-append}
 use Rattle.std.proofs.lemmas.Bool.Decides.{eqb_tells}
-use Rattle.std.specs.FinMap.{empty, get, insert}
+use Rattle.std.specs.FinMap.{get}
 use Rattle.abi_types.specs.declared.constants.Constants.{Constants}
 use Rattle.abi_base.specs.declared.signal.Signal.{Signal}
 use Rattle.abi_base.specs.declared.signal.Signal.TheVariants.{Xcpu}
 use Rattle.abi_types.specs.declared.status.Status.{Status}
 use Rattle.abi_types.specs.declared.status.Status.TheVariants.{Live, Exit, Killed}
-use Rattle.abi_types.specs.declared.thread.Thread.TheVariants.{Runnable}
 use Rattle.abi_types.specs.declared.who.Who.{Who}
 use Rattle.abi_base.specs.Registers.{Registers}
 use Rattle.run_types.specs.declared.history.Act.{Act}
@@ -15,11 +14,9 @@ use Rattle.run_types.specs.declared.history.Act.TheVariants as act
 use Rattle.run_types.specs.declared.history.Entry.{Entry}
 use Rattle.run_types.specs.declared.launch.Launch.{Launch}
 use Rattle.kernel_model.specs.Ends.{NoneLive}
-use Rattle.kernel_model.specs.State.{State, Threads, threads_of, thread_in}
+use Rattle.kernel_model.specs.State.{State}
 use Rattle.kernel_model.specs.Step.{step_answer, step_state}
-use Rattle.kernel_model.proofs.Steps.{step_moves_only}
 use Rattle.kernel_model.proofs.Tests.{none_is_no}
-use Rattle.maps.specs.Maps.{get-insert-same}
 use Rattle.rv_interp.specs.declared.turns.TurnEnd.{TurnEnd}
 use Rattle.rv_interp.specs.declared.turns.TurnEnd.TheVariants as turn_end_is
 use Rattle.guest_memory.specs.Page.{Pages}
@@ -27,36 +24,32 @@ use Rattle.call_codec.specs.Arguments.{args_of}
 use Rattle.run_model.specs.Ends.{Ended}
 use Rattle.run_model.specs.Legal.{IsRunnable, MayTurn, AreWhole, FitsAct, Fits, FollowsFrom, Legal}
 use Rattle.run_model.specs.World.{World, Guest, start_world, guest_of, registers_of, called_state, turn_end, turned_guest_by, turned, acted, who_of, apply, apply_all, world}
-use Rattle.run_model.proofs.Calls.{called_is, ended_by}
-use Rattle.run_model.proofs.Ends.{OnlyFirstLives, fits_first, only_first_after, killed_is_not_live, start_only}
+use Rattle.run_model.proofs.Calls.{called_is, runs_on, ended_by}
+use Rattle.run_model.proofs.Ends.{OnlyFirstLives, fits_live, fits_first, only_first_after, killed_is_not_live, start_only}
 use Rattle.run_model.proofs.Potentials.{history_is_short}
-use Rattle.run_model.proofs.Histories.{apply_is, turned_more, whole_more, legal_none, legal_more, first_threads}
+use Rattle.run_model.proofs.Histories.{apply_is, turned_more, whole_more, legal_none, legal_more, first_thread}
 
 -- ---- the first process's thread
 
--- the threads that a launch begins with
-abbrev first : Threads
-first = insert empty 1 Runnable
-
--- process 0 has its first thread as long as it lives
+-- the process's first thread is runnable as long as the process lives
 abbrev HasFirst : State → ℕ → Type 0
-HasFirst S p = get S.statuses p ≡ Some Live → threads_of S p ≡ Some first
+HasFirst S p = get S.statuses p ≡ Some Live → IsRunnable S p 1
 
 acted_first : (w : World) (who : Who) (guest : Guest) (ts : List ℕ) (a : Act) → FitsAct w.constants w.state who guest ts a
-    → threads_of w.state who.pid ≡ Some first → HasFirst (acted w who a).state who.pid
+    → IsRunnable w.state who.pid 1 → HasFirst (acted w who a).state who.pid
 acted_first w who guest ts (act.Call call given) fits has live =
-    (step_moves_only w.constants w.state who call given (called_state w.constants w.state who call given) fits.2).threads live ∙ has
-acted_first w who guest ts (act.Wake call given answered) fits has live = absurd fits
+    runs_on w.constants w.state who call given (called_state w.constants w.state who call given) 1 fits.1 live has
+acted_first w who guest ts (act.Wake call given answered) fits has live = absurd fits.0
 acted_first w who guest ts (act.Trap signal) fits has live = absurd (ended_by w.state who.pid (Killed signal) (killed_is_not_live signal) live)
 acted_first w who guest ts act.Expire fits has live = absurd (ended_by w.state who.pid (Killed Xcpu) (killed_is_not_live Xcpu) live)
-acted_first w who guest ts act.Idle fits has live = absurd fits
+acted_first w who guest ts act.Idle fits has live = absurd fits.0
 
 apply_first : (w : World) (e : Entry) → Fits w e → HasFirst w.state e.pid → HasFirst (apply w e).state e.pid
 apply_first w e fits has =
     subst (λ (v : World). HasFirst v.state e.pid) (sym (apply_is w e))
-    (acted_first (turned w e.pid e.turns) (who_of e) (guest_of w e.pid) e.turns e.act fits.act (has fits.live))
+    (acted_first (turned w e.pid e.turns) (who_of e) (guest_of w e.pid) e.turns e.act fits.act (has (fits_live w e fits)))
 
--- no process but process 0 lives, and it has its first thread as long as it lives
+-- no process but process 0 lives, and its first thread is runnable as long as it lives
 record IsFirstAlone (S : State) : Type 0 where
   alone : OnlyFirstLives S
   has : HasFirst S 0
@@ -75,7 +68,7 @@ follows_alone w (e ∷ history) before follows = follows_alone (apply w e) histo
 legal_alone : (launch : Launch) (history : List Entry) → Legal launch history → IsFirstAlone (world launch history).state
 unfolding Legal world
 legal_alone launch history legal =
-    follows_alone (start_world launch) history (record { alone = start_only launch; has = λ _. first_threads launch }) legal
+    follows_alone (start_world launch) history (record { alone = start_only launch; has = λ _. first_thread launch }) legal
 
 -- ---- an act that follows
 
@@ -94,8 +87,7 @@ called constants S who guest ts whole may end =
       ts ++ who.tid ∷ [],
       act.Call (args_of m r) given,
       (
-        (ts, refl, whole, may, end),
-        refl,
+        ((ts, refl, whole, may, end), refl),
         inl (refl, sym (called_is m r constants S who given (step_state constants S who (args_of m r)) (inl (refl, refl)))),
       ),
     )
@@ -103,7 +95,7 @@ called constants S who guest ts whole may end =
 trapped : (constants : Constants) (S : State) (who : Who) (guest : Guest) (ts : List ℕ) (signal : Signal) → AreWhole S who.pid guest ts
     → MayTurn S who.pid (turned_guest_by ts guest) who.tid → turn_end (turned_guest_by ts guest) who.tid ≡ turn_end_is.Trap signal
     → HasAct constants S who guest
-trapped constants S who guest ts signal whole may end = (ts ++ who.tid ∷ [], act.Trap signal, (ts, refl, whole, may, end))
+trapped constants S who guest ts signal whole may end = (ts ++ who.tid ∷ [], act.Trap signal, ((ts, refl, whole, may, end), tt))
 
 left_more : (ts : List ℕ) (t : ℕ) (guest : Guest) (n : ℕ) → (turned_guest_by ts guest).left ≡ suc n → (turned_guest_by (ts ++ t ∷ []) guest).left ≡ n
 left_more ts t guest n left =
@@ -121,7 +113,7 @@ turn_more constants S who guest ts (turn_end_is.Trap signal) whole may is rest =
 -- turns of one thread come to an act
 acts : (constants : Constants) (S : State) (who : Who) (guest : Guest) (n : ℕ) (ts : List ℕ) → IsRunnable S who.pid who.tid → AreWhole S who.pid guest ts
     → (turned_guest_by ts guest).left ≡ n → HasAct constants S who guest
-acts constants S who guest zero ts runs whole left = (ts, act.Expire, (whole, runs, left))
+acts constants S who guest zero ts runs whole left = (ts, act.Expire, ((whole, runs, left), tt))
 acts constants S who guest (suc n) ts runs whole left =
     turn_more constants S who guest ts (turn_end (turned_guest_by ts guest) who.tid) whole (runs, omega arith) refl
     (λ more. acts constants S who guest n (ts ++ who.tid ∷ []) runs more (left_more ts who.tid guest n left))
@@ -132,14 +124,14 @@ entry_of : (w : World) (who : Who) → get w.state.statuses who.pid ≡ Some Liv
 unfolding apply
 entry_of w who live next = (
   record { moment = (acted (turned w who.pid next.0) who next.1).state.clock; pid = who.pid; tid = who.tid; turns = next.0; act = next.1 },
-  record { live = live; act = next.2; moment = refl },
+  record { live = λ _. live; act = next.2; moment = refl },
 )
 
 live_goes_on : (w : World) → IsFirstAlone w.state → get w.state.statuses 0 ≡ Some Live → (e : Entry) × Fits w e
 live_goes_on w alone live =
     let who : Who = record { pid = 0; tid = 1 } in
     entry_of w who live
-    (acts w.constants w.state who (guest_of w 0) (guest_of w 0).left [] (ap (λ o. thread_in o 1) (alone.has live) ∙ get-insert-same empty 1 Runnable) tt refl)
+    (acts w.constants w.state who (guest_of w 0) (guest_of w 0).left [] (alone.has live) tt refl)
 
 -- ---- the end
 

@@ -1,7 +1,7 @@
 -- What a history's world is, which parts of a legal history are legal, and what an entry leaves.
---     world_none, world_more      the world of no entry, and of one more
+--     world_none, world_more, world_rest      the world of no entry, of one more, and of a rest
 --     world_constants      what stays the same for the whole run
---     legal_none, legal_more, legal_front, legal_next      legal histories
+--     legal_none, legal_more, legal_front, legal_next, legal_rest      legal histories
 --     apply_is, guest_turned, turned_more, whole_more ..      turns and acts
 --     first_guest_is, first_state, first_registers_are, first_threads, first_thread      the start
 use Rattle.std.proofs.Common.{◌≡◌, ℕ, List, [], ◌∷◌, ◌++◌, Some, refl, ap, ◌∙◌}
@@ -38,6 +38,16 @@ world_none launch = refl
 pub world_more : (launch : Launch) (history : List Entry) (e : Entry) → world launch (history ++ e ∷ []) ≡ apply (world launch history) e
 unfolding world
 world_more launch history e = all_more (start_world launch) history e
+
+all_rest : (w : World) (front rest : List Entry) → apply_all w (front ++ rest) ≡ apply_all (apply_all w front) rest
+unfolding apply_all
+all_rest w [] rest = refl
+all_rest w (first ∷ front) rest = all_rest (apply w first) front rest
+
+-- the entries of the rest are applied to the world of the front
+pub world_rest : (launch : Launch) (front rest : List Entry) → world launch (front ++ rest) ≡ apply_all (world launch front) rest
+unfolding world
+world_rest launch front rest = all_rest (start_world launch) front rest
 
 acted_constants : (w : World) (who : Who) (a : Act) → (acted w who a).constants ≡ w.constants
 acted_constants w who (act.Call call given) = refl
@@ -77,6 +87,11 @@ unfolding FollowsFrom apply_all
 follows_next w [] e rest all = all.0
 follows_next w (first ∷ front) e rest all = follows_next (apply w first) front e rest all.1
 
+follows_rest : (w : World) (front rest : List Entry) → FollowsFrom w (front ++ rest) → FollowsFrom (apply_all w front) rest
+unfolding FollowsFrom apply_all
+follows_rest w [] rest all = all
+follows_rest w (first ∷ front) rest all = follows_rest (apply w first) front rest all.1
+
 -- no entry is legal
 pub legal_none : (launch : Launch) → Legal launch []
 unfolding Legal FollowsFrom
@@ -96,6 +111,11 @@ legal_front launch front rest all = follows_front (start_world launch) front res
 pub legal_next : (launch : Launch) (front : List Entry) (e : Entry) (rest : List Entry) → Legal launch (front ++ e ∷ rest) → Fits (world launch front) e
 unfolding Legal world
 legal_next launch front e rest all = follows_next (start_world launch) front e rest all
+
+-- the rest of a legal history follows from the world of its front
+pub legal_rest : (launch : Launch) (front rest : List Entry) → Legal launch (front ++ rest) → FollowsFrom (world launch front) rest
+unfolding Legal world
+legal_rest launch front rest all = follows_rest (start_world launch) front rest all
 
 -- ---- what an entry leaves
 

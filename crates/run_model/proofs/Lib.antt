@@ -8,3 +8,7 @@ pub mod Histories
 pub mod Encoded
 pub mod Worlds
 pub mod EncodedBadf
+pub mod Own
+pub mod Registers
+pub mod Bounds
+pub mod Asks

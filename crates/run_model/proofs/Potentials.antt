@@ -24,7 +24,7 @@ use Rattle.rv_interp.specs.declared.turns.TurnEnd.TheVariants.{Ecall, Trap}
 use Rattle.run_model.specs.Ends.{live_number, potential}
 use Rattle.run_model.specs.Legal.{LastEnds, FitsAct, Fits, FollowsFrom, Legal}
 use Rattle.run_model.specs.World.{World, Guest, start_world, first_guest, guest_of, or_no_guest, called_guest, turned_guest, turned_guest_by, turned, acted, who_of, apply, apply_all, world}
-use Rattle.run_model.proofs.Ends.{acted_status}
+use Rattle.run_model.proofs.Ends.{acted_status, fits_live}
 use Rattle.run_model.proofs.Histories.{apply_is, turned_more}
 
 -- ---- turns
@@ -122,14 +122,14 @@ act_falls w who ts (act.Call call given) live fits =
     let turns = turned_all w who.pid ts in
     let same = acted_all (turned w who.pid ts) who (act.Call call given) in
     let lives = acted_live (turned w who.pid ts) who (guest_of w who.pid) ts (act.Call call given) live fits in
-    let less = last_takes w.state who.pid (guest_of w who.pid) ts who.tid Ecall fits.0 in
+    let less = last_takes w.state who.pid (guest_of w who.pid) ts who.tid Ecall fits.0.0 in
     omega (arith, turns, same, lives, less)
-act_falls w who ts (act.Wake call given answered) live fits = absurd fits
+act_falls w who ts (act.Wake call given answered) live fits = absurd fits.0
 act_falls w who ts (act.Trap signal) live fits =
     let turns = turned_all w who.pid ts in
     let same = acted_all (turned w who.pid ts) who (act.Trap signal) in
     let lives = acted_live (turned w who.pid ts) who (guest_of w who.pid) ts (act.Trap signal) live fits in
-    let less = last_takes w.state who.pid (guest_of w who.pid) ts who.tid (Trap signal) fits in
+    let less = last_takes w.state who.pid (guest_of w who.pid) ts who.tid (Trap signal) fits.0 in
     omega (arith, turns, same, lives, less)
 act_falls w who ts act.Expire live fits =
     let turns = turned_all w who.pid ts in
@@ -137,12 +137,12 @@ act_falls w who ts act.Expire live fits =
     let lives = expired_live w.state who.pid live in
     let most = turned_left ts (guest_of w who.pid) in
     omega (arith, turns, same, lives, most)
-act_falls w who ts act.Idle live fits = absurd fits
+act_falls w who ts act.Idle live fits = absurd fits.0
 
 -- each entry takes from what is left
 pub potential_falls : (w : World) (e : Entry) → Fits w e → potential (apply w e) < potential w
 potential_falls w e fits =
-    subst (λ (v : World). potential v < potential w) (sym (apply_is w e)) (act_falls w (who_of e) e.turns e.act fits.live fits.act)
+    subst (λ (v : World). potential v < potential w) (sym (apply_is w e)) (act_falls w (who_of e) e.turns e.act (fits_live w e fits) fits.act)
 
 follows_short : (w : World) (history : List Entry) → FollowsFrom w history → length history + potential (apply_all w history) ≤ potential w
 unfolding FollowsFrom apply_all

@@ -22,11 +22,11 @@ use Rattle.run_model.proofs.Histories.{apply_is, first_state}
 acted_valid : (w : World) (who : Who) (guest : Guest) (ts : List ℕ) (a : Act) → FitsAct w.constants w.state who guest ts a → IsValid w.state
     → IsValid (acted w who a).state
 acted_valid w who guest ts (act.Call call given) fits valid =
-    step_keeps_valid w.constants w.state who call given (called_state w.constants w.state who call given) fits.2 valid
-acted_valid w who guest ts (act.Wake call given answered) fits valid = absurd fits
+    step_keeps_valid w.constants w.state who call given (called_state w.constants w.state who call given) fits.1 valid
+acted_valid w who guest ts (act.Wake call given answered) fits valid = absurd fits.0
 acted_valid w who guest ts (act.Trap signal) fits valid = end_valid w.state who.pid (Killed signal) valid
 acted_valid w who guest ts act.Expire fits valid = end_valid w.state who.pid (Killed Xcpu) valid
-acted_valid w who guest ts act.Idle fits valid = absurd fits
+acted_valid w who guest ts act.Idle fits valid = absurd fits.0
 
 pub apply_valid : (w : World) (e : Entry) → Fits w e → IsValid w.state → IsValid (apply w e).state
 apply_valid w e fits valid =
@@ -51,11 +51,11 @@ world_is_valid launch history begins legal =
 acted_clock : (w : World) (who : Who) (guest : Guest) (ts : List ℕ) (a : Act) → FitsAct w.constants w.state who guest ts a
     → (acted w who a).state.clock ≡ w.state.clock + 1000
 acted_clock w who guest ts (act.Call call given) fits =
-    (step_moves_only w.constants w.state who call given (called_state w.constants w.state who call given) fits.2).clock
-acted_clock w who guest ts (act.Wake call given answered) fits = absurd fits
+    (step_moves_only w.constants w.state who call given (called_state w.constants w.state who call given) fits.1).clock
+acted_clock w who guest ts (act.Wake call given answered) fits = absurd fits.0
 acted_clock w who guest ts (act.Trap signal) fits = (end_ends_only w.state who.pid (Killed signal)).clock
 acted_clock w who guest ts act.Expire fits = (end_ends_only w.state who.pid (Killed Xcpu)).clock
-acted_clock w who guest ts act.Idle fits = absurd fits
+acted_clock w who guest ts act.Idle fits = absurd fits.0
 
 -- an entry takes 1000 nanoseconds
 pub apply_clock : (w : World) (e : Entry) → Fits w e → (apply w e).state.clock ≡ w.state.clock + 1000
@@ -89,8 +89,8 @@ acted_others w who (act.Trap signal) q n = refl
 acted_others w who act.Expire q n = refl
 acted_others w who act.Idle q n = refl
 
-pub others_stay : (w : World) (e : Entry) (q : ℕ) → q ≢ e.pid → guest_of (apply w e) q ≡ guest_of w q
-others_stay w e q n =
+pub apply_guest : (w : World) (e : Entry) (q : ℕ) → q ≢ e.pid → guest_of (apply w e) q ≡ guest_of w q
+apply_guest w e q n =
     ap (λ v. guest_of v q) (apply_is w e)
     ∙ acted_others (turned w e.pid e.turns) (who_of e) e.act q n
     ∙ turned_others w e.pid e.turns q n

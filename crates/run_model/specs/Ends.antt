@@ -1,9 +1,12 @@
--- How a run may end.
+-- How a run may end, and how an act ends its process.
 use Rattle.std.specs.Prelude.{◌≡◌, ℕ, ◌+◌, List, Some}
+use Rattle.abi_base.specs.declared.signal.Signal.TheVariants.{Xcpu}
 use Rattle.abi_types.specs.declared.status.Status.{Status}
 use Rattle.abi_types.specs.declared.status.Status.TheVariants.{Live, Exit, Killed}
 use Rattle.abi_types.specs.declared.thread.Thread.{Thread}
 use Rattle.abi_types.specs.declared.thread.Thread.TheVariants.{Runnable}
+use Rattle.run_types.specs.declared.history.Act.{Act}
+use Rattle.run_types.specs.declared.history.Act.TheVariants as act
 use Rattle.run_types.specs.declared.history.Entry.{Entry}
 use Rattle.run_types.specs.declared.launch.Launch.{Launch}
 use Rattle.kernel_model.specs.Ends.{NoneLive}
@@ -32,6 +35,14 @@ AllParked S =
 -- the run is stalled
 abbrev pub Stalled : Launch → List Entry → Type 0
 Stalled launch history = AllParked (world launch history).state
+
+-- the status of a process that an act ends from outside
+abbrev pub EndsBy : Act → Status → Type 0
+EndsBy (act.Call call given) status = ⊥
+EndsBy (act.Wake call given answered) status = ⊥
+EndsBy (act.Trap signal) status = status ≡ Killed signal
+EndsBy act.Expire status = status ≡ Killed Xcpu
+EndsBy act.Idle status = ⊥
 
 -- ---- how long a run may be
 

@@ -1,5 +1,5 @@
 -- What holds of every legal history: the statements that are the contracts of the functions of src/laws.rt.
-use Rattle.std.specs.Prelude.{◌≡◌, ◌≢◌, ◌⊎◌, ℕ, ◌+◌, ◌*◌, ◌<◌, ◌≤◌, List, [], ◌∷◌, ◌++◌, length}
+use Rattle.std.specs.Prelude.{◌≡◌, ◌≢◌, ◌⊎◌, ◌+◌, ◌*◌, ◌<◌, ◌≤◌, List, [], ◌∷◌, ◌++◌, length}
 use Rattle.abi_types.specs.declared.reply.Answer.TheVariants as answer
 use Rattle.std.specs.List.{AllByRecursion}
 use Rattle.abi_base.specs.declared.errno.Errno.TheVariants.{Nomem, Notcapable}
@@ -17,7 +17,7 @@ use Rattle.call_codec.specs.Arguments.{args_of}
 use Rattle.run_model.specs.Confined.{IsConfined}
 use Rattle.run_model.specs.Ends.{Ended, Stalled, potential}
 use Rattle.run_model.specs.Legal.{Fits, Legal}
-use Rattle.run_model.specs.World.{World, guest_of, apply, world}
+use Rattle.run_model.specs.World.{World, apply, world}
 
 -- ---- legal histories
 
@@ -73,10 +73,6 @@ WorldIsValid = (launch : Launch) (history : List Entry) → MayBegin launch.tree
 -- The clock of a legal history is at 1000 nanoseconds for each entry.
 abbrev pub ClockCounts : Type 0
 ClockCounts = (launch : Launch) (history : List Entry) → Legal launch history → (world launch history).state.clock ≡ 1000 * length history
-
--- An entry leaves every other process's memory, registers and turns as they were.
-abbrev pub OthersStay : Type 0
-OthersStay = (w : World) (e : Entry) (q : ℕ) → q ≢ e.pid → guest_of (apply w e) q ≡ guest_of w q
 
 -- ---- ends
 

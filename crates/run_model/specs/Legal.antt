@@ -1,8 +1,6 @@
 -- Which histories a launch may have.
-use Rattle.std.specs.Prelude.{◌≡◌, ℕ, ◌<◌, List, [], ◌∷◌, ◌++◌, Some}
-use Rattle.std.specs.FinMap.{get}
+use Rattle.std.specs.Prelude.{◌≡◌, ℕ, ◌<◌, false, List, [], ◌∷◌, ◌++◌, Some}
 use Rattle.abi_types.specs.declared.constants.Constants.{Constants}
-use Rattle.abi_types.specs.declared.status.Status.TheVariants.{Live}
 use Rattle.abi_types.specs.declared.thread.Thread.TheVariants.{Runnable}
 use Rattle.abi_types.specs.declared.who.Who.{Who}
 use Rattle.run_types.specs.declared.history.Act.{Act}
@@ -14,6 +12,7 @@ use Rattle.kernel_model.specs.Step.{IsStep}
 use Rattle.rv_interp.specs.declared.turns.TurnEnd.{TurnEnd}
 use Rattle.rv_interp.specs.declared.turns.TurnEnd.TheVariants as turn_end_is
 use Rattle.call_codec.specs.Arguments.{args_of}
+use Rattle.run_model.specs.Own.{is_idle, IsLiveIn}
 use Rattle.run_model.specs.World.{World, Guest, guest_of, registers_of, turn_end, turned_guest, turned_guest_by, called_state, who_of, apply, start_world}
 
 -- the thread is live and takes its turns
@@ -35,24 +34,35 @@ LastEnds S p guest ts t end =
     (front : List ℕ) × (ts ≡ front ++ t ∷ []) × AreWhole S p guest front
     × MayTurn S p (turned_guest_by front guest) t × (turn_end (turned_guest_by front guest) t ≡ end)
 
--- What an act needs of the world before its entry, S being the kernel's state and guest the process's:
--- A call is the one that the thread's registers and memory encode at the ECALL that ended the last turn, and its answer
--- is the kernel's. A trap is the one that ended the last turn. A process expires where a runnable thread has no turn left.
--- No call makes a thread wait, so neither a wake nor an idle jump fits.
-abbrev pub FitsAct : Constants → State → Who → Guest → List ℕ → Act → Type 0
-FitsAct constants S who guest ts (act.Call call given) =
+-- What a thread and its process ask for by an act, before the kernel answers. S is the kernel's state before the entry, of which only the
+-- threads of the process matter, and guest is the process's:
+-- A call is the one that the thread's registers and memory encode at the ECALL that ended the last turn. A trap is the one that
+-- ended the last turn. A process expires where a runnable thread has no turn left. No call makes a thread wait, so nothing asks for
+-- a wake or an idle jump.
+abbrev pub Asks : State → Who → Guest → List ℕ → Act → Type 0
+Asks S who guest ts (act.Call call given) =
     LastEnds S who.pid guest ts who.tid turn_end_is.Ecall
     × (call ≡ args_of (turned_guest_by ts guest).memory (registers_of (turned_guest_by ts guest) who.tid))
-    × IsStep constants S who call given (called_state constants S who call given)
-FitsAct constants S who guest ts (act.Wake call given answered) = ⊥
-FitsAct constants S who guest ts (act.Trap signal) = LastEnds S who.pid guest ts who.tid (turn_end_is.Trap signal)
-FitsAct constants S who guest ts act.Expire =
-    AreWhole S who.pid guest ts × IsRunnable S who.pid who.tid × ((turned_guest_by ts guest).left ≡ 0)
-FitsAct constants S who guest ts act.Idle = ⊥
+Asks S who guest ts (act.Wake call given answered) = ⊥
+Asks S who guest ts (act.Trap signal) = LastEnds S who.pid guest ts who.tid (turn_end_is.Trap signal)
+Asks S who guest ts act.Expire = AreWhole S who.pid guest ts × IsRunnable S who.pid who.tid × ((turned_guest_by ts guest).left ≡ 0)
+Asks S who guest ts act.Idle = ⊥
 
--- the entry may follow where the world is so
+-- the answer to a call is one that the kernel may give, and it leaves the state that the answer says; no other act has an answer
+abbrev pub IsAnswered : Constants → State → Who → Act → Type 0
+IsAnswered constants S who (act.Call call given) = IsStep constants S who call given (called_state constants S who call given)
+IsAnswered constants S who (act.Wake call given answered) = Unit {0}
+IsAnswered constants S who (act.Trap signal) = Unit {0}
+IsAnswered constants S who act.Expire = Unit {0}
+IsAnswered constants S who act.Idle = Unit {0}
+
+-- what an act needs of the world before its entry
+abbrev pub FitsAct : Constants → State → Who → Guest → List ℕ → Act → Type 0
+FitsAct constants S who guest ts a = Asks S who guest ts a × IsAnswered constants S who a
+
+-- The entry may follow where the world is so. Its process is live, unless it is an idle jump.
 pub record Fits (w : World) (e : Entry) : Type 0 where
-  pub live : get w.state.statuses e.pid ≡ Some Live
+  pub live : is_idle e.act ≡ false → IsLiveIn w e.pid
   pub act : FitsAct w.constants w.state (who_of e) (guest_of w e.pid) e.turns e.act
   pub moment : e.moment ≡ (apply w e).state.clock
 

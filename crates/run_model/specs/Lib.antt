@@ -1,5 +1,7 @@
 pub mod World
+pub mod Own
 pub mod Legal
 pub mod Ends
 pub mod Confined
 pub mod Laws
+pub mod OwnLaws

@@ -1,6 +1,7 @@
 //! Laws of legal histories. The statements are in `specs/Laws.antt`, and each holds of every launch and history.
 ghost use Rattle.run_model.specs.Laws.{LegalBegins, LegalGoesOn, EachEntryFits, EntryIsOne, LegalIsConfined, WorldIsValid, ClockCounts, EntryTakes, EncodedIsPlain, EncodedIsNotBadf};
-ghost use Rattle.run_model.specs.Laws.{OthersStay, HistoryIsShort, EndedIsFinal, StalledIsFinal, NeverStalled, EndsOrGoesOn, RunsToItsEnd};
+ghost use Rattle.run_model.specs.Laws.{HistoryIsShort, EndedIsFinal, StalledIsFinal, NeverStalled, EndsOrGoesOn, RunsToItsEnd};
+ghost use Rattle.run_model.specs.OwnLaws.{OthersStay, MadeLater, LeftAlone, AsksStay, LegalHasRegisters, MomentIsEarly, LengthIsBounded};
 
 /// The empty history is legal, an entry that fits the world of a legal history may follow it, and no other history is
 /// legal: what stands before each entry of a legal history is legal, and the entry fits its world.
@@ -38,9 +39,37 @@ pub fn clock_counts()
     ensures { ClockCounts }
 {}
 
-/// An entry leaves every other process's memory, registers and turns as they were.
+/// An entry leaves a process that did not do it, that was made before it and that is live after it as it was: its memory,
+/// registers and turns, its threads and its status.
 pub fn others_stay()
     ensures { OthersStay }
+{}
+
+/// A process that was made, whether it lives or has ended, stays so as a legal history goes on.
+pub fn made_later()
+    ensures { MadeLater }
+{}
+
+/// What a process has after the beginning of a legal history it has at its end, if it did no entry in between and is live
+/// at the end.
+pub fn left_alone()
+    ensures { LeftAlone }
+{}
+
+/// What a process asks for by an act it asks for in each world in which it is the same.
+pub fn asks_stay()
+    ensures { AsksStay }
+{}
+
+/// In the world of each legal history each thread of a live process has registers.
+pub fn legal_has_registers()
+    ensures { LegalHasRegisters }
+{}
+
+/// A legal history of a launch that can be started has fewer than 2^63 entries, and its clock is below 2^63.
+pub fn moment_is_early()
+    ensures early { MomentIsEarly }
+    ensures short { LengthIsBounded }
 {}
 
 /// Each entry takes from what is left to do, the turns that processes have left and one for each that lives. The entries of

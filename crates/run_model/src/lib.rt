@@ -5,6 +5,7 @@
 pub mod laws;
 
 pub use laws::{
-    clock_counts, encoded_calls_are_plain, ended_is_final, entry_is_one, history_is_short,
-    legal_goes_on, legal_is_confined, never_stalled, others_stay, runs_to_its_end, world_is_valid,
+    asks_stay, clock_counts, encoded_calls_are_plain, ended_is_final, entry_is_one,
+    history_is_short, left_alone, legal_goes_on, legal_has_registers, legal_is_confined,
+    made_later, moment_is_early, never_stalled, others_stay, runs_to_its_end, world_is_valid,
 };

@@ -13,7 +13,7 @@ pub stop-requires-clause-fits : goal.stop-requires-clause-fits
 stop-requires-clause-fits c =
     let none = sym c.left.ensures ∙ c.if-left-eq0.true in
     let now = now_is c.args.self.now c.args.who.now.pid c.requires.between.at in
-    (c.requires.between.whole, (c.requires.between.goes_on c.requires.live).runnable, ap (λ (g : Guest). g.left) (sym now) ∙ none)
+    ((c.requires.between.whole, (c.requires.between.goes_on c.requires.live).runnable, ap (λ (g : Guest). g.left) (sym now) ∙ none), tt)
 
 -- the process's guest before the turn
 found : (c : After-turn) → c.get_mut.result.now ≡ guest_now c.args.self.now c.args.who.now.pid
@@ -45,9 +45,11 @@ stop-requires-in-Trap-clause-at c =
 
 pub stop-requires-in-Trap-clause-fits : goal.stop-requires-in-Trap-clause-fits
 stop-requires-in-Trap-clause-fits c =
-    let a = (goal.at.stop-requires-in-Trap-clause-fits c).After-turn in
-    last_turn c.args.self.now c.args.who.now _ c.push.new.self (did a) c.in_ok-push.ensures.ok _
-    (c.in-Trap.ensures.end ∙ ap (λ (g : Guest). turn_end g c.args.who.now.tid) (found a)) c.requires.between c.requires.live (some a)
+    let a = (goal.at.stop-requires-in-Trap-clause-fits c).After-turn in (
+      last_turn c.args.self.now c.args.who.now _ c.push.new.self (did a) c.in_ok-push.ensures.ok _
+          (c.in-Trap.ensures.end ∙ ap (λ (g : Guest). turn_end g c.args.who.now.tid) (found a)) c.requires.between c.requires.live (some a),
+      tt,
+    )
 
 pub returns-in-Quantum-clause-ok : goal.returns-in-Quantum-clause-ok
 returns-in-Quantum-clause-ok c =

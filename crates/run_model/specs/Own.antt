@@ -1,0 +1,40 @@
+-- Whose an entry is, which processes it makes, and what it leaves of the others.
+use Rattle.std.specs.Prelude.{◌≡◌, ℕ, ◌==◌, ◌&&◌, Bool, true, false, not, List, [], filter, Some, IsSome}
+use Rattle.std.specs.FinMap.{get}
+use Rattle.abi_types.specs.declared.status.Status.TheVariants.{Live}
+use Rattle.run_types.specs.declared.history.Act.{Act}
+use Rattle.run_types.specs.declared.history.Act.TheVariants as act
+use Rattle.run_types.specs.declared.history.Entry.{Entry}
+use Rattle.kernel_model.specs.State.{threads_of}
+use Rattle.run_model.specs.World.{World, guest_of}
+
+-- whether the act is an idle jump, which no process does
+abbrev pub is_idle : Act → Bool
+is_idle act.Idle = true
+is_idle _ = false
+
+-- whether process p did the entry
+abbrev pub is_own : ℕ → Entry → Bool
+is_own p e = not (is_idle e.act) && (e.pid == p)
+
+-- the entries that process p did, in their order
+abbrev pub own : ℕ → List Entry → List Entry
+own p history = filter (is_own p) history
+
+-- The processes that an act makes. No call makes one yet, so no law says of them that they are new.
+abbrev pub born : Act → List ℕ
+born a = []
+
+-- the process was made: it lives, or it has ended
+abbrev pub Made : World → ℕ → Type 0
+Made w p = IsSome (get w.state.statuses p)
+
+-- the process is live
+abbrev pub IsLiveIn : World → ℕ → Type 0
+IsLiveIn w p = get w.state.statuses p ≡ Some Live
+
+-- both worlds have the same of a process: its memory, registers and turns, its threads, and its status
+pub record Same (w v : World) (p : ℕ) : Type 0 where
+  pub guest : guest_of w p ≡ guest_of v p
+  pub threads : threads_of w.state p ≡ threads_of v.state p
+  pub status : get w.state.statuses p ≡ get v.state.statuses p

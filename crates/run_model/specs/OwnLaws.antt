@@ -1,0 +1,57 @@
+-- What entries leave of the processes that did not do them, and what each process of a legal history has: the statements that are the
+-- contracts of functions of src/laws.rt.
+use Rattle.std.specs.Prelude.{◌≡◌, ℕ, ◌^◌, ◌<◌, false, List, ◌++◌, length, IsSome}
+use Rattle.std.specs.FinMap.{get}
+use Rattle.abi_types.specs.declared.who.Who.{Who}
+use Rattle.run_types.specs.declared.history.Act.{Act}
+use Rattle.run_types.specs.declared.history.Entry.{Entry}
+use Rattle.run_types.specs.declared.launch.Launch.{Launch}
+use Rattle.call_codec.specs.Bounded.{IsBounded}
+use Rattle.kernel_model.specs.State.{thread_of}
+use Rattle.run_model.specs.Legal.{Asks, Fits, Legal}
+use Rattle.run_model.specs.Own.{is_own, own, Made, IsLiveIn, Same}
+use Rattle.run_model.specs.World.{World, guest_of, apply, world}
+
+-- ---- other processes
+
+-- An entry leaves a process that did not do it, that was made before it and that is live after it as it was: its memory, registers and
+-- turns, its threads and its status.
+abbrev pub OthersStay : Type 0
+OthersStay = (w : World) (e : Entry) (q : ℕ) → Fits w e → is_own q e ≡ false → Made w q → IsLiveIn (apply w e) q → Same (apply w e) w q
+
+-- A process that was made in a legal history is so in each longer one.
+abbrev pub MadeLater : Type 0
+MadeLater =
+    (launch : Launch) (front rest : List Entry) (p : ℕ) → Legal launch (front ++ rest) → Made (world launch front) p
+    → Made (world launch (front ++ rest)) p
+
+-- A process that was made in the beginning of a legal history, that did none of the entries after it and that is live at the end is there
+-- what it was after the beginning.
+abbrev pub LeftAlone : Type 0
+LeftAlone =
+    (launch : Launch) (seen rest log : List Entry) (q : ℕ) → Legal launch log → log ≡ seen ++ rest → own q seen ≡ own q log
+    → Made (world launch seen) q → IsLiveIn (world launch log) q → Same (world launch log) (world launch seen) q
+
+-- What a process asks for by an act it asks for in each world in which it is the same.
+abbrev pub AsksStay : Type 0
+AsksStay =
+    (w v : World) (who : Who) (ts : List ℕ) (a : Act) → Same v w who.pid → Asks w.state who (guest_of w who.pid) ts a
+    → Asks v.state who (guest_of v who.pid) ts a
+
+-- ---- each process
+
+-- In the world of a legal history each thread of a live process has registers.
+abbrev pub LegalHasRegisters : Type 0
+LegalHasRegisters =
+    (launch : Launch) (history : List Entry) (p t : ℕ) → Legal launch history → IsLiveIn (world launch history) p
+    → IsSome (thread_of (world launch history).state p t) → IsSome (get (guest_of (world launch history) p).regs t)
+
+-- ---- bounds
+
+-- The clock of a legal history of a launch that can be started is below 2^63.
+abbrev pub MomentIsEarly : Type 0
+MomentIsEarly = (launch : Launch) (history : List Entry) → IsBounded launch → Legal launch history → (world launch history).state.clock < 2 ^ 63
+
+-- Such a history has fewer than 2^63 entries.
+abbrev pub LengthIsBounded : Type 0
+LengthIsBounded = (launch : Launch) (history : List Entry) → IsBounded launch → Legal launch history → length history < 2 ^ 63
