@@ -55,9 +55,7 @@ memory_after m r other payload = memory_with m r other
 abbrev pub answered_memory : Pages → Registers → Call → Answer → Pages
 answered_memory m r call (answer.Reply reply) = on_success reply.errno (memory_after m r call reply.payload) m
 
--- the call takes memory of the host for its answer: for an iovec array, or for pages that go somewhere
+-- the call takes memory of the host for its answer: for pages that go somewhere
 abbrev pub TakesRoom : Call → Type 0
-TakesRoom (FdPread fd length offset) = Unit {0}
-TakesRoom (FdRead fd length) = Unit {0}
 TakesRoom (MemMap place length prot flags fd offset) = IsSomewhere place
 TakesRoom other = ⊥

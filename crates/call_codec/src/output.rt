@@ -1,14 +1,20 @@
 //! What a call that succeeded writes into the caller's memory.
-ghost use Rattle.std.specs.Prelude.{◌≡◌, ◌≤◌, OnOk, OnErr};
+ghost use Rattle.std.specs.Prelude.{◌≡◌, ◌≤◌};
 ghost use Rattle.codec_arguments.specs.Arguments.{argument};
-ghost use Rattle.call_codec.specs.Output.{content_of, fdstat_bytes, filestat_bytes, scattered, with_bytes, with_content, with_payload};
+ghost use Rattle.codec_arguments.specs.Ranges.{ranges_at};
+ghost use Rattle.call_codec.specs.Output.{content_of, fdstat_bytes, filestat_bytes, into_ranges, scattered, with_bytes, with_content, with_payload};
 
 use abi_layout::{write_fdstat, write_filestat};
 use abi_structures::Iovec;
 use abi_types::{Payload, Regs};
-use codec_arguments::{MOST_IOVECS, read_ranges};
+use codec_arguments::{MOST_IOVECS, NO_RANGE, fill_ranges};
 use guest_memory::GuestMemory;
-use std::alloc::{AllocError, Global};
+
+// How many iovecs most calls have at most. Room for so few is made at once.
+const FEW: usize = 8;
+
+// How many iovecs a call has at most. Room for so many is 16 KiB, which are written first.
+const MANY: usize = MOST_IOVECS as usize;
 
 // Writes bytes from an address on; where one of them can't be written, none is.
 fn put_bytes(memory: &mut GuestMemory, at: u64, bytes: &[u8])
@@ -30,25 +36,36 @@ fn scatter(memory: &mut GuestMemory, ranges: &[Iovec], bytes: &[u8])
     }
 }
 
+// Writes bytes into the ranges of an array of at most N iovecs. The whole array is read first; where that can't be, nothing is
+// written.
+#[inline(never)]
+fn put_ranges<const N: usize>(memory: &mut GuestMemory, at: u64, count: u64, bytes: &[u8])
+    requires fits { count ≤ N }
+    requires few { N ≤ MOST_IOVECS }
+    ensures { memory.new ≡ into_ranges memory.old (ranges_at memory.old at count) bytes.now }
+{
+    let mut ranges = [NO_RANGE; N];
+    let ranges = &mut ranges[..count as usize];
+    if fill_ranges(memory, at, ranges).is_ok() {
+        scatter(memory, ranges, bytes);
+    }
+}
+
 /// Writes the bytes of the payload, if it has some, into the ranges of the iovec array that the registers name: a1 has its
-/// address, and a2 its count. The whole array is read first. Where memory runs out, nothing changes.
-pub fn put_content(
-    alloc: Global,
-    regs: &Regs,
-    memory: &mut GuestMemory,
-    payload: &Payload,
-) -> Result<(), AllocError>
+/// address, and a2 its count.
+pub fn put_content(regs: &Regs, memory: &mut GuestMemory, payload: &Payload)
     requires { argument regs.now 2 ≤ MOST_IOVECS }
-    ensures ok { OnOk result (memory.new ≡ with_content memory.old regs.now payload.now) }
-    ensures err { OnErr result (memory.new ≡ memory.old) }
+    ensures { memory.new ≡ with_content memory.old regs.now payload.now }
 {
     if let Payload::Content(bytes) = payload {
-        let found = read_ranges(alloc, memory, regs.get(11), regs.get(12))?;
-        if let Some(ranges) = found {
-            scatter(memory, ranges.as_slice(), bytes.as_slice());
+        let at = regs.get(11);
+        let count = regs.get(12);
+        if count <= FEW as u64 {
+            put_ranges::<FEW>(memory, at, count, bytes.as_slice());
+        } else {
+            put_ranges::<MANY>(memory, at, count, bytes.as_slice());
         }
     }
-    Ok(())
 }
 
 /// The bytes of the payload, if it has some.

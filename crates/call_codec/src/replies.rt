@@ -19,8 +19,8 @@ use codec_arguments::low;
 use guest_memory::GuestMemory;
 use std::alloc::{AllocError, Global};
 
-/// What an answer leaves of the registers and the memory that encoded the call. Where memory runs out, which only fd_pread,
-/// fd_read and mem_map meet, nothing changes.
+/// What an answer leaves of the registers and the memory that encoded the call. Where memory runs out, which only a mem_map that
+/// goes somewhere meets, nothing changes.
 pub fn put_answer(
     alloc: Global,
     regs: &mut Regs,
@@ -102,7 +102,10 @@ fn put_memory(
     ensures err { OnErr result (memory.new ≡ memory.old) }
 {
     match call {
-        Call::FdPread { .. } | Call::FdRead { .. } => put_content(alloc, regs, memory, payload),
+        Call::FdPread { .. } | Call::FdRead { .. } => {
+            put_content(regs, memory, payload);
+            Ok(())
+        }
         Call::FdStatGet { .. } | Call::FileReaddir { .. } | Call::FileStatFget { .. } => {
             put_payload(memory, regs.get(11), payload);
             Ok(())

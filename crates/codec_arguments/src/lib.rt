@@ -9,7 +9,7 @@ pub use bytes::{
 };
 pub use fault::{ArgumentFault, refuse_when};
 pub use halves::{high, low};
-pub use ranges::{MOST_IOVECS, MOST_TRANSFERRED, read_ranges, read_room, read_written};
+pub use ranges::{MOST_IOVECS, MOST_TRANSFERRED, NO_RANGE, fill_ranges, read_room, read_written};
 pub use structures::{read_fdstat, read_filestat, read_recv_in, read_send_in, read_threadattr};
 
 mod bytes;

@@ -1,5 +1,5 @@
 //! Arrays of iovecs, and the bytes of the ranges that they name, of which [`MOST_TRANSFERRED`] count.
-ghost use Rattle.std.specs.Prelude.{◌≡◌, ◌≤◌, ◌+◌, IfOk, option_map};
+ghost use Rattle.std.specs.Prelude.{◌≡◌, ◌≤◌, ◌+◌, IfErr, IfOk, OnOk, Err, Ok, length, option_map};
 ghost use Rattle.std.specs.Result.{result_ok};
 ghost use Rattle.codec_arguments.specs.Ranges.{gathered, range_in, ranges_at, room_in, room_of, written_in};
 ghost use Rattle.codec_arguments.specs.Reading.{Reads};
@@ -9,7 +9,7 @@ use crate::fault::ArgumentFault;
 use abi_base::Errno;
 use abi_layout::read_iovec;
 use abi_structures::Iovec;
-use guest_memory::{Access, GuestMemory};
+use guest_memory::{Access, GuestMemory, MemFault};
 use lists::Bytes;
 use std::alloc::{AllocError, Global};
 
@@ -19,17 +19,37 @@ pub const MOST_IOVECS: u64 = 1024;
 /// The most bytes of a transfer.
 pub const MOST_TRANSFERRED: u64 = 65536;
 
-// The range that an iovec names. `None` exactly where it can't be read.
-fn read_range(memory: &GuestMemory, at: u64) -> Option<Iovec>
-    ensures { result ≡ result_ok (range_in (bytes_at memory.now at 16)) }
+/// A range of no bytes, which stands where none is read yet.
+pub const NO_RANGE: Iovec = Iovec {
+    address: 0,
+    length: 0,
+};
+
+// The range that an iovec names.
+fn read_range(memory: &GuestMemory, at: u64) -> Result<Iovec, MemFault>
+    ensures { result ≡ range_in (bytes_at memory.now at 16) }
 {
     let mut iovec = [0u8; 16];
-    memory.read_bytes(at, &mut iovec).ok()?;
-    Some(read_iovec(&iovec))
+    memory.read_bytes(at, &mut iovec)?;
+    Ok(read_iovec(&iovec))
 }
 
-/// The ranges that an array of iovecs names. `None` exactly where some of the array can't be read.
-pub fn read_ranges(
+/// Fills `ranges` with the ranges that an array of as many iovecs names. It takes no memory. The fault is that of the first byte
+/// that can't be read; then the first of the ranges may have been filled.
+pub fn fill_ranges(memory: &GuestMemory, at: u64, ranges: &mut [Iovec]) -> Result<(), MemFault>
+    ensures ok { OnOk result (ranges_at memory.now at (length ranges.old) ≡ Ok ranges.new) }
+    ensures fault { IfErr result (λ fault. ranges_at memory.now at (length ranges.old) ≡ Err fault) }
+{
+    let mut next = at;
+    for range in ranges.iter_mut() {
+        *range = read_range(memory, next)?;
+        next = next.wrapping_add(16);
+    }
+    Ok(())
+}
+
+// The ranges that an array of iovecs names. `None` exactly where some of the array can't be read.
+fn read_ranges(
     alloc: Global,
     memory: &GuestMemory,
     at: u64,
@@ -38,16 +58,11 @@ pub fn read_ranges(
     requires { count ≤ MOST_IOVECS }
     ensures { IfOk result (λ found. option_map (λ v. v.items) found ≡ result_ok (ranges_at memory.now at count)) }
 {
-    let mut ranges = Vec::with_capacity(alloc, count as usize)?;
-    let mut next = at;
-    for _ in 0..count {
-        let Some(range) = read_range(memory, next) else {
-            return Ok(None);
-        };
-        ranges.push(range)?;
-        next = next.wrapping_add(16);
+    let mut ranges = vec![in alloc; NO_RANGE; count as usize]?;
+    match fill_ranges(memory, at, &mut ranges) {
+        Ok(()) => Ok(Some(ranges)),
+        Err(_) => Ok(None),
     }
-    Ok(Some(ranges))
 }
 
 // The bytes of the ranges, one after another, of which `MOST_TRANSFERRED` count. `None` exactly where some can't be read.

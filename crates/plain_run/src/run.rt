@@ -6,8 +6,8 @@ ghost use Rattle.rv_interp.specs.declared.turns.TurnEnd.TheVariants as turn_end;
 ghost use Rattle.call_codec.specs.Bounded.{IsBounded};
 ghost use Rattle.plain_run.specs.Run.{IsAt, IsBetween, IsBetweenTurns, IsStopped, IsLive, IsLiveProcess, recorded_guest, guest_now, pending, entry_now};
 
-use crate::guest::{FIRST, FIRST_THREAD, Guest};
 use abi_types::{Pid, Signal, Status, TidList, Who};
+use guest_process::{FIRST, FIRST_THREAD, Guest};
 use kernel_core::Kernel;
 use maps::NumMap;
 use run_types::{Act, Entry, History, Launch, Record};

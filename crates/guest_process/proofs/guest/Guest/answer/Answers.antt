@@ -1,7 +1,7 @@
 use Rattle.std.proofs.Common.{◌≡◌, Result, Ok, Err, OnOk, OnErr, sym, subst}
 use Rattle.guest_memory.specs.Page.{Pages}
 use Rattle.guest_memory.specs.Written.{KeepsCode}
-use Rattle.plain_run.proofs.guest.Guest.answer.Goals as goal
+use Rattle.guest_process.proofs.guest.Guest.answer.Goals as goal
 
 -- what an answer keeps is kept too where it wasn't given
 given_code : {T E : Type 0} (end : Result T E) (m n after : Pages) → OnOk end (n ≡ after) → OnErr end (n ≡ m) → KeepsCode m after → KeepsCode m n

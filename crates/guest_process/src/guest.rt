@@ -39,7 +39,7 @@ pub struct Guest {
 
 impl Model for Guest {
     ghost use Rattle.run_model.specs.World.{Guest};
-    ghost use Rattle.plain_run.specs.Codes.{guest_code};
+    ghost use Rattle.guest_process.specs.Codes.{guest_code};
     ghost use Rattle.rv_interp.specs.Cache.{AreTrue};
 
     ghost Value = { Guest };
@@ -111,8 +111,8 @@ impl Guest {
         args(alloc, regs, &self.memory)
     }
 
-    /// Gives a thread the answer to the call that it encodes. Where memory runs out, which only fd_pread, fd_read and mem_map
-    /// meet, nothing changes.
+    /// Gives a thread the answer to the call that it encodes. Where memory runs out, which only a mem_map that goes somewhere
+    /// meets, nothing changes.
     #[tactic(auto, using(maps::specs::Maps::number_laws))]
     pub fn answer(
         &mut self,
