@@ -10,45 +10,6 @@ use Rattle.codec_arguments.specs.Arrays.{array_at, in_front}
 abbrev pub after_front : {X : Type 0} → List X → Option (List X) → Option (List X)
 after_front front rest = option_map (λ xs. front ++ xs) rest
 
--- one value more is read
-in_front_one : {X E : Type 0} (front : List X) (x : X) (first : Result X E) (rest : Result (List X) E) → Some x ≡ result_ok first
-    → after_front front (result_ok (in_front first rest)) ≡ after_front (front ++ x ∷ []) (result_ok rest)
-in_front_one front x (Ok y) (Ok ys) e =
-    let same : x ≡ y = cc in
-    ap Some (ap (λ z. front ++ z ∷ ys) (sym same) ∙ sym (append_assoc front (x ∷ []) ys))
-in_front_one front x (Ok y) (Err fault) e = refl
-in_front_one front x (Err fault) rest e = cc
-
--- nothing can be read behind what can't
-in_front_none : {X E : Type 0} (first : Result X E) (rest : Result (List X) E) → None ≡ result_ok first → result_ok (in_front first rest) ≡ None
-in_front_none (Ok x) rest e = cc
-in_front_none (Err fault) rest e = refl
-
--- no element is left
-pub elements_none : {X E : Type 0} (element : ℕ → Result X E) (width a n : ℕ) → n ≡ 0 → result_ok (array_at element width a n) ≡ Some []
-unfolding array_at
-elements_none element width a zero e = refl
-elements_none element width a (suc n) e = absurd (omega arith)
-
--- the next element can't be read
-pub elements_fault : {X E : Type 0} (element : ℕ → Result X E) (width a n : ℕ) → 0 < n → None ≡ result_ok (element a) → result_ok (array_at element width a n) ≡ None
-unfolding array_at
-elements_fault element width a zero some e = absurd (omega arith)
-elements_fault element width a (suc n) some e = in_front_none _ _ e
-
-next_element : {X E : Type 0} (element : ℕ → Result X E) (width : ℕ) (front : List X) (x : X) (a n k : ℕ) → n ≡ suc k → Some x ≡ result_ok (element a)
-    → after_front front (result_ok (array_at element width a n)) ≡ after_front (front ++ x ∷ []) (result_ok (array_at element width ((a + width) % 2 ^ 64) k))
-unfolding array_at
-next_element element width front x a zero k same e = absurd (omega arith)
-next_element element width front x a (suc n) k same e =
-    let last : n ≡ k = omega arith in
-    in_front_one front x _ _ e ∙ ap (λ j. after_front (front ++ x ∷ []) (result_ok (array_at element width ((a + width) % 2 ^ 64) j))) last
-
--- the next element is read
-pub elements_next : {X E : Type 0} (element : ℕ → Result X E) (width : ℕ) (front : List X) (x : X) (a count i : ℕ) → i < count → Some x ≡ result_ok (element a)
-    → after_front front (result_ok (array_at element width a (count - i))) ≡ after_front (front ++ x ∷ []) (result_ok (array_at element width ((a + width) % 2 ^ 64) (count - (i + 1))))
-elements_next element width front x a count i below e = next_element element width front x a (count - i) (count - (i + 1)) (omega arith) e
-
 -- the values that were read, before those that are left, or the error of those
 abbrev pub after_read : {X E : Type 0} → List X → Result (List X) E → Result (List X) E
 after_read front (Ok rest) = Ok (front ++ rest)
