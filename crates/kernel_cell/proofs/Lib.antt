@@ -1,0 +1,10 @@
+pub mod Owners
+pub mod Beginnings
+pub mod MadeProcesses
+pub mod Histories
+pub mod Steps
+pub mod KeptEntries
+pub mod EntryEffects
+pub mod RecordedSteps
+pub mod PassOutcomes
+pub mod Begins

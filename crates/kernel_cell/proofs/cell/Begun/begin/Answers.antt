@@ -1,0 +1,19 @@
+use Rattle.kernel_cell.proofs.Begins.{started}
+use Rattle.kernel_cell.proofs.Steps.{begins}
+use Rattle.kernel_cell.proofs.cell.Begun.begin.Goals as goal
+
+pub of_words-requires : goal.of_words-requires
+of_words-requires c = begins c.args.launch
+
+pub invariant_of-result : goal.invariant_of-result
+invariant_of-result c =
+    let made = c.in_ok-table.ensures in
+    record {
+      bounded = c.requires;
+      seat = made.2;
+      word = made.0;
+      key_is = made.5;
+      first = made.4;
+      state = started c.args.launch c.in_ok-kernel.kernel c.in_ok-kernel.ensures.state;
+      none = c.new.ensures.entries;
+    }

@@ -1,0 +1,112 @@
+use Rattle.std.proofs.Common.{◌∷◌, [], ◌++◌, refl, sym, ap, ◌∙◌, true≢false}
+use Rattle.kernel_cell.specs.Entries.{called}
+use Rattle.kernel_cell.specs.Kept.{kept_of}
+use Rattle.kernel_cell.proofs.EntryEffects.{call_encoded}
+use Rattle.kernel_cell.proofs.RecordedSteps.{kernel_early, log_short, constants_early, live_there, call_runs, fits_call, appends_call, recorded_call, acted_runs, acted_ends}
+use Rattle.run_model.specs.World.{world}
+use Rattle.kernel_cell.proofs.recorded.Recorded.call.Goals as goal
+
+pub step-answer-requires-clause-runnable : goal.step-answer-requires-clause-runnable
+step-answer-requires-clause-runnable g c =
+    let self = c.args.self.now in
+    let who = c.args.who.now in
+    let live = live_there g.J.Naming.launch g.J.Naming.keeps_all self.keeper.log self.kernel self.constants self.kept c.requires.recorded who.pid (c.if-not-live.ensures.0 refl) in
+    call_runs g.J.Naming.launch g.J.Naming.keeps_all self.keeper.log self.kernel self.constants self.kept c.requires.recorded who c.args.turns c.args.call c.args.guest.now
+    (c.requires.asks live)
+
+pub step-answer-requires-clause-early : goal.step-answer-requires-clause-early
+step-answer-requires-clause-early g c =
+    let self = c.args.self.now in
+    kernel_early g.J.Naming.launch g.J.Naming.keeps_all self.keeper.log self.kernel self.constants self.kept c.requires.recorded
+
+pub step-answer-requires-clause-epoch : goal.step-answer-requires-clause-epoch
+step-answer-requires-clause-epoch g c =
+    let self = c.args.self.now in
+    constants_early g.J.Naming.launch g.J.Naming.keeps_all self.keeper.log self.kernel self.constants self.kept c.requires.recorded
+
+pub answer-given-requires-clause-thread : goal.answer-given-requires-clause-thread
+answer-given-requires-clause-thread g c =
+    let self = c.args.self.now in
+    let who = c.args.who.now in
+    let live = live_there g.J.Naming.launch g.J.Naming.keeps_all self.keeper.log self.kernel self.constants self.kept c.requires.recorded who.pid (c.if-not-live.ensures.0 refl) in
+    (c.requires.asks live).registers
+
+pub answer-given-requires-clause-encoded : goal.answer-given-requires-clause-encoded
+answer-given-requires-clause-encoded g c =
+    let self = c.args.self.now in
+    let who = c.args.who.now in
+    let live = live_there g.J.Naming.launch g.J.Naming.keeps_all self.keeper.log self.kernel self.constants self.kept c.requires.recorded who.pid (c.if-not-live.ensures.0 refl) in
+    call_encoded (world g.J.Naming.launch self.keeper.log) who c.args.turns c.args.guest.now c.args.call (c.requires.asks live)
+
+pub append_call-requires-clause-fits : goal.append_call-requires-clause-fits
+append_call-requires-clause-fits g c =
+    let self = c.args.self.now in
+    let who = c.args.who.now in
+    let live = live_there g.J.Naming.launch g.J.Naming.keeps_all self.keeper.log self.kernel self.constants self.kept c.requires.recorded who.pid (c.if-not-live.ensures.0 refl) in
+    fits_call g.J.Naming.launch g.J.Naming.keeps_all self.keeper.log self.kernel self.constants self.kept c.requires.recorded who c.args.turns c.args.call c.args.guest.now
+    (c.requires.asks live) c.step-answer.result c.step-answer.new.self c.moment-moment.result c.moment-moment.ensures c.step-answer.ensures.step live
+
+pub append_call-requires-clause-room : goal.append_call-requires-clause-room
+append_call-requires-clause-room g c =
+    let self = c.args.self.now in
+    log_short g.J.Naming.launch g.J.Naming.keeps_all self.keeper.log self.kernel self.constants self.kept c.requires.recorded
+
+pub returns-in_default-given-clause-recorded : goal.returns-in_default-given-clause-recorded
+returns-in_default-given-clause-recorded g c =
+    let self = c.args.self.now in
+    let who = c.args.who.now in
+    let live = live_there g.J.Naming.launch g.J.Naming.keeps_all self.keeper.log self.kernel self.constants self.kept c.requires.recorded who.pid (c.if-not-live.ensures.0 refl) in
+    recorded_call g.J.Naming.launch g.J.Naming.keeps_all self.keeper.log self.kernel self.constants self.kept c.requires.recorded who c.args.turns c.args.call c.args.guest.now
+    (c.requires.asks live) c.step-answer.result c.step-answer.new.self c.moment-moment.result c.moment-moment.ensures c.step-answer.ensures.step live
+    c.append_call.new.self.log (ap (λ k. k.log) c.append_call.ensures) c.take_call.new.self (c.take_call.ensures.all ∙ c.reserve.ensures.all)
+    (c.take_call.ensures.entries
+    ∙ (λ i. c.reserve.ensures.entries i ++ kept_of (c.reserve.ensures.all i) (called c.moment-moment.result who c.args.turns c.args.call c.step-answer.result ∷ [])))
+
+pub returns-then-live-clause-recorded : goal.returns-then-live-clause-recorded
+returns-then-live-clause-recorded g c =
+    let self = c.args.self.now in
+    let who = c.args.who.now in
+    let live = live_there g.J.Naming.launch g.J.Naming.keeps_all self.keeper.log self.kernel self.constants self.kept c.requires.recorded who.pid (c.if-not-live.ensures.0 refl) in
+    recorded_call g.J.Naming.launch g.J.Naming.keeps_all self.keeper.log self.kernel self.constants self.kept c.requires.recorded who c.args.turns c.args.call c.args.guest.now
+    (c.requires.asks live) c.step-answer.result c.step-answer.new.self c.moment-moment.result c.moment-moment.ensures c.step-answer.ensures.step live
+    c.append_call.new.self.log (ap (λ k. k.log) c.append_call.ensures) c.take_call.new.self (c.take_call.ensures.all ∙ c.reserve.ensures.all)
+    (c.take_call.ensures.entries
+    ∙ (λ i. c.reserve.ensures.entries i ++ kept_of (c.reserve.ensures.all i) (called c.moment-moment.result who c.args.turns c.args.call c.step-answer.result ∷ [])))
+
+pub returns-else-live-clause-recorded : goal.returns-else-live-clause-recorded
+returns-else-live-clause-recorded g c =
+    let self = c.args.self.now in
+    let who = c.args.who.now in
+    let live = live_there g.J.Naming.launch g.J.Naming.keeps_all self.keeper.log self.kernel self.constants self.kept c.requires.recorded who.pid (c.if-not-live.ensures.0 refl) in
+    recorded_call g.J.Naming.launch g.J.Naming.keeps_all self.keeper.log self.kernel self.constants self.kept c.requires.recorded who c.args.turns c.args.call c.args.guest.now
+    (c.requires.asks live) c.step-answer.result c.step-answer.new.self c.moment-moment.result c.moment-moment.ensures c.step-answer.ensures.step live
+    c.append_call.new.self.log (ap (λ k. k.log) c.append_call.ensures) c.take_call.new.self (c.take_call.ensures.all ∙ c.reserve.ensures.all)
+    (c.take_call.ensures.entries
+    ∙ (λ i. c.reserve.ensures.entries i ++ kept_of (c.reserve.ensures.all i) (called c.moment-moment.result who c.args.turns c.args.call c.step-answer.result ∷ [])))
+
+pub returns-in_default-given-clause-acted : goal.returns-in_default-given-clause-acted
+returns-in_default-given-clause-acted g c =
+    let self = c.args.self.now in
+    let who = c.args.who.now in
+    let live = live_there g.J.Naming.launch g.J.Naming.keeps_all self.keeper.log self.kernel self.constants self.kept c.requires.recorded who.pid (c.if-not-live.ensures.0 refl) in
+    appends_call g.J.Naming.launch g.J.Naming.keeps_all self.keeper.log self.kernel self.constants self.kept c.requires.recorded who c.args.turns c.args.call c.args.guest.now
+    (c.requires.asks live) c.step-answer.result c.step-answer.new.self c.moment-moment.result c.moment-moment.ensures c.step-answer.ensures.step live
+    c.append_call.new.self.log (ap (λ k. k.log) c.append_call.ensures)
+
+pub returns-then-live-clause-acted : goal.returns-then-live-clause-acted
+returns-then-live-clause-acted g c =
+    let self = c.args.self.now in
+    let who = c.args.who.now in
+    let live = live_there g.J.Naming.launch g.J.Naming.keeps_all self.keeper.log self.kernel self.constants self.kept c.requires.recorded who.pid (c.if-not-live.ensures.0 refl) in
+    acted_runs g.J.Naming.launch g.J.Naming.keeps_all self.keeper.log self.kernel self.constants self.kept c.requires.recorded who c.args.turns c.args.call c.args.guest.now
+    (c.requires.asks live) c.step-answer.result c.step-answer.new.self c.moment-moment.result c.moment-moment.ensures c.step-answer.ensures.step live
+    c.append_call.new.self.log (ap (λ k. k.log) c.append_call.ensures) c.answer-given.new.self c.in-Ok-given.ensures.ok (c.if-live.ensures.0 refl)
+
+pub returns-else-live-clause-acted : goal.returns-else-live-clause-acted
+returns-else-live-clause-acted g c =
+    let self = c.args.self.now in
+    let who = c.args.who.now in
+    let live = live_there g.J.Naming.launch g.J.Naming.keeps_all self.keeper.log self.kernel self.constants self.kept c.requires.recorded who.pid (c.if-not-live.ensures.0 refl) in
+    acted_ends g.J.Naming.launch g.J.Naming.keeps_all self.keeper.log self.kernel self.constants self.kept c.requires.recorded who c.args.turns c.args.call c.args.guest.now
+    (c.requires.asks live) c.step-answer.result c.step-answer.new.self c.moment-moment.result c.moment-moment.ensures c.step-answer.ensures.step live
+    c.append_call.new.self.log (ap (λ k. k.log) c.append_call.ensures) c.answer-given.new.self (λ on. true≢false (sym (c.if-live.ensures.1 on)))

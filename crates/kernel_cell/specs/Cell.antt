@@ -1,0 +1,34 @@
+-- A run that has begun and has no name yet, and the book of a run that is over.
+use Rattle.std.specs.Prelude.{◌≡◌, Bool, []}
+use Rattle.atomic_table.specs.Seated.{TableId}
+use Rattle.atomic_table.specs.Table.{Me}
+use Rattle.run_types.specs.declared.history.Entry.{Entry}
+use Rattle.run_types.specs.declared.launch.Launch.{Launch}
+use Rattle.kernel_model.specs.State.{State}
+use Rattle.call_codec.specs.Bounded.{IsBounded}
+use Rattle.run_model.specs.Legal.{Legal}
+use Rattle.run_model.specs.World.{world}
+use Rattle.kernel_cell.specs.Kept.{kept_of}
+use Rattle.kernel_cell.specs.Rule.{first_view}
+use Rattle.kernel_cell.specs.declared.cell.Book.{Book}
+use Rattle.kernel_cell.specs.declared.kept.Kept.{Kept}
+use Rattle.kernel_cell.specs.declared.rule.View.{View}
+
+-- A new table of passes with the launch as its key, and the seat of its keeper; a kernel at the launch's start; and nothing kept.
+pub record HasBegun (launch : Launch) (table at : TableId) (key : Launch) (me : Me Entry View) (kernel : State) (kept : Kept) : Type 0 where
+  pub bounded : IsBounded launch
+  pub seat : at ≡ table
+  pub word : table.words ≡ 1
+  pub key_is : key ≡ launch
+  pub first : me ≡ (first_view, [])
+  pub state : kernel ≡ (world launch []).state
+  pub none : kept.entries.items ≡ []
+
+-- The book is of a run of the launch: its history is legal, the kernel's state is its world's, and in memory are all its entries, or
+-- those of denied calls.
+pub record IsBookOf (launch : Launch) (all : Bool) (book : Book) : Type 0 where
+  pub launch_is : book.launch ≡ launch
+  pub legal : Legal launch book.history
+  pub state : book.kernel ≡ (world launch book.history).state
+  pub all_is : book.kept.all ≡ all
+  pub kept_is : book.kept.entries.items ≡ kept_of all book.history

@@ -1,0 +1,143 @@
+//! What stands behind the kernel lock. Each call here takes a process's pass in, does what it does, and hands the pass out
+//! again.
+ghost use Rattle.std.specs.Prelude.{◌≡◌, ◌↔◌, IsTrue};
+ghost use Rattle.run_model.specs.Legal.{Asks};
+ghost use Rattle.run_model.specs.Own.{IsLiveIn};
+ghost use Rattle.run_model.specs.World.{world, guest_of};
+ghost use Rattle.kernel_cell.specs.Recorded.{IsRecorded};
+ghost use Rattle.kernel_cell.specs.Acting.{AsksCall, act_of, thread_of_pass, Looked, IsActed, IsActedOn, IsStopped, IsStoppedOn};
+
+use crate::keeper::{Keeper, Past};
+use crate::kept::Kept;
+use crate::passes::{Naming, Pass, Passes};
+use crate::recorded::Recorded;
+use crate::results::{Acted, EndBy, Stopped};
+use abi_types::{Call, Constants, Pid, Tid, TidList, Who};
+use guest_process::Guest;
+use kernel_core::Kernel;
+use std::alloc::Global;
+use std::marker::Model;
+
+/// The kernel with its history. Contracts see the history, which is always legal, and whose world's state is the kernel's.
+#[derive(Drop)]
+pub struct Locked<J: Naming> {
+    recorded: Recorded<J>,
+}
+
+impl<J: Naming> Model for Locked<J> {
+    ghost use Rattle.std.specs.Prelude.{List};
+    ghost use Rattle.run_types.specs.declared.history.Entry.{Entry};
+    ghost use Rattle.kernel_cell.specs.Recorded.{IsRecorded};
+
+    ghost Value = { List Entry };
+
+    ghost view = { λ k. k.recorded.keeper.log };
+
+    ghost invariant = { λ k. IsRecorded J.launch J.keeps_all k.recorded.keeper.log k.recorded.kernel k.recorded.constants k.recorded.kept };
+}
+
+impl<J: Naming> Locked<J> {
+    /// A kernel at the start of its launch, without an entry.
+    pub(crate) fn new(
+        kernel: Kernel,
+        constants: Constants,
+        keeper: Keeper<J>,
+        kept: Kept,
+    ) -> Locked<J>
+        requires { IsRecorded J.launch J.keeps_all keeper.log kernel constants kept }
+        ensures { result ≡ keeper.log }
+    {
+        Locked {
+            recorded: Recorded {
+                kernel,
+                constants,
+                keeper,
+                kept,
+            },
+        }
+    }
+
+    /// The kernel, the history, and what was kept of it.
+    pub(crate) fn into_parts(self) -> (Kernel, Past, Kept)
+        ensures history { result.1 ≡ self }
+        ensures constants { IsRecorded J.launch J.keeps_all result.1 result.0 J.launch.constants result.2 }
+    {
+        let Recorded {
+            kernel,
+            constants: _,
+            keeper,
+            kept,
+        } = self.recorded;
+        (kernel, keeper.into_past(), kept)
+    }
+
+    /// A thread's call after these turns of its process. The guest is the process's at that call, and gets the answer.
+    pub fn act(
+        &mut self,
+        passes: &Passes<J>,
+        pass: &mut Pass<J>,
+        alloc: Global,
+        tid: Tid,
+        turns: TidList,
+        call: Call,
+        guest: &mut Guest,
+    ) -> Acted
+        requires { AsksCall (world J.launch pass.old.seen) (thread_of_pass pass.old tid) turns guest.old call }
+        ensures pass { IsActed J.launch pass.old tid turns call guest.new pass.new result }
+        ensures history { IsActedOn J.launch self.old (thread_of_pass pass.old tid) turns call guest.new self.new result }
+        ensures seen { pass.new.seen ≡ self.new }
+    {
+        let who = Who { pid: pass.pid, tid };
+        self.recorded
+            .keeper
+            .take_in(passes, Pass::lent(who.pid, &mut pass.badge));
+        let acted = self.recorded.call(passes, alloc, &who, turns, call, guest);
+        *pass = self.recorded.keeper.hand_out(passes, who.pid);
+        acted
+    }
+
+    /// The end of a thread's process from outside, after these turns of it.
+    pub fn end(
+        &mut self,
+        passes: &Passes<J>,
+        pass: &mut Pass<J>,
+        tid: Tid,
+        turns: TidList,
+        how: EndBy,
+    ) -> Stopped
+        requires { Asks (world J.launch pass.old.seen).state (thread_of_pass pass.old tid) (guest_of (world J.launch pass.old.seen) pass.old.pid) turns (act_of how) }
+        ensures pass { IsStopped J.launch pass.old tid turns how pass.new result }
+        ensures history { IsStoppedOn J.launch self.old (thread_of_pass pass.old tid) turns how self.new result }
+        ensures seen { pass.new.seen ≡ self.new }
+    {
+        let who = Who { pid: pass.pid, tid };
+        self.recorded
+            .keeper
+            .take_in(passes, Pass::lent(who.pid, &mut pass.badge));
+        let stopped = self.recorded.end(passes, &who, turns, how);
+        *pass = self.recorded.keeper.hand_out(passes, who.pid);
+        stopped
+    }
+
+    /// Whether the pass's process is live.
+    pub fn look(&mut self, passes: &Passes<J>, pass: &mut Pass<J>) -> bool
+        ensures pass { Looked J.launch pass.old pass.new }
+        ensures live { IsTrue result ↔ IsLiveIn (world J.launch pass.new.seen) pass.old.pid }
+        ensures history { self.new ≡ self.old }
+        ensures seen { pass.new.seen ≡ self.new }
+    {
+        let pid = pass.pid;
+        self.recorded
+            .keeper
+            .take_in(passes, Pass::lent(pid, &mut pass.badge));
+        *pass = self.recorded.keeper.hand_out(passes, pid);
+        self.recorded.kernel.live(pid)
+    }
+
+    /// Takes back the pass of a process that needs it no more.
+    pub fn spend(&mut self, passes: &Passes<J>, pass: Pass<J>)
+        ensures { self.new ≡ self.old }
+    {
+        self.recorded.keeper.take_in(passes, pass);
+    }
+}

@@ -1,0 +1,12 @@
+//! What is kept of a run: its launch, its history, and the entries in memory.
+use crate::keeper::Past;
+use crate::kept::Kept;
+use run_types::Launch;
+
+/// The record of a run. Its history is what contracts see; in memory are the entries that are kept of it.
+#[derive(Drop)]
+pub struct Record {
+    pub launch: Launch,
+    pub history: Past,
+    pub kept: Kept,
+}

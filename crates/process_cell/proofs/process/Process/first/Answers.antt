@@ -1,0 +1,8 @@
+use Rattle.std.proofs.Common.{◌≡◌, ap, ◌∙◌}
+use Rattle.run_model.specs.World.{first_guest}
+use Rattle.process_cell.proofs.Ties.{tied_first}
+use Rattle.process_cell.proofs.process.Process.first.Goals as goal
+
+pub invariant_of-result : goal.invariant_of-result
+invariant_of-result g c =
+    tied_first g.J.Naming.launch c.args.pass c.new.result c.in-Ok.guest c.requires.first c.new.ensures (c.in-Ok.ensures ∙ ap first_guest c.requires.launch)

@@ -1,0 +1,27 @@
+//! A gate, which every worker passes before and after what it does for a thread.
+use abi_types::{Pid, Tid};
+
+/// Is called by the worker with this number while it has the process. It may watch or hold the worker, and no contract
+/// rests on it.
+pub trait Gate {
+    /// Before each turn of a thread.
+    fn turning(&self, worker: u32, pid: Pid, tid: Tid);
+
+    /// Before a thread's call, trap or expiry becomes an entry of the history. The process has `left` turns left.
+    fn before(&self, worker: u32, pid: Pid, tid: Tid, left: u64);
+
+    /// After one of these was answered.
+    fn after(&self, worker: u32, pid: Pid, tid: Tid);
+}
+
+/// The gate that does nothing.
+#[derive(Clone, Copy)]
+pub struct OpenGate;
+
+impl Gate for OpenGate {
+    fn turning(&self, _worker: u32, _pid: Pid, _tid: Tid) {}
+
+    fn before(&self, _worker: u32, _pid: Pid, _tid: Tid, _left: u64) {}
+
+    fn after(&self, _worker: u32, _pid: Pid, _tid: Tid) {}
+}

@@ -1,0 +1,10 @@
+//! A process of a run, as whoever runs it has it, and the gate by which its way can be watched.
+#![tactic(auto)]
+
+pub use gate::{Gate, OpenGate};
+pub use process::Process;
+pub use results::{Did, Phase};
+
+mod gate;
+mod process;
+mod results;

@@ -1,0 +1,59 @@
+-- The first ticket that is of a thread.
+use Rattle.std.proofs.Common.{◌≡◌, ℕ, ◌<◌, ◌≤◌, Bool, true, false, cond, nat_lt, List, [], ◌∷◌, ◌++◌, Option, Some, None, length, take, drop, position, slice_index_or, refl, sym, ap, subst, ◌∙◌, suc, arith}
+use Rattle.std.specs.List.{All, position_or_len, remove}
+use Rattle.std.proofs.Math.ListN.{get_or}
+use Rattle.std.proofs.Math.Seq.{split_at}
+use Rattle.std.proofs.lemmas.List.{get_or-take, length-take}
+use Rattle.std.proofs.lemmas.List.Sums.{fails_before_first, passes_at_first}
+use borrow.Author.Tests.{ltb-true, ltb-false}
+use Rattle.turn_queue.specs.Tickets.{Tickets, Revives, NoneIs, is_ticket_of}
+
+found : (test : Bool) (n at : ℕ) → cond test (Some n) None ≡ Some at → (test ≡ true) × (n ≡ at)
+found true n at e = (refl, cc)
+found false n at e = cc
+
+missing : (test : Bool) (n : ℕ) → cond test (Some n) None ≡ None → test ≡ false
+missing true n e = cc
+missing false n e = refl
+
+-- where no place is found, no element passes
+pub none_passes : {X : Type 0} (p : X → Bool) (xs : List X) → position p xs ≡ None → All (λ x. p x ≡ false) xs
+none_passes p xs none k d below =
+    let not_below : nat_lt (position_or_len p xs) (length xs) ≡ false = missing _ _ none in
+    fails_before_first p xs k d (omega (arith, ltb-false _ _ not_below))
+
+module _ {X : Type 0} (p : X → Bool) (xs : List X) (at : ℕ) (x : X) (place : position p xs ≡ Some at) (there : x ≡ slice_index_or xs at x) where
+  first_is : (nat_lt (position_or_len p xs) (length xs) ≡ true) × (position_or_len p xs ≡ at)
+  first_is = found _ _ at place
+
+  below : at < length xs
+  below = let f = first_is in omega (arith, ltb-true _ _ f.0)
+
+  passes : p x ≡ true
+  passes =
+      let f : position_or_len p xs ≡ at = first_is.1 in
+      ap p (there ∙ ap (λ (k : ℕ). get_or xs k x) (sym f)) ∙ passes_at_first p xs x (subst (λ (k : ℕ). k < length xs) (sym f) below)
+
+  front_fails : All (λ y. p y ≡ false) (take at xs)
+  front_fails k d within =
+      let f : position_or_len p xs ≡ at = first_is.1 in
+      let before : k < at = omega (arith, length-take at xs) in
+      ap p (get_or-take at xs k d before) ∙ fails_before_first p xs k d (subst (λ (n : ℕ). k < n) (sym f) before)
+
+  splits : xs ≡ take at xs ++ x ∷ drop (suc at) xs
+  splits = split_at xs at x below ∙ ap (λ (y : X). take at xs ++ y ∷ drop (suc at) xs) (sym there)
+
+-- the ticket at that place is revived
+pub revives : {T : Type 0} (process thread : T → ℕ) (p t at : ℕ) (ticket : T) (old new : Tickets T)
+    → position (is_ticket_of process thread p t) old.parked ≡ Some at → ticket ≡ slice_index_or old.parked at ticket
+    → new.parked ≡ remove old.parked at → new.ready ≡ old.ready ++ ticket ∷ [] → Revives process thread p t old new
+revives process thread p t at ticket old new place there parked ready = record {
+  ticket = ticket;
+  front = take at old.parked;
+  back = drop (suc at) old.parked;
+  was = splits (is_ticket_of process thread p t) old.parked at ticket place there;
+  is = passes (is_ticket_of process thread p t) old.parked at ticket place there;
+  first = front_fails (is_ticket_of process thread p t) old.parked at ticket place there;
+  parked = parked;
+  ready = ready;
+}
