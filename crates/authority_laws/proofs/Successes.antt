@@ -6,12 +6,12 @@ use Rattle.std.proofs.Common.{◌≡◌, ◌≢◌, inl, inr, ℕ, ◌-◌, ◌^
 use Rattle.std.proofs.lemmas.Bool.{eqb-true}
 use Rattle.std.proofs.lemmas.Bool.Decides.{eqb_tells}
 use Rattle.std.proofs.lemmas.Nat.{and_le_l}
-use Rattle.std.proofs.lemmas.Nat.Bits.{bit_at_above, bit_at-lt, bit_at_or, bit_at-zero}
+use Rattle.std.proofs.lemmas.Nat.Bits.{bit_at_above, bit_at-lt, bit_at_or}
 use Rattle.std.specs.Int.{bit_at}
 use Rattle.std.specs.Prelude.{bit_and, bit_or}
 use Rattle.std.specs.FinMap.{get}
 use Rattle.std.specs.List.{AllByRecursion}
-use Rattle.abi_base.proofs.Bits.{has-meet, has-minus}
+use Rattle.abi_base.proofs.Bits.{has-meet}
 use Rattle.abi_base.specs.Rights.{Has, minus_of}
 use Rattle.abi_base.specs.declared.errno.Errno.{Errno}
 use Rattle.abi_base.specs.declared.errno.Errno.TheVariants.{Badf, Nomem, Success}
@@ -39,6 +39,7 @@ use Rattle.kernel_model.specs.State.{State, Table}
 use Rattle.kernel_model.specs.Step.{tick, outcome_on, step_answer, IsStep}
 use Rattle.kernel_model.specs.Valid.{IsNamed, IsValid, fits, fits_inheriting}
 use Rattle.kernel_model.specs.View.{whole}
+use Rattle.kernel_model.proofs.FoundOpens.{fits_small, lacks_none}
 use Rattle.kernel_model.proofs.Outcomes.{outcome_reads}
 use Rattle.kernel_model.proofs.Reaches.{all_met}
 use Rattle.kernel_model.proofs.Refusals.{refused_answer, refusal_is_other, same_reply}
@@ -96,17 +97,6 @@ both_hold : (a b : Bool) → (a && b) ≡ true → (a ≡ true) × (b ≡ true)
 both_hold true b h = (refl, h)
 both_hold false b h = absurd (not_true h)
 
--- a right of which nothing is lacking is held
-lacks_none : (asked held k : ℕ) → held < 2 ^ 64 → k < 64 → minus_of asked held ≡ 0 → Has asked k → Has held k
-lacks_none asked held k small below none has =
-    elim (eqb_tells (bit_at held k) 1) [
-      | inl is ↦ is.1
-      | inr other ↦ (
-          let left : bit_at (minus_of asked held) k ≡ 1 = (has-minus asked held k small below).1 (has, other.1) in
-          let zero : bit_at (minus_of asked held) k ≡ 0 = ap (λ n. bit_at n k) none ∙ bit_at-zero k in
-          absurd (omega (arith, left, zero)))
-    ]
-
 -- rights of a type are numbered below 64
 below_64 : (rights k : ℕ) → rights < 2 ^ 64 → Has rights k → k < 64
 below_64 rights k small has =
@@ -127,19 +117,6 @@ second_has : (a b k : ℕ) → Has b k → Has (bit_or a b) k
 second_has a b k has =
     let each : bit_at (bit_or a b) k ≡ max (bit_at a k) (bit_at b k) = bit_at_or a b k in
     omega (arith, each, bit_at-lt a k, has)
-
-fits_small : (kind : OpenKind) → fits kind < 2 ^ 64
-fits_small (File node offset flags) = omega arith
-fits_small (Directory node flags) = omega arith
-fits_small (End None None flags) = omega arith
-fits_small (End None (Some writes) flags) = omega arith
-fits_small (End (Some reads) None flags) = omega arith
-fits_small (End (Some reads) (Some writes) flags) = omega arith
-fits_small (Terminal which flags) = elim (eqb_tells which 0) [
-  | inl is ↦ subst (λ b. cond b 0x1008000a 0x10080048 < 2 ^ 64) (sym is.0) (omega arith)
-  | inr other ↦ subst (λ b. cond b 0x1008000a 0x10080048 < 2 ^ 64) (sym other.0) (omega arith)
-]
-fits_small (Process p) = omega arith
 
 inheriting_small : (kind : OpenKind) → fits_inheriting kind < 2 ^ 64
 inheriting_small (File node offset flags) = omega arith

@@ -1,6 +1,7 @@
 -- What an answer leaves of a guest's pages that can't be written, and of those that can be executed and not written.
 --     code_is_kept      an answer leaves the latter where none of the pages that it changes can be executed
-use Rattle.std.proofs.Common.{◌≡◌, ℕ, true, false, List, [], ◌∷◌, ◌/◌, take, drop, length, Some, None, option_map, Result, Ok, Err, IsOk, refl, sym, subst, ◌∙◌}
+--     answer_keeps_code      the same of a memory with the room for the answer
+use Rattle.std.proofs.Common.{◌≡◌, ℕ, true, false, List, [], ◌∷◌, ◌/◌, take, drop, length, Some, None, option_map, Result, Ok, Err, IsOk, refl, sym, ap, subst, ◌∙◌}
 use Rattle.std.specs.FinMap.{get}
 use Rattle.abi_base.specs.declared.errno.Errno.{Errno}
 use Rattle.abi_base.specs.declared.errno.Errno.TheVariants.{Success}
@@ -21,7 +22,7 @@ use Rattle.codec_arguments.specs.Ranges.{ranges_at}
 use Rattle.call_codec.specs.Arguments.{args_of}
 use Rattle.call_codec.specs.MemoryCalls.{changed_by, changed_pages, on_success, pages_in, prot_of, with_change}
 use Rattle.call_codec.specs.Output.{into_ranges, or_unwritten, scattered, with_bytes, with_content, with_payload, fdstat_bytes, filestat_bytes}
-use Rattle.call_codec.specs.Put.{answered_memory, memory_after}
+use Rattle.call_codec.specs.Put.{answered_memory, memory_after, AnswerKeepsCode, IsRoomFor}
 use Rattle.call_codec.proofs.Mappings.{mapping_filled}
 use Rattle.guest_memory.specs.declared.access.Access.TheVariants.{Write}
 use Rattle.guest_memory.specs.declared.fault.MemFault.{MemFault}
@@ -30,8 +31,10 @@ use Rattle.guest_memory.specs.Changes.{protected, without_pages}
 use Rattle.guest_memory.specs.Mapping.{AreSameOutside, NoneExecutable}
 use Rattle.guest_memory.specs.Page.{Pages, with_prot}
 use Rattle.guest_memory.specs.Ranges.{in_range}
+use Rattle.guest_memory.specs.Room.{without_each}
 use Rattle.guest_memory.specs.Written.{KeepsCode, KeepsUnwritable, written_over}
 use Rattle.guest_memory.proofs.Changes.{are_protected, are_unmapped}
+use Rattle.guest_memory.proofs.ListedPages.{room_keeps_code, same_without}
 use Rattle.guest_memory.proofs.PageRanges.{changed_outside, not_both}
 use Rattle.guest_memory.proofs.Writes.{unwritable_kept}
 
@@ -128,3 +131,20 @@ pub code_is_kept : (m : Pages) (r : Registers) (call : Call) (given : Answer) �
     → (errno_of given ≡ Success → NoneExecutable m ((changed_pages r call).0 / 4096) (changed_pages r call).1) → KeepsCode m (answered_memory m r call given)
 code_is_kept m r call (answer.Reply reply) encoded none =
     succeeded_code m (memory_after m r call reply.payload) reply.errno (λ done. code_after m r call reply.payload encoded (none done))
+
+-- ---- the room for an answer
+
+none_keeps_code : (numbers : List ℕ) (m : Pages) → numbers ≡ [] → KeepsCode m (without_each numbers m)
+none_keeps_code numbers m none q p there locked exec = ap (λ ns. get (without_each ns m) q) none ∙ there
+
+room_code : (call : Call) (numbers : List ℕ) (m : Pages) → IsRoomFor call numbers m → KeepsCode m (without_each numbers m)
+room_code (MemMap (At a) size prot flags fd offset) numbers m room = room_keeps_code numbers (a / 4096) (pages_in size) m room
+room_code (MemMap (place.Refused errno) size prot flags fd offset) numbers m none = none_keeps_code numbers m none
+room_code other numbers m none = none_keeps_code numbers m none
+
+pub answer_keeps_code : (m : Pages) (r : Registers) (call : Call) (given : Answer)
+    → (errno_of given ≡ Success → NoneExecutable m ((changed_pages r call).0 / 4096) (changed_pages r call).1) → AnswerKeepsCode m r call given
+answer_keeps_code m r call given none numbers room encoded q p there locked exec =
+    code_is_kept (without_each numbers m) r call given encoded
+    (λ done i page within has. none done i page within (same_without numbers m i page has)) q p
+    (room_code call numbers m room q p there locked exec) locked exec

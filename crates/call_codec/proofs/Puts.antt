@@ -1,6 +1,7 @@
 -- What registers and memory are like that encode a call.
 --     call_suits      what a call gives has its room; a mapping goes where it may; mem_protect and mem_unmap that succeed are of
 --                     a page's address, and mem_protect's pages are there
+--     may_map_for      a mapping that is asked for may be made
 --     memory_listed      what the calls about pages that are there may answer
 --     few_of_pread, few_of_read      an iovec array to read into has at most 1024 iovecs
 --     guests_pages      pages that are there lie in the guest's part of the address space
@@ -35,6 +36,7 @@ use Rattle.call_codec.proofs.Readings.{not_refused, passed, test_false}
 use Rattle.codec_calls.specs.DescriptorCalls.{has_many}
 use Rattle.codec_arguments.specs.Arguments.{argument, low}
 use Rattle.call_codec.specs.Arguments.{args_of, read_of}
+use Rattle.call_codec.specs.Put.{MayMapFor}
 use Rattle.call_codec.specs.MemoryCalls.{advise_errno, has_bits, is_aligned, is_guests, is_range, is_sync, pages_in, if_mapped, mem_map_of, protect_errno, sync_errno, unmap_errno, may_map, placed_map, place_at, place_in, place_in_gap, place_of, writes_and_executes, has_one, MayMapAt, MayMapThere}
 
 -- what these registers and this memory are like where they encode the call
@@ -230,6 +232,13 @@ suits m r call is = is
 
 pub call_suits : (m : Pages) (r : Registers) (call : Call) → call ≡ args_of m r → Suits m r call
 call_suits m r call encoded = suits m r call (subst (IsEncodedBy m r) (sym encoded) (args_encoded m r))
+
+may_map_suits : (m : Pages) (r : Registers) (call : Call) → Suits m r call → MayMapFor m call
+may_map_suits m r (MemMap place length prot flags fd offset) h = h
+may_map_suits m r call h = tt
+
+pub may_map_for : (m : Pages) (r : Registers) (call : Call) → call ≡ args_of m r → MayMapFor m call
+may_map_for m r call encoded = may_map_suits m r call (call_suits m r call encoded)
 
 -- ---- iovec arrays
 

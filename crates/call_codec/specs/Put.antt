@@ -1,18 +1,25 @@
 -- What a call's reply leaves of the caller's registers and memory. a0 has the error, on SUCCESS a1 and a2 have the call's
 -- results, and the pc goes on after the ECALL; every other register stays. On SUCCESS the calls about memory change it, and what a
 -- call gives beside its results is written into it.
-use Rattle.std.specs.Prelude.{◌+◌, ◌%◌, ◌^◌}
+use Rattle.std.specs.Prelude.{◌≡◌, ℕ, ◌+◌, ◌/◌, ◌%◌, ◌^◌, List, []}
+use Rattle.abi_base.specs.declared.address_space.TheConstants.{PAGE_SIZE}
 use Rattle.abi_types.specs.declared.reply.Answer.{Answer}
 use Rattle.abi_types.specs.declared.reply.Answer.TheVariants as answer
 use Rattle.abi_types.specs.declared.call.Call.{Call}
 use Rattle.abi_types.specs.declared.call.Call.TheVariants.{FdDup, FdPread, FdPwrite, FdRead, FdSeek, FdStatGet, FdWrite, FileOpen, FileReaddir, FileReadlink, FileStatFget, FileStatGet, MemMap}
+use Rattle.abi_types.specs.declared.place.Place.{Place}
+use Rattle.abi_types.specs.declared.place.Place.TheVariants as place
+use Rattle.abi_types.specs.declared.place.Place.TheVariants.{At}
 use Rattle.abi_types.specs.declared.reply.Payload.{Payload}
 use Rattle.abi_types.specs.declared.reply.Reply.{Reply}
 use Rattle.abi_base.specs.Errno.{number_of}
 use Rattle.abi_base.specs.Registers.{Registers, with_pc, with_x}
 use Rattle.guest_memory.specs.Page.{Pages}
+use Rattle.guest_memory.specs.Room.{without_each, AreRoom}
+use Rattle.guest_memory.specs.Written.{KeepsCode}
 use Rattle.codec_arguments.specs.Arguments.{argument}
-use Rattle.call_codec.specs.MemoryCalls.{memory_with, on_success, pages_in, prot_of, with_mapping, IsSomewhere}
+use Rattle.call_codec.specs.Arguments.{args_of}
+use Rattle.call_codec.specs.MemoryCalls.{memory_with, on_success, pages_in, prot_of, with_mapping, IsSomewhere, MayMapThere}
 use Rattle.call_codec.specs.Output.{content_of, with_content, with_payload}
 
 -- the results of a call that succeeded: fd_dup and file_open have the new number; fd_pread, fd_pwrite, fd_read and fd_write have how
@@ -55,7 +62,35 @@ memory_after m r other payload = memory_with m r other
 abbrev pub answered_memory : Pages → Registers → Call → Answer → Pages
 answered_memory m r call (answer.Reply reply) = on_success reply.errno (memory_after m r call reply.payload) m
 
+-- ---- the room for an answer
+
 -- the call takes memory of the host for its answer: for pages that go somewhere
 abbrev pub TakesRoom : Call → Type 0
 TakesRoom (MemMap place length prot flags fd offset) = IsSomewhere place
 TakesRoom other = ⊥
+
+-- it is no mem_map
+abbrev pub MapsNothing : Call → Type 0
+MapsNothing (MemMap place length prot flags fd offset) = ⊥
+MapsNothing other = Unit {0}
+
+-- the mapping that the call asks for, if it asks for one, may be made at its place
+abbrev pub MayMapFor : Pages → Call → Type 0
+MayMapFor m (MemMap place length prot flags fd offset) = MayMapThere m place (pages_in length)
+MayMapFor m other = Unit {0}
+
+-- the pages of these numbers are the room in this memory for k pages at the place
+abbrev pub IsRoomAt : Place → ℕ → List ℕ → Pages → Type 0
+IsRoomAt (At a) k numbers m = AreRoom numbers (a / PAGE_SIZE) k m
+IsRoomAt (place.Refused errno) k numbers m = numbers ≡ []
+
+-- they are the room for the answer to the call: that for its mapping, and none for other calls
+abbrev pub IsRoomFor : Call → List ℕ → Pages → Type 0
+IsRoomFor (MemMap place length prot flags fd offset) numbers m = IsRoomAt place (pages_in length) numbers m
+IsRoomFor other numbers m = numbers ≡ []
+
+-- every page that may be executed, but not written, is the same after the answer, whichever pages are the room for it
+abbrev pub AnswerKeepsCode : Pages → Registers → Call → Answer → Type 0
+AnswerKeepsCode m r call answer =
+    (numbers : List ℕ) → IsRoomFor call numbers m → call ≡ args_of (without_each numbers m) r
+    → KeepsCode m (answered_memory (without_each numbers m) r call answer)

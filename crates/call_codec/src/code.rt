@@ -1,18 +1,16 @@
 //! Which answers may change a program's code.
 ghost use Rattle.std.specs.Prelude.{◌≡◌, ◌≤◌, ◌^◌, IsFalse};
-ghost use Rattle.call_codec.specs.Arguments.{args_of};
 ghost use Rattle.call_codec.specs.MemoryCalls.{changed_by, changed_pages};
-ghost use Rattle.call_codec.specs.Put.{answered_memory};
-ghost use Rattle.guest_memory.specs.Written.{KeepsCode};
+ghost use Rattle.call_codec.specs.Put.{AnswerKeepsCode};
 
 use crate::memory_calls::pages_in;
 use abi_types::{Answer, Call, CallNumber, Errno, Place, Regs};
 use guest_memory::GuestMemory;
 
-/// Whether an answer may change a page that can be executed and not written. Where it says no, none is changed.
+/// Whether an answer may change a page that can be executed and not written. Where it says no, none is changed. The memory has the
+/// room for the answer, which isn't executed.
 pub fn may_change_code(regs: &Regs, memory: &GuestMemory, call: &Call, answer: &Answer) -> bool
-    requires { call.now ≡ args_of memory.now regs.now }
-    ensures { IsFalse result → KeepsCode memory.now (answered_memory memory.now regs.now call.now answer.now) }
+    ensures { IsFalse result → AnswerKeepsCode memory.now regs.now call.now answer.now }
 {
     match answer {
         Answer::Reply(reply) => {

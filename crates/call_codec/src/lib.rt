@@ -7,6 +7,7 @@ pub use code::may_change_code;
 pub use image::load;
 pub use laws::{output_is_written, refusals_are_listed, start_block_stands};
 pub use replies::put_answer;
+pub use room::make_room;
 pub use start::start_memory;
 
 mod arguments;
@@ -16,4 +17,5 @@ mod laws;
 mod memory_calls;
 mod output;
 mod replies;
+mod room;
 mod start;

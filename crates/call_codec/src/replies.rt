@@ -1,14 +1,15 @@
 //! From an answer back to the registers and the memory.
-ghost use Rattle.std.specs.Prelude.{◌≡◌, ◌≤◌, ◌/◌, ◌^◌, OnOk, OnErr};
+ghost use Rattle.std.specs.Prelude.{◌≡◌, ◌≤◌, ◌/◌, ◌^◌};
 ghost use Rattle.abi_types.specs.declared.call_number.CallNumber.TheVariants as number;
 ghost use Rattle.abi_types.specs.declared.place.Place.TheVariants as place;
 ghost use Rattle.codec_arguments.specs.Arguments.{argument};
 ghost use Rattle.call_codec.specs.Arguments.{args_of};
-ghost use Rattle.call_codec.specs.MemoryCalls.{IsSomewhere, MayMapAt, MayMapThere, with_change, with_mapping, pages_in, prot_of};
-ghost use Rattle.call_codec.specs.Put.{answered_memory, answered_of, memory_after, put_of, with_results, TakesRoom};
+ghost use Rattle.call_codec.specs.MemoryCalls.{MayMapAt, MayMapThere, with_change, with_mapping, pages_in, prot_of};
+ghost use Rattle.call_codec.specs.Put.{answered_memory, answered_of, memory_after, put_of, with_results, IsRoomAt, IsRoomFor, MapsNothing};
 ghost use Rattle.guest_memory.specs.Changes.{protected, without_pages};
 ghost use Rattle.guest_memory.specs.Mapping.{AreThere};
 ghost use Rattle.guest_memory.specs.Ranges.{IsPageAddress};
+ghost use Rattle.guest_memory.specs.Room.{without_each, AreRoom};
 
 use crate::image::READ_WRITE;
 use crate::memory_calls::{has_bits, pages_in};
@@ -16,32 +17,30 @@ use crate::output::{content, put_content, put_payload};
 use abi_base::{GUEST_END, PAGE_SIZE};
 use abi_types::{Answer, Call, CallNumber, Errno, Payload, Place, Prot, Regs, Reply};
 use codec_arguments::low;
-use guest_memory::GuestMemory;
-use std::alloc::{AllocError, Global};
+use guest_memory::{GuestMemory, Room};
 
-/// What an answer leaves of the registers and the memory that encoded the call. Where memory runs out, which only a mem_map that
-/// goes somewhere meets, nothing changes.
+/// What an answer leaves of the registers and the memory that encoded the call. The memory has the room for the answer beside, and
+/// with it needs no more.
 pub fn put_answer(
-    alloc: Global,
     regs: &mut Regs,
     memory: &mut GuestMemory,
+    room: Room,
     call: &Call,
     answer: &Answer,
-) -> Result<(), AllocError>
-    requires { call.now ≡ args_of memory.old regs.old }
-    ensures regs { OnOk result (regs.new ≡ answered_of regs.old call.now answer.now) }
-    ensures memory { OnOk result (memory.new ≡ answered_memory memory.old regs.old call.now answer.now) }
-    ensures only { OnErr result (TakesRoom call.now) }
-    ensures same_regs { OnErr result (regs.new ≡ regs.old) }
-    ensures same_memory { OnErr result (memory.new ≡ memory.old) }
+)
+    requires encoded { call.now ≡ args_of (without_each room memory.old) regs.old }
+    requires room { IsRoomFor call.now room memory.old }
+    ensures regs { regs.new ≡ answered_of regs.old call.now answer.now }
+    ensures memory { memory.new ≡ answered_memory (without_each room memory.old) regs.old call.now answer.now }
 {
     match answer {
         Answer::Reply(reply) => {
             if let Errno::Success = reply.errno {
-                put_memory(alloc, regs, memory, call, &reply.payload)?;
+                put_memory(regs, memory, room, call, &reply.payload);
+            } else {
+                memory.remove_room(room);
             }
             put_registers(regs, call, reply);
-            Ok(())
         }
     }
 }
@@ -89,31 +88,12 @@ fn prot_of(bits: u32) -> Prot
 }
 
 // The memory after a call that succeeded and gave this beside its results.
-fn put_memory(
-    alloc: Global,
-    regs: &Regs,
-    memory: &mut GuestMemory,
-    call: &Call,
-    payload: &Payload,
-) -> Result<(), AllocError>
-    requires { call.now ≡ args_of memory.old regs.now }
-    ensures ok { OnOk result (memory.new ≡ memory_after memory.old regs.now call.now payload.now) }
-    ensures only { OnErr result (TakesRoom call.now) }
-    ensures err { OnErr result (memory.new ≡ memory.old) }
+fn put_memory(regs: &Regs, memory: &mut GuestMemory, room: Room, call: &Call, payload: &Payload)
+    requires encoded { call.now ≡ args_of (without_each room memory.old) regs.now }
+    requires room { IsRoomFor call.now room memory.old }
+    ensures { memory.new ≡ memory_after (without_each room memory.old) regs.now call.now payload.now }
 {
     match call {
-        Call::FdPread { .. } | Call::FdRead { .. } => {
-            put_content(regs, memory, payload);
-            Ok(())
-        }
-        Call::FdStatGet { .. } | Call::FileReaddir { .. } | Call::FileStatFget { .. } => {
-            put_payload(memory, regs.get(11), payload);
-            Ok(())
-        }
-        Call::FileReadlink { .. } | Call::FileStatGet { .. } => {
-            put_payload(memory, regs.get(13), payload);
-            Ok(())
-        }
         Call::MemMap {
             place,
             length,
@@ -122,64 +102,68 @@ fn put_memory(
         } => {
             let pages = pages_in(*length);
             map(
-                alloc,
                 memory,
+                room,
                 *place,
                 pages,
                 prot_of(*prot),
                 content(payload),
-            )
+            );
+        }
+        _ => {
+            memory.remove_room(room);
+            put_output(regs, memory, call, payload);
+        }
+    }
+}
+
+// The same of a call that maps nothing.
+fn put_output(regs: &Regs, memory: &mut GuestMemory, call: &Call, payload: &Payload)
+    requires encoded { call.now ≡ args_of memory.old regs.now }
+    requires other { MapsNothing call.now }
+    ensures { memory.new ≡ memory_after memory.old regs.now call.now payload.now }
+{
+    match call {
+        Call::FdPread { .. } | Call::FdRead { .. } => put_content(regs, memory, payload),
+        Call::FdStatGet { .. } | Call::FileReaddir { .. } | Call::FileStatFget { .. } => {
+            put_payload(memory, regs.get(11), payload);
+        }
+        Call::FileReadlink { .. } | Call::FileStatGet { .. } => {
+            put_payload(memory, regs.get(13), payload);
         }
         Call::Memory { number, errno } => {
             if let Errno::Success = *errno {
                 change(regs, memory, *number);
             }
-            Ok(())
         }
-        _ => Ok(()),
+        _ => {}
     }
 }
 
 // Maps pages with bytes in them at their place, in place of those that are there.
-fn map(
-    alloc: Global,
-    memory: &mut GuestMemory,
-    place: Place,
-    pages: u64,
-    prot: Prot,
-    bytes: &[u8],
-) -> Result<(), AllocError>
-    requires { MayMapThere memory.old place pages }
-    ensures ok { OnOk result (memory.new ≡ with_mapping memory.old place pages prot bytes.now) }
-    ensures only { OnErr result (IsSomewhere place) }
-    ensures err { OnErr result (memory.new ≡ memory.old) }
+fn map(memory: &mut GuestMemory, room: Room, place: Place, pages: u64, prot: Prot, bytes: &[u8])
+    requires place { MayMapThere (without_each room memory.old) place pages }
+    requires room { IsRoomAt place pages room memory.old }
+    ensures { memory.new ≡ with_mapping (without_each room memory.old) place pages prot bytes.now }
 {
     match place {
-        Place::At(at) => map_at(alloc, memory, at, pages, prot, bytes),
-        Place::Refused(_) => Ok(()),
+        Place::At(at) => map_at(memory, room, at, pages, prot, bytes),
+        Place::Refused(_) => memory.remove_room(room),
     }
 }
 
 // Maps pages at an address, in place of those that are there, with as many of the bytes as they have room for. They get their
 // rights once the bytes are in them.
-fn map_at(
-    alloc: Global,
-    memory: &mut GuestMemory,
-    at: u64,
-    pages: u64,
-    prot: Prot,
-    bytes: &[u8],
-) -> Result<(), AllocError>
-    requires { MayMapAt memory.old at pages }
-    ensures ok { OnOk result (memory.new ≡ with_mapping memory.old (place.At at) pages prot bytes.now) }
-    ensures err { OnErr result (memory.new ≡ memory.old) }
+fn map_at(memory: &mut GuestMemory, room: Room, at: u64, pages: u64, prot: Prot, bytes: &[u8])
+    requires place { MayMapAt (without_each room memory.old) at pages }
+    requires room { AreRoom room (at / PAGE_SIZE) pages memory.old }
+    ensures { memory.new ≡ with_mapping (without_each room memory.old) (place.At at) pages prot bytes.now }
 {
-    memory.map_fixed(alloc, at, pages as u32, READ_WRITE)?;
+    memory.map_fixed(room, at, pages as u32, READ_WRITE);
     let count = bytes.len().min((pages * PAGE_SIZE) as usize);
     // The pages are there and can be written, so that neither can be refused.
     let _ = memory.write_bytes(at, &bytes[..count]);
     let _ = memory.protect(at, pages as u32, prot);
-    Ok(())
 }
 
 // The memory after mem_protect, mem_unmap or a call that changes nothing.

@@ -5,7 +5,7 @@ mod file_source;
 mod out_sink;
 
 use file_source::FileSource;
-use launch_run::{LaunchRefusal, run_launch};
+use launch_run::{LaunchRefusal, OpenGate, run_launch};
 use out_sink::OutSink;
 use std::process::ExitCode;
 use std::rt::Env;
@@ -28,7 +28,7 @@ fn main(rt: HostRuntime) -> ExitCode {
     let status = match command_line(&rt) {
         Ok(words) => {
             let mut source = FileSource::new(rt.alloc(), &rt);
-            run_launch(rt.alloc(), &words, &mut source, &mut sink).status
+            run_launch(&rt, rt.alloc(), &words, &OpenGate, &mut source, &mut sink).status
         }
         Err(refusal) => {
             let _ = refusal.write_line(&mut sink);

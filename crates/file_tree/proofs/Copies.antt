@@ -7,6 +7,7 @@ use Rattle.std.specs.Ordering.{nat_cmp, eq_by_cmp, is_eq, is_lt}
 use Rattle.std.specs.FinMap.{FinMap, empty, get, insert, entries, find, is_sorted, entries_sorted, get-empty, get-entries}
 use Rattle.std.specs.FinMap.Entries.{below_all}
 use Rattle.maps.specs.Maps.{passes, least_key, least_key-entry, least_key-least, least_key-none, get-insert-same, get-insert-other, same_numbers}
+use Rattle.maps.specs.Halves.{first_part, second_part}
 use Rattle.maps.specs.Names as names
 use Rattle.maps.specs.Names.{Name, Names, name_cmp, tie_same, tie_other, same_or_not, same_names}
 use Rattle.tree_model.specs.Changes.{is_above}
@@ -101,14 +102,6 @@ module _ {X : Type 0} where
       ]
 
 -- ---- maps from names
-
-first_part : (a b : Bool) → T (a && b) → T a
-first_part true b h = tt
-first_part false b h = h
-
-second_part : (a b : Bool) → T (a && b) → T b
-second_part true b h = h
-second_part false b h = absurd h
 
 not_tied : (r : Ordering) → T (is_lt r) → is_eq r ≡ false
 not_tied Less h = refl

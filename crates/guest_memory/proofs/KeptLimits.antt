@@ -9,12 +9,12 @@ use Rattle.guest_memory.specs.Limits.{KeepsLimits}
 use Rattle.guest_memory.proofs.PageRanges.{inside, mapped_len, unmapped_len, protected_len}
 
 -- a memory keeps its limits if it has few enough pages, and each of them keeps these
-record PageKeeps (q : ℕ) (p : Page) : Type 0 where
-  low : 0x10000 ≤ 4096 * q
-  high : 4096 * q < 0x4000000000
-  whole : length p.bytes ≡ 4096
+pub record PageKeeps (q : ℕ) (p : Page) : Type 0 where
+  pub low : 0x10000 ≤ 4096 * q
+  pub high : 4096 * q < 0x4000000000
+  pub whole : length p.bytes ≡ 4096
 
-keeps : (m : Pages) → len m ≤ 65536 → ((q : ℕ) (p : Page) → get m q ≡ Some p → PageKeeps q p) → KeepsLimits m
+pub keeps : (m : Pages) → len m ≤ 65536 → ((q : ℕ) (p : Page) → get m q ≡ Some p → PageKeeps q p) → KeepsLimits m
 keeps m count each = record {
   count = count;
   low = λ q p e. (each q p e).low;
@@ -23,21 +23,21 @@ keeps m count each = record {
       (each q p e).whole;
 }
 
-kept : (m : Pages) → KeepsLimits m → (q : ℕ) (p : Page) → get m q ≡ Some p → PageKeeps q p
+pub kept : (m : Pages) → KeepsLimits m → (q : ℕ) (p : Page) → get m q ≡ Some p → PageKeeps q p
 kept m k q p e = record { low = k.low q p e; high = k.high q p e; whole = k.whole q p e }
 
-zero_keeps : (n k q : ℕ) (prot : Prot) → 0x10000 ≤ 4096 * n → 4096 * (n + k) ≤ 0x4000000000 → in_range n k q ≡ true
+pub zero_keeps : (n k q : ℕ) (prot : Prot) → 0x10000 ≤ 4096 * n → 4096 * (n + k) ≤ 0x4000000000 → in_range n k q ≡ true
     → PageKeeps q (zero_page prot)
 zero_keeps n k q prot low high within = let place = inside n k q within in record
     { low = omega (arith, place.0); high = omega (arith, place.1); whole = refl }
 
 -- in either case
-either : (b : Bool) (o r : Option Page) (q : ℕ) (p : Page) → (b ≡ true → o ≡ Some p → PageKeeps q p)
+pub either : (b : Bool) (o r : Option Page) (q : ℕ) (p : Page) → (b ≡ true → o ≡ Some p → PageKeeps q p)
     → (r ≡ Some p → PageKeeps q p) → cond b o r ≡ Some p → PageKeeps q p
 either true o r q p changed other e = changed refl e
 either false o r q p changed other e = other e
 
-same_some : (a b : Page) → Some a ≡ Some b → a ≡ b
+pub same_some : (a b : Page) → Some a ≡ Some b → a ≡ b
 same_some a b e = cc
 
 pub keeps_mapped : (m after : Pages) (n k : ℕ) (prot : Prot) → KeepsLimits m → MayMap m n k

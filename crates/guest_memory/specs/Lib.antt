@@ -7,4 +7,4 @@ pub mod Ranges
 pub mod Mapping
 pub mod Limits
 pub mod Changes
-pub mod Fixed
+pub mod Room

@@ -6,13 +6,14 @@ pub use access::Access;
 pub use fault::MemFault;
 pub use laws::{bytes_are_each, bytes_are_written, changes_are_functions};
 pub use memory::GuestMemory;
+pub use room::Room;
 
 mod access;
 mod bytes;
 mod fault;
-mod fixed;
 mod laws;
 mod mapping;
 mod memory;
 mod page_map;
+mod room;
 mod words;

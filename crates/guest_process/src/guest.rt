@@ -1,17 +1,19 @@
 //! A process as the machine has it: its memory, its threads' registers, and the turns that it has left.
-ghost use Rattle.std.specs.Prelude.{◌≡◌, ◌&&◌, ◌<◌, IsFalse, IsSome, IfOk, OnOk, OnErr};
+ghost use Rattle.std.specs.Prelude.{◌≡◌, ◌&&◌, ◌<◌, IsFalse, IsSome, IfOk, OnErr};
 ghost use Rattle.std.specs.FinMap as map;
 ghost use Rattle.call_codec.specs.Arguments.{args_of, is_built, is_copied, AsksFor};
-ghost use Rattle.call_codec.specs.Put.{TakesRoom};
+ghost use Rattle.call_codec.specs.Put.{IsRoomFor, MayMapFor, TakesRoom};
 ghost use Rattle.call_codec.specs.Start.{MayStart, canary};
 ghost use Rattle.guest_memory.specs.Page.{Pages};
+ghost use Rattle.guest_memory.specs.Room.{without_each};
 ghost use Rattle.guest_memory.specs.Written.{KeepsCode};
+ghost use Rattle.guest_process.specs.Room.{without_room};
 ghost use Rattle.rv_interp.specs.Cache.{AreTrue};
 ghost use Rattle.run_model.specs.World.{first_guest, registers_of, turned_guest, turn_end, called_guest};
 
 use abi_types::{Answer, Call, Pid, Regs, Tid};
-use call_codec::{args, may_change_code, put_answer, start_memory};
-use guest_memory::GuestMemory;
+use call_codec::{args, make_room, may_change_code, put_answer, start_memory};
+use guest_memory::{GuestMemory, Room};
 use maps::NumMap;
 use run_types::Launch;
 use rv_interp::{Cache, TurnEnd, turn};
@@ -111,25 +113,29 @@ impl Guest {
         args(alloc, regs, &self.memory)
     }
 
-    /// Gives a thread the answer to the call that it encodes. Where memory runs out, which only a mem_map that goes somewhere
-    /// meets, nothing changes.
-    #[tactic(auto, using(maps::specs::Maps::number_laws))]
-    pub fn answer(
-        &mut self,
-        alloc: Global,
-        tid: Tid,
-        call: &Call,
-        answer: &Answer,
-    ) -> Result<(), AllocError>
-        requires thread { IsSome (map.get self.old.regs tid) }
-        requires encoded { call.now ≡ args_of self.old.memory (registers_of self.old tid) }
-        ensures ok { OnOk result (self.new ≡ called_guest self.old tid call.now answer.now) }
-        ensures err { OnErr result (self.new ≡ self.old) }
+    /// Makes the room for the answer to a call before the call is made. Where memory runs out, nothing changes; only a mem_map that
+    /// goes somewhere meets that.
+    pub fn make_room(&mut self, alloc: Global, call: &Call) -> Result<Room, AllocError>
+        requires { MayMapFor self.old.memory call.now }
+        ensures room { IfOk result (λ room. IsRoomFor call.now room self.new.memory) }
+        ensures without { IfOk result (λ room. without_room room self.new ≡ self.old) }
         ensures only { OnErr result (TakesRoom call.now) }
+        ensures err { OnErr result (self.new ≡ self.old) }
+    {
+        make_room(alloc, &mut self.memory, call)
+    }
+
+    /// Gives a thread the answer to the call that it encodes, for which room was made. It takes no memory.
+    #[tactic(auto, using(maps::specs::Maps::number_laws))]
+    pub fn answer(&mut self, tid: Tid, call: &Call, answer: &Answer, room: Room)
+        requires thread { IsSome (map.get self.old.regs tid) }
+        requires encoded { call.now ≡ args_of (without_each room self.old.memory) (registers_of self.old tid) }
+        requires room { IsRoomFor call.now room self.old.memory }
+        ensures { self.new ≡ called_guest (without_room room self.old) tid call.now answer.now }
     {
         let regs = self.regs.get_mut(u64::from(tid.0));
         let may_change = may_change_code(regs, &self.memory, call, answer);
         forget_where(&mut self.code, may_change);
-        put_answer(alloc, regs, &mut self.memory, call, answer)
+        put_answer(regs, &mut self.memory, room, call, answer);
     }
 }

@@ -11,12 +11,12 @@ use Rattle.call_codec.specs.Bounded.{IsBounded}
 use Rattle.run_model.specs.World.{World, world}
 use Rattle.run_model.proofs.Histories.{world_none, first_state, legal_none}
 use Rattle.kernel_cell.specs.Cell.{HasBegun}
-use Rattle.kernel_cell.specs.Passes.{IsSeen}
+use Rattle.shared_history.specs.Passes.{IsSeen}
 use Rattle.kernel_cell.specs.Recorded.{IsRecorded}
-use Rattle.kernel_cell.specs.declared.kept.Kept.{Kept}
-use Rattle.kernel_cell.specs.declared.rule.View.{View}
-use Rattle.kernel_cell.proofs.KeptEntries.{kept_none}
-use Rattle.kernel_cell.proofs.MadeProcesses.{first_made}
+use Rattle.shared_history.specs.declared.kept.Kept.{Kept}
+use Rattle.shared_history.specs.declared.rule.View.{View}
+use Rattle.shared_history.proofs.KeptEntries.{kept_none}
+use Rattle.shared_history.proofs.MadeProcesses.{first_made}
 
 -- the launch's start is the state of no entry
 pub started : (launch : Launch) (kernel : State) → kernel ≡ start_state launch.tree launch.grants launch.stdin → kernel ≡ (world launch []).state

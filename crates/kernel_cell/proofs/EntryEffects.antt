@@ -27,13 +27,13 @@ use Rattle.run_model.proofs.Calls.{called_is, runs_on, ended_by}
 use Rattle.run_model.proofs.Ends.{apply_end, asks_runnable, end_is_answered, ends_not_live}
 use Rattle.run_model.proofs.Histories.{world_more, world_constants, legal_more, apply_is, guest_turned}
 use Rattle.kernel_cell.specs.Acting.{AsksCall, GoesOn, IsDead, act_of, status_of}
-use Rattle.kernel_cell.specs.Entries.{entry_of, called}
-use Rattle.kernel_cell.specs.Kept.{kept_of}
+use Rattle.shared_history.specs.Entries.{entry_of, called}
+use Rattle.shared_history.specs.Kept.{kept_of}
 use Rattle.kernel_cell.specs.Recorded.{IsRecorded}
-use Rattle.kernel_cell.specs.declared.kept.Kept.{Kept}
+use Rattle.shared_history.specs.declared.kept.Kept.{Kept}
 use Rattle.kernel_cell.specs.declared.results.EndBy.{EndBy}
 use Rattle.kernel_cell.specs.declared.results.EndBy.TheVariants as end_by
-use Rattle.kernel_cell.proofs.KeptEntries.{kept_more}
+use Rattle.shared_history.proofs.KeptEntries.{kept_more}
 
 -- ---- an entry
 

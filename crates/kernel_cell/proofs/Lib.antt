@@ -1,10 +1,5 @@
-pub mod Owners
-pub mod Beginnings
-pub mod MadeProcesses
-pub mod Histories
-pub mod Steps
-pub mod KeptEntries
 pub mod EntryEffects
 pub mod RecordedSteps
 pub mod PassOutcomes
 pub mod Begins
+pub mod Sharing

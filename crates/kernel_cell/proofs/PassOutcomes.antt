@@ -18,17 +18,17 @@ use Rattle.run_model.proofs.Histories.{legal_more}
 use Rattle.run_model.proofs.Asks.{asks_stay}
 use Rattle.run_model.proofs.Own.{made_later, left_alone}
 use Rattle.kernel_cell.specs.Acting.{AsksCall, Added, AddedCall, AddedEnd, Looked, AppendsCall, AppendsEnd, IsActed, IsActedOn, IsStopped, IsStoppedOn, act_of, thread_of_pass}
-use Rattle.kernel_cell.specs.Entries.{entry_of}
-use Rattle.kernel_cell.specs.Passes.{Passing, IsSeen, Later}
-use Rattle.kernel_cell.specs.Rule.{tail_of}
+use Rattle.shared_history.specs.Entries.{entry_of}
+use Rattle.shared_history.specs.Passes.{Passing, IsSeen, Later}
+use Rattle.shared_history.specs.Rule.{tail_of}
 use Rattle.kernel_cell.specs.declared.results.Acted.{Acted}
 use Rattle.kernel_cell.specs.declared.results.Acted.TheVariants as acted
 use Rattle.kernel_cell.specs.declared.results.EndBy.{EndBy}
 use Rattle.kernel_cell.specs.declared.results.EndBy.TheVariants as end_by
 use Rattle.kernel_cell.specs.declared.results.Stopped.{Stopped}
 use Rattle.kernel_cell.specs.declared.results.Stopped.TheVariants as stopped
-use Rattle.kernel_cell.proofs.Histories.{own_more}
-use Rattle.kernel_cell.proofs.Owners.{contains_none}
+use Rattle.shared_history.proofs.Histories.{own_more}
+use Rattle.shared_history.proofs.Owners.{contains_none}
 
 -- ---- the history since the pass was last here
 
@@ -127,7 +127,6 @@ module _ (launch : Launch) (v : Passing) (t : ℕ) (turns : List ℕ) (log : Lis
       → IsActedOn launch log (thread_of_pass v t) turns call guest after result → IsActed launch v t turns call guest (now after) result
   acted_tells call guest after acted.Runs on = (added_call call after on.0, on.1)
   acted_tells call guest after acted.Ends on = (added_call call after on.0, on.1)
-  acted_tells call guest after acted.Lost on = added_call call after on
   acted_tells call guest after acted.Gone on = (looked after on.0, subst (λ (h : List Entry). ¬ IsLiveIn (world launch h) v.pid) (sym on.0) on.1)
   acted_tells call guest after acted.NoMemory on = (looked after on.0, subst (λ (h : List Entry). IsLiveIn (world launch h) v.pid) (sym on.0) on.1)
 
@@ -142,7 +141,6 @@ module _ (launch : Launch) (v : Passing) (t : ℕ) (turns : List ℕ) (log : Lis
       → IsActed launch v t turns call guest (now after) result → IsSeen launch v.pid after
   acted_seen call guest after acted.Runs tells = tells.0.added.seen
   acted_seen call guest after acted.Ends tells = tells.0.added.seen
-  acted_seen call guest after acted.Lost tells = tells.added.seen
   acted_seen call guest after acted.Gone tells = tells.0.seen
   acted_seen call guest after acted.NoMemory tells = tells.0.seen
 

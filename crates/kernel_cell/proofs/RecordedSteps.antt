@@ -20,10 +20,10 @@ use Rattle.run_model.specs.Own.{IsLiveIn}
 use Rattle.run_model.specs.World.{Guest, world, apply, guest_of, called_guest}
 use Rattle.run_model.proofs.Bounds.{early, short}
 use Rattle.kernel_cell.specs.Acting.{AsksCall, AppendsCall, GoesOn, IsDead, IsActedOn, IsStoppedOn, act_of, status_of}
-use Rattle.kernel_cell.specs.Entries.{entry_of, called}
-use Rattle.kernel_cell.specs.Kept.{kept_of}
+use Rattle.shared_history.specs.Entries.{entry_of, called}
+use Rattle.shared_history.specs.Kept.{kept_of}
 use Rattle.kernel_cell.specs.Recorded.{IsRecorded}
-use Rattle.kernel_cell.specs.declared.kept.Kept.{Kept}
+use Rattle.shared_history.specs.declared.kept.Kept.{Kept}
 use Rattle.kernel_cell.specs.declared.results.Acted.TheVariants as acted
 use Rattle.kernel_cell.specs.declared.results.EndBy.{EndBy}
 use Rattle.kernel_cell.specs.declared.results.Stopped.TheVariants as stopped

@@ -3,6 +3,7 @@
 --     AsksCall      what a thread's call asks
 --     IsActed, IsStopped, ..      what the calls tell by a pass
 --     IsActedOn, IsStoppedOn, ..      the same of the whole history, which is behind the lock
+--     KeepsGuest      what is left of the guest where no entry came
 use Rattle.std.specs.Prelude.{◌≡◌, ℕ, List, [], ◌∷◌, ◌++◌, IsSome}
 use Rattle.std.specs.FinMap.{get}
 use Rattle.abi_base.specs.declared.signal.Signal.TheVariants.{Xcpu}
@@ -18,8 +19,8 @@ use Rattle.run_types.specs.declared.launch.Launch.{Launch}
 use Rattle.run_model.specs.Legal.{Asks, Fits, IsRunnable}
 use Rattle.run_model.specs.Own.{own, IsLiveIn}
 use Rattle.run_model.specs.World.{World, Guest, world, guest_of, turned_guest_by}
-use Rattle.kernel_cell.specs.Entries.{entry_of, called}
-use Rattle.kernel_cell.specs.Passes.{Passing, IsSeen, Later}
+use Rattle.shared_history.specs.Entries.{entry_of, called}
+use Rattle.shared_history.specs.Passes.{Passing, IsSeen, Later}
 use Rattle.kernel_cell.specs.declared.results.Acted.{Acted}
 use Rattle.kernel_cell.specs.declared.results.Acted.TheVariants as acted
 use Rattle.kernel_cell.specs.declared.results.EndBy.{EndBy}
@@ -85,7 +86,6 @@ IsDead launch history p = ¬ IsLiveIn (world launch history) p
 abbrev pub IsActed : Launch → Passing → ℕ → List ℕ → Call → Guest → Passing → Acted → Type 0
 IsActed launch v t turns call guest w acted.Runs = AddedCall launch v t turns call w × GoesOn launch w.seen (thread_of_pass v t) guest
 IsActed launch v t turns call guest w acted.Ends = AddedCall launch v t turns call w × IsDead launch w.seen v.pid
-IsActed launch v t turns call guest w acted.Lost = AddedCall launch v t turns call w
 IsActed launch v t turns call guest w acted.Gone = Looked launch v w × IsDead launch w.seen v.pid
 IsActed launch v t turns call guest w acted.NoMemory = Looked launch v w × IsLiveIn (world launch w.seen) v.pid
 
@@ -111,9 +111,14 @@ pub record AppendsCall (launch : Launch) (log : List Entry) (who : Who) (turns :
 abbrev pub IsActedOn : Launch → List Entry → Who → List ℕ → Call → Guest → List Entry → Acted → Type 0
 IsActedOn launch log who turns call guest after acted.Runs = AppendsCall launch log who turns call after × GoesOn launch after who guest
 IsActedOn launch log who turns call guest after acted.Ends = AppendsCall launch log who turns call after × IsDead launch after who.pid
-IsActedOn launch log who turns call guest after acted.Lost = AppendsCall launch log who turns call after
 IsActedOn launch log who turns call guest after acted.Gone = (after ≡ log) × IsDead launch log who.pid
 IsActedOn launch log who turns call guest after acted.NoMemory = (after ≡ log) × IsLiveIn (world launch log) who.pid
+
+-- the guest is as it was where no entry came
+abbrev pub KeepsGuest : Guest → Guest → Acted → Type 0
+KeepsGuest guest after acted.Gone = after ≡ guest
+KeepsGuest guest after acted.NoMemory = after ≡ guest
+KeepsGuest guest after other = Unit {0}
 
 -- the entry of the end of the thread's process came
 pub record AppendsEnd (launch : Launch) (log : List Entry) (who : Who) (turns : List ℕ) (how : EndBy) (after : List Entry) : Type 0 where

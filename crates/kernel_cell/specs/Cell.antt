@@ -8,11 +8,11 @@ use Rattle.kernel_model.specs.State.{State}
 use Rattle.call_codec.specs.Bounded.{IsBounded}
 use Rattle.run_model.specs.Legal.{Legal}
 use Rattle.run_model.specs.World.{world}
-use Rattle.kernel_cell.specs.Kept.{kept_of}
-use Rattle.kernel_cell.specs.Rule.{first_view}
+use Rattle.shared_history.specs.Kept.{kept_of}
+use Rattle.shared_history.specs.Rule.{first_view}
 use Rattle.kernel_cell.specs.declared.cell.Book.{Book}
-use Rattle.kernel_cell.specs.declared.kept.Kept.{Kept}
-use Rattle.kernel_cell.specs.declared.rule.View.{View}
+use Rattle.shared_history.specs.declared.kept.Kept.{Kept}
+use Rattle.shared_history.specs.declared.rule.View.{View}
 
 -- A new table of passes with the launch as its key, and the seat of its keeper; a kernel at the launch's start; and nothing kept.
 pub record HasBegun (launch : Launch) (table at : TableId) (key : Launch) (me : Me Entry View) (kernel : State) (kept : Kept) : Type 0 where

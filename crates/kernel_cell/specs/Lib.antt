@@ -1,9 +1,3 @@
-pub mod Rule
-pub mod Names
-pub mod Passes
-pub mod Keeper
-pub mod Entries
-pub mod Kept
 pub mod Acting
 pub mod Recorded
 pub mod Cell

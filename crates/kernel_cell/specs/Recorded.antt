@@ -7,8 +7,8 @@ use Rattle.kernel_model.specs.State.{State}
 use Rattle.call_codec.specs.Bounded.{IsBounded}
 use Rattle.run_model.specs.Legal.{Legal}
 use Rattle.run_model.specs.World.{world}
-use Rattle.kernel_cell.specs.Kept.{kept_of}
-use Rattle.kernel_cell.specs.declared.kept.Kept.{Kept}
+use Rattle.shared_history.specs.Kept.{kept_of}
+use Rattle.shared_history.specs.declared.kept.Kept.{Kept}
 
 -- The history is a legal one of the launch, and the kernel's state is its world's. In memory are the entries of it that are to be kept.
 pub record IsRecorded (launch : Launch) (all : Bool) (log : List Entry) (kernel : State) (constants : Constants) (kept : Kept) : Type 0 where

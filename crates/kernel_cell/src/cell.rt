@@ -7,17 +7,14 @@ ghost use Rattle.run_model.specs.World.{world, guest_of};
 ghost use Rattle.kernel_cell.specs.Acting.{AsksCall, act_of, thread_of_pass, Looked, IsActed, IsStopped};
 ghost use Rattle.kernel_cell.specs.Cell.{IsBookOf};
 
-use crate::keeper::{Keeper, Past};
-use crate::kept::Kept;
 use crate::locked::Locked;
-use crate::passes::{Naming, Pass, Passes};
 use crate::results::{Acted, EndBy, Stopped};
-use crate::rule::{OneHistory, View};
 use abi_types::{Call, Tid, TidList};
 use atomic_table::{Seat, Table};
 use guest_process::{FIRST, Guest};
 use kernel_core::Kernel;
 use run_types::{Entry, Launch};
+use shared_history::{Keeper, Kept, Naming, OneHistory, Pass, Passes, Past, View};
 use std::alloc::{AllocError, Global};
 use std::marker::Model;
 use std::sync::{Mutex, Wait};
@@ -33,7 +30,7 @@ pub struct Begun {
 }
 
 impl Model for Begun {
-    ghost use Rattle.kernel_cell.specs.Names.{Name, name_code};
+    ghost use Rattle.shared_history.specs.Names.{Name, name_code};
 
     ghost Value = { Name };
 

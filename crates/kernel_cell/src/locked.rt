@@ -5,16 +5,14 @@ ghost use Rattle.run_model.specs.Legal.{Asks};
 ghost use Rattle.run_model.specs.Own.{IsLiveIn};
 ghost use Rattle.run_model.specs.World.{world, guest_of};
 ghost use Rattle.kernel_cell.specs.Recorded.{IsRecorded};
-ghost use Rattle.kernel_cell.specs.Acting.{AsksCall, act_of, thread_of_pass, Looked, IsActed, IsActedOn, IsStopped, IsStoppedOn};
+ghost use Rattle.kernel_cell.specs.Acting.{AsksCall, act_of, thread_of_pass, Looked, IsActed, IsActedOn, IsStopped, IsStoppedOn, KeepsGuest};
 
-use crate::keeper::{Keeper, Past};
-use crate::kept::Kept;
-use crate::passes::{Naming, Pass, Passes};
 use crate::recorded::Recorded;
 use crate::results::{Acted, EndBy, Stopped};
 use abi_types::{Call, Constants, Pid, Tid, TidList, Who};
 use guest_process::Guest;
 use kernel_core::Kernel;
+use shared_history::{Keeper, Kept, Naming, Pass, Passes, Past};
 use std::alloc::Global;
 use std::marker::Model;
 
@@ -85,6 +83,7 @@ impl<J: Naming> Locked<J> {
         requires { AsksCall (world J.launch pass.old.seen) (thread_of_pass pass.old tid) turns guest.old call }
         ensures pass { IsActed J.launch pass.old tid turns call guest.new pass.new result }
         ensures history { IsActedOn J.launch self.old (thread_of_pass pass.old tid) turns call guest.new self.new result }
+        ensures guest { KeepsGuest guest.old guest.new result }
         ensures seen { pass.new.seen ≡ self.new }
     {
         let who = Who { pid: pass.pid, tid };

@@ -1,7 +1,6 @@
 //! What is kept of a run: its launch, its history, and the entries in memory.
-use crate::keeper::Past;
-use crate::kept::Kept;
 use run_types::Launch;
+use shared_history::{Kept, Past};
 
 /// The record of a run. Its history is what contracts see; in memory are the entries that are kept of it.
 #[derive(Drop)]

@@ -3,17 +3,15 @@ ghost use Rattle.std.specs.Prelude.{◌≡◌, [], ◌∷◌};
 ghost use Rattle.run_model.specs.Legal.{Asks};
 ghost use Rattle.run_model.specs.Own.{IsLiveIn};
 ghost use Rattle.run_model.specs.World.{world, guest_of};
-ghost use Rattle.kernel_cell.specs.Acting.{AsksCall, act_of, status_of, IsActedOn, IsStoppedOn};
+ghost use Rattle.kernel_cell.specs.Acting.{AsksCall, act_of, status_of, IsActedOn, IsStoppedOn, KeepsGuest};
 ghost use Rattle.kernel_cell.specs.Recorded.{IsRecorded};
 
-use crate::keeper::Keeper;
-use crate::kept::Kept;
-use crate::passes::{Naming, Passes};
 use crate::results::{Acted, EndBy, Stopped};
 use abi_types::{Call, Constants, Signal, Status, TidList, Who};
 use guest_process::Guest;
 use kernel_core::Kernel;
 use run_types::{Act, Entry};
+use shared_history::{Keeper, Kept, Naming, Passes};
 use std::alloc::Global;
 
 /// The kernel, the keeper of its history, and what is kept of the history in memory.
@@ -46,8 +44,8 @@ fn status_of(how: EndBy) -> Status
 }
 
 impl<J: Naming> Recorded<J> {
-    /// A thread's call after these turns, whose answer its guest gets. The room for its entry is taken before, so no answer is
-    /// lost for lack of it.
+    /// A thread's call after these turns, whose answer its guest gets. The room for its entry and its answer is taken before, so no
+    /// answer is lost for lack of it.
     pub(crate) fn call(
         &mut self,
         passes: &Passes<J>,
@@ -63,6 +61,7 @@ impl<J: Naming> Recorded<J> {
         ensures recorded { IsRecorded J.launch J.keeps_all self.new.keeper.log self.new.kernel self.new.constants self.new.kept }
         ensures held { self.new.keeper.held ≡ who.now.pid ∷ [] }
         ensures acted { IsActedOn J.launch self.old.keeper.log who.now turns call guest.new self.new.keeper.log result }
+        ensures guest { KeepsGuest guest.old guest.new result }
     {
         if !self.kernel.live(who.pid) {
             return Acted::Gone;
@@ -70,15 +69,15 @@ impl<J: Naming> Recorded<J> {
         let Ok(()) = self.kept.reserve() else {
             return Acted::NoMemory;
         };
+        let Ok(room) = guest.make_room(alloc, &call) else {
+            return Acted::NoMemory;
+        };
         let answer = self.kernel.step(&self.constants, who, &call);
-        let given = guest.answer(alloc, who.tid, &call, &answer);
+        guest.answer(who.tid, &call, &answer, room);
         let moment = self.kernel.moment();
         self.keeper
             .append_call(passes, moment, who, &turns, &call, &answer);
         self.kept.take_call(moment, who, turns, call, answer);
-        let Ok(()) = given else {
-            return Acted::Lost;
-        };
         if self.kernel.live(who.pid) {
             Acted::Runs
         } else {

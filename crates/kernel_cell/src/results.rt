@@ -8,11 +8,9 @@ pub enum Acted {
     Runs,
     /// It is an entry, by which the thread's process ended.
     Ends,
-    /// It is an entry, but memory ran out for its answer: the process is good for nothing more.
-    Lost,
     /// The process had ended before, and no entry was added.
     Gone,
-    /// Memory ran out, and no entry was added.
+    /// Memory ran out before the call was made, and no entry was added.
     NoMemory,
 }
 

@@ -2,7 +2,7 @@
 #![tactic(auto)]
 
 pub use kernel::Kernel;
-pub use run_types::{Act, Entry, History, Launch, Record};
+pub use run_types::{Act, Entry, Launch};
 
 mod descriptors;
 mod dispatch;

@@ -86,7 +86,8 @@ first_holds false b h = absurd (not_true h)
 pub zero_or_one : (x : ℕ) → x ≡ 0 → x ≡ 1 → ⊥
 zero_or_one x zero one = omega (arith, zero, one)
 
-fits_small : (kind : OpenKind) → fits kind < 2 ^ 64
+-- the rights that a type may have are numbered below 64
+pub fits_small : (kind : OpenKind) → fits kind < 2 ^ 64
 fits_small (File node offset flags) = omega arith
 fits_small (Directory node flags) = omega arith
 fits_small (End None None flags) = omega arith
@@ -98,7 +99,7 @@ fits_small (Terminal which flags) =
 fits_small (Process p) = omega arith
 
 -- a right of which nothing is lacking is held
-lacks_none : (asked held k : ℕ) → held < 2 ^ 64 → k < 64 → minus_of asked held ≡ 0 → Has asked k → Has held k
+pub lacks_none : (asked held k : ℕ) → held < 2 ^ 64 → k < 64 → minus_of asked held ≡ 0 → Has asked k → Has held k
 lacks_none asked held k small below none has =
     elim (eqb_tells (bit_at held k) 1) [
       | inl is ↦ is.1

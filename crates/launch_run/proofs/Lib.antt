@@ -1,3 +1,4 @@
 pub mod Refusals
 pub mod TopCalls
 pub mod TopClauses
+pub mod KeptReports

@@ -5,7 +5,7 @@ use Rattle.input_output.specs.Source.{InputContent}
 use Rattle.abi_types.specs.declared.status.Status.{Status}
 use Rattle.abi_types.specs.declared.status.Status.TheVariants.{Live, Exit, Killed}
 use Rattle.run_types.specs.declared.history.Entry.{Entry}
-use Rattle.run_types.specs.declared.history.Record.{Record}
+use Rattle.kernel_cell.specs.declared.record.Record.{Record}
 use Rattle.run_types.specs.declared.launch.Launch.{Launch}
 use Rattle.tree_model.specs.Grants.{MayBegin}
 use Rattle.run_model.proofs.Confinements.{legal_is_confined}
@@ -22,22 +22,18 @@ use Rattle.launch_run.specs.declared.top.TopEnd.TheVariants.{Refused, Ran}
 use Rattle.launch_run.specs.TopCall.{Wrote, IsRecordOf, IsRunOf, IsTopEnd, IsReportedEnd, IsInputRefused, IsKept, Completes, HasFailed, HasReported, status_number, finished_run, finished_of, IsProgramRefused, IsTreeRefused, IsTextRefused}
 
 -- a record of a run is as every record that is kept
-is_kept : (given : Option Settings) (described : Described) (launch : Launch) (r : Record) → IsRecordOf launch r → IsKnownAs described (describes launch) →
-    IsBuiltBy given launch → MayBegin launch.tree launch.grants → IsKept given described r
+is_kept : (given : Option Settings) (described : Described) (launch : Launch) (r : Record) → IsRecordOf launch (history_with given) r
+    → IsKnownAs described (describes launch) → IsBuiltBy given launch → MayBegin launch.tree launch.grants → IsKept given described r
 is_kept given described launch r of known built begins =
-    let proper : MayBegin r.launch.tree r.launch.grants = subst (λ (l : Launch). MayBegin l.tree l.grants) (sym of.0) begins in
+    let proper : MayBegin r.launch.tree r.launch.grants = subst (λ (l : Launch). MayBegin l.tree l.grants) (sym of.launch_is) begins in
     record {
-      legal = of.1;
-      confined = legal_is_confined r.launch r.history of.1 proper;
-      recorded = legal_is_recorded r.launch r.history of.1 proper;
-      launch_described = subst (λ (l : Launch). IsKnownAs described (describes l)) (sym of.0) known;
-      built = subst (IsBuiltBy given) (sym of.0) built;
+      legal = of.legal;
+      confined = legal_is_confined r.launch r.history of.legal proper;
+      recorded = legal_is_recorded r.launch r.history of.legal proper;
+      launch_described = subst (λ (l : Launch). IsKnownAs described (describes l)) (sym of.launch_is) known;
+      built = subst (IsBuiltBy given) (sym of.launch_is) built;
+      entries = of.entries;
     }
-
--- what holds of a record holds of it where it is kept
-where_kept : (P : Record → Type 0) (r : Record) (none : Bool) → P r → IfSome (if none then None else Some r) P
-where_kept P r true holds = tt
-where_kept P r false holds = holds
 
 -- lack of memory has a status of its own
 memory_status : (refusal : LaunchRefusal) → ◌≡◌ {A = Result Launch LaunchRefusal} (Err refusal) (Err Memory) → status_of refusal ≡ 70
@@ -73,8 +69,7 @@ module _ (given : Option Settings) (content : List ℕ → InputContent) (rose :
   run_kept (Reported r status) o = is_kept given _ o.launch r o.end_reported.0 o.described o.built o.begins
   run_kept (Unwritten r) o = is_kept given _ o.launch r o.end_reported.0 o.described o.built o.begins
   run_kept NotBegun o = tt
-  run_kept (Lacking r) o =
-      where_kept (IsKept given (words_describe given content)) r (length r.history == 0) (is_kept given _ o.launch r o.end_reported.0 o.described o.built o.begins)
+  run_kept (Lacking r) o = is_kept given _ o.launch r o.end_reported.0 o.described o.built o.begins
 
   pub top_kept : (end : TopEnd) → IsTopEnd given content rose before after sink_rose end →
       IfSome (finished_of end).kept (IsKept given (words_describe given content))
@@ -171,10 +166,6 @@ module _ (given : Option Settings) (content : List ℕ → InputContent) (rose :
 
   -- ---- lack of memory
 
-  some_entries : (r : Record) (none : Bool) → (length r.history == 0) ≡ none → IfSome (if none then None else Some r) (λ x. x.history ≢ [])
-  some_entries r true e = tt
-  some_entries r false e = λ empty. absurd (cc (ap (λ (xs : List Entry). length xs == 0) empty, e))
-
   pub top_memory : (end : TopEnd) → IsTopEnd given content rose before after sink_rose end → (finished_of end).status ≡ 70 →
       Wrote before after sink_rose memory_line × IfSome (finished_of end).kept (λ r. r.history ≢ [])
   top_memory (Refused Words) o is = absurd (omega arith)
@@ -187,7 +178,7 @@ module _ (given : Option Settings) (content : List ℕ → InputContent) (rose :
   top_memory (Ran (Reported r status)) o is = absurd (no_ended 70 (omega arith) status is)
   top_memory (Ran (Unwritten r)) o is = absurd (omega arith)
   top_memory (Ran NotBegun) o is = (o.end_reported, tt)
-  top_memory (Ran (Lacking r)) o is = (o.end_reported.1, some_entries r (length r.history == 0) refl)
+  top_memory (Ran (Lacking r)) o is = (o.end_reported.2, o.end_reported.1)
 
   -- ---- a report
 

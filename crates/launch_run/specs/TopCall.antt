@@ -1,13 +1,14 @@
 -- What the top call answers and writes. The words are those of its caller; what a source shows of its inputs and what a
 -- sink shows of its bytes are as the traits say (a source or a sink may show nothing). A count of faults rose in a call
 -- where it is greater afterwards, or stands at its last value.
-use Rattle.std.specs.Prelude.{◌≡◌, ◌⊎◌, ◌==◌, ⊤, ℕ, Bool, List, length, Option, None, Some, Ok, Err, Contains, if◌then◌else◌}
+use Rattle.std.specs.Prelude.{◌≡◌, ◌≢◌, ◌⊎◌, ◌==◌, ⊤, ℕ, Bool, List, [], Option, None, Some, Ok, Err, Contains, if◌then◌else◌}
 use Rattle.std.specs.FinMap.{get}
 use Rattle.input_output.specs.Sink.{grown, GrewByPrefix}
 use Rattle.input_output.specs.Source.{InputContent}
 use Rattle.abi_types.specs.declared.status.Status.{Status}
 use Rattle.abi_types.specs.declared.status.Status.TheVariants.{Live, Exit, Killed}
-use Rattle.run_types.specs.declared.history.Record.{Record}
+use Rattle.kernel_cell.specs.declared.record.Record.{Record}
+use Rattle.shared_history.specs.Kept.{kept_of}
 use Rattle.run_types.specs.declared.launch.Launch.{Launch}
 use Rattle.tree_model.specs.Grants.{MayBegin}
 use Rattle.kernel_model.specs.State.{State}
@@ -49,26 +50,28 @@ state_of r = (world r.launch r.history).state
 abbrev pub record_report : Bool → Record → List ℕ
 record_report lines r = report_of (state_of r) r.history lines
 
--- a record of a run of the launch: its history is legal
-abbrev pub IsRecordOf : Launch → Record → Type 0
-IsRecordOf launch r = (r.launch ≡ launch) × Legal r.launch r.history
+-- A record of a run of the launch: its history is legal, and in memory are all its entries, or those of denied calls.
+pub record IsRecordOf (launch : Launch) (all : Bool) (r : Record) : Type 0 where
+  pub launch_is : r.launch ≡ launch
+  pub legal : Legal r.launch r.history
+  pub entries : r.kept.entries.items ≡ kept_of all r.history
 
 -- How a run of the launch came to its end, where before and after are what the sink shows of its bytes, and rose says
 -- that its count of faults rose. The report is of an ended run, and was written whole, or a prefix of it where the sink
--- failed; where memory ran out, nothing was written of it.
+-- failed; where memory ran out, nothing was written of it, and a run that began has an entry.
 abbrev pub IsEndOf : Launch → Bool → Option (List ℕ) → Option (List ℕ) → Type 0 → RunEnd → Type 0
 IsEndOf launch lines before after rose (Reported r status) =
-    IsRecordOf launch r × Ended r.launch r.history × (status ≡ get (state_of r).statuses 0) × (after ≡ grown before (record_report lines r))
-IsEndOf launch lines before after rose (Unwritten r) = IsRecordOf launch r × Ended r.launch r.history × rose × GrewByPrefix before after (record_report lines r)
+    IsRecordOf launch lines r × Ended r.launch r.history × (status ≡ get (state_of r).statuses 0) × (after ≡ grown before (record_report lines r))
+IsEndOf launch lines before after rose (Unwritten r) = IsRecordOf launch lines r × Ended r.launch r.history × rose × GrewByPrefix before after (record_report lines r)
 IsEndOf launch lines before after rose NotBegun = after ≡ before
-IsEndOf launch lines before after rose (Lacking r) = IsRecordOf launch r × (after ≡ before)
+IsEndOf launch lines before after rose (Lacking r) = IsRecordOf launch lines r × (r.history ≢ []) × (after ≡ before)
 
 -- the same once the line that says so was written where memory ran out
 abbrev pub IsReportedEnd : Launch → Bool → Option (List ℕ) → Option (List ℕ) → Type 0 → RunEnd → Type 0
 IsReportedEnd launch lines before after rose (Reported r status) = IsEndOf launch lines before after rose (Reported r status)
 IsReportedEnd launch lines before after rose (Unwritten r) = IsEndOf launch lines before after rose (Unwritten r)
 IsReportedEnd launch lines before after rose NotBegun = Wrote before after rose memory_line
-IsReportedEnd launch lines before after rose (Lacking r) = IsRecordOf launch r × Wrote before after rose memory_line
+IsReportedEnd launch lines before after rose (Lacking r) = IsRecordOf launch lines r × (r.history ≢ []) × Wrote before after rose memory_line
 
 -- what is written after a run's end: the line that says that memory ran out, and else nothing
 abbrev pub ReportsEnd : Option (List ℕ) → Option (List ℕ) → Type 0 → RunEnd → Type 0
@@ -103,16 +106,12 @@ abbrev pub IsTopEnd : Option Settings → (List ℕ → InputContent) → Type 0
 IsTopEnd given content rose before after sink_rose (Refused refusal) = IsRefusalOf given content rose refusal × Wrote before after sink_rose (line_of refusal)
 IsTopEnd given content rose before after sink_rose (Ran end) = IsRunOf given content rose before after sink_rose end
 
--- the record that is kept where memory ran out: that of a run which had an entry
-abbrev pub kept_of : Record → Option Record
-kept_of r = if length r.history == 0 then None else Some r
-
 -- what the call answers for each end
 abbrev pub finished_run : RunEnd → Finished
 finished_run (Reported r status) = record { status = status_number status; kept = Some r }
 finished_run (Unwritten r) = record { status = 69; kept = Some r }
 finished_run NotBegun = record { status = 70; kept = None }
-finished_run (Lacking r) = record { status = 70; kept = kept_of r }
+finished_run (Lacking r) = record { status = 70; kept = Some r }
 
 abbrev pub finished_of : TopEnd → Finished
 finished_of (Refused refusal) = record { status = status_of refusal; kept = None }
@@ -163,13 +162,15 @@ pub record HasFailed (lines : Bool) (before after : Option (List ℕ)) (r : Reco
 -- What every record that is kept is: its history is legal, each entry is confined to what its process's descriptors
 -- reach with the rights needed, who holds which descriptors is shown by the entries, each descriptor is traced to one of the
 -- launch's grants, and at each entry copies are equal, rights are lowered to those asked and what is opened is bounded; and its
--- launch is the one that is described, where anything is known of it, and in any case one of these settings.
+-- launch is the one that is described, where anything is known of it, and in any case one of these settings. In memory are all its
+-- entries where the settings ask for the history, and else those of denied calls.
 pub record IsKept (given : Option Settings) (described : Described) (r : Record) : Type 0 where
   pub legal : Legal r.launch r.history
   pub confined : IsConfined r.launch r.history
   pub recorded : IsRecorded r.launch r.history
   pub launch_described : IsKnownAs described (describes r.launch)
   pub built : IsBuiltBy given r.launch
+  pub entries : r.kept.entries.items ≡ kept_of (history_with given) r.history
 
 -- Where the source's count of faults did not rise, a refusal that is described is answered, and a launch that is described is
 -- run to its report where the sink's count did not rise; or memory ran out.

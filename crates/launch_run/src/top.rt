@@ -7,18 +7,24 @@ ghost use Rattle.run_report.specs.Report.{report_of};
 ghost use Rattle.launch_reading.specs.Launch.{launch_of, inputs_of, settings_inputs, asks_history};
 ghost use Rattle.launch_reading.specs.Refusal.{line_of, words_line, memory_line};
 ghost use Rattle.call_codec.specs.Bounded.{IsBounded};
-ghost use Rattle.plain_run.specs.Run.{IsBetween, IsLive};
-ghost use Rattle.launch_run.specs.TopCall.{Wrote, IsEndOf, IsReportedEnd, ReportsEnd, IsTopEnd, IsTopStatus, IsInputRefused, IsProgramRefused, IsTreeRefused, IsTextRefused, HasReported, HasFailed, IsKept, Completes, status_number, kept_of, finished_run, finished_of};
+ghost use Rattle.kernel_cell.specs.Cell.{IsBookOf};
+ghost use Rattle.kernel_model.specs.Ends.{NoneLive};
+ghost use Rattle.launch_run.specs.TopCall.{Wrote, IsEndOf, IsReportedEnd, ReportsEnd, IsTopEnd, IsTopStatus, IsInputRefused, IsProgramRefused, IsTreeRefused, IsTextRefused, HasReported, HasFailed, IsKept, Completes, status_number, finished_run, finished_of};
 ghost use Rattle.launch_run.specs.declared.top.TopEnd.TheVariants.{Refused};
 
 use abi_types::Status;
 use command_line::{CommandLineFault, LaunchSettings, read_words};
+use drive_run::{Driven, drive};
+use guest_process::FIRST;
 use input_output::{Sink, Source, write_whole};
+use kernel_cell::{Book, Record};
 use launch_reading::{LaunchRefusal, read_launch};
-use plain_run::{FIRST, Run};
+use process_cell::Gate;
 use run_report::report;
-use run_types::{Launch, Record};
+use run_types::Launch;
 use std::alloc::Global;
+use std::sync::Wait;
+use std::thread::Threads;
 
 /// What the top call answers: the exit status, and the record of the run, where one is kept.
 #[derive(Drop)]
@@ -50,38 +56,60 @@ fn status_number(status: Option<Status>) -> u8
     }
 }
 
-// Writes the report of a run that has ended.
-fn write_report<K: Sink>(run: Run, lines: bool, text: &[u8], sink: &mut K) -> RunEnd
-    requires between { IsBetween run }
-    requires ended { ¬ IsLive run }
-    requires text { text.now ≡ report_of run.kernel run.history lines }
-    ensures faults_never_fall { K.faults sink.old ≤ K.faults sink.new }
-    ensures end { IsEndOf run.launch lines (K.written sink.old) (K.written sink.new) (Rose (K.faults sink.old) (K.faults sink.new)) result }
+// The record of a run that is over.
+fn record_of(book: Book) -> Record
+    ensures { result ≡ record { launch = book.launch; history = book.history; kept = book.kept } }
 {
-    match write_whole(sink, text) {
-        Ok(()) => {
-            let status = run.kernel.status(FIRST);
-            RunEnd::Reported(run.into_record(), status)
-        }
-        Err(_) => RunEnd::Unwritten(run.into_record()),
+    let Book {
+        kernel: _,
+        launch,
+        history,
+        kept,
+    } = book;
+    Record {
+        launch,
+        history,
+        kept,
     }
 }
 
-// Runs a launch to its end, and writes its report.
-fn run_launched<K: Sink>(alloc: Global, launch: Launch, lines: bool, sink: &mut K) -> RunEnd
+// Writes the report of a run that has ended.
+fn report_run<K: Sink>(alloc: Global, book: Book, lines: bool, sink: &mut K) -> RunEnd
+    requires of { IsBookOf book.launch lines book }
+    requires ended { NoneLive book.kernel }
+    ensures faults_never_fall { K.faults sink.old ≤ K.faults sink.new }
+    ensures end { IsEndOf book.launch lines (K.written sink.old) (K.written sink.new) (Rose (K.faults sink.old) (K.faults sink.new)) result }
+{
+    let Ok(text) = report(alloc, &book.kernel, &book.kept.entries, lines) else {
+        return RunEnd::Lacking(record_of(book));
+    };
+    match write_whole(sink, text.as_slice()) {
+        Ok(()) => {
+            let status = book.kernel.status(FIRST);
+            RunEnd::Reported(record_of(book), status)
+        }
+        Err(_) => RunEnd::Unwritten(record_of(book)),
+    }
+}
+
+// Runs a launch to its end with this many workers, and writes its report.
+fn run_launched<K: Sink, G: Gate + Sync, R: Threads + Wait + Sync>(
+    rt: &R,
+    alloc: Global,
+    launch: Launch,
+    workers: u32,
+    gate: &G,
+    lines: bool,
+    sink: &mut K,
+) -> RunEnd
     requires { IsBounded launch }
     ensures faults_never_fall { K.faults sink.old ≤ K.faults sink.new }
     ensures end { IsEndOf launch lines (K.written sink.old) (K.written sink.new) (Rose (K.faults sink.old) (K.faults sink.new)) result }
 {
-    let Ok(mut run) = Run::new(alloc, launch) else {
-        return RunEnd::NotBegun;
-    };
-    let Ok(()) = run.go_on(alloc) else {
-        return RunEnd::Lacking(run.into_record());
-    };
-    match report(alloc, &run.kernel, run.history.as_slice(), lines) {
-        Ok(text) => write_report(run, lines, text.as_slice(), sink),
-        Err(_) => RunEnd::Lacking(run.into_record()),
+    match drive(rt, alloc, launch, workers, gate, lines) {
+        Driven::Ended(book) => report_run(alloc, book, lines, sink),
+        Driven::Lacking(book) => RunEnd::Lacking(record_of(book)),
+        Driven::NotBegun => RunEnd::NotBegun,
     }
 }
 
@@ -105,12 +133,20 @@ fn refuse<K: Sink>(refusal: &LaunchRefusal<'_>, sink: &mut K)
 }
 
 // Runs a launch to its end, and writes its report, or the line that says that memory ran out.
-fn run_reported<K: Sink>(alloc: Global, launch: Launch, lines: bool, sink: &mut K) -> RunEnd
+fn run_reported<K: Sink, G: Gate + Sync, R: Threads + Wait + Sync>(
+    rt: &R,
+    alloc: Global,
+    launch: Launch,
+    workers: u32,
+    gate: &G,
+    lines: bool,
+    sink: &mut K,
+) -> RunEnd
     requires { IsBounded launch }
     ensures faults_never_fall { K.faults sink.old ≤ K.faults sink.new }
     ensures end { IsReportedEnd launch lines (K.written sink.old) (K.written sink.new) (Rose (K.faults sink.old) (K.faults sink.new)) result }
 {
-    let end = run_launched(alloc, launch, lines, sink);
+    let end = run_launched(rt, alloc, launch, workers, gate, lines, sink);
     report_end(&end, sink);
     end
 }
@@ -135,9 +171,11 @@ fn refused<'a, K: Sink>(refusal: LaunchRefusal<'a>, sink: &mut K) -> TopEnd<'a>
 }
 
 // Reads the launch of these settings, runs it, and writes its report, or the line of a refusal.
-fn run_settings<'a, S: Source, K: Sink>(
+fn run_settings<'a, S: Source, K: Sink, G: Gate + Sync, R: Threads + Wait + Sync>(
+    rt: &R,
     alloc: Global,
     settings: &LaunchSettings<'a>,
+    gate: &G,
     source: &mut S,
     sink: &mut K,
 ) -> TopEnd<'a>
@@ -149,15 +187,25 @@ fn run_settings<'a, S: Source, K: Sink>(
     ensures end { IsTopEnd (Some (view settings.now)) (S.content source.old) (Rose (S.faults source.old) (S.faults source.new)) (K.written sink.old) (K.written sink.new) (Rose (K.faults sink.old) (K.faults sink.new)) result }
 {
     match read_launch(alloc, settings, source) {
-        Ok(launch) => TopEnd::Ran(run_reported(alloc, launch, settings.history, sink)),
+        Ok(launch) => TopEnd::Ran(run_reported(
+            rt,
+            alloc,
+            launch,
+            settings.workers,
+            gate,
+            settings.history,
+            sink,
+        )),
         Err(refusal) => refused(refusal, sink),
     }
 }
 
 // Reads the words and their launch, runs it, and writes its report, or the line of a refusal.
-fn launch_and_run<'a, S: Source, K: Sink>(
+fn launch_and_run<'a, S: Source, K: Sink, G: Gate + Sync, R: Threads + Wait + Sync>(
+    rt: &R,
     alloc: Global,
     words: &'a [String],
+    gate: &G,
     source: &mut S,
     sink: &mut K,
 ) -> TopEnd<'a>
@@ -169,20 +217,9 @@ fn launch_and_run<'a, S: Source, K: Sink>(
     ensures end { IsTopEnd (words_of (map string_bytes words.now)) (S.content source.old) (Rose (S.faults source.old) (S.faults source.new)) (K.written sink.old) (K.written sink.new) (Rose (K.faults sink.old) (K.faults sink.new)) result }
 {
     match read_words(alloc, words) {
-        Ok(settings) => run_settings(alloc, &settings, source, sink),
+        Ok(settings) => run_settings(rt, alloc, &settings, gate, source, sink),
         Err(CommandLineFault::Refused) => refused(LaunchRefusal::Words, sink),
         Err(CommandLineFault::NoMemory) => refused(LaunchRefusal::Memory, sink),
-    }
-}
-
-// The record of a run that had an entry.
-fn kept_of(kept: Record) -> Option<Record>
-    ensures { result ≡ kept_of kept }
-{
-    if kept.history.len() == 0 {
-        None
-    } else {
-        Some(kept)
     }
 }
 
@@ -205,7 +242,7 @@ fn finished_run(end: RunEnd) -> Finished
         },
         RunEnd::Lacking(record) => Finished {
             status: 70,
-            kept: kept_of(record),
+            kept: Some(record),
         },
     }
 }
@@ -229,9 +266,14 @@ fn finish(end: TopEnd<'_>) -> Finished
 /// for a launch text, 67 for a program and 68 for a tree document that is refused, 66 for an input that can't be read or
 /// is too long, 69 where the sink failed while the report was written, and 70 where memory ran out. What a refusal writes
 /// is its line, or a prefix of it where the sink failed.
-pub fn run_launch<S: Source, K: Sink>(
+///
+/// The run's processes are run by as many workers as the words say, each a thread of its own, which pass the gate. The record's
+/// history is what contracts see; in memory are its entries where the words ask for the history, and else those of denied calls.
+pub fn run_launch<S: Source, K: Sink, G: Gate + Sync, R: Threads + Wait + Sync>(
+    rt: &R,
     alloc: Global,
     words: &[String],
+    gate: &G,
     source: &mut S,
     sink: &mut K,
 ) -> Finished
@@ -269,5 +311,5 @@ pub fn run_launch<S: Source, K: Sink>(
     ensures complete { ¬ Rose (S.faults source.old) (S.faults source.new)
         → Completes (launch_of (map string_bytes words.now) (S.content source.old)) (Rose (K.faults sink.old) (K.faults sink.new)) result.status }
 {
-    finish(launch_and_run(alloc, words, source, sink))
+    finish(launch_and_run(rt, alloc, words, gate, source, sink))
 }

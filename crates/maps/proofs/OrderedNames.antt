@@ -1,5 +1,5 @@
 -- Lists of entries whose names rise: where a name stands in them, and what changes at that place come to.
-use Rattle.std.proofs.Common.{◌≡◌, ◌≢◌, ◌↔◌, ◌==◌, IsTrue, inl, inr, ℕ, zero, suc, ◌+◌, ◌≤◌, Bool, true, false, cond, ◌&&◌, T, List, [], ◌∷◌, ◌++◌, length, Option, Some, None, IsSome, is_some, Less, Equal, Greater, refl, sym, ap, subst, ◌∙◌, arith}
+use Rattle.std.proofs.Common.{◌≡◌, ◌↔◌, ◌==◌, IsTrue, inl, inr, ℕ, zero, suc, ◌+◌, ◌≤◌, Bool, true, false, cond, ◌&&◌, T, List, [], ◌∷◌, ◌++◌, length, Option, Some, None, IsSome, is_some, Less, Equal, Greater, refl, sym, ap, subst, ◌∙◌, arith}
 use Rattle.std.proofs.lemmas.Bool.Decides.{eqb_tells}
 use Rattle.std.proofs.lemmas.Cmp.{nat_list_cmp_total}
 use Rattle.std.proofs.lemmas.Map.Lookups.{exact_bytes}
@@ -9,29 +9,14 @@ use Rattle.std.specs.List.{slice_get}
 use Rattle.std.specs.Option.{option_map}
 use Rattle.std.specs.FinMap.{find, put, is_sorted, from_sorted, entries, get, len, insert, remove, entries_sorted, entries-from_sorted, same_entries_map, get-entries, len-entries, entries-insert, empty, empty_of_len}
 use Rattle.std.specs.FinMap.Entries.{by_order, below_all}
-use Rattle.maps.specs.Names.{Name, Names, name_cmp, remove-inserted, is_empty}
+use Rattle.maps.specs.Names.{Name, Names, name_cmp, remove-inserted, is_empty, less_of}
+use Rattle.maps.specs.Halves.{not_true, first_part, second_part}
 use Rattle.maps.specs.Placed.{placed, revalued, count_below, IsOrdered}
 use Rattle.maps.proofs.Places.{length-placed}
-
-not_true : false ≢ true
-not_true e = subst T (sym e) tt
 
 both : (a b : Bool) → T a → T b → T (a && b)
 both true b p q = q
 both false b p q = p
-
-first_part : (a b : Bool) → T (a && b) → T a
-first_part true b h = tt
-first_part false b h = h
-
-second_part : (a b : Bool) → T (a && b) → T b
-second_part true b h = h
-second_part false b h = absurd h
-
-less_of : (r : Ordering) → T (is_lt r) → r ≡ Less
-less_of Less h = refl
-less_of Equal h = absurd h
-less_of Greater h = absurd h
 
 equal_of : (r : Ordering) → is_eq r ≡ true → r ≡ Equal
 equal_of Less h = absurd (not_true h)

@@ -1,5 +1,6 @@
 pub mod Closure
 pub mod Borrowing
+pub mod Halves
 pub mod Maps
 pub mod NameTrees
 pub mod Names

@@ -9,7 +9,7 @@
 --     least_key-found, least_key-least, least_key-none, least_key_is, least_same ..      its laws
 --     number      the number, and 0 at `None`
 --     number_laws      the set of the laws on `get` and on equal maps, for `using(..)`
-use Rattle.std.proofs.Common.{◌≡◌, ◌≢◌, ℕ, zero, suc, ◌+◌, ◌<◌, ◌≤◌, Bool, true, false, cond, ◌&&◌, T, inl, inr, List, [], ◌∷◌, map, length, sum_by, Option, Some, None, IsSome, is_some, Less, Equal, Greater, refl, sym, ap, subst, ◌∙◌, arith}
+use Rattle.std.proofs.Common.{◌≡◌, ◌≢◌, ℕ, zero, suc, ◌+◌, ◌<◌, ◌≤◌, Bool, true, false, cond, T, inl, inr, List, [], ◌∷◌, map, length, sum_by, Option, Some, None, IsSome, is_some, Less, Equal, Greater, refl, sym, ap, subst, ◌∙◌, arith}
 use Rattle.std.proofs.lemmas.Bool.Decides.{eqb_tells}
 use Rattle.std.proofs.lemmas.List.Recursion.{is_sum_by}
 use Rattle.std.specs.Ordering.{nat_cmp, eq_by_cmp, is_eq, is_lt}
@@ -17,6 +17,7 @@ use Rattle.std.specs.Cmp.{nat_cmp_total, tied_itself, ranked}
 use Rattle.std.specs.Option.{unwrap_or}
 use Rattle.std.specs.FinMap.{FinMap, empty, get, insert, remove, retain_keys, len, entries, values, find, put, is_sorted, entries_sorted, same_map, nat_cmp-IsAntisymmetric, get-entries, get-empty, get-insert, get-remove, get-retain_keys, len-entries, len-empty, len-insert, entries-insert, empty_of_len}
 use Rattle.std.specs.FinMap.Entries.{by_order, below_all}
+use Rattle.maps.specs.Halves.{not_true, first_part, second_part}
 
 -- ---- words
 
@@ -67,20 +68,9 @@ not_None x e = subst T (ap is_some e) tt
 same_Some : {A : Type 0} (x y : A) → Some x ≡ Some y → x ≡ y
 same_Some x y e = ap (λ o. unwrap_or o x) e
 
-not_true : false ≢ true
-not_true e = subst T (sym e) tt
-
 none_unless : {A : Type 0} (o : Option A) → (IsSome o → ⊥) → o ≡ None
 none_unless None h = refl
 none_unless (Some x) h = absurd (h refl)
-
-first_part : (a b : Bool) → T (a && b) → T a
-first_part true b h = tt
-first_part false b h = h
-
-second_part : (a b : Bool) → T (a && b) → T b
-second_part true b h = h
-second_part false b h = absurd h
 
 less_of : (a b : ℕ) → T (is_lt (nat_cmp a b)) → a < b
 less_of a b =

@@ -8,7 +8,7 @@
 --     total f m      the sum of what f weighs of each value; weight f o      what it weighs of one, and 0 at `None`
 --     total-empty, total-insert, total-remove, total-zero, total_at_least, total_none, total_same ..      its laws
 --     name_laws      the set of the laws on `get` and on equal maps, for `using(..)`
-use Rattle.std.proofs.Common.{◌≡◌, ◌≢◌, ◌↔◌, ℕ, zero, suc, ◌+◌, ◌≤◌, ◌⊎◌, Bool, true, false, cond, ◌&&◌, T, inl, inr, List, [], ◌∷◌, map, length, sum_by, Option, Some, None, IsSome, is_some, Less, Equal, Greater, refl, sym, ap, subst, ◌∙◌, arith}
+use Rattle.std.proofs.Common.{◌≡◌, ◌≢◌, ◌↔◌, ℕ, zero, suc, ◌+◌, ◌≤◌, ◌⊎◌, Bool, true, false, cond, T, inl, inr, List, [], ◌∷◌, map, length, sum_by, Option, Some, None, IsSome, is_some, Less, Equal, Greater, refl, sym, ap, subst, ◌∙◌, arith}
 use Rattle.std.proofs.lemmas.List.Recursion.{is_sum_by}
 use Rattle.std.proofs.lemmas.Cmp.{nat_list_cmp_total}
 use Rattle.std.proofs.lemmas.Map.Lookups.{exact_bytes}
@@ -18,6 +18,7 @@ use Rattle.std.specs.Cmp.{tied_itself}
 use Rattle.std.specs.Cmp.Lexicographic.{slice_cmp}
 use Rattle.std.specs.FinMap.{FinMap, empty, get, insert, remove, retain_keys, len, entries, values, find, put, is_sorted, entries_sorted, same_map, get-entries, get-empty, get-insert, get-remove, get-retain_keys, len-entries, len-empty, len-insert, entries-insert, empty_of_len}
 use Rattle.std.specs.FinMap.Entries.{by_order, below_all}
+use Rattle.maps.specs.Halves.{not_true, first_part, second_part}
 pub use Rattle.maps.specs.Maps.{weight}
 
 -- ---- words
@@ -52,9 +53,6 @@ tie_other q k n =
       | Greater ↦ λ _. refl
     ] refl
 
-not_true : false ≢ true
-not_true e = subst T (sym e) tt
-
 -- two names are equal or not
 pub same_or_not : (q k : Name) → (q ≡ k) ⊎ (q ≢ k)
 same_or_not q k =
@@ -64,15 +62,7 @@ same_or_not q k =
       | Greater ↦ λ e. inr (λ same. not_true (sym (ap is_eq e) ∙ ap (eq_by_cmp name_cmp q) (sym same) ∙ tie_same q))
     ] refl
 
-first_part : (a b : Bool) → T (a && b) → T a
-first_part true b h = tt
-first_part false b h = h
-
-second_part : (a b : Bool) → T (a && b) → T b
-second_part true b h = h
-second_part false b h = absurd h
-
-less_of : (r : Ordering) → T (is_lt r) → r ≡ Less
+pub less_of : (r : Ordering) → T (is_lt r) → r ≡ Less
 less_of Less h = refl
 less_of Equal h = absurd h
 less_of Greater h = absurd h

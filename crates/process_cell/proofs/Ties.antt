@@ -1,6 +1,6 @@
 -- A process stays tied to the world of what its pass has seen: at its start, over a turn, and over a call.
-use Rattle.std.proofs.Common.{◌≡◌, ℕ, ◌<◌, ◌-◌, List, [], ◌∷◌, ◌++◌, Some, IsSome, refl, sym, ap, subst, ◌∙◌}
-use Rattle.std.specs.FinMap.{empty, get, insert}
+use Rattle.std.proofs.Common.{◌≡◌, ℕ, ◌<◌, List, [], ◌∷◌, ◌++◌, IsSome, refl, sym, ap, subst, ◌∙◌}
+use Rattle.std.specs.FinMap.{empty, get}
 use Rattle.abi_types.specs.declared.call.Call.{Call}
 use Rattle.abi_types.specs.declared.status.Status.TheVariants.{Live}
 use Rattle.abi_types.specs.declared.who.Who.{Who}
@@ -17,7 +17,7 @@ use Rattle.run_model.specs.World.{World, Guest, world, start_world, guest_of, fi
 use Rattle.run_model.proofs.Histories.{world_none, first_guest_is, first_state, first_thread, turned_more, whole_more}
 use Rattle.run_model.proofs.Registers.{legal_has_registers}
 use Rattle.kernel_cell.specs.Acting.{GoesOn, IsActed, thread_of_pass}
-use Rattle.kernel_cell.specs.Passes.{Passing}
+use Rattle.shared_history.specs.Passes.{Passing}
 use Rattle.kernel_cell.specs.declared.results.Acted.{Acted}
 use Rattle.kernel_cell.specs.declared.results.Acted.TheVariants as acted
 use Rattle.process_cell.specs.Phases.{phase_after_turn, phase_after_act}
@@ -115,7 +115,6 @@ acted_at launch v w t turns call guest acted.Runs told =
     at_pass launch w v.pid t [] guest phase.Runs told.0.added.pid
     (stands_on launch w.seen (thread_of_pass v t) guest told.0.added.seen.legal told.1)
 acted_at launch v w t turns call guest acted.Ends told = at_pass launch w v.pid t [] guest phase.Gone told.0.added.pid told.1
-acted_at launch v w t turns call guest acted.Lost told = tt
 acted_at launch v w t turns call guest acted.Gone told = at_pass launch w v.pid t [] guest phase.Gone told.0.pid told.1
 acted_at launch v w t turns call guest acted.NoMemory told = tt
 

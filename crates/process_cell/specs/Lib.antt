@@ -1,3 +1,4 @@
 pub mod Phases
 pub mod Standing
 pub mod Process
+pub mod Steps

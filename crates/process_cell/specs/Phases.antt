@@ -20,7 +20,6 @@ phase_after_turn (turn_end_is.Trap signal) = phase.Traps signal
 abbrev pub phase_after_act : Acted → Phase
 phase_after_act acted.Runs = phase.Runs
 phase_after_act acted.Ends = phase.Gone
-phase_after_act acted.Lost = phase.Lost
 phase_after_act acted.Gone = phase.Gone
 phase_after_act acted.NoMemory = phase.Lost
 

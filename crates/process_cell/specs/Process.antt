@@ -1,13 +1,13 @@
 -- How a process is tied to the world of the history that its pass has seen.
 use Rattle.std.specs.Prelude.{◌≡◌, ℕ, List, [], IsSome}
 use Rattle.std.specs.FinMap.{get}
-use Rattle.kernel_cell.specs.Passes.{Passing}
+use Rattle.shared_history.specs.Passes.{Passing}
 use Rattle.kernel_cell.specs.declared.results.EndBy.{EndBy}
 use Rattle.kernel_cell.specs.declared.results.EndBy.TheVariants as end_by
 use Rattle.run_types.specs.declared.launch.Launch.{Launch}
 use Rattle.rv_interp.specs.declared.turns.TurnEnd.TheVariants as turn_end_is
 use Rattle.run_model.specs.Legal.{AreWhole, LastEnds, IsRunnable}
-use Rattle.run_model.specs.Own.{IsLiveIn}
+use Rattle.run_model.specs.Own.{own, IsLiveIn}
 use Rattle.run_model.specs.World.{World, Guest, world, guest_of, turned_guest_by}
 use Rattle.process_cell.specs.Standing.{Standing}
 use Rattle.process_cell.specs.declared.results.Phase.{Phase}
@@ -33,6 +33,10 @@ TiedIn w p t turns guest phase.Lost = Unit {0}
 abbrev pub Tied : Launch → Passing → ℕ → List ℕ → Guest → Phase → Type 0
 Tied launch pass t turns guest now = TiedIn (world launch pass.seen) pass.pid t turns guest now
 
+-- what contracts see of a process that has these parts
+abbrev pub standing_of : Passing → ℕ → List ℕ → Guest → Phase → Standing
+standing_of pass t turns guest now = record { pid = pass.pid; tid = t; phase = now; left = guest.left; turns = turns; own = own pass.pid pass.seen }
+
 -- ---- conditions
 
 -- the pass that a run's begin gives for process 0
@@ -41,7 +45,7 @@ new_pass = record { pid = 0; seen = [] }
 
 -- process 0 at the start of its launch
 abbrev pub first_standing : Launch → Standing
-first_standing launch = record { pid = 0; tid = 1; phase = phase.Runs; left = launch.turns }
+first_standing launch = record { pid = 0; tid = 1; phase = phase.Runs; left = launch.turns; turns = []; own = [] }
 
 -- an end of this kind is due
 abbrev pub IsDue : EndBy → Standing → Type 0

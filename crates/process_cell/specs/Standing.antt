@@ -1,10 +1,14 @@
 -- What contracts see of a process.
-use Rattle.std.specs.Prelude.{ℕ}
+use Rattle.std.specs.Prelude.{ℕ, List}
+use Rattle.run_types.specs.declared.history.Entry.{Entry}
 use Rattle.process_cell.specs.declared.results.Phase.{Phase}
 
--- its number, its thread's number, its phase, and how many turns it has left
+-- its number, its thread's number, its phase, how many turns it has left, which threads took the turns that no entry has yet, and the
+-- entries that it did itself
 pub record Standing : Type 0 where
   pub pid : ℕ
   pub tid : ℕ
   pub phase : Phase
   pub left : ℕ
+  pub turns : List ℕ
+  pub own : List Entry

@@ -1,11 +1,11 @@
 //! A process: its guest, its thread, the turns that no entry has yet, and its pass. What it has is always what the world of the
 //! history that its pass has seen says, after those turns.
-ghost use Rattle.std.specs.Prelude.{◌≡◌, ◌<◌, ◌-◌, [], IfOk, IfErr, OnOk, OnErr};
+ghost use Rattle.std.specs.Prelude.{◌≡◌, ◌<◌, IfOk, IfErr, OnErr};
 ghost use Rattle.call_codec.specs.Bounded.{IsBounded};
-ghost use Rattle.process_cell.specs.Phases.{phase_after_turn, did_in};
-ghost use Rattle.process_cell.specs.declared.results.Did.TheVariants as did;
+ghost use Rattle.kernel_cell.specs.declared.results.EndBy.TheVariants as end_by;
 ghost use Rattle.process_cell.specs.declared.results.Phase.TheVariants as phase;
 ghost use Rattle.process_cell.specs.Process.{IsDue, new_pass, first_standing};
+ghost use Rattle.process_cell.specs.Steps.{IsSameThread, IsCalled, IsEnded, IsStepped, turned_standing};
 
 use crate::gate::Gate;
 use crate::results::{Did, Phase, did_in, phase_after_act, phase_after_end, phase_after_turn};
@@ -19,7 +19,8 @@ use std::marker::Model;
 use std::mem;
 use std::sync::Wait;
 
-/// A process of a run, with its one thread. Contracts see whose it is, its phase and how many turns it has left.
+/// A process of a run, with its one thread. Contracts see whose it is, its phase, how many turns it has left, the turns that no entry
+/// has yet, and the entries that it did.
 #[derive(Drop)]
 pub struct Process<J: Naming> {
     guest: Guest,
@@ -31,11 +32,11 @@ pub struct Process<J: Naming> {
 
 impl<J: Naming> Model for Process<J> {
     ghost use Rattle.process_cell.specs.Standing.{Standing};
-    ghost use Rattle.process_cell.specs.Process.{Tied};
+    ghost use Rattle.process_cell.specs.Process.{standing_of, Tied};
 
     ghost Value = { Standing };
 
-    ghost view = { λ p. record { pid = p.pass.pid; tid = p.tid; phase = p.phase; left = p.guest.left } };
+    ghost view = { λ p. standing_of p.pass p.tid p.turns p.guest p.phase };
 
     ghost invariant = { λ p. Tied J.launch p.pass p.tid p.turns p.guest p.phase };
 }
@@ -93,7 +94,7 @@ impl<J: Naming> Process<J> {
     pub fn turn(&mut self) -> Result<TurnEnd, AllocError>
         requires runs { self.old.phase ≡ phase.Runs }
         requires left { 0 < self.old.left }
-        ensures ok { IfOk result (λ end. self.new ≡ record self.old { phase = phase_after_turn end; left = self.old.left - 1 }) }
+        ensures ok { IfOk result (λ end. self.new ≡ turned_standing self.old end) }
         ensures err { OnErr result (self.new ≡ self.old) }
     {
         self.turns.push(self.tid)?;
@@ -105,7 +106,8 @@ impl<J: Naming> Process<J> {
     /// The call at which its last turn ended: the kernel answers it, and it is an entry of the history.
     pub fn call<R: Wait>(&mut self, rt: &R, alloc: Global, cell: &Cell<J>) -> Did
         requires { self.old.phase ≡ phase.Calls }
-        ensures { result ≡ did_in self.new.phase }
+        ensures same { IsSameThread self.old self.new }
+        ensures called { IsCalled self.old self.new result }
     {
         let Ok(call) = self.guest.call(alloc, self.tid) else {
             self.phase = Phase::Lost;
@@ -128,7 +130,9 @@ impl<J: Naming> Process<J> {
     // Its end from outside, which is an entry of the history.
     fn end<R: Wait>(&mut self, rt: &R, alloc: Global, cell: &Cell<J>, how: EndBy) -> Did
         requires { IsDue how self.old }
-        ensures { result ≡ did_in self.new.phase }
+        ensures same { IsSameThread self.old self.new }
+        ensures left { self.new.left ≡ self.old.left }
+        ensures ended { IsEnded how self.old self.new result }
     {
         let turns = mem::replace(&mut self.turns, TidList::new(alloc));
         let stopped = cell.end(rt, &mut self.pass, self.tid, turns, how);
@@ -139,7 +143,9 @@ impl<J: Naming> Process<J> {
     /// The trap by which its last turn ended: it ends the process.
     pub fn trap<R: Wait>(&mut self, rt: &R, alloc: Global, cell: &Cell<J>, signal: Signal) -> Did
         requires { self.old.phase ≡ phase.Traps signal }
-        ensures { result ≡ did_in self.new.phase }
+        ensures same { IsSameThread self.old self.new }
+        ensures left { self.new.left ≡ self.old.left }
+        ensures ended { IsEnded (end_by.Trap signal) self.old self.new result }
     {
         self.end(rt, alloc, cell, EndBy::Trap(signal))
     }
@@ -148,7 +154,9 @@ impl<J: Naming> Process<J> {
     pub fn expire<R: Wait>(&mut self, rt: &R, alloc: Global, cell: &Cell<J>) -> Did
         requires runs { self.old.phase ≡ phase.Runs }
         requires left { self.old.left ≡ 0 }
-        ensures { result ≡ did_in self.new.phase }
+        ensures same { IsSameThread self.old self.new }
+        ensures left { self.new.left ≡ self.old.left }
+        ensures ended { IsEnded end_by.Expire self.old self.new result }
     {
         self.end(rt, alloc, cell, EndBy::Expire)
     }
@@ -156,7 +164,8 @@ impl<J: Naming> Process<J> {
     // What a process that is to take no turn now does in place of it, with an entry of the history.
     fn enter<R: Wait>(&mut self, rt: &R, alloc: Global, cell: &Cell<J>) -> Did
         requires { self.old.phase ≡ phase.Runs → self.old.left ≡ 0 }
-        ensures { result ≡ did_in self.new.phase }
+        ensures same { IsSameThread self.old self.new }
+        ensures stepped { IsStepped self.old self.new result }
     {
         match self.phase() {
             Phase::Runs => self.expire(rt, alloc, cell),
@@ -177,7 +186,8 @@ impl<J: Naming> Process<J> {
         gate: &G,
         worker: u32,
     ) -> Did
-        ensures { result ≡ did.ProcessGone → self.new.phase ≡ phase.Gone }
+        ensures same { IsSameThread self.old self.new }
+        ensures stepped { IsStepped self.old self.new result }
     {
         match self.phase() {
             Phase::Gone => return Did::ProcessGone,

@@ -50,7 +50,7 @@ pub(crate) fn phase_after_act(acted: Acted) -> Phase
     match acted {
         Acted::Runs => Phase::Runs,
         Acted::Ends | Acted::Gone => Phase::Gone,
-        Acted::Lost | Acted::NoMemory => Phase::Lost,
+        Acted::NoMemory => Phase::Lost,
     }
 }
 

@@ -9,10 +9,10 @@ pub regroup : (a b c d e : List ℕ) → (a ++ (b ++ (c ++ d))) ++ e ≡ a ++ (b
 regroup a b c d e = simp append_assoc
 
 -- the first line was put behind a text, and then the others
-pub history_reported : (before line with_line all : List ℕ) (history : List Entry)
-    → line ≡ codes "== history " ++ (decimal (length history) ++ 10 ∷ []) → with_line ≡ before ++ line
+pub history_reported : (before line with_line all : List ℕ) (history : List Entry) (count : ℕ) → count ≡ length history
+    → line ≡ codes "== history " ++ (decimal count ++ 10 ∷ []) → with_line ≡ before ++ line
     → all ≡ with_line ++ flat_map entry_text history → all ≡ before ++ history_text history
 unfolding history_text
-history_reported before line with_line all history first put more =
-    more ∙ ap (λ t. t ++ flat_map entry_text history) (put ∙ ap (λ t. before ++ t) first)
+history_reported before line with_line all history count counted first put more =
+    more ∙ ap (λ t. t ++ flat_map entry_text history) (put ∙ ap (λ t. before ++ t) (first ∙ ap (λ n. codes "== history " ++ (decimal n ++ 10 ∷ [])) counted))
     ∙ regroup before (codes "== history ") (decimal (length history)) (10 ∷ []) (flat_map entry_text history)

@@ -7,6 +7,7 @@ ghost use Rattle.run_report.specs.Denials.{denial_line, denial_text, missing_tex
 use crate::call_names::call_name;
 use abi_types::{Answer, Bytes, Call, Denial, Pid, Rights, Tid};
 use bitflags::{Flag, Flags};
+use block_list::BlockList;
 use run_types::{Act, Entry};
 use std::alloc::{AllocError, Global};
 
@@ -131,12 +132,12 @@ fn entry_line(alloc: Global, entry: &Entry) -> Result<Option<String>, AllocError
 
 // The lines of the denied calls, in the history's order.
 #[tactic(auto, unfolding(crate::specs::Denials::denial_lines))]
-fn denial_lines(alloc: Global, history: &[Entry]) -> Result<Vec<String>, AllocError>
-    ensures { IfOk result (λ lines. map string_bytes lines.items ≡ denial_lines history.now) }
+fn denial_lines(alloc: Global, history: &BlockList<Entry>) -> Result<Vec<String>, AllocError>
+    ensures { IfOk result (λ lines. map string_bytes lines.items ≡ denial_lines history.now.items) }
 {
     let mut lines = Vec::new(alloc);
-    for entry in history {
-        if let Some(line) = entry_line(alloc, entry)? {
+    for index in 0..history.len() {
+        if let Some(line) = entry_line(alloc, history.at(index))? {
             lines.push(line)?;
         }
     }
@@ -154,8 +155,12 @@ fn append_lines(alloc: Global, text: &mut Bytes, lines: &[String]) -> Result<(),
 }
 
 /// Puts the lines of the denied calls at the end, under a line with their number. `Err` may leave a part of it.
-pub fn append_denials(alloc: Global, text: &mut Bytes, history: &[Entry]) -> Result<(), AllocError>
-    ensures { OnOk result (text.new ≡ text.old ++ denials_text history.now) }
+pub fn append_denials(
+    alloc: Global,
+    text: &mut Bytes,
+    history: &BlockList<Entry>,
+) -> Result<(), AllocError>
+    ensures { OnOk result (text.new ≡ text.old ++ denials_text history.now.items) }
 {
     let lines = denial_lines(alloc, history)?;
     append_lines(alloc, text, &lines)

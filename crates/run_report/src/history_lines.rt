@@ -7,6 +7,7 @@ ghost use Rattle.run_report.specs.HistoryLines.{act_text, call_text, entry_text,
 use crate::call_names::call_name;
 use crate::denials::thread_text;
 use abi_types::{Answer, Bytes, Call};
+use block_list::BlockList;
 use run_types::{Act, Entry};
 use std::alloc::{AllocError, Global};
 
@@ -44,18 +45,26 @@ fn entry_text(alloc: Global, entry: &Entry) -> Result<String, AllocError>
 }
 
 // Puts the lines of the entries at the end. `Err` may leave a part of them.
-fn append_entries(alloc: Global, text: &mut Bytes, history: &[Entry]) -> Result<(), AllocError>
-    ensures { OnOk result (text.new ≡ text.old ++ flat_map entry_text history.now) }
+fn append_entries(
+    alloc: Global,
+    text: &mut Bytes,
+    history: &BlockList<Entry>,
+) -> Result<(), AllocError>
+    ensures { OnOk result (text.new ≡ text.old ++ flat_map entry_text history.now.items) }
 {
-    for entry in history {
-        text.append(entry_text(alloc, entry)?.as_bytes())?;
+    for index in 0..history.len() {
+        text.append(entry_text(alloc, history.at(index))?.as_bytes())?;
     }
     Ok(())
 }
 
 /// Puts the lines of the entries at the end, under a line with their number. `Err` may leave a part of it.
-pub fn append_history(alloc: Global, text: &mut Bytes, history: &[Entry]) -> Result<(), AllocError>
-    ensures { OnOk result (text.new ≡ text.old ++ history_text history.now) }
+pub fn append_history(
+    alloc: Global,
+    text: &mut Bytes,
+    history: &BlockList<Entry>,
+) -> Result<(), AllocError>
+    ensures { OnOk result (text.new ≡ text.old ++ history_text history.now.items) }
 {
     let count = history.len();
     text.append(format!(in alloc; "== history {count}\n")?.as_bytes())?;

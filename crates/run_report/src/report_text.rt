@@ -7,6 +7,7 @@ ghost use Rattle.run_report.specs.Report.{report_of, stream_text, status_text, s
 use crate::denials::append_denials;
 use crate::history_lines::append_history;
 use abi_types::{Bytes, Pid, Signal, Status};
+use block_list::BlockList;
 use file_tree::Tree;
 use kernel_core::Kernel;
 use run_types::Entry;
@@ -22,10 +23,10 @@ use tree_document::tree_text;
 pub fn report(
     alloc: Global,
     kernel: &Kernel,
-    history: &[Entry],
+    history: &BlockList<Entry>,
     lines: bool,
 ) -> Result<Bytes, AllocError>
-    ensures { IfOk result (λ text. text ≡ report_of kernel.now history.now lines) }
+    ensures { IfOk result (λ text. text ≡ report_of kernel.now history.now.items lines) }
 {
     let mut text = Bytes::new(alloc);
     append_stream(alloc, &mut text, "stdout", kernel.output(1))?;

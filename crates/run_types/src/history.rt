@@ -1,6 +1,5 @@
-//! What a run keeps of itself.
-use crate::launch::Launch;
-use abi_types::{Answer, Call, Items, Pid, Signal, Tid, TidList, WakeIn};
+//! The entries that make the history of a run.
+use abi_types::{Answer, Call, Pid, Signal, Tid, TidList, WakeIn};
 
 /// What an entry of a history does.
 #[derive(Drop)]
@@ -35,14 +34,4 @@ pub struct Entry {
     pub tid: Tid,
     pub turns: TidList,
     pub act: Act,
-}
-
-/// The entries of a run, in their order.
-pub type History = Items<Entry>;
-
-/// A launch and the history of its run.
-#[derive(Drop)]
-pub struct Record {
-    pub launch: Launch,
-    pub history: History,
 }

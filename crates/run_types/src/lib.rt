@@ -1,8 +1,8 @@
-//! What a run starts from (`Launch`), and what it keeps of itself (`Record`): its entries, in their order.
+//! What a run starts from (`Launch`), and the entries of its history (`Entry`).
 #![tactic(auto)]
 
 pub use abi_types::Constants;
-pub use history::{Act, Entry, History, Record};
+pub use history::{Act, Entry};
 pub use launch::Launch;
 
 mod history;

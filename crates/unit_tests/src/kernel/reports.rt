@@ -4,9 +4,10 @@ use abi_types::{
     Answer, Bytes, Call, CallNumber, Denial, Errno, Payload, Pid, Reply, Rights, Signal, Tid,
     TidList, WakeIn, WordWrites,
 };
+use block_list::BlockList;
 use kernel_core::Kernel;
 use run_report::report;
-use run_types::{Act, Entry, History};
+use run_types::{Act, Entry};
 use std::alloc::{AllocError, Global};
 use std::test::Fail;
 
@@ -88,20 +89,21 @@ const RUNS: &[Run] = &[
 fn write(
     alloc: Global,
     kernel: &mut Kernel,
-    history: &mut History,
+    history: &mut BlockList<Entry>,
     text: &str,
 ) -> Result<(), AllocError> {
     let call = write_of(alloc, text)?;
-    match answer_to(kernel, &call) {
-        None => Ok(()),
-        Some(answer) => history.push(Entry {
+    if let Some(answer) = answer_to(kernel, &call) {
+        history.reserve()?;
+        history.push_reserved(Entry {
             moment: kernel.moment(),
             pid: PID,
             tid: TID,
             turns: TidList::new(alloc),
             act: Act::Call { call, answer },
-        }),
+        });
     }
+    Ok(())
 }
 
 // The answer to a call that lacks these rights of descriptor 3.
@@ -221,13 +223,18 @@ fn entry_of(alloc: Global, other: &Other) -> Result<Entry, AllocError> {
 }
 
 // The history of a run, as the kernel goes through it.
-fn history_of(alloc: Global, kernel: &mut Kernel, run: &Run) -> Result<History, AllocError> {
-    let mut history = History::new(alloc);
+fn history_of(
+    alloc: Global,
+    kernel: &mut Kernel,
+    run: &Run,
+) -> Result<BlockList<Entry>, AllocError> {
+    let mut history = BlockList::new(alloc);
     if let Some(text) = run.written {
         write(alloc, kernel, &mut history, text)?;
     }
     for other in run.others {
-        history.push(entry_of(alloc, other)?)?;
+        history.reserve()?;
+        history.push_reserved(entry_of(alloc, other)?);
     }
     if run.expires {
         expire(kernel);
@@ -238,7 +245,7 @@ fn history_of(alloc: Global, kernel: &mut Kernel, run: &Run) -> Result<History, 
 fn report_of(alloc: Global, run: &Run) -> Result<Bytes, AllocError> {
     let mut kernel = stdout_kernel(alloc)?;
     let history = history_of(alloc, &mut kernel, run)?;
-    report(alloc, &kernel, history.as_slice(), run.lines)
+    report(alloc, &kernel, &history, run.lines)
 }
 
 #[test]

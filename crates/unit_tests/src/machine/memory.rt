@@ -30,6 +30,8 @@ enum Operation {
     // At an address, so many pages, with these rights.
     Map(u64, u32, Prot),
     MapFixed(u64, u32, Prot),
+    // At an address, so many pages, which aren't mapped in the end.
+    Room(u64, u32),
     Protect(u64, u32, Prot),
     Unmap(u64, u32),
     // The lowest gap of so many pages.
@@ -76,7 +78,15 @@ fn map(memory: &mut GuestMemory, alloc: Global, at: u64, pages: u32, prot: Prot)
     DONE
 }
 
-fn map_fixed(memory: &mut GuestMemory, alloc: Global, at: u64, pages: u32, prot: Prot) -> Answer {
+// Makes room for pages, and maps them with these rights. Without rights the room is taken away again, and the answer is how many
+// pages there were with it.
+fn map_fixed(
+    memory: &mut GuestMemory,
+    alloc: Global,
+    at: u64,
+    pages: u32,
+    prot: Option<Prot>,
+) -> Answer {
     if at % PAGE_SIZE != 0
         || at < GUEST_BEGIN
         || at >= GUEST_END
@@ -88,9 +98,19 @@ fn map_fixed(memory: &mut GuestMemory, alloc: Global, at: u64, pages: u32, prot:
     if staying + u64::from(pages) > PAGE_LIMIT {
         return OUTSIDE;
     }
-    match memory.map_fixed(alloc, at, pages, prot) {
-        Ok(()) => DONE,
-        Err(_) => NONE_SUCH,
+    let Ok(room) = memory.make_room(alloc, at, pages) else {
+        return NONE_SUCH;
+    };
+    match prot {
+        Some(prot) => {
+            memory.map_fixed(room, at, pages, prot);
+            DONE
+        }
+        None => {
+            let count = memory.len() as u64;
+            memory.remove_room(room);
+            Ok(count)
+        }
     }
 }
 
@@ -176,7 +196,8 @@ fn bytes(memory: &GuestMemory, at: u64, want: &[u8]) -> Answer {
 fn answer(memory: &mut GuestMemory, alloc: Global, operation: Operation) -> Answer {
     match operation {
         Operation::Map(at, pages, prot) => map(memory, alloc, at, pages, prot),
-        Operation::MapFixed(at, pages, prot) => map_fixed(memory, alloc, at, pages, prot),
+        Operation::MapFixed(at, pages, prot) => map_fixed(memory, alloc, at, pages, Some(prot)),
+        Operation::Room(at, pages) => map_fixed(memory, alloc, at, pages, None),
         Operation::Protect(at, pages, prot) => protect(memory, at, pages, prot),
         Operation::Unmap(at, pages) => unmap(memory, at, pages),
         Operation::Gap(pages) => memory.find_gap(pages).ok_or(MemFault::NoMemory),
@@ -483,6 +504,10 @@ const FIXED_MAPPINGS_REPLACE_PAGES: Operations = &[
     (Operation::Map(0x20000, 2, READ), DONE),
     (Operation::Map(0x24000, 1, READ_WRITE), DONE),
     (Operation::Write(0x24ff8, &[7; 8]), DONE),
+    // room for the two free pages between, which is taken away again
+    (Operation::Len, Ok(3)),
+    (Operation::Room(0x21000, 4), Ok(5)),
+    (Operation::Len, Ok(3)),
     // over the second of the first two pages and the free one behind it, over nothing, and over the page with bytes
     (Operation::MapFixed(0x21000, 2, EXEC), DONE),
     (Operation::MapFixed(0x30000, 0, EXEC), DONE),

@@ -1,7 +1,9 @@
 //! A call of the top over inputs in memory: what it is given, and what it comes to.
 use input_output::{MemSink, MemSource};
-use launch_run::{Finished, run_launch};
+use launch_run::{Finished, Gate, OpenGate, run_launch};
 use std::alloc::{AllocError, Global};
+use std::sync::Wait;
+use std::thread::Threads;
 
 /// The words of a run without options.
 pub(crate) const WORDS: &[&str] = &["cloudabi-run", "p"];
@@ -64,23 +66,36 @@ fn source_of(alloc: Global, given: &Given<'_>) -> Result<MemSource, AllocError> 
 }
 
 // The top call. Its contract is long, and no test needs it: so it is read here alone.
-fn finished(
+fn finished<G: Gate + Sync>(
+    rt: &(impl Threads + Wait + Sync),
     alloc: Global,
     words: &[String],
+    gate: &G,
     source: &mut MemSource,
     sink: &mut MemSink,
 ) -> Finished {
-    run_launch(alloc, words, source, sink)
+    run_launch(rt, alloc, words, gate, source, sink)
 }
 
-/// What the top call answers, and the sink that it wrote to.
-pub(crate) fn answered(
+/// What the top call answers where its workers pass this gate, and the sink that it wrote to.
+pub(crate) fn answered_through<G: Gate + Sync>(
+    rt: &(impl Threads + Wait + Sync),
     alloc: Global,
     given: &Given<'_>,
+    gate: &G,
 ) -> Result<(Finished, MemSink), AllocError> {
     let words = words_of(alloc, given.words)?;
     let mut source = source_of(alloc, given)?;
     let mut sink = MemSink::new(alloc, given.failing_writes.to_vec(alloc)?);
-    let finished = finished(alloc, &words, &mut source, &mut sink);
+    let finished = finished(rt, alloc, &words, gate, &mut source, &mut sink);
     Ok((finished, sink))
+}
+
+/// What the top call answers, and the sink that it wrote to.
+pub(crate) fn answered(
+    rt: &(impl Threads + Wait + Sync),
+    alloc: Global,
+    given: &Given<'_>,
+) -> Result<(Finished, MemSink), AllocError> {
+    answered_through(rt, alloc, given, &OpenGate)
 }

@@ -37,7 +37,7 @@ const WITH_KEY: &[&str] = &[
 #[test]
 fn keeps_the_key(rt: HostRuntime) -> Result<(), Fail> {
     let given = Given::new(WITH_KEY, &HELLO_FILE, b"!fd stdout\n");
-    let (finished, _sink) = answered(rt.alloc(), &given)?;
+    let (finished, _sink) = answered(&rt, rt.alloc(), &given)?;
     assert_eq!(rt; kept_key(&finished), Some((30, 255)));
     Ok(())
 }

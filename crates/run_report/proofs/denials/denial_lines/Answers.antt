@@ -4,6 +4,6 @@ use Rattle.std.proofs.lemmas.List.Elements.{filter_map-append}
 use Rattle.run_report.specs.Denials.{denial_lines}
 use Rattle.run_report.proofs.denials.denial_lines.Goals as goal
 
-pub loop-entry-preserved : goal.loop-entry-preserved
+pub loop-index-preserved : goal.loop-index-preserved
 unfolding denial_lines
-loop-entry-preserved c = grind (arith, common_steps, filter_map-append)
+loop-index-preserved c = grind (arith, common_steps, filter_map-append)

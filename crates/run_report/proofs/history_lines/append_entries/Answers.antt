@@ -2,5 +2,5 @@ use Rattle.std.proofs.Common.{append_assoc, arith}
 use Rattle.std.proofs.lemmas.Grind.{common_steps, flat_map-append}
 use Rattle.run_report.proofs.history_lines.append_entries.Goals as goal
 
-pub loop-entry-preserved : goal.loop-entry-preserved
-loop-entry-preserved c = grind (arith, common_steps, flat_map-append, append_assoc)
+pub loop-index-preserved : goal.loop-index-preserved
+loop-index-preserved c = grind (arith, common_steps, flat_map-append, append_assoc)

@@ -6,5 +6,5 @@ use Rattle.run_report.proofs.history_lines.append_history.Goals as goal
 pub returns : goal.returns
 returns c =
     on_ok_weaker c.append_entries.result
-    (history_reported _ _ _ _ _ (c.as_bytes.ensures.value ∙ c.in_ok-format.ensures.ok) c.in_ok-append.ensures.ok)
+    (history_reported _ _ _ _ _ c.len-count.result c.len-count.ensures (c.as_bytes.ensures.value ∙ c.in_ok-format.ensures.ok) c.in_ok-append.ensures.ok)
     c.append_entries.ensures

@@ -1,5 +1,5 @@
 use Rattle.kernel_cell.proofs.Begins.{started}
-use Rattle.kernel_cell.proofs.Steps.{begins}
+use Rattle.shared_history.proofs.Steps.{begins}
 use Rattle.kernel_cell.proofs.cell.Begun.begin.Goals as goal
 
 pub of_words-requires : goal.of_words-requires

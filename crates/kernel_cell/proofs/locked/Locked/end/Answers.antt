@@ -1,5 +1,5 @@
 use Rattle.std.proofs.Common.{sym, ap, subst, ◌∙◌}
-use Rattle.kernel_cell.specs.Passes.{seen_of}
+use Rattle.shared_history.specs.Passes.{seen_of}
 use Rattle.kernel_cell.specs.Recorded.{IsRecorded}
 use Rattle.kernel_cell.proofs.PassOutcomes.{later_of, asks_end_now, stopped_is_seen, pass_after_end, stopped_on_same}
 use Rattle.kernel_cell.proofs.locked.Locked.end.Goals as goal

@@ -1,5 +1,5 @@
 use Rattle.std.proofs.Common.{sym, ap, subst, ◌∙◌}
-use Rattle.kernel_cell.specs.Passes.{IsSeen, seen_of}
+use Rattle.shared_history.specs.Passes.{IsSeen, seen_of}
 use Rattle.kernel_cell.specs.Recorded.{IsRecorded}
 use Rattle.kernel_cell.proofs.PassOutcomes.{later_of, seen_since, pass_after_look, live_tells}
 use Rattle.kernel_cell.proofs.locked.Locked.look.Goals as goal

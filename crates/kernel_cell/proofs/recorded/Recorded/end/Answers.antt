@@ -1,6 +1,6 @@
 use Rattle.std.proofs.Common.{◌∷◌, [], ◌++◌, refl, ap, ◌∙◌}
-use Rattle.kernel_cell.specs.Entries.{entry_of}
-use Rattle.kernel_cell.specs.Kept.{kept_of}
+use Rattle.shared_history.specs.Entries.{entry_of}
+use Rattle.shared_history.specs.Kept.{kept_of}
 use Rattle.kernel_cell.proofs.RecordedSteps.{kernel_early, log_short, live_there, fits_end, recorded_end, stopped_done}
 use Rattle.kernel_cell.proofs.recorded.Recorded.end.Goals as goal
 

@@ -1,4 +1,4 @@
-use Rattle.std.proofs.Common.{◌≡◌, ap, ◌∙◌}
+use Rattle.std.proofs.Common.{ap, ◌∙◌}
 use Rattle.run_model.specs.World.{first_guest}
 use Rattle.process_cell.proofs.Ties.{tied_first}
 use Rattle.process_cell.proofs.process.Process.first.Goals as goal

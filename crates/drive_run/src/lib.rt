@@ -1,0 +1,8 @@
+//! The run of a launch by workers, each a thread, from its begin to the book that is closed once they are done.
+#![tactic(auto)]
+
+pub use run::{Driven, drive};
+
+mod board;
+mod run;
+mod workers;

@@ -1,5 +1,0 @@
-use Rattle.kernel_cell.specs.Entries.{called}
-use Rattle.kernel_cell.proofs.keeper.Keeper.append_call.Given as goal
-
-abbrev pub ghosts-append_call_as : goal.ghosts-append_call_as
-ghosts-append_call_as g a = record { entry = called a.moment a.who.now a.turns.now a.call.now a.answer.now }

@@ -1,0 +1,28 @@
+use Rattle.std.proofs.Common.{◌≡◌, ◌∙◌, ap, refl, subst, sym, List, ℕ}
+use Rattle.std.specs.Prelude.{Option}
+use Rattle.abi_types.specs.declared.status.Status.{Status}
+use Rattle.input_output.specs.Sink.{grown, GrewByPrefix}
+use Rattle.input_output.specs.Source.{Rose}
+use Rattle.run_report.specs.Report.{report_of}
+use Rattle.run_types.specs.declared.history.Entry.{Entry}
+use Rattle.launch_run.specs.TopCall.{IsEndOf}
+use Rattle.launch_run.specs.declared.top.RunEnd.TheVariants.{Reported}
+use Rattle.launch_run.proofs.TopCalls.{reported, unreported, unwritten}
+use Rattle.launch_run.proofs.top.report_run.Goals as goal
+
+pub returns-in_default-clause-end : goal.returns-in_default-clause-end
+returns-in_default-clause-end g c = unreported c.args.book c.args.lines c.requires.of c.requires.ended _ _ (Unit {0}) _ c.record_of.ensures refl
+
+pub returns-in-Ok-write_whole-clause-end : goal.returns-in-Ok-write_whole-clause-end
+returns-in-Ok-write_whole-clause-end g c =
+    let text_is : c.as_slice.result.now ≡ report_of c.args.book.kernel c.args.book.kept.entries.items c.args.lines =
+    c.as_slice.ensures ∙ c.in-Ok.ensures in
+    rw (c.status-status.ensures)
+    (reported c.args.book c.args.lines c.requires.of c.requires.ended _ _ (Unit {0}) _ c.record_of-in-Ok-write_whole.ensures c.as_slice.result.now text_is c.in-Ok-write_whole.ensures.ok)
+
+pub returns-clause-end : goal.returns-clause-end
+returns-clause-end g c =
+    let text_is : c.as_slice.result.now ≡ report_of c.args.book.kernel c.args.book.kept.entries.items c.args.lines =
+    c.as_slice.ensures ∙ c.in-Ok.ensures in
+    unwritten c.args.book c.args.lines c.requires.of c.requires.ended _ _ _ _ c.record_of-in-Err.ensures c.as_slice.result.now text_is c.in-Err.ensures.failed
+    c.in-Err.ensures.failed_prefix
