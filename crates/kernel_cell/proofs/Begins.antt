@@ -11,11 +11,11 @@ use Rattle.call_codec.specs.Bounded.{IsBounded}
 use Rattle.run_model.specs.World.{World, world}
 use Rattle.run_model.proofs.Histories.{world_none, first_state, legal_none}
 use Rattle.kernel_cell.specs.Cell.{HasBegun}
+use Rattle.shared_history.specs.Kept.{IsKeptOf}
 use Rattle.shared_history.specs.Passes.{IsSeen}
 use Rattle.kernel_cell.specs.Recorded.{IsRecorded}
 use Rattle.shared_history.specs.declared.kept.Kept.{Kept}
 use Rattle.shared_history.specs.declared.rule.View.{View}
-use Rattle.shared_history.proofs.KeptEntries.{kept_none}
 use Rattle.shared_history.proofs.MadeProcesses.{first_made}
 
 -- the launch's start is the state of no entry
@@ -23,16 +23,15 @@ pub started : (launch : Launch) (kernel : State) → kernel ≡ start_state laun
 started launch kernel is = is ∙ sym (first_state launch) ∙ sym (ap (λ (w : World). w.state) (world_none launch))
 
 pub recorded_first : (launch : Launch) (all : Bool) (log : List Entry) (kernel : State) (constants : Constants) (kept : Kept) → IsBounded launch → log ≡ []
-    → kernel ≡ (world launch []).state → constants ≡ launch.constants → kept.all ≡ all → kept.entries.items ≡ []
+    → kernel ≡ (world launch []).state → constants ≡ launch.constants → IsKeptOf all [] kept
     → IsRecorded launch all log kernel constants kept
-recorded_first launch all log kernel constants kept bounded empty state same all_is none =
+recorded_first launch all log kernel constants kept bounded empty state same none =
     subst (λ (h : List Entry). IsRecorded launch all h kernel constants kept) (sym empty) (record {
       bounded = bounded;
       legal = legal_none launch;
       state = state;
       constants_are = same;
-      all_is = all_is;
-      kept_is = none ∙ sym (kept_none all);
+      kept_is = none;
     })
 
 -- process 0 has seen that there is no entry
@@ -46,4 +45,5 @@ pub begun_recorded : (launch named : Launch) (all : Bool) (log : List Entry) (ke
     → kept.all ≡ all → IsRecorded named all log kernel constants kept
 begun_recorded launch named all log kernel constants kept table at key me begun same empty constants_are all_is =
     subst (λ (l : Launch). IsRecorded l all log kernel constants kept) same
-    (recorded_first launch all log kernel constants kept begun.bounded empty begun.state constants_are all_is begun.none)
+    (recorded_first launch all log kernel constants kept begun.bounded empty begun.state constants_are
+    (subst (λ (a : Bool). IsKeptOf a [] kept) all_is begun.none))

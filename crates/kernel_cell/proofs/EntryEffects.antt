@@ -28,7 +28,7 @@ use Rattle.run_model.proofs.Ends.{apply_end, asks_runnable, end_is_answered, end
 use Rattle.run_model.proofs.Histories.{world_more, world_constants, legal_more, apply_is, guest_turned}
 use Rattle.kernel_cell.specs.Acting.{AsksCall, GoesOn, IsDead, act_of, status_of}
 use Rattle.shared_history.specs.Entries.{entry_of, called}
-use Rattle.shared_history.specs.Kept.{kept_of}
+use Rattle.shared_history.specs.Kept.{Takes}
 use Rattle.kernel_cell.specs.Recorded.{IsRecorded}
 use Rattle.shared_history.specs.declared.kept.Kept.{Kept}
 use Rattle.kernel_cell.specs.declared.results.EndBy.{EndBy}
@@ -44,15 +44,13 @@ state_next launch log e kernel is = sym is ∙ sym (ap (λ (w : World). w.state)
 
 pub recorded_next : (launch : Launch) (all : Bool) (log : List Entry) (kernel : State) (constants : Constants) (kept : Kept) (e : Entry) (after : State)
     (kept' : Kept) → IsRecorded launch all log kernel constants kept → Fits (world launch log) e → (apply (world launch log) e).state ≡ after
-    → kept'.all ≡ kept.all → kept'.entries.items ≡ kept.entries.items ++ kept_of kept.all (e ∷ [])
-    → IsRecorded launch all (log ++ e ∷ []) after constants kept'
-recorded_next launch all log kernel constants kept e after kept' r fits state same more = record {
+    → Takes e kept kept' → IsRecorded launch all (log ++ e ∷ []) after constants kept'
+recorded_next launch all log kernel constants kept e after kept' r fits state took = record {
   bounded = r.bounded;
   legal = legal_more launch log e r.legal fits;
   state = state_next launch log e after state;
   constants_are = r.constants_are;
-  all_is = same ∙ r.all_is;
-  kept_is = more ∙ (λ i. r.kept_is i ++ kept_of (r.all_is i) (e ∷ [])) ∙ sym (kept_more all log e);
+  kept_is = kept_more all log e kept kept' r.kept_is took;
 }
 
 -- ---- a call

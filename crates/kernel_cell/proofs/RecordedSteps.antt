@@ -21,7 +21,7 @@ use Rattle.run_model.specs.World.{Guest, world, apply, guest_of, called_guest}
 use Rattle.run_model.proofs.Bounds.{early, short}
 use Rattle.kernel_cell.specs.Acting.{AsksCall, AppendsCall, GoesOn, IsDead, IsActedOn, IsStoppedOn, act_of, status_of}
 use Rattle.shared_history.specs.Entries.{entry_of, called}
-use Rattle.shared_history.specs.Kept.{kept_of}
+use Rattle.shared_history.specs.Kept.{Takes}
 use Rattle.kernel_cell.specs.Recorded.{IsRecorded}
 use Rattle.shared_history.specs.declared.kept.Kept.{Kept}
 use Rattle.kernel_cell.specs.declared.results.Acted.TheVariants as acted
@@ -70,13 +70,12 @@ module _ (launch : Launch) (all : Bool) (log : List Entry) (before : State) (con
         pub appends_call : AppendsCall launch log who turns call after
         appends_call = record { moment = moment; given = given; fits = fits_call; last = last }
 
-        pub recorded_call : (kept' : Kept) → kept'.all ≡ kept.all
-            → kept'.entries.items ≡ kept.entries.items ++ kept_of kept.all (called moment who turns call given ∷ [])
+        pub recorded_call : (kept' : Kept) → Takes (called moment who turns call given) kept kept'
             → IsRecorded launch all after kernel constants kept'
-        recorded_call kept' same more =
+        recorded_call kept' took =
             subst (λ (h : List Entry). IsRecorded launch all h kernel constants kept') (sym last)
             (recorded_next launch all log before constants kept (called moment who turns call given) kernel kept' r fits_call
-            (subst (λ (e : Entry). (apply (world launch log) e).state ≡ kernel) same_call (call_state launch log who turns call given guest kernel a step_there)) same more)
+            (subst (λ (e : Entry). (apply (world launch log) e).state ≡ kernel) same_call (call_state launch log who turns call given guest kernel a step_there)) took)
 
         pub acted_runs : (guest' : Guest) → guest' ≡ called_guest guest who.tid call given → get kernel.statuses who.pid ≡ Some Live
             → IsActedOn launch log who turns call guest' after acted.Runs
@@ -110,12 +109,11 @@ module _ (launch : Launch) (all : Bool) (log : List Entry) (before : State) (con
       last_end : after ≡ log ++ entry_of kernel.clock who turns (act_of how) ∷ []
       last_end = last ∙ ap (λ (e : Entry). log ++ e ∷ []) (sym same_end)
 
-      pub recorded_end : (kept' : Kept) → kept'.all ≡ kept.all
-          → kept'.entries.items ≡ kept.entries.items ++ kept_of kept.all (entry_of moment who turns a ∷ []) → IsRecorded launch all after kernel constants kept'
-      recorded_end kept' same more =
+      pub recorded_end : (kept' : Kept) → Takes (entry_of moment who turns a) kept kept' → IsRecorded launch all after kernel constants kept'
+      recorded_end kept' took =
           subst (λ (h : List Entry). IsRecorded launch all h kernel constants kept') (sym last)
           (recorded_next launch all log before constants kept (entry_of moment who turns a) kernel kept' r fits_end
-          (subst (λ (e : Entry). (apply (world launch log) e).state ≡ kernel) same_end (end_state_is launch log who turns how kernel ended_there)) same more)
+          (subst (λ (e : Entry). (apply (world launch log) e).state ≡ kernel) same_end (end_state_is launch log who turns how kernel ended_there)) took)
 
       pub stopped_done : IsStoppedOn launch log who turns how after stopped.Done
       stopped_done = (

@@ -8,7 +8,7 @@ use Rattle.kernel_model.specs.State.{State}
 use Rattle.call_codec.specs.Bounded.{IsBounded}
 use Rattle.run_model.specs.Legal.{Legal}
 use Rattle.run_model.specs.World.{world}
-use Rattle.shared_history.specs.Kept.{kept_of}
+use Rattle.shared_history.specs.Kept.{IsKeptOf}
 use Rattle.shared_history.specs.Rule.{first_view}
 use Rattle.kernel_cell.specs.declared.cell.Book.{Book}
 use Rattle.shared_history.specs.declared.kept.Kept.{Kept}
@@ -22,13 +22,12 @@ pub record HasBegun (launch : Launch) (table at : TableId) (key : Launch) (me : 
   pub key_is : key ≡ launch
   pub first : me ≡ (first_view, [])
   pub state : kernel ≡ (world launch []).state
-  pub none : kept.entries.items ≡ []
+  pub none : IsKeptOf kept.all [] kept
 
--- The book is of a run of the launch: its history is legal, the kernel's state is its world's, and in memory are all its entries, or
--- those of denied calls.
+-- The book is of a run of the launch: its history is legal, the kernel's state is its world's, and in memory are its denied calls, and
+-- its entries or none of them.
 pub record IsBookOf (launch : Launch) (all : Bool) (book : Book) : Type 0 where
   pub launch_is : book.launch ≡ launch
   pub legal : Legal launch book.history
   pub state : book.kernel ≡ (world launch book.history).state
-  pub all_is : book.kept.all ≡ all
-  pub kept_is : book.kept.entries.items ≡ kept_of all book.history
+  pub kept_is : IsKeptOf all book.history book.kept

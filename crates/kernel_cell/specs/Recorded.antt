@@ -7,14 +7,13 @@ use Rattle.kernel_model.specs.State.{State}
 use Rattle.call_codec.specs.Bounded.{IsBounded}
 use Rattle.run_model.specs.Legal.{Legal}
 use Rattle.run_model.specs.World.{world}
-use Rattle.shared_history.specs.Kept.{kept_of}
+use Rattle.shared_history.specs.Kept.{IsKeptOf}
 use Rattle.shared_history.specs.declared.kept.Kept.{Kept}
 
--- The history is a legal one of the launch, and the kernel's state is its world's. In memory are the entries of it that are to be kept.
+-- The history is a legal one of the launch, and the kernel's state is its world's. In memory is what is to be kept of it.
 pub record IsRecorded (launch : Launch) (all : Bool) (log : List Entry) (kernel : State) (constants : Constants) (kept : Kept) : Type 0 where
   pub bounded : IsBounded launch
   pub legal : Legal launch log
   pub state : kernel ≡ (world launch log).state
   pub constants_are : constants ≡ launch.constants
-  pub all_is : kept.all ≡ all
-  pub kept_is : kept.entries.items ≡ kept_of all log
+  pub kept_is : IsKeptOf all log kept

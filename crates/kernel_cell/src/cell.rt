@@ -44,7 +44,7 @@ impl Model for Begun {
 }
 
 impl Begun {
-    /// Begins a run of a launch, of which all entries are kept in memory or those of denied calls. `Err` where memory ran out.
+    /// Begins a run of a launch, of which the denied calls are kept in memory, and where `all` is set the entries. `Err` where memory ran out.
     pub fn begin(alloc: Global, launch: Launch, all: bool) -> Result<Begun, AllocError>
         requires { IsBounded launch }
         ensures launch { IfOk result (λ begun. begun.launch ≡ launch) }
@@ -97,7 +97,7 @@ pub struct Cell<J: Naming> {
     ghost launch_is: { launch ≡ J.launch },
 }
 
-/// What is left of a run that is over: its kernel, its launch, its history, and the entries that were kept in memory.
+/// What is left of a run that is over: its kernel, its launch, its history, and what was kept of it in memory.
 #[derive(Drop)]
 pub struct Book {
     pub kernel: Kernel,

@@ -18,7 +18,6 @@ use Rattle.kernel_cell.specs.declared.cell.Book.{Book}
 use Rattle.kernel_cell.specs.declared.record.Record.{Record}
 use Rattle.launch_run.specs.declared.top.RunEnd.TheVariants.{Reported, Unwritten, Lacking}
 use Rattle.launch_run.specs.TopCall.{IsRecordOf, IsEndOf, state_of, record_report}
-use Rattle.launch_run.proofs.KeptReports.{report_needs_kept}
 
 abbrev pub recorded : Book → Record
 recorded book = record { launch = book.launch; history = book.history; kept = book.kept }
@@ -34,12 +33,10 @@ first_live launch =
 
 module _ (book : Book) (lines : Bool) (of : IsBookOf book.launch lines book) where
   record_is : IsRecordOf book.launch lines (recorded book)
-  record_is = record { launch_is = refl; legal = of.legal; entries = of.kept_is }
+  record_is = record { launch_is = refl; legal = of.legal; kept_is = of.kept_is }
 
-  text_is : (text : List ℕ) → text ≡ report_of book.kernel book.kept.entries.items lines → text ≡ record_report lines (recorded book)
-  text_is text is =
-      is ∙ ap (λ (es : List Entry). report_of book.kernel es lines) of.kept_is ∙ report_needs_kept book.kernel book.history lines
-      ∙ ap (λ (S : State). report_of S book.history lines) of.state
+  text_is : (text : List ℕ) → text ≡ report_of book.kernel book.history lines → text ≡ record_report lines (recorded book)
+  text_is text is = is ∙ ap (λ (S : State). report_of S book.history lines) of.state
 
   module _ (none : NoneLive book.kernel) (before after : Option (List ℕ)) (rose : Type 0) (rec : Record) (is : rec ≡ recorded book) where
     ended : NoneLive (state_of (recorded book))
@@ -49,13 +46,13 @@ module _ (book : Book) (lines : Bool) (of : IsBookOf book.launch lines book) whe
     has_entry : book.history ≢ []
     has_entry bare = ended 0 (ap (λ (h : List Entry). get (world book.launch h).state.statuses 0) bare ∙ first_live book.launch)
 
-    pub reported : (text : List ℕ) → text ≡ report_of book.kernel book.kept.entries.items lines → after ≡ grown before text
+    pub reported : (text : List ℕ) → text ≡ report_of book.kernel book.history lines → after ≡ grown before text
         → IsEndOf book.launch lines before after rose (Reported rec (get book.kernel.statuses 0))
     reported text same grew =
         subst (λ (r : Record). IsEndOf book.launch lines before after rose (Reported r (get book.kernel.statuses 0))) (sym is)
         (record_is, ended, ap (λ (S : State). get S.statuses 0) of.state, grew ∙ ap (grown before) (text_is text same))
 
-    pub unwritten : (text : List ℕ) → text ≡ report_of book.kernel book.kept.entries.items lines → rose → GrewByPrefix before after text
+    pub unwritten : (text : List ℕ) → text ≡ report_of book.kernel book.history lines → rose → GrewByPrefix before after text
         → IsEndOf book.launch lines before after rose (Unwritten rec)
     unwritten text same failed grew =
         subst (λ (r : Record). IsEndOf book.launch lines before after rose (Unwritten r)) (sym is)

@@ -32,7 +32,7 @@ is_kept given described launch r of known built begins =
       recorded = legal_is_recorded r.launch r.history of.legal proper;
       launch_described = subst (λ (l : Launch). IsKnownAs described (describes l)) (sym of.launch_is) known;
       built = subst (IsBuiltBy given) (sym of.launch_is) built;
-      entries = of.entries;
+      kept_is = of.kept_is;
     }
 
 -- lack of memory has a status of its own

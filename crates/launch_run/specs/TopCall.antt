@@ -8,7 +8,7 @@ use Rattle.input_output.specs.Source.{InputContent}
 use Rattle.abi_types.specs.declared.status.Status.{Status}
 use Rattle.abi_types.specs.declared.status.Status.TheVariants.{Live, Exit, Killed}
 use Rattle.kernel_cell.specs.declared.record.Record.{Record}
-use Rattle.shared_history.specs.Kept.{kept_of}
+use Rattle.shared_history.specs.Kept.{IsKeptOf}
 use Rattle.run_types.specs.declared.launch.Launch.{Launch}
 use Rattle.tree_model.specs.Grants.{MayBegin}
 use Rattle.kernel_model.specs.State.{State}
@@ -50,11 +50,11 @@ state_of r = (world r.launch r.history).state
 abbrev pub record_report : Bool → Record → List ℕ
 record_report lines r = report_of (state_of r) r.history lines
 
--- A record of a run of the launch: its history is legal, and in memory are all its entries, or those of denied calls.
+-- A record of a run of the launch: its history is legal, and in memory are its denied calls, and its entries or none of them.
 pub record IsRecordOf (launch : Launch) (all : Bool) (r : Record) : Type 0 where
   pub launch_is : r.launch ≡ launch
   pub legal : Legal r.launch r.history
-  pub entries : r.kept.entries.items ≡ kept_of all r.history
+  pub kept_is : IsKeptOf all r.history r.kept
 
 -- How a run of the launch came to its end, where before and after are what the sink shows of its bytes, and rose says
 -- that its count of faults rose. The report is of an ended run, and was written whole, or a prefix of it where the sink
@@ -162,15 +162,15 @@ pub record HasFailed (lines : Bool) (before after : Option (List ℕ)) (r : Reco
 -- What every record that is kept is: its history is legal, each entry is confined to what its process's descriptors
 -- reach with the rights needed, who holds which descriptors is shown by the entries, each descriptor is traced to one of the
 -- launch's grants, and at each entry copies are equal, rights are lowered to those asked and what is opened is bounded; and its
--- launch is the one that is described, where anything is known of it, and in any case one of these settings. In memory are all its
--- entries where the settings ask for the history, and else those of denied calls.
+-- launch is the one that is described, where anything is known of it, and in any case one of these settings. In memory are its denied
+-- calls, and its entries where the settings ask for the history.
 pub record IsKept (given : Option Settings) (described : Described) (r : Record) : Type 0 where
   pub legal : Legal r.launch r.history
   pub confined : IsConfined r.launch r.history
   pub recorded : IsRecorded r.launch r.history
   pub launch_described : IsKnownAs described (describes r.launch)
   pub built : IsBuiltBy given r.launch
-  pub entries : r.kept.entries.items ≡ kept_of (history_with given) r.history
+  pub kept_is : IsKeptOf (history_with given) r.history r.kept
 
 -- Where the source's count of faults did not rise, a refusal that is described is answered, and a launch that is described is
 -- run to its report where the sink's count did not rise; or memory ran out.

@@ -80,7 +80,13 @@ fn report_run<K: Sink>(alloc: Global, book: Book, lines: bool, sink: &mut K) -> 
     ensures faults_never_fall { K.faults sink.old ≤ K.faults sink.new }
     ensures end { IsEndOf book.launch lines (K.written sink.old) (K.written sink.new) (Rose (K.faults sink.old) (K.faults sink.new)) result }
 {
-    let Ok(text) = report(alloc, &book.kernel, &book.kept.entries, lines) else {
+    let Ok(text) = report(
+        alloc,
+        &book.kernel,
+        &book.kept.denied,
+        &book.kept.entries,
+        lines,
+    ) else {
         return RunEnd::Lacking(record_of(book));
     };
     match write_whole(sink, text.as_slice()) {

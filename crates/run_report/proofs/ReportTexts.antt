@@ -1,14 +1,13 @@
 -- Texts that the standard library's calls give, in the words of the report.
 use Rattle.std.proofs.Common.{◌≡◌, ℕ, ◌-◌, ◌^◌, true, false, List, [], ◌∷◌, ◌++◌, map, length, replicate, codes, cond, refl, sym, ap, ◌∙◌, arith, Bor}
-use Rattle.std.proofs.lemmas.List.{append-nil, length-map}
-use Rattle.std.proofs.lemmas.List.Concat.{concat_is}
+use Rattle.std.proofs.lemmas.List.{append-nil}
 use Rattle.std.proofs.lemmas.List.Folds.{flat_map-map}
-use Rattle.std.specs.Fmt.{padded_integral, format_spec, char_count, decimal}
-use Rattle.std.specs.List.{flat_map, join_by, concat, filter}
+use Rattle.std.specs.Fmt.{padded_integral, format_spec, char_count}
+use Rattle.std.specs.List.{join_by, filter}
 use Rattle.abi_base.specs.declared.rights.Rights.{Rights}
 use Rattle.abi_base.specs.Rights.{has_all, names}
 use Rattle.bitflags.specs.declared.traits.Flag.{Flag}
-use Rattle.run_report.specs.Denials.{listed, right_names, counted}
+use Rattle.run_report.specs.Denials.{listed, right_names}
 
 -- what `{:08x}` writes of these digits
 pub padded_eight : (ds : List ℕ) → padded_integral (format_spec 32 0 4 8 (2 ^ 64 - 1)) false [] ds ≡ replicate (8 - length ds) 48 ++ ds
@@ -19,10 +18,6 @@ padded_eight ds = let e : 8 - length ds - 0 - 0 ≡ 8 - length ds = omega arith 
 pub join_by-map : {X : Type 0} (f : X → List ℕ) (sep : List ℕ) (xs : List X) → join_by f sep xs ≡ join_by (λ x. x) sep (map f xs)
 join_by-map f sep [] = refl
 join_by-map f sep (x ∷ xs) = ap (λ rest. f x ++ rest) (sym (flat_map-map (λ y. sep ++ y) f xs))
-
--- the same without joining
-pub concat-map : {X : Type 0} (f : X → List ℕ) (xs : List X) → concat (map f xs) ≡ flat_map f xs
-concat-map f xs = concat_is (map f xs) ∙ flat_map-map (λ x. x) f xs
 
 -- no name
 pub listed_none : {X : Type 0} (f : X → List ℕ) (xs : List X) → length xs ≡ 0 → listed (map f xs) ≡ codes "-"
@@ -35,13 +30,6 @@ listed_some f [] some = absurd (some refl)
 listed_some f (x ∷ xs) some = sym (join_by-map f (codes ",") (x ∷ xs))
 
 pub ruleset listing = (listed_none, listed_some)
-
--- the lines of texts, under a line with their number
-pub counted-map : {X : Type 0} (f : X → List ℕ) (xs : List X) → counted (map f xs) ≡ codes "== denials " ++ (decimal (length xs) ++ (10 ∷ flat_map f xs))
-unfolding counted
-counted-map f xs = rw (length-map, concat-map) refl
-
-pub ruleset counting = (counted-map)
 
 -- the names of the flags that a set has, by the flags' rows
 named_of : (rights : ℕ) (flags : List (Flag Rights)) → map (λ (name : Bor (List ℕ)). name.now) (map (λ (flag : Flag Rights). flag.name) (filter (λ flag. has_all rights flag.value.0) flags))

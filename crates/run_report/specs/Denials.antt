@@ -1,17 +1,15 @@
 -- The lines of a report on denied calls.
-use Rattle.std.specs.Prelude.{ℕ, ◌-◌, false, ◌++◌, List, [], ◌∷◌, Option, None, codes, length, replicate, map, filter, option_map}
+use Rattle.std.specs.Prelude.{ℕ, ◌-◌, false, ◌++◌, List, [], ◌∷◌, codes, length, replicate, map, filter}
 use Rattle.std.specs.Fmt.{decimal, digits}
-use Rattle.std.specs.List.{join_by, filter_map, concat}
-use Rattle.abi_types.specs.declared.reply.Answer.TheVariants.{Reply}
-use Rattle.abi_types.specs.declared.call.Call.{Call}
+use Rattle.std.specs.List.{flat_map, join_by}
 use Rattle.abi_types.specs.declared.descriptor.Denial.{Denial}
 use Rattle.abi_types.specs.declared.descriptor.Denial.TheVariants.{Missing, Outside}
 use Rattle.abi_base.specs.declared.rights.Rights.{Rights}
 use Rattle.abi_base.specs.Rights.{names, has_all}
-use Rattle.run_types.specs.declared.history.Act.{Act}
-use Rattle.run_types.specs.declared.history.Act.TheVariants as act
 use Rattle.run_types.specs.declared.history.Entry.{Entry}
-use Rattle.run_report.specs.CallNames.{call_name}
+use Rattle.denied_calls.specs.DeniedCalls.{denied_calls}
+use Rattle.denied_calls.specs.declared.denied_call.DeniedCall.{DeniedCall}
+use Rattle.run_report.specs.CallNames.{name_of_number}
 
 -- the names of the rights in the set, in rising bit order
 unfoldable pub right_names : ℕ → List (List ℕ)
@@ -44,30 +42,14 @@ abbrev pub denial_text : Denial → List ℕ
 denial_text (Missing fd base inheriting) = missing_text fd base inheriting
 denial_text (Outside component) = codes "outside " ++ decimal component
 
--- the line of a call that was denied to a process's thread
-unfoldable pub denial_line : ℕ → ℕ → Call → Denial → List ℕ
-denial_line pid tid call denial = thread_text pid tid ++ (codes " " ++ (call_name call ++ (codes " " ++ (denial_text denial ++ 10 ∷ []))))
+-- the line of a denied call
+unfoldable pub denial_line : DeniedCall → List ℕ
+denial_line call = thread_text call.pid call.tid ++ (codes " " ++ (name_of_number call.number ++ (codes " " ++ (denial_text call.denial ++ 10 ∷ []))))
 
--- the line of an act that is a call or a wake with a denial
-abbrev pub act_line : ℕ → ℕ → Act → Option (List ℕ)
-act_line pid tid (act.Call call (Reply reply)) = option_map (denial_line pid tid call) reply.denial
-act_line pid tid (act.Wake call given (Reply reply)) = option_map (denial_line pid tid call) reply.denial
-act_line pid tid (act.Trap signal) = None
-act_line pid tid act.Expire = None
-act_line pid tid act.Idle = None
+-- the lines of denied calls in their order, under a line with their number
+unfoldable pub listed_denials : List DeniedCall → List ℕ
+listed_denials calls = codes "== denials " ++ (decimal (length calls) ++ (10 ∷ flat_map denial_line calls))
 
--- the line of an entry whose act is a call or a wake with a denial
-abbrev pub entry_line : Entry → Option (List ℕ)
-entry_line entry = act_line entry.pid entry.tid entry.act
-
--- the lines of the denied calls, in the history's order
-unfoldable pub denial_lines : List Entry → List (List ℕ)
-denial_lines history = filter_map entry_line history
-
--- lines, under a line with their number
-unfoldable pub counted : List (List ℕ) → List ℕ
-counted lines = codes "== denials " ++ (decimal (length lines) ++ (10 ∷ concat lines))
-
--- the lines of the denied calls, under a line with their number
+-- the lines of the history's denied calls
 abbrev pub denials_text : List Entry → List ℕ
-denials_text history = counted (denial_lines history)
+denials_text history = listed_denials (denied_calls history)

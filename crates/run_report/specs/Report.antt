@@ -1,5 +1,5 @@
 -- The report of a run, as a text.
-use Rattle.std.specs.Prelude.{ℕ, Bool, ◌-◌, ◌==◌, ◌||◌, ◌++◌, List, [], ◌∷◌, Option, None, Some, codes, length, slice_index, if◌then◌else◌}
+use Rattle.std.specs.Prelude.{◌≡◌, ℕ, Bool, true, ◌-◌, ◌==◌, ◌||◌, ◌++◌, List, [], ◌∷◌, Option, None, Some, codes, length, slice_index, if◌then◌else◌}
 use Rattle.std.specs.FinMap.{get}
 use Rattle.std.specs.Fmt.{decimal}
 use Rattle.abi_base.specs.declared.signal.Signal.{Signal}
@@ -7,6 +7,8 @@ use Rattle.abi_types.specs.declared.status.Status.{Status}
 use Rattle.abi_types.specs.declared.status.Status.TheVariants.{Live, Exit, Killed}
 use Rattle.abi_base.specs.Signal.{number_of, name_of}
 use Rattle.run_types.specs.declared.history.Entry.{Entry}
+use Rattle.denied_calls.specs.DeniedCalls.{denied_calls}
+use Rattle.denied_calls.specs.declared.denied_call.DeniedCall.{DeniedCall}
 use Rattle.kernel_core.specs.Kernel.{any_live}
 use Rattle.kernel_model.specs.State.{State, tree_of, written_to}
 use Rattle.tree_document.specs.Printing.{listing, printed}
@@ -62,3 +64,8 @@ report_of S history lines =
     ++ denials_text history
     ++ tree_text (tree_of S)
     ++ asked_history lines history
+
+-- what a report is written of: the denied calls are the history's, and so are the entries where lines are asked for
+pub record AreOf (history : List Entry) (lines : Bool) (denied : List DeniedCall) (entries : List Entry) : Type 0 where
+  pub denied_are : denied ≡ denied_calls history
+  pub entries_are : lines ≡ true → entries ≡ history

@@ -1,14 +1,15 @@
 //! The lines of a report on denied calls.
-ghost use Rattle.std.specs.Prelude.{◌≡◌, ◌++◌, IfOk, OnOk, map, filter, option_map};
+ghost use Rattle.std.specs.Prelude.{◌≡◌, ◌++◌, IfOk, OnOk, map, filter};
+ghost use Rattle.std.specs.List.{flat_map};
 ghost use Rattle.abi_base.specs.Rights.{has_all};
 ghost use Rattle.std.specs.String.{string_bytes};
-ghost use Rattle.run_report.specs.Denials.{denial_line, denial_text, missing_text, thread_text, listed, counted, rights_text, right_names, entry_line, denial_lines, denials_text};
+ghost use Rattle.run_report.specs.Denials.{denial_line, denial_text, missing_text, thread_text, listed, rights_text, right_names, listed_denials};
 
-use crate::call_names::call_name;
-use abi_types::{Answer, Bytes, Call, Denial, Pid, Rights, Tid};
+use crate::call_names::number_name;
+use abi_types::{Bytes, Denial, Pid, Rights, Tid};
 use bitflags::{Flag, Flags};
 use block_list::BlockList;
-use run_types::{Act, Entry};
+use denied_calls::DeniedCall;
 use std::alloc::{AllocError, Global};
 
 // The names of those flags whose rights are all in the set.
@@ -93,75 +94,38 @@ pub(crate) fn thread_text(alloc: Global, pid: Pid, tid: Tid) -> Result<String, A
 
 // The line of a denied call.
 #[tactic(auto, unfolding(crate::specs::Denials::denial_line))]
-fn denial_line(
+fn denial_line(alloc: Global, call: &DeniedCall) -> Result<String, AllocError>
+    ensures { IfOk result (λ line. string_bytes line ≡ denial_line call.now) }
+{
+    let thread = thread_text(alloc, call.pid, call.tid)?;
+    let name = number_name(alloc, call.number)?;
+    let denial = denial_text(alloc, call.denial)?;
+    format!(in alloc; "{thread} {name} {denial}\n")
+}
+
+// Puts the lines of denied calls at the end. `Err` may leave a part of them.
+fn append_lines(
     alloc: Global,
-    pid: Pid,
-    tid: Tid,
-    call: &Call,
-    denial: Denial,
-) -> Result<String, AllocError>
-    ensures { IfOk result (λ line. string_bytes line ≡ denial_line pid tid call.now denial) }
+    text: &mut Bytes,
+    calls: &BlockList<DeniedCall>,
+) -> Result<(), AllocError>
+    ensures { OnOk result (text.new ≡ text.old ++ flat_map denial_line calls.now.items) }
 {
-    let thread = thread_text(alloc, pid, tid)?;
-    let call = call_name(alloc, call)?;
-    let denial = denial_text(alloc, denial)?;
-    format!(in alloc; "{thread} {call} {denial}\n")
-}
-
-// The line of an entry whose call or wake was denied.
-fn entry_line(alloc: Global, entry: &Entry) -> Result<Option<String>, AllocError>
-    ensures { IfOk result (λ line. option_map string_bytes line ≡ entry_line entry.now) }
-{
-    let (Act::Call {
-        call,
-        answer: Answer::Reply(reply),
+    for index in 0..calls.len() {
+        text.append(denial_line(alloc, calls.at(index))?.as_bytes())?;
     }
-    | Act::Wake {
-        call,
-        answer: Answer::Reply(reply),
-        ..
-    }) = &entry.act
-    else {
-        return Ok(None);
-    };
-    match reply.denial {
-        None => Ok(None),
-        Some(denial) => Ok(Some(denial_line(alloc, entry.pid, entry.tid, call, denial)?)),
-    }
+    Ok(())
 }
 
-// The lines of the denied calls, in the history's order.
-#[tactic(auto, unfolding(crate::specs::Denials::denial_lines))]
-fn denial_lines(alloc: Global, history: &BlockList<Entry>) -> Result<Vec<String>, AllocError>
-    ensures { IfOk result (λ lines. map string_bytes lines.items ≡ denial_lines history.now.items) }
-{
-    let mut lines = Vec::new(alloc);
-    for index in 0..history.len() {
-        if let Some(line) = entry_line(alloc, history.at(index))? {
-            lines.push(line)?;
-        }
-    }
-    Ok(lines)
-}
-
-// Puts lines at the end, under a line with their number. `Err` may leave a part of it.
-#[tactic(auto, using(crate::proofs::ReportTexts::counting))]
-fn append_lines(alloc: Global, text: &mut Bytes, lines: &[String]) -> Result<(), AllocError>
-    ensures { OnOk result (text.new ≡ text.old ++ counted (map string_bytes lines.now)) }
-{
-    let count = lines.len();
-    let joined = lines.concat(alloc)?;
-    text.append(format!(in alloc; "== denials {count}\n{joined}")?.as_bytes())
-}
-
-/// Puts the lines of the denied calls at the end, under a line with their number. `Err` may leave a part of it.
+/// Puts the lines of denied calls at the end, under a line with their number. `Err` may leave a part of it.
 pub fn append_denials(
     alloc: Global,
     text: &mut Bytes,
-    history: &BlockList<Entry>,
+    calls: &BlockList<DeniedCall>,
 ) -> Result<(), AllocError>
-    ensures { OnOk result (text.new ≡ text.old ++ denials_text history.now.items) }
+    ensures { OnOk result (text.new ≡ text.old ++ listed_denials calls.now.items) }
 {
-    let lines = denial_lines(alloc, history)?;
-    append_lines(alloc, text, &lines)
+    let count = calls.len();
+    text.append(format!(in alloc; "== denials {count}\n")?.as_bytes())?;
+    append_lines(alloc, text, calls)
 }

@@ -1,21 +1,24 @@
 //! The report of a run: what the program wrote, how it ended, which calls were denied, and what files it left.
-ghost use Rattle.std.specs.Prelude.{◌≡◌, ◌++◌, IfOk, OnOk, None, Some, codes};
+ghost use Rattle.std.specs.Prelude.{◌≡◌, List, ◌++◌, IfOk, OnOk, None, Some, codes};
 ghost use Rattle.std.specs.FinMap as map;
 ghost use Rattle.std.specs.String.{string_bytes};
-ghost use Rattle.run_report.specs.Report.{report_of, stream_text, status_text, signal_text, run_text, end_text, ending, tree_text};
+ghost use Rattle.run_types.specs.declared.history.Entry.{Entry};
+ghost use Rattle.run_report.specs.Report.{report_of, AreOf, stream_text, status_text, signal_text, run_text, end_text, ending, tree_text};
 
 use crate::denials::append_denials;
 use crate::history_lines::append_history;
 use abi_types::{Bytes, Pid, Signal, Status};
 use block_list::BlockList;
+use denied_calls::DeniedCall;
 use file_tree::Tree;
 use kernel_core::Kernel;
 use run_types::Entry;
 use std::alloc::{AllocError, Global};
 use tree_document::tree_text;
 
-/// The report of a run whose kernel stands so and whose history is this one, with a line for each entry of the history
-/// where `lines` is set.
+/// The report of a run whose kernel stands so and whose history has these denied calls, with a line for each entry of the
+/// history where `lines` is set. The entries are read only there, and it is the report of each history that they and the denied
+/// calls may be of.
 ///
 /// It has, in order: what was written to stdout and to stderr, each under a line with its length; how process 0
 /// stands; whether the run ended, or stalled with a process still live; the denied calls, in the history's order; the
@@ -23,19 +26,21 @@ use tree_document::tree_text;
 pub fn report(
     alloc: Global,
     kernel: &Kernel,
-    history: &BlockList<Entry>,
+    denied: &BlockList<DeniedCall>,
+    entries: &BlockList<Entry>,
     lines: bool,
 ) -> Result<Bytes, AllocError>
-    ensures { IfOk result (λ text. text ≡ report_of kernel.now history.now.items lines) }
+    ensures { (history : List Entry) → AreOf history lines denied.now.items entries.now.items
+        → IfOk result (λ text. text ≡ report_of kernel.now history lines) }
 {
     let mut text = Bytes::new(alloc);
     append_stream(alloc, &mut text, "stdout", kernel.output(1))?;
     append_stream(alloc, &mut text, "stderr", kernel.output(2))?;
     append_end(alloc, &mut text, kernel)?;
-    append_denials(alloc, &mut text, history)?;
+    append_denials(alloc, &mut text, denied)?;
     append_tree(alloc, &mut text, kernel.tree())?;
     if lines {
-        append_history(alloc, &mut text, history)?;
+        append_history(alloc, &mut text, entries)?;
     }
     Ok(text)
 }

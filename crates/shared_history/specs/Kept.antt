@@ -1,33 +1,33 @@
--- Which entries of a history a run keeps in memory.
-use Rattle.std.specs.Prelude.{Bool, true, false, ◌<◌, List, filter}
-use Rattle.std.specs.Option.{is_some}
-use Rattle.abi_types.specs.declared.reply.Answer.{Answer}
-use Rattle.abi_types.specs.declared.reply.Answer.TheVariants as answer
-use Rattle.run_types.specs.declared.history.Act.{Act}
-use Rattle.run_types.specs.declared.history.Act.TheVariants as act
+-- What a run keeps of its history in memory.
+use Rattle.std.specs.Prelude.{◌≡◌, ◌<◌, ◌++◌, Bool, true, false, List, [], ◌∷◌, Option, None, Some}
+use Rattle.denied_calls.specs.DeniedCalls.{denied_calls}
+use Rattle.denied_calls.specs.declared.denied_call.DeniedCall.{DeniedCall}
 use Rattle.run_types.specs.declared.history.Entry.{Entry}
 use Rattle.shared_history.specs.declared.kept.Kept.{Kept}
 
--- whether the answer says why the call was denied
-abbrev pub is_denial : Answer → Bool
-is_denial (answer.Reply reply) = is_some reply.denial
-
--- whether the act is a call, or a wake of one, that was denied
-abbrev pub is_denied_act : Act → Bool
-is_denied_act (act.Call call given) = is_denial given
-is_denied_act (act.Wake call given answered) = is_denial answered
-is_denied_act (act.Trap signal) = false
-is_denied_act act.Expire = false
-is_denied_act act.Idle = false
-
-abbrev pub is_denied : Entry → Bool
-is_denied e = is_denied_act e.act
-
--- of a history that is all kept each entry, and of any other those of denied calls
+-- the entries of a history, where they are kept, and else none
 abbrev pub kept_of : Bool → List Entry → List Entry
 kept_of true log = log
-kept_of false log = filter is_denied log
+kept_of false log = []
+
+-- the one denied call, or none
+abbrev pub listed : Option DeniedCall → List DeniedCall
+listed None = []
+listed (Some call) = call ∷ []
 
 -- there is room for one more
-abbrev pub HasRoom : Kept → Type 0
-HasRoom kept = 0 < kept.entries.room
+pub record HasRoom (kept : Kept) : Type 0 where
+  pub entries : kept.all ≡ true → 0 < kept.entries.room
+  pub denied : 0 < kept.denied.room
+
+-- in memory is what is to be kept of the history: its denied calls, and its entries or none
+pub record IsKeptOf (all : Bool) (log : List Entry) (kept : Kept) : Type 0 where
+  pub all_is : kept.all ≡ all
+  pub entries_are : kept.entries.items ≡ kept_of all log
+  pub denied_are : kept.denied.items ≡ denied_calls log
+
+-- the entry was taken as it is to be kept
+pub record Takes (e : Entry) (before after : Kept) : Type 0 where
+  pub all_is : after.all ≡ before.all
+  pub entries_are : after.entries.items ≡ before.entries.items ++ kept_of before.all (e ∷ [])
+  pub denied_are : after.denied.items ≡ before.denied.items ++ denied_calls (e ∷ [])

@@ -1,29 +1,34 @@
 //! What a run keeps of its history in memory.
-ghost use Rattle.std.specs.Prelude.{◌≡◌, [], ◌∷◌, ◌++◌, OnOk};
+ghost use Rattle.std.specs.Prelude.{◌≡◌, ◌<◌, [], ◌∷◌, ◌++◌, OnOk};
+ghost use Rattle.denied_calls.specs.DeniedCalls.{denied_calls};
 ghost use Rattle.shared_history.specs.Entries.{called};
-ghost use Rattle.shared_history.specs.Kept.{is_denial, kept_of, HasRoom};
+ghost use Rattle.shared_history.specs.Kept.{kept_of, listed, HasRoom};
 
 use abi_types::{Answer, Call, TidList, Who};
 use block_list::BlockList;
+use denied_calls::DeniedCall;
 use run_types::{Act, Entry};
 use std::alloc::{AllocError, Global};
 
-/// The entries of a history that are kept in memory: all of them, or those of denied calls, from which a report without the
-/// history is written.
+/// What is kept of a history in memory: its denied calls, of which a report without the history is written, and its entries, or none of
+/// them.
 #[derive(Drop)]
 pub struct Kept {
-    /// Whether all entries are kept.
+    /// Whether the entries are kept.
     pub all: bool,
-    /// The entries, in their order.
+    /// The entries, in their order, where they are kept.
     pub entries: BlockList<Entry>,
+    /// The denied calls, in their order.
+    pub denied: BlockList<DeniedCall>,
 }
 
-// Whether the answer says why its call was denied.
-fn is_denial(answer: &Answer) -> bool
-    ensures { result ≡ is_denial answer.now }
+// Puts a denied call, if there is one, at the end.
+fn push_denied(denied: &mut BlockList<DeniedCall>, call: Option<DeniedCall>)
+    requires { 0 < denied.old.room }
+    ensures { denied.new.items ≡ denied.old.items ++ listed call }
 {
-    match answer {
-        Answer::Reply(reply) => reply.denial.is_some(),
+    if let Some(call) = call {
+        denied.push_reserved(call);
     }
 }
 
@@ -32,10 +37,12 @@ impl Kept {
     pub fn new(alloc: Global, all: bool) -> Kept
         ensures all { result.all ≡ all }
         ensures entries { result.entries.items ≡ [] }
+        ensures denied { result.denied.items ≡ [] }
     {
         Kept {
             all,
             entries: BlockList::new(alloc),
+            denied: BlockList::new(alloc),
         }
     }
 
@@ -43,22 +50,26 @@ impl Kept {
     pub fn reserve(&mut self) -> Result<(), AllocError>
         ensures all { self.new.all ≡ self.old.all }
         ensures entries { self.new.entries.items ≡ self.old.entries.items }
+        ensures denied { self.new.denied.items ≡ self.old.denied.items }
         ensures ok { OnOk result (HasRoom self.new) }
     {
-        self.entries.reserve()
+        self.denied.reserve()?;
+        if self.all {
+            self.entries.reserve()
+        } else {
+            Ok(())
+        }
     }
 
-    /// Keeps the entry, if it is to be kept.
+    /// Keeps the entry, and the call that it denies, as they are to be kept.
     pub fn take(&mut self, entry: Entry)
         requires { HasRoom self.old }
         ensures all { self.new.all ≡ self.old.all }
         ensures entries { self.new.entries.items ≡ self.old.entries.items ++ kept_of self.old.all (entry ∷ []) }
+        ensures denied { self.new.denied.items ≡ self.old.denied.items ++ denied_calls (entry ∷ []) }
     {
-        let denied = match &entry.act {
-            Act::Call { answer, .. } | Act::Wake { answer, .. } => is_denial(answer),
-            _ => false,
-        };
-        if self.all || denied {
+        push_denied(&mut self.denied, DeniedCall::of_entry(&entry));
+        if self.all {
             self.entries.push_reserved(entry);
         }
     }
@@ -68,8 +79,10 @@ impl Kept {
         requires { HasRoom self.old }
         ensures all { self.new.all ≡ self.old.all }
         ensures entries { self.new.entries.items ≡ self.old.entries.items ++ kept_of self.old.all (called moment who.now turns call answer ∷ []) }
+        ensures denied { self.new.denied.items ≡ self.old.denied.items ++ denied_calls (called moment who.now turns call answer ∷ []) }
     {
-        if self.all || is_denial(&answer) {
+        push_denied(&mut self.denied, DeniedCall::of_call(*who, &call, &answer));
+        if self.all {
             self.entries.push_reserved(Entry {
                 moment,
                 pid: who.pid,

@@ -5,6 +5,7 @@ use abi_types::{
     TidList, WakeIn, WordWrites,
 };
 use block_list::BlockList;
+use denied_calls::DeniedCall;
 use kernel_core::Kernel;
 use run_report::report;
 use run_types::{Act, Entry};
@@ -242,10 +243,26 @@ fn history_of(
     Ok(history)
 }
 
+// The denied calls of a history.
+fn denied_of(
+    alloc: Global,
+    history: &BlockList<Entry>,
+) -> Result<BlockList<DeniedCall>, AllocError> {
+    let mut denied = BlockList::new(alloc);
+    for index in 0..history.len() {
+        if let Some(call) = DeniedCall::of_entry(history.at(index)) {
+            denied.reserve()?;
+            denied.push_reserved(call);
+        }
+    }
+    Ok(denied)
+}
+
 fn report_of(alloc: Global, run: &Run) -> Result<Bytes, AllocError> {
     let mut kernel = stdout_kernel(alloc)?;
     let history = history_of(alloc, &mut kernel, run)?;
-    report(alloc, &kernel, &history, run.lines)
+    let denied = denied_of(alloc, &history)?;
+    report(alloc, &kernel, &denied, &history, run.lines)
 }
 
 #[test]

@@ -7,6 +7,7 @@ use Rattle.run_report.specs.Report.{report_of}
 use Rattle.run_types.specs.declared.history.Entry.{Entry}
 use Rattle.launch_run.specs.TopCall.{IsEndOf}
 use Rattle.launch_run.specs.declared.top.RunEnd.TheVariants.{Reported}
+use Rattle.launch_run.proofs.KeptReports.{kept_are_of}
 use Rattle.launch_run.proofs.TopCalls.{reported, unreported, unwritten}
 use Rattle.launch_run.proofs.top.report_run.Goals as goal
 
@@ -15,14 +16,14 @@ returns-in_default-clause-end g c = unreported c.args.book c.args.lines c.requir
 
 pub returns-in-Ok-write_whole-clause-end : goal.returns-in-Ok-write_whole-clause-end
 returns-in-Ok-write_whole-clause-end g c =
-    let text_is : c.as_slice.result.now ≡ report_of c.args.book.kernel c.args.book.kept.entries.items c.args.lines =
-    c.as_slice.ensures ∙ c.in-Ok.ensures in
+    let text_is : c.as_slice.result.now ≡ report_of c.args.book.kernel c.args.book.history c.args.lines =
+    c.as_slice.ensures ∙ c.in-Ok.ensures c.args.book.history (kept_are_of c.args.book.history c.args.lines c.args.book.kept c.requires.of.kept_is) in
     rw (c.status-status.ensures)
     (reported c.args.book c.args.lines c.requires.of c.requires.ended _ _ (Unit {0}) _ c.record_of-in-Ok-write_whole.ensures c.as_slice.result.now text_is c.in-Ok-write_whole.ensures.ok)
 
 pub returns-clause-end : goal.returns-clause-end
 returns-clause-end g c =
-    let text_is : c.as_slice.result.now ≡ report_of c.args.book.kernel c.args.book.kept.entries.items c.args.lines =
-    c.as_slice.ensures ∙ c.in-Ok.ensures in
+    let text_is : c.as_slice.result.now ≡ report_of c.args.book.kernel c.args.book.history c.args.lines =
+    c.as_slice.ensures ∙ c.in-Ok.ensures c.args.book.history (kept_are_of c.args.book.history c.args.lines c.args.book.kept c.requires.of.kept_is) in
     unwritten c.args.book c.args.lines c.requires.of c.requires.ended _ _ _ _ c.record_of-in-Err.ensures c.as_slice.result.now text_is c.in-Err.ensures.failed
     c.in-Err.ensures.failed_prefix

@@ -1,4 +1,6 @@
+use Rattle.std.proofs.Common.{refl}
 use Rattle.kernel_cell.proofs.Begins.{started}
+use Rattle.shared_history.proofs.KeptEntries.{kept_none}
 use Rattle.shared_history.proofs.Steps.{begins}
 use Rattle.kernel_cell.proofs.cell.Begun.begin.Goals as goal
 
@@ -15,5 +17,5 @@ invariant_of-result c =
       key_is = made.5;
       first = made.4;
       state = started c.args.launch c.in_ok-kernel.kernel c.in_ok-kernel.ensures.state;
-      none = c.new.ensures.entries;
+      none = kept_none _ _ refl c.new.ensures.entries c.new.ensures.denied;
     }

@@ -1,9 +1,8 @@
-use Rattle.std.proofs.Common.{◌≡◌, ℕ, ◌<◌, List, ◌∷◌, [], ◌++◌, length, slice_index_or, IsSome, refl, sym, ap, subst, ◌∙◌, arith, true≢false}
+use Rattle.std.proofs.Common.{◌≡◌, ℕ, ◌<◌, List, length, slice_index_or, IsSome, refl, sym, ap, subst, ◌∙◌, arith, true≢false}
 use Rattle.std.specs.FinMap.{get}
 use Rattle.call_codec.specs.Arguments.{args_of}
 use Rattle.call_codec.proofs.Puts.{may_map_for}
-use Rattle.shared_history.specs.Entries.{called}
-use Rattle.shared_history.specs.Kept.{kept_of}
+use Rattle.shared_history.proofs.KeptEntries.{takes_reserved}
 use Rattle.kernel_cell.proofs.EntryEffects.{call_encoded}
 use Rattle.kernel_cell.proofs.RecordedSteps.{kernel_early, log_short, constants_early, live_there, call_runs, fits_call, recorded_call, acted_runs, acted_ends}
 use Rattle.run_model.specs.World.{Guest, world, registers_of, called_guest}
@@ -76,9 +75,9 @@ returns-then-live-clause-recorded g c =
     let live = live_there g.J.Naming.launch g.J.Naming.keeps_all self.keeper.log self.kernel self.constants self.kept c.requires.recorded who.pid (c.if-not-live.ensures.0 refl) in
     recorded_call g.J.Naming.launch g.J.Naming.keeps_all self.keeper.log self.kernel self.constants self.kept c.requires.recorded who c.args.turns c.args.call c.args.guest.now
     (c.requires.asks live) c.step-answer.result c.step-answer.new.self c.moment-moment.result c.moment-moment.ensures c.step-answer.ensures.step live
-    c.append_call.new.self.log (ap (λ k. k.log) c.append_call.ensures) c.take_call.new.self (c.take_call.ensures.all ∙ c.reserve.ensures.all)
-    (c.take_call.ensures.entries
-    ∙ (λ i. c.reserve.ensures.entries i ++ kept_of (c.reserve.ensures.all i) (called c.moment-moment.result who c.args.turns c.args.call c.step-answer.result ∷ [])))
+    c.append_call.new.self.log (ap (λ k. k.log) c.append_call.ensures) c.take_call.new.self
+    (takes_reserved _ self.kept c.reserve.new.self _ c.reserve.ensures.all c.reserve.ensures.entries c.reserve.ensures.denied
+    (record { all_is = c.take_call.ensures.all; entries_are = c.take_call.ensures.entries; denied_are = c.take_call.ensures.denied }))
 
 pub returns-else-live-clause-recorded : goal.returns-else-live-clause-recorded
 returns-else-live-clause-recorded g c =
@@ -87,9 +86,9 @@ returns-else-live-clause-recorded g c =
     let live = live_there g.J.Naming.launch g.J.Naming.keeps_all self.keeper.log self.kernel self.constants self.kept c.requires.recorded who.pid (c.if-not-live.ensures.0 refl) in
     recorded_call g.J.Naming.launch g.J.Naming.keeps_all self.keeper.log self.kernel self.constants self.kept c.requires.recorded who c.args.turns c.args.call c.args.guest.now
     (c.requires.asks live) c.step-answer.result c.step-answer.new.self c.moment-moment.result c.moment-moment.ensures c.step-answer.ensures.step live
-    c.append_call.new.self.log (ap (λ k. k.log) c.append_call.ensures) c.take_call.new.self (c.take_call.ensures.all ∙ c.reserve.ensures.all)
-    (c.take_call.ensures.entries
-    ∙ (λ i. c.reserve.ensures.entries i ++ kept_of (c.reserve.ensures.all i) (called c.moment-moment.result who c.args.turns c.args.call c.step-answer.result ∷ [])))
+    c.append_call.new.self.log (ap (λ k. k.log) c.append_call.ensures) c.take_call.new.self
+    (takes_reserved _ self.kept c.reserve.new.self _ c.reserve.ensures.all c.reserve.ensures.entries c.reserve.ensures.denied
+    (record { all_is = c.take_call.ensures.all; entries_are = c.take_call.ensures.entries; denied_are = c.take_call.ensures.denied }))
 
 pub returns-then-live-clause-acted : goal.returns-then-live-clause-acted
 returns-then-live-clause-acted g c =

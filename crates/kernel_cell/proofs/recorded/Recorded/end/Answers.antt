@@ -1,6 +1,5 @@
-use Rattle.std.proofs.Common.{◌∷◌, [], ◌++◌, refl, ap, ◌∙◌}
-use Rattle.shared_history.specs.Entries.{entry_of}
-use Rattle.shared_history.specs.Kept.{kept_of}
+use Rattle.std.proofs.Common.{refl, ap}
+use Rattle.shared_history.proofs.KeptEntries.{takes_reserved}
 use Rattle.kernel_cell.proofs.RecordedSteps.{kernel_early, log_short, live_there, fits_end, recorded_end, stopped_done}
 use Rattle.kernel_cell.proofs.recorded.Recorded.end.Goals as goal
 
@@ -29,9 +28,9 @@ returns-clause-recorded g c =
     let live = live_there g.J.Naming.launch g.J.Naming.keeps_all self.keeper.log self.kernel self.constants self.kept c.requires.recorded who.pid (c.if-not-live.ensures.0 refl) in
     recorded_end g.J.Naming.launch g.J.Naming.keeps_all self.keeper.log self.kernel self.constants self.kept c.requires.recorded who c.args.turns c.args.how
     c.status_of.result c.status_of.ensures c.act_of.result c.act_of.ensures c.end.new.self c.end.ensures.end c.moment.result c.moment.ensures live (c.requires.asks live)
-    c.append.new.self.log (ap (λ k. k.log) c.append.ensures) c.take.new.self (c.take.ensures.all ∙ c.reserve.ensures.all)
-    (c.take.ensures.entries
-    ∙ (λ i. c.reserve.ensures.entries i ++ kept_of (c.reserve.ensures.all i) (entry_of c.moment.result who c.args.turns c.act_of.result ∷ [])))
+    c.append.new.self.log (ap (λ k. k.log) c.append.ensures) c.take.new.self
+    (takes_reserved _ self.kept c.reserve.new.self _ c.reserve.ensures.all c.reserve.ensures.entries c.reserve.ensures.denied
+    (record { all_is = c.take.ensures.all; entries_are = c.take.ensures.entries; denied_are = c.take.ensures.denied }))
 
 pub returns-clause-stopped : goal.returns-clause-stopped
 returns-clause-stopped g c =

@@ -1,0 +1,6 @@
+//! The denied calls of a history.
+#![tactic(auto)]
+
+pub use denied_call::DeniedCall;
+
+mod denied_call;
