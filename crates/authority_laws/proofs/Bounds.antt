@@ -5,7 +5,6 @@ use Rattle.std.specs.FinMap.{get, insert}
 use Rattle.abi_base.proofs.Bits.{has-meet}
 use Rattle.abi_base.specs.declared.errno.Errno.TheVariants.{Again, Success}
 use Rattle.abi_structures.specs.declared.structures.FdStat.{FdStat}
-use Rattle.abi_types.specs.declared.call.Call.{Call}
 use Rattle.abi_types.specs.declared.call.Call.TheVariants.{FileOpen}
 use Rattle.abi_types.specs.declared.call.Lookup.{Lookup}
 use Rattle.abi_types.specs.declared.constants.Constants.{Constants}
@@ -25,27 +24,31 @@ use Rattle.kernel_model.specs.Families.Numbers.{can_number, next_object, process
 use Rattle.kernel_model.specs.Families.Opening.{Opened, NotOpened, OpenedOutside, Opens, open_at, open_mode, open_walked, opened_descriptor, opened_outcome}
 use Rattle.kernel_model.specs.Outcome.{Outcome, OnReply, replies}
 use Rattle.kernel_model.specs.Reply.{refused, success}
+use Rattle.kernel_model.specs.Release.{release}
 use Rattle.kernel_model.specs.State.{State, ProcessState, Table, put_all, set_open, set_table}
 use Rattle.kernel_model.specs.Step.{tick, outcome, step_answer, unreleased, IsStep}
 use Rattle.kernel_model.specs.Families.TreeUpdates.{change_updates}
-use Rattle.kernel_model.specs.Valid.{fits, fits_inheriting}
+use Rattle.kernel_model.specs.Fits.{fits, fits_inheriting}
+use Rattle.kernel_model.specs.Valid.{IsValid}
 use Rattle.kernel_model.specs.View.{View, whole}
 use Rattle.kernel_model.proofs.FilePaths.{walked_plainly}
+use Rattle.kernel_model.proofs.DescriptorCalls.{free_is_absent}
+use Rattle.kernel_model.proofs.HeldOpens.{open_holds, spares_all}
 use Rattle.kernel_model.proofs.Outcomes.{outcome_holds}
 use Rattle.kernel_model.proofs.Refusals.{on_reply, refusal_is_other}
 use Rattle.kernel_model.proofs.Tests.{not_true, same_some}
 use Rattle.run_model.specs.Legal.{Legal}
-use Rattle.run_model.specs.World.{World, acted, called_state, turned, who_of, world}
-use Rattle.run_model.proofs.Histories.{apply_is, legal_front, world_more}
+use Rattle.run_model.specs.World.{called_state, who_of, world}
+use Rattle.run_model.proofs.Histories.{legal_front}
 use Rattle.run_model.proofs.Worlds.{world_is_valid}
 use Rattle.authority_laws.specs.Laws.{OpensAt}
 use Rattle.authority_laws.specs.Ledger.{Row, Made, with_held, opened_held}
-use Rattle.authority_laws.specs.Recorded.{Succeeds, held_after, held_before, ledger, made_at}
-use Rattle.authority_laws.proofs.Copies.{before_is, free_is_absent, granted_after, stepped}
-use Rattle.authority_laws.proofs.Histories.{up_to, world_rows}
+use Rattle.authority_laws.specs.Recorded.{Succeeds, after_at, held_after, held_before}
+use Rattle.authority_laws.proofs.Copies.{before_is, called_is, opened_after, rows_after, stepped}
 use Rattle.authority_laws.proofs.Leads.{Leads, step_leads}
 use Rattle.authority_laws.proofs.Openings.{RefusesByError, row_has, walk_by_error}
 use Rattle.authority_laws.proofs.Rows.{row_in, row_of, held_here, held_elsewhere, again_is_error, mfile_is_error, notcapable_is_error}
+use Rattle.authority_laws.proofs.States.{row_spared}
 use Rattle.authority_laws.proofs.Successes.{no_memory, opener_is}
 
 -- ---- the result was free, and then an open stands there
@@ -101,35 +104,20 @@ outcome_opens constants S who lookup path oflags stat =
     (λ table own. call_opens (tick S) who.pid table lookup path oflags stat own constants (whole (tick S)))
 
 step_opens : (constants : Constants) (S : State) (who : Who) (lookup : Lookup) (path : List ℕ) (oflags : ℕ) (stat : FdStat) (reply : Reply) (T : State)
-    → IsStep constants S who (FileOpen lookup path oflags stat) (answer.Reply reply) T → reply.errno ≡ Success
+    → IsStep constants S who (FileOpen lookup path oflags stat) (answer.Reply reply) T → reply.errno ≡ Success → IsValid S
     → (row_of S who.pid reply.r1 ≡ None) × IsSome (row_of T who.pid reply.r1)
-step_opens constants S who lookup path oflags stat reply T (inl done) success =
+step_opens constants S who lookup path oflags stat reply T (inl done) success valid =
     let call = FileOpen lookup path oflags stat in
     let U = unreleased constants S who call in
     let both : (row_of S who.pid reply.r1 ≡ None) × IsSome (row_of U who.pid reply.r1) =
     on_reply (λ (r : Reply). r.errno ≡ Success → (row_of S who.pid r.r1 ≡ None) × IsSome (row_of U who.pid r.r1)) (step_answer constants S who call) reply
     (outcome_opens constants S who lookup path oflags stat) (sym done.0) success in
-    (both.0, subst (λ (V : State). IsSome (row_of V who.pid reply.r1)) (sym done.1) both.1)
-step_opens constants S who lookup path oflags stat reply T (inr lacking) success = no_memory reply lacking.1 success
+    let row : row_of (release U) who.pid ≡ row_of U who.pid =
+    row_spared U who.pid (spares_all constants S who call valid (open_holds constants S who lookup path oflags stat) who.pid) in
+    (both.0, subst (λ (V : State). IsSome (row_of V who.pid reply.r1)) (sym done.1) (subst (λ r. IsSome (r reply.r1)) (sym row) both.1))
+step_opens constants S who lookup path oflags stat reply T (inr lacking) success valid = no_memory reply lacking.1 success
 
 -- ---- the law
-
--- the kernel's state after an entry that is a call
-called_is : (launch : Launch) (front : List Entry) (e : Entry) (call : Call) (reply : Reply) → Succeeds e call reply
-    → (world launch (front ++ e ∷ [])).state
-    ≡ called_state (world launch front).constants (world launch front).state (who_of e) call (answer.Reply reply)
-called_is launch front e call reply done =
-    ap (λ (w : World). w.state) (world_more launch front e ∙ apply_is (world launch front) e)
-    ∙ ap (λ a. (acted (turned (world launch front) e.pid e.turns) (who_of e) a).state) done.is
-
--- what its process then has in the kernel's tables
-rows_after : (launch : Launch) (front : List Entry) (e : Entry) (rest : List Entry) (call : Call) (reply : Reply) → Legal launch (front ++ e ∷ rest)
-    → Succeeds e call reply
-    → row_of (called_state (world launch front).constants (world launch front).state (who_of e) call (answer.Reply reply)) e.pid
-    ≡ (ledger launch (front ++ e ∷ [])).held e.pid
-rows_after launch front e rest call reply legal done =
-    ap (λ (S : State). row_of S e.pid) (sym (called_is launch front e call reply done))
-    ∙ world_rows launch (front ++ e ∷ []) (up_to launch front e rest legal) e.pid
 
 -- what stands under the result is the open that was made
 made_is_there : (made : Made) (before after : Row) (n : ℕ) (stat : FdStat) (o : Option OpenKind) → made.kind ≡ o
@@ -156,7 +144,7 @@ pub opens_are_bounded : (launch : Launch) (front : List Entry) (e : Entry) (rest
 opens_are_bounded launch front e rest begins legal lookup path oflags stat reply done =
     let w = world launch front in
     let call = FileOpen lookup path oflags stat in
-    let made : Made = made_at launch front e in
+    let made : Made = (after_at launch front e).made 0 in
     let before : Row = held_before launch front e in
     let after : Row = held_after launch front e in
     let T : State = called_state w.constants w.state (who_of e) call (answer.Reply reply) in
@@ -164,10 +152,10 @@ opens_are_bounded launch front e rest begins legal lookup path oflags stat reply
     let valid = world_is_valid launch front begins (legal_front launch front (e ∷ rest) legal) in
     let by = opener_is w.constants w.state (who_of e) lookup path oflags stat reply T step done.success valid in
     let leads = leads_after launch front e rest lookup path oflags stat reply begins legal done in
-    let held : row_of w.state e.pid ≡ before = before_is launch front e rest legal in
-    let gives = step_opens w.constants w.state (who_of e) lookup path oflags stat reply T step done.success in
-    let is : after ≡ with_held before reply.r1 (opened_held made stat) = granted_after launch front e call reply done in
-    let now : row_of T e.pid ≡ after = rows_after launch front e rest call reply legal done in
+    let held : row_of w.state e.pid ≡ before = before_is launch front e rest begins legal in
+    let gives = step_opens w.constants w.state (who_of e) lookup path oflags stat reply T step done.success valid in
+    let is : after ≡ with_held before reply.r1 (opened_held made stat) = opened_after launch front e rest begins legal lookup path oflags stat reply done in
+    let now : row_of T e.pid ≡ after = rows_after launch front e rest begins legal call reply done in
     let opened = made_is_there made before after reply.r1 stat made.kind refl is (subst IsSome (λ i. now i reply.r1) gives.1) in
     record {
       d = opened_descriptor made.number opened.0 stat;
@@ -181,6 +169,7 @@ opens_are_bounded launch front e rest begins legal lookup path oflags stat reply
       stands = (λ i. is i reply.r1) ∙ held_here before reply.r1 (opened_held made stat)
           ∙ ap (option_map (λ (k : OpenKind). opened_descriptor made.number k stat)) opened.1;
       id = refl;
+      absent = leads.absent;
       opened = opened.1;
       leads = leads.leads opened.0 opened.1;
       base = λ k. has-meet (fits opened.0) stat.base.0 k;

@@ -46,9 +46,9 @@ use Rattle.kernel_model.proofs.NameProper.{outcome_tables}
 use Rattle.kernel_model.proofs.OpenMeanings.{OpensWell, apart_descriptor, apart_tables}
 use Rattle.kernel_model.proofs.Refusals.{refusal_is_other}
 use Rattle.kernel_model.proofs.StreamCalls.{read_opens_well, seek_opens_well, write_opens_well}
-use Rattle.authority_laws.specs.Ledger.{Row, Made, with_held, last_made, lowered_row, granted_row, by_success, answered_row}
+use Rattle.authority_laws.specs.Ledger.{Row, After, after_of, with_held, lowered_row, granted_row, by_success, answered_row}
 use Rattle.authority_laws.proofs.Openings.{open_reported, walk_by_error}
-use Rattle.authority_laws.proofs.Rows.{LeavesRow, row_in, row_of, row_emptied, row_inserted, row_removed, by_error, by_either, refused_reported, badf_is_error, mfile_is_error}
+use Rattle.authority_laws.proofs.Rows.{LeavesRow, row_in, row_of, row_emptied, row_inserted, row_removed, by_error, by_either, refused_reported, badf_is_error, mfile_is_error, nosys_is_error}
 
 -- each outcome of the call of a process with this table, once it is not refused, is such
 abbrev IsReported : Call → Type 0
@@ -62,15 +62,15 @@ abbrev KeepsTables : State → Outcome → Type 0
 KeepsTables S o = (put_all o.updates S).tables ≡ S.tables
 
 abbrev GrantsNothing : Call → Type 0
-GrantsNothing call = (made : Made) (row : Row) (reply : Reply) → granted_row made row call reply ≡ row
+GrantsNothing call = (after : After) (row : Row) (reply : Reply) → granted_row after row call reply ≡ row
 
-same_answered : (made : Made) (row : Row) (call : Call) (given : Answer) → GrantsNothing call → row ≡ answered_row made row call given
-same_answered made row call (answer.Reply reply) nothing =
-    sym (ap (λ granted. by_success reply.errno granted row) (nothing made row reply) ∙ by_either reply.errno row)
+same_answered : (after : After) (row : Row) (call : Call) (given : Answer) → GrantsNothing call → row ≡ answered_row after row call given
+same_answered after row call (answer.Reply reply) nothing =
+    sym (ap (λ granted. by_success reply.errno granted row) (nothing after row reply) ∙ by_either reply.errno row)
 
 kept : (S : State) (p : ℕ) (call : Call) (o : Outcome) → GrantsNothing call → KeepsTables S o → LeavesRow S p call o
 kept S p call o nothing same =
-    ap (λ tables. row_in (get tables p)) same ∙ same_answered (last_made (put_all o.updates S) p) (row_of S p) call o.answer nothing
+    ap (λ tables. row_in (get tables p)) same ∙ same_answered (after_of (put_all o.updates S) p) (row_of S p) call o.answer nothing
 
 -- a call that may make another open of that of a descriptor
 moved_reported : (called : Call) (m : OpenMeaning) (row : Needed) → OpensWell m → GrantsNothing called → meaning_of called ≡ by_open row m → IsReported called
@@ -90,7 +90,7 @@ stat_kept S v (Some d) = stat_open_kept S d (v.opened d.id)
 
 fd_stat_get_reported : (fd : ℕ) → IsReported (FdStatGet fd)
 fd_stat_get_reported fd constants S v who table there =
-    kept S who.pid (FdStatGet fd) (stat_get v (get table fd)) (λ made row reply. refl) (stat_kept S v (get table fd))
+    kept S who.pid (FdStatGet fd) (stat_get v (get table fd)) (λ after row reply. refl) (stat_kept S v (get table fd))
 
 -- a call that succeeds, and does no more
 nothing_reported : (call : Call) → GrantsNothing call
@@ -118,10 +118,10 @@ mem_map_reported place length prot flags fd offset =
       | true ↦ λ is constants S v who table there.
           subst (λ (m : Meaning). LeavesRow S who.pid (MemMap place length prot flags fd offset) (m.effect constants v who table))
           (sym (ap (λ b. cond b (map_zeros place) (on_open (map_row fd prot) (mapping place length offset))) is))
-          (kept S who.pid (MemMap place length prot flags fd offset) ((map_zeros place).effect constants v who table) (λ made row reply. refl)
+          (kept S who.pid (MemMap place length prot flags fd offset) ((map_zeros place).effect constants v who table) (λ after row reply. refl)
           (zeros_kept S constants v who table place))
       | false ↦ λ is.
-          file_reported (MemMap place length prot flags fd offset) fd (λ made row reply. refl) (ap (λ b. cond b None (Some fd)) is)
+          file_reported (MemMap place length prot flags fd offset) fd (λ after row reply. refl) (ap (λ b. cond b None (Some fd)) is)
     ] refl
 
 -- a call that makes, moves or takes away names: it changes the tree and what its process has made alone
@@ -147,11 +147,11 @@ file_open_reported lookup path oflags stat constants S v who table there =
 decided_reported : (call : Call) (errno : Errno) (S : State) (p : ℕ) → GrantsNothing call → LeavesRow S p call (replies (refused errno))
 decided_reported call errno S p nothing = kept S p call (replies (refused errno)) nothing refl
 
--- a call that isn't built yet
-unbuilt_reported : (call : Call) → GrantsNothing call
+-- a call that isn't built yet, whatever its line says of a success
+unbuilt_reported : (call : Call)
     → ((constants : Constants) (v : View) (who : Who) (table : Table) → (meaning_of call).effect constants v who table ≡ replies (refused Nosys)) → IsReported call
-unbuilt_reported call nothing is constants S v who table there =
-    subst (LeavesRow S who.pid call) (sym (is constants v who table)) (decided_reported call Nosys S who.pid nothing)
+unbuilt_reported call is constants S v who table there =
+    subst (LeavesRow S who.pid call) (sym (is constants v who table)) (refused_reported S who.pid call Nosys nosys_is_error)
 
 -- ---- calls that change their process's table
 
@@ -160,13 +160,13 @@ proc_exit_reported code constants S v who table there = row_emptied S.tables who
 
 -- a table that has what the call's line says
 set_reported : (S : State) (p : ℕ) (call : Call) (table new : Table) (result : ℕ) → get S.tables p ≡ Some table
-    → ((made : Made) → row_in (Some new) ≡ granted_row made (row_in (Some table)) call (success result 0)) → LeavesRow S p call (with_table p result new)
+    → ((after : After) → row_in (Some new) ≡ granted_row after (row_in (Some table)) call (success result 0)) → LeavesRow S p call (with_table p result new)
 set_reported S p call table new result there is =
-    let made : Made = last_made (put_one (set_table p new) S) p in
-    ap row_in (get-insert-same S.tables p new) ∙ is made ∙ ap (λ row. granted_row made row call (success result 0)) (sym (ap row_in there))
+    let after : After = after_of (put_one (set_table p new) S) p in
+    ap row_in (get-insert-same S.tables p new) ∙ is after ∙ ap (λ row. granted_row after row call (success result 0)) (sym (ap row_in there))
 
 fd_close_reported : (fd : ℕ) → IsReported (FdClose fd)
-fd_close_reported fd constants S v who table there = set_reported S who.pid (FdClose fd) table (remove table fd) 0 there (λ made. row_removed table fd)
+fd_close_reported fd constants S v who table there = set_reported S who.pid (FdClose fd) table (remove table fd) 0 there (λ after. row_removed table fd)
 
 -- fd_dup
 number_reported : (S : State) (p fd : ℕ) (table : Table) (d : Descriptor) (number : Option ℕ) → get S.tables p ≡ Some table → get table fd ≡ Some d
@@ -174,7 +174,7 @@ number_reported : (S : State) (p fd : ℕ) (table : Table) (d : Descriptor) (num
 number_reported S p fd table d None there here = refused_reported S p (FdDup fd) Mfile mfile_is_error
 number_reported S p fd table d (Some number) there here =
     set_reported S p (FdDup fd) table (insert table number d) number there
-    (λ made. row_inserted table number d ∙ ap (with_held (row_in (Some table)) number) (sym here))
+    (λ after. row_inserted table number d ∙ ap (with_held (row_in (Some table)) number) (sym here))
 
 dup_reported : (S : State) (p fd : ℕ) (table : Table) (o : Option Descriptor) → get S.tables p ≡ Some table → get table fd ≡ o
     → LeavesRow S p (FdDup fd) (dup_of p table o)
@@ -190,7 +190,7 @@ replaced_reported : (S : State) (p from to : ℕ) (table : Table) (o : Option De
 replaced_reported S p from to table None there here = refused_reported S p (FdReplace from to) Badf badf_is_error
 replaced_reported S p from to table (Some d) there here =
     set_reported S p (FdReplace from to) table (insert table to d) 0 there
-    (λ made. row_inserted table to d ∙ ap (with_held (row_in (Some table)) to) (sym here))
+    (λ after. row_inserted table to d ∙ ap (with_held (row_in (Some table)) to) (sym here))
 
 fd_replace_reported : (from to : ℕ) → IsReported (FdReplace from to)
 fd_replace_reported from to constants S v who table there = replaced_reported S who.pid from to table (get table from) there refl
@@ -228,64 +228,64 @@ fd_stat_put_reported fd stat flags constants S v who table there = put_reported 
 -- ---- all of them
 
 pub reported : (call : Call) → IsReported call
-reported (call.ClockResGet clock) = unbuilt_reported (call.ClockResGet clock) (λ made row reply. refl) (λ constants v who table. refl)
-reported (call.ClockTimeGet clock precision) = unbuilt_reported (call.ClockTimeGet clock precision) (λ made row reply. refl) (λ constants v who table. refl)
-reported (call.CondvarSignal condvar word scope n) = unbuilt_reported (call.CondvarSignal condvar word scope n) (λ made row reply. refl) (λ constants v who table. refl)
+reported (call.ClockResGet clock) = unbuilt_reported (call.ClockResGet clock) (λ constants v who table. refl)
+reported (call.ClockTimeGet clock precision) = unbuilt_reported (call.ClockTimeGet clock precision) (λ constants v who table. refl)
+reported (call.CondvarSignal condvar word scope n) = unbuilt_reported (call.CondvarSignal condvar word scope n) (λ constants v who table. refl)
 reported (call.FdClose fd) = fd_close_reported fd
-reported (call.FdCreate1 kind) = unbuilt_reported (call.FdCreate1 kind) (λ made row reply. refl) (λ constants v who table. refl)
-reported (call.FdCreate2 kind) = unbuilt_reported (call.FdCreate2 kind) (λ made row reply. refl) (λ constants v who table. refl)
-reported (call.FdDatasync fd) = nothing_reported (call.FdDatasync fd) (λ made row reply. refl) (λ constants v who table. refl)
+reported (call.FdCreate1 kind) = unbuilt_reported (call.FdCreate1 kind) (λ constants v who table. refl)
+reported (call.FdCreate2 kind) = unbuilt_reported (call.FdCreate2 kind) (λ constants v who table. refl)
+reported (call.FdDatasync fd) = nothing_reported (call.FdDatasync fd) (λ after row reply. refl) (λ constants v who table. refl)
 reported (call.FdDup fd) = fd_dup_reported fd
-reported (call.FdPread fd length offset) = file_reported (call.FdPread fd length offset) fd (λ made row reply. refl) refl
-reported (call.FdPwrite fd bytes offset) = file_reported (call.FdPwrite fd bytes offset) fd (λ made row reply. refl) refl
-reported (call.FdRead fd length) = moved_reported (call.FdRead fd length) (reading length) _ (read_opens_well length) (λ made row reply. refl) refl
+reported (call.FdPread fd length offset) = file_reported (call.FdPread fd length offset) fd (λ after row reply. refl) refl
+reported (call.FdPwrite fd bytes offset) = file_reported (call.FdPwrite fd bytes offset) fd (λ after row reply. refl) refl
+reported (call.FdRead fd length) = moved_reported (call.FdRead fd length) (reading length) _ (read_opens_well length) (λ after row reply. refl) refl
 reported (call.FdReplace from to) = fd_replace_reported from to
 reported (call.FdSeek fd offset whence) =
-    moved_reported (call.FdSeek fd offset whence) (seeking offset whence) _ (seek_opens_well offset whence) (λ made row reply. refl) refl
+    moved_reported (call.FdSeek fd offset whence) (seeking offset whence) _ (seek_opens_well offset whence) (λ after row reply. refl) refl
 reported (call.FdStatGet fd) = fd_stat_get_reported fd
 reported (call.FdStatPut fd stat flags) = fd_stat_put_reported fd stat flags
-reported (call.FdSync fd) = nothing_reported (call.FdSync fd) (λ made row reply. refl) (λ constants v who table. refl)
-reported (call.FdWrite fd bytes) = moved_reported (call.FdWrite fd bytes) (writing bytes) _ (write_opens_well bytes) (λ made row reply. refl) refl
-reported (call.FileAdvise fd offset length advice) = nothing_reported (call.FileAdvise fd offset length advice) (λ made row reply. refl) (λ constants v who table. refl)
-reported (call.FileAllocate fd offset length) = file_reported (call.FileAllocate fd offset length) fd (λ made row reply. refl) refl
+reported (call.FdSync fd) = nothing_reported (call.FdSync fd) (λ after row reply. refl) (λ constants v who table. refl)
+reported (call.FdWrite fd bytes) = moved_reported (call.FdWrite fd bytes) (writing bytes) _ (write_opens_well bytes) (λ after row reply. refl) refl
+reported (call.FileAdvise fd offset length advice) = nothing_reported (call.FileAdvise fd offset length advice) (λ after row reply. refl) (λ constants v who table. refl)
+reported (call.FileAllocate fd offset length) = file_reported (call.FileAllocate fd offset length) fd (λ after row reply. refl) refl
 reported (call.FileCreate fd path kind) =
-    named_reported (call.FileCreate fd path kind) (λ made row reply. refl) (λ constants v who table. (1, v.process who.pid, _, refl))
+    named_reported (call.FileCreate fd path kind) (λ after row reply. refl) (λ constants v who table. (1, v.process who.pid, _, refl))
 reported (call.FileLink lookup path new_fd new_path) =
-    named_reported (call.FileLink lookup path new_fd new_path) (λ made row reply. refl) (λ constants v who table. (0, v.process who.pid, _, refl))
+    named_reported (call.FileLink lookup path new_fd new_path) (λ after row reply. refl) (λ constants v who table. (0, v.process who.pid, _, refl))
 reported (call.FileOpen lookup path oflags stat) = file_open_reported lookup path oflags stat
-reported (call.FileReaddir fd length cookie) = file_reported (call.FileReaddir fd length cookie) fd (λ made row reply. refl) refl
-reported (call.FileReadlink fd path length) = file_reported (call.FileReadlink fd path length) fd (λ made row reply. refl) refl
+reported (call.FileReaddir fd length cookie) = file_reported (call.FileReaddir fd length cookie) fd (λ after row reply. refl) refl
+reported (call.FileReadlink fd path length) = file_reported (call.FileReadlink fd path length) fd (λ after row reply. refl) refl
 reported (call.FileRename fd path new_fd new_path) =
-    named_reported (call.FileRename fd path new_fd new_path) (λ made row reply. refl) (λ constants v who table. (0, v.process who.pid, _, refl))
-reported (call.FileStatFget fd) = file_reported (call.FileStatFget fd) fd (λ made row reply. refl) refl
-reported (call.FileStatFput fd stat flags) = file_reported (call.FileStatFput fd stat flags) fd (λ made row reply. refl) refl
-reported (call.FileStatGet lookup path) = file_reported (call.FileStatGet lookup path) lookup.fd (λ made row reply. refl) refl
-reported (call.FileStatPut lookup path stat flags) = file_reported (call.FileStatPut lookup path stat flags) lookup.fd (λ made row reply. refl) refl
+    named_reported (call.FileRename fd path new_fd new_path) (λ after row reply. refl) (λ constants v who table. (0, v.process who.pid, _, refl))
+reported (call.FileStatFget fd) = file_reported (call.FileStatFget fd) fd (λ after row reply. refl) refl
+reported (call.FileStatFput fd stat flags) = file_reported (call.FileStatFput fd stat flags) fd (λ after row reply. refl) refl
+reported (call.FileStatGet lookup path) = file_reported (call.FileStatGet lookup path) lookup.fd (λ after row reply. refl) refl
+reported (call.FileStatPut lookup path stat flags) = file_reported (call.FileStatPut lookup path stat flags) lookup.fd (λ after row reply. refl) refl
 reported (call.FileSymlink text fd path) =
-    named_reported (call.FileSymlink text fd path) (λ made row reply. refl)
+    named_reported (call.FileSymlink text fd path) (λ after row reply. refl)
     (λ constants v who table. ((making_unless (text_error text) (making (Link text) path)).new_nodes, v.process who.pid, _, refl))
 reported (call.FileUnlink fd path flags) =
-    named_reported (call.FileUnlink fd path flags) (λ made row reply. refl) (λ constants v who table. (0, v.process who.pid, _, refl))
-reported (call.LockUnlock lock word scope) = unbuilt_reported (call.LockUnlock lock word scope) (λ made row reply. refl) (λ constants v who table. refl)
+    named_reported (call.FileUnlink fd path flags) (λ after row reply. refl) (λ constants v who table. (0, v.process who.pid, _, refl))
+reported (call.LockUnlock lock word scope) = unbuilt_reported (call.LockUnlock lock word scope) (λ constants v who table. refl)
 reported (call.MemMap place length prot flags fd offset) = mem_map_reported place length prot flags fd offset
-reported (call.Memory number errno) = λ constants S v who table there. decided_reported (call.Memory number errno) errno S who.pid (λ made row reply. refl)
-reported (call.Poll subscriptions) = unbuilt_reported (call.Poll subscriptions) (λ made row reply. refl) (λ constants v who table. refl)
-reported (call.ProcExec fd bytes fds) = unbuilt_reported (call.ProcExec fd bytes fds) (λ made row reply. refl) (λ constants v who table. refl)
+reported (call.Memory number errno) = λ constants S v who table there. decided_reported (call.Memory number errno) errno S who.pid (λ after row reply. refl)
+reported (call.Poll subscriptions) = unbuilt_reported (call.Poll subscriptions) (λ constants v who table. refl)
+reported (call.ProcExec fd bytes fds) = unbuilt_reported (call.ProcExec fd bytes fds) (λ constants v who table. refl)
 reported (call.ProcExit code) = proc_exit_reported code
-reported (call.ProcFork left) = unbuilt_reported (call.ProcFork left) (λ made row reply. refl) (λ constants v who table. refl)
-reported (call.ProcRaise signal) = unbuilt_reported (call.ProcRaise signal) (λ made row reply. refl) (λ constants v who table. refl)
-reported (call.RandomGet length) = unbuilt_reported (call.RandomGet length) (λ made row reply. refl) (λ constants v who table. refl)
-reported (call.SockRecv fd length fds flags) = unbuilt_reported (call.SockRecv fd length fds flags) (λ made row reply. refl) (λ constants v who table. refl)
-reported (call.SockSend fd bytes fds flags) = unbuilt_reported (call.SockSend fd bytes fds flags) (λ made row reply. refl) (λ constants v who table. refl)
-reported (call.SockShutdown fd how) = unbuilt_reported (call.SockShutdown fd how) (λ made row reply. refl) (λ constants v who table. refl)
-reported (call.ThreadCreate attributes) = unbuilt_reported (call.ThreadCreate attributes) (λ made row reply. refl) (λ constants v who table. refl)
-reported (call.ThreadExit lock word scope) = unbuilt_reported (call.ThreadExit lock word scope) (λ made row reply. refl) (λ constants v who table. refl)
-reported call.ThreadYield = unbuilt_reported call.ThreadYield (λ made row reply. refl) (λ constants v who table. refl)
-reported (call.Refused number errno) = λ constants S v who table there. decided_reported (call.Refused number errno) errno S who.pid (λ made row reply. refl)
-reported (call.Unknown number) = λ constants S v who table there. decided_reported (call.Unknown number) Nosys S who.pid (λ made row reply. refl)
+reported (call.ProcFork left) = unbuilt_reported (call.ProcFork left) (λ constants v who table. refl)
+reported (call.ProcRaise signal) = unbuilt_reported (call.ProcRaise signal) (λ constants v who table. refl)
+reported (call.RandomGet length) = unbuilt_reported (call.RandomGet length) (λ constants v who table. refl)
+reported (call.SockRecv fd length fds flags) = unbuilt_reported (call.SockRecv fd length fds flags) (λ constants v who table. refl)
+reported (call.SockSend fd bytes fds flags) = unbuilt_reported (call.SockSend fd bytes fds flags) (λ constants v who table. refl)
+reported (call.SockShutdown fd how) = unbuilt_reported (call.SockShutdown fd how) (λ constants v who table. refl)
+reported (call.ThreadCreate attributes) = unbuilt_reported (call.ThreadCreate attributes) (λ constants v who table. refl)
+reported (call.ThreadExit lock word scope) = unbuilt_reported (call.ThreadExit lock word scope) (λ constants v who table. refl)
+reported call.ThreadYield = unbuilt_reported call.ThreadYield (λ constants v who table. refl)
+reported (call.Refused number errno) = λ constants S v who table there. decided_reported (call.Refused number errno) errno S who.pid (λ after row reply. refl)
+reported (call.Unknown number) = λ constants S v who table there. decided_reported (call.Unknown number) Nosys S who.pid (λ after row reply. refl)
 
 -- ---- refusals for lack of a descriptor or of rights
 
 pub refusal_reported : (S : State) (p : ℕ) (call : Call) (t : Option Table) (reply : Reply) → refusal_of call t ≡ Some reply
     → LeavesRow S p call (replies reply)
-refusal_reported S p call t reply is = sym (by_error reply.errno (granted_row (last_made S p) (row_of S p) call reply) (row_of S p) (refusal_is_other Success (λ e. cc) (λ e. cc) call t reply is))
+refusal_reported S p call t reply is = sym (by_error reply.errno (granted_row (after_of S p) (row_of S p) call reply) (row_of S p) (refusal_is_other Success (λ e. cc) (λ e. cc) call t reply is))

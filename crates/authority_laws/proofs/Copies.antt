@@ -1,5 +1,5 @@
 -- What a call that succeeded leaves of its process's descriptors, against what they were at that entry.
-use Rattle.std.proofs.Common.{◌≡◌, ◌≢◌, inl, inr, ℕ, zero, suc, ◌+◌, ◌==◌, cond, List, [], ◌∷◌, ◌++◌, Option, Some, None, is_some, refl, sym, ap, subst, ◌∙◌}
+use Rattle.std.proofs.Common.{◌≡◌, ◌≢◌, inl, inr, ℕ, ◌==◌, cond, List, [], ◌∷◌, ◌++◌, Option, Some, None, is_some, refl, sym, ap, subst, ◌∙◌}
 use Rattle.std.proofs.lemmas.Bool.Decides.{eqb_tells}
 use Rattle.std.specs.Prelude.{bit_and, option_map}
 use Rattle.std.specs.FinMap.{get}
@@ -8,31 +8,36 @@ use Rattle.abi_base.specs.declared.errno.Errno.TheVariants.{Success, Badf}
 use Rattle.abi_structures.specs.declared.structures.FdStat.{FdStat}
 use Rattle.abi_types.specs.declared.reply.Answer.TheVariants as answer
 use Rattle.abi_types.specs.declared.call.Call.{Call}
-use Rattle.abi_types.specs.declared.call.Call.TheVariants.{FdDup, FdReplace, FdStatPut}
+use Rattle.abi_types.specs.declared.call.Call.TheVariants.{FdDup, FdReplace, FdStatPut, FileOpen}
+use Rattle.abi_types.specs.declared.call.Lookup.{Lookup}
 use Rattle.abi_types.specs.declared.constants.Constants.{Constants}
 use Rattle.abi_types.specs.declared.descriptor.Descriptor.{Descriptor}
 use Rattle.abi_types.specs.declared.reply.Reply.{Reply}
 use Rattle.abi_types.specs.declared.who.Who.{Who}
 use Rattle.run_types.specs.declared.history.Entry.{Entry}
 use Rattle.run_types.specs.declared.launch.Launch.{Launch}
+use Rattle.tree_model.specs.Grants.{MayBegin}
 use Rattle.kernel_model.specs.Calls.{named}
-use Rattle.kernel_model.specs.Families.DescriptorCalls.{free_from, lowest_free, dup_at, dup_of, lowered_to}
+use Rattle.kernel_model.specs.Families.DescriptorCalls.{lowest_free, dup_at, dup_of, lowered_to}
 use Rattle.kernel_model.specs.Outcome.{Outcome, OnReply}
 use Rattle.kernel_model.specs.Proper.{IsIn}
 use Rattle.kernel_model.specs.State.{State, Table}
-use Rattle.kernel_model.specs.Step.{outcome, step_answer, IsStep}
+use Rattle.kernel_model.specs.Step.{tick, outcome, step_answer, unreleased, IsStep}
+use Rattle.kernel_model.proofs.DescriptorCalls.{free_is_absent}
+use Rattle.kernel_model.proofs.HeldOpens.{HoldsAsMuch, dup_holds, open_holds, spares_all, stat_put_holds}
 use Rattle.kernel_model.proofs.Outcomes.{outcome_holds}
 use Rattle.kernel_model.proofs.Refusals.{on_reply, absent_is_badf, refusal_is_other}
-use Rattle.kernel_model.proofs.Tests.{none_is_no, same_some}
 use Rattle.run_model.specs.Legal.{FitsAct, Legal}
-use Rattle.run_model.specs.World.{guest_of, called_state, who_of, world}
-use Rattle.run_model.proofs.Histories.{legal_front, legal_next}
-use Rattle.authority_laws.specs.Laws.{DuplicatesAt, LowersAt, ReplacesAt}
-use Rattle.authority_laws.specs.Ledger.{Row, Made, with_held, lowered_row, granted_row, by_success}
+use Rattle.run_model.specs.World.{World, guest_of, acted, called_state, turned, who_of, world}
+use Rattle.run_model.proofs.Histories.{apply_is, legal_front, legal_next, world_more}
+use Rattle.run_model.proofs.Worlds.{world_is_valid}
+use Rattle.authority_laws.specs.Laws.{DuplicatesAreEqual, ReleaseKeeps, ReplacementsAreEqual, RightsAreLowered}
+use Rattle.authority_laws.specs.Ledger.{Row, after_of, with_held, lowered_row, opened_held, granted_row, by_success}
 use Rattle.authority_laws.specs.Origins.{IsCopied, IsLowered}
-use Rattle.authority_laws.specs.Recorded.{Succeeds, acted_row, held_after, held_before, ledger, made_at}
-use Rattle.authority_laws.proofs.Histories.{own_after, world_rows}
+use Rattle.authority_laws.specs.Recorded.{Succeeds, after_at, held_after, held_before}
+use Rattle.authority_laws.proofs.Histories.{up_to, world_rows}
 use Rattle.authority_laws.proofs.Rows.{row_in, row_of, held_here, held_elsewhere, badf_is_error, mfile_is_error}
+use Rattle.authority_laws.proofs.States.{step_row}
 use Rattle.authority_laws.proofs.Successes.{has_table, no_memory, no_success}
 
 -- ---- a call that succeeds names descriptors that are there
@@ -52,15 +57,6 @@ named_by constants S who call reply T fd (Some table) step success asked own =
     named_in constants S who call reply T fd table (get table fd) step success asked own refl
 
 -- ---- the number that fd_dup gives was free
-
-pub free_is_absent : (table : Table) (n k m : ℕ) → free_from table n k ≡ Some m → get table m ≡ None
-unfolding free_from
-free_is_absent table zero k m is = absurd (none_is_no m is)
-free_is_absent table (suc n) k m is =
-    elim (get table k) as (λ o. get table k ≡ o → cond (is_some o) (free_from table n (k + 1)) (Some k) ≡ Some m → get table m ≡ None) [
-      | None ↦ λ here h. ap (get table) (sym (same_some k m h)) ∙ here
-      | Some d ↦ λ here h. free_is_absent table n (k + 1) m h
-    ] refl is
 
 -- a success gives a number under which the process has nothing
 abbrev GivesFree : State → ℕ → Outcome → Type 0
@@ -99,31 +95,83 @@ stepped launch front e rest call reply legal done =
     let fits : FitsAct w.constants w.state (who_of e) (guest_of w e.pid) e.turns e.act = (legal_next launch front e rest legal).act in
     (subst (FitsAct w.constants w.state (who_of e) (guest_of w e.pid) e.turns) done.is fits).1
 
--- what the process of an entry held before it
-pub before_is : (launch : Launch) (front : List Entry) (e : Entry) (rest : List Entry) → Legal launch (front ++ e ∷ rest)
-    → row_of (world launch front).state e.pid ≡ (ledger launch front).held e.pid
-before_is launch front e rest legal = world_rows launch front (legal_front launch front (e ∷ rest) legal) e.pid
+-- the kernel's state after an entry that is a call
+pub called_is : (launch : Launch) (front : List Entry) (e : Entry) (call : Call) (reply : Reply) → Succeeds e call reply
+    → (world launch (front ++ e ∷ [])).state
+    ≡ called_state (world launch front).constants (world launch front).state (who_of e) call (answer.Reply reply)
+called_is launch front e call reply done =
+    ap (λ (w : World). w.state) (world_more launch front e ∙ apply_is (world launch front) e)
+    ∙ ap (λ a. (acted (turned (world launch front) e.pid e.turns) (who_of e) a).state) done.is
 
--- a descriptor that a call names which succeeds was held before it
-named_held : (launch : Launch) (front : List Entry) (e : Entry) (rest : List Entry) (call : Call) (reply : Reply) (fd : ℕ) → Legal launch (front ++ e ∷ rest)
-    → Succeeds e call reply → IsIn fd (named call) → (d : Descriptor) × ((ledger launch front).held e.pid fd ≡ Some d)
-named_held launch front e rest call reply fd legal done asked =
-    let w = world launch front in
-    let found = named_by w.constants w.state (who_of e) call reply (called_state w.constants w.state (who_of e) call (answer.Reply reply)) fd
-    (get w.state.tables e.pid) (stepped launch front e rest call reply legal done) done.success asked refl in
-    (found.0, (λ i. sym (before_is launch front e rest legal) i fd) ∙ found.1)
+module _ (launch : Launch) (front : List Entry) (e : Entry) (rest : List Entry) (begins : MayBegin launch.tree launch.grants)
+    (legal : Legal launch (front ++ e ∷ rest)) where
+  -- what the process of an entry held before it
+  pub before_is : row_of (world launch front).state e.pid ≡ held_before launch front e
+  before_is = world_rows launch front begins (legal_front launch front (e ∷ rest) legal) e.pid
 
--- what the process holds after it is what the call's line says
-pub granted_after : (launch : Launch) (front : List Entry) (e : Entry) (call : Call) (reply : Reply) → Succeeds e call reply
-    → (ledger launch (front ++ e ∷ [])).held e.pid ≡ granted_row (made_at launch front e) ((ledger launch front).held e.pid) call reply
-granted_after launch front e call reply done =
-    let row = (ledger launch front).held e.pid in
-    let made : Made = made_at launch front e in
-    own_after launch front e ∙ ap (acted_row made row) done.is ∙ ap (λ errno. by_success errno (granted_row made row call reply) row) done.success
+  -- a descriptor that a call names which succeeds was held before it
+  named_held : (call : Call) (reply : Reply) (fd : ℕ) → Succeeds e call reply → IsIn fd (named call)
+      → (d : Descriptor) × (held_before launch front e fd ≡ Some d)
+  named_held call reply fd done asked =
+      let w = world launch front in
+      let found = named_by w.constants w.state (who_of e) call reply (called_state w.constants w.state (who_of e) call (answer.Reply reply)) fd
+      (get w.state.tables e.pid) (stepped launch front e rest call reply legal done) done.success asked refl in
+      (found.0, (λ i. sym before_is i fd) ∙ found.1)
+
+  -- what the process has in the kernel's tables after a call
+  pub rows_after : (call : Call) (reply : Reply) → Succeeds e call reply
+      → row_of (called_state (world launch front).constants (world launch front).state (who_of e) call (answer.Reply reply)) e.pid
+      ≡ held_after launch front e
+  rows_after call reply done =
+      ap (λ (S : State). row_of S e.pid) (sym (called_is launch front e call reply done))
+      ∙ world_rows launch (front ++ e ∷ []) begins (up_to launch front e rest legal) e.pid
+
+  -- the release after a call that lets go of nothing kills nobody
+  kills_none : (call : Call)
+      → HoldsAsMuch (tick (world launch front).state) (unreleased (world launch front).constants (world launch front).state (who_of e) call)
+      → ReleaseKeeps launch front e call
+  kills_none call as_much =
+      let w = world launch front in
+      spares_all w.constants w.state (who_of e) call (world_is_valid launch front begins (legal_front launch front (e ∷ rest) legal)) as_much e.pid
+
+  -- What it holds after a call that succeeded is what the call's line says, unless what it lets go ends the process. Of each call it
+  -- is said apart that this does not.
+  granted_after : (call : Call) (reply : Reply) → Succeeds e call reply → ReleaseKeeps launch front e call
+      → held_after launch front e ≡ granted_row (after_at launch front e) (held_before launch front e) call reply
+  granted_after call reply done keeps =
+      let w = world launch front in
+      let T : State = called_state w.constants w.state (who_of e) call (answer.Reply reply) in
+      let called : T ≡ (world launch (front ++ e ∷ [])).state = sym (called_is launch front e call reply done) in
+      sym (rows_after call reply done) ∙ step_row w.constants w.state (who_of e) call (answer.Reply reply) T (stepped launch front e rest call reply legal done)
+      (λ _. keeps)
+      ∙ (λ i. by_success (done.success i) (granted_row (after_of (called i) e.pid) (before_is i) call reply) (before_is i))
+
+  pub duplicated_after : (fd : ℕ) (reply : Reply) → Succeeds e (FdDup fd) reply
+      → held_after launch front e ≡ with_held (held_before launch front e) reply.r1 (held_before launch front e fd)
+  duplicated_after fd reply done =
+      let w = world launch front in
+      granted_after (FdDup fd) reply done (kills_none (FdDup fd) (dup_holds w.constants w.state (who_of e) fd))
+
+  pub replaced_after : (from to : ℕ) (reply : Reply) → Succeeds e (FdReplace from to) reply → ReleaseKeeps launch front e (FdReplace from to)
+      → held_after launch front e ≡ with_held (held_before launch front e) to (held_before launch front e from)
+  replaced_after from to reply done keeps = granted_after (FdReplace from to) reply done keeps
+
+  pub put_after : (fd : ℕ) (stat : FdStat) (flags : ℕ) (reply : Reply) → Succeeds e (FdStatPut fd stat flags) reply
+      → held_after launch front e ≡ cond (bit_and flags 2 == 0) (held_before launch front e) (lowered_row (held_before launch front e) fd stat)
+  put_after fd stat flags reply done =
+      let w = world launch front in
+      granted_after (FdStatPut fd stat flags) reply done (kills_none (FdStatPut fd stat flags) (stat_put_holds w.constants w.state (who_of e) fd stat flags))
+
+  pub opened_after : (lookup : Lookup) (path : List ℕ) (oflags : ℕ) (stat : FdStat) (reply : Reply) → Succeeds e (FileOpen lookup path oflags stat) reply
+      → held_after launch front e ≡ with_held (held_before launch front e) reply.r1 (opened_held ((after_at launch front e).made 0) stat)
+  opened_after lookup path oflags stat reply done =
+      let w = world launch front in
+      granted_after (FileOpen lookup path oflags stat) reply done
+      (kills_none (FileOpen lookup path oflags stat) (open_holds w.constants w.state (who_of e) lookup path oflags stat))
 
 -- ---- copies
 
-copied : (before after : Row) (from to : ℕ) (d : Descriptor) → before from ≡ Some d → after ≡ with_held before to (before from) → IsCopied before after from to
+pub copied : (before after : Row) (from to : ℕ) (d : Descriptor) → before from ≡ Some d → after ≡ with_held before to (before from) → IsCopied before after from to
 copied before after from to d there is = record {
   d = d;
   source = there;
@@ -131,24 +179,24 @@ copied before after from to d there is = record {
   others = λ n apart. (λ i. is i n) ∙ held_elsewhere before to (before from) n apart;
 }
 
-pub duplicates_are_equal : (launch : Launch) (front : List Entry) (e : Entry) (rest : List Entry) → Legal launch (front ++ e ∷ rest)
-    → DuplicatesAt launch front e
-duplicates_are_equal launch front e rest legal fd reply done =
+pub duplicates_are_equal : DuplicatesAreEqual
+duplicates_are_equal launch front e rest begins legal fd reply done =
     let w = world launch front in
-    let found = named_held launch front e rest (FdDup fd) reply fd legal done ([], [], refl) in
+    let found = named_held launch front e rest begins legal (FdDup fd) reply fd done ([], [], refl) in
     let free = result_free w.constants w.state (who_of e) fd reply (called_state w.constants w.state (who_of e) (FdDup fd) (answer.Reply reply))
     (stepped launch front e rest (FdDup fd) reply legal done) done.success in (
-      (λ i. sym (before_is launch front e rest legal) i reply.r1) ∙ free,
-      copied (held_before launch front e) (held_after launch front e) fd reply.r1 found.0 found.1 (granted_after launch front e (FdDup fd) reply done),
+      (λ i. sym (before_is launch front e rest begins legal) i reply.r1) ∙ free,
+      copied (held_before launch front e) (held_after launch front e) fd reply.r1 found.0 found.1 (duplicated_after launch front e rest begins legal fd reply done),
     )
 
-pub replacements_are_equal : (launch : Launch) (front : List Entry) (e : Entry) (rest : List Entry) → Legal launch (front ++ e ∷ rest)
-    → ReplacesAt launch front e
-replacements_are_equal launch front e rest legal from to reply done =
-    let found = named_held launch front e rest (FdReplace from to) reply from legal done ([], to ∷ [], refl) in
-    let old = named_held launch front e rest (FdReplace from to) reply to legal done (from ∷ [], [], refl) in (
+pub replacements_are_equal : ReplacementsAreEqual
+replacements_are_equal launch front e rest begins legal from to reply done =
+    let found = named_held launch front e rest begins legal (FdReplace from to) reply from done ([], to ∷ [], refl) in
+    let old = named_held launch front e rest begins legal (FdReplace from to) reply to done (from ∷ [], [], refl) in (
       ap is_some old.1,
-      copied (held_before launch front e) (held_after launch front e) from to found.0 found.1 (granted_after launch front e (FdReplace from to) reply done),
+      λ keeps.
+          copied (held_before launch front e) (held_after launch front e) from to found.0 found.1
+          (replaced_after launch front e rest begins legal from to reply done keeps),
     )
 
 -- ---- rights that are lowered
@@ -172,10 +220,9 @@ lowered before after n stat x there is = record {
   others = λ m apart. (λ i. is i m) ∙ held_elsewhere before n _ m apart;
 }
 
-pub rights_are_lowered : (launch : Launch) (front : List Entry) (e : Entry) (rest : List Entry) → Legal launch (front ++ e ∷ rest)
-    → LowersAt launch front e
-rights_are_lowered launch front e rest legal fd stat flags reply done set =
+pub rights_are_lowered : RightsAreLowered
+rights_are_lowered launch front e rest begins legal fd stat flags reply done set =
     let before = held_before launch front e in
-    let found = named_held launch front e rest (FdStatPut fd stat flags) reply fd legal done ([], [], refl) in
+    let found = named_held launch front e rest begins legal (FdStatPut fd stat flags) reply fd done ([], [], refl) in
     lowered before (held_after launch front e) fd stat found.0 found.1
-    (granted_after launch front e (FdStatPut fd stat flags) reply done ∙ where_set flags before (lowered_row before fd stat) set)
+    (put_after launch front e rest begins legal fd stat flags reply done ∙ where_set flags before (lowered_row before fd stat) set)

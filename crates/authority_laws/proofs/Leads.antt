@@ -21,7 +21,8 @@ use Rattle.kernel_model.specs.Families.ClockCalls.{real_time}
 use Rattle.kernel_model.specs.Families.DescriptorCalls.{lowest_free}
 use Rattle.kernel_model.specs.Families.FileMeaning.{open_of}
 use Rattle.kernel_model.specs.Families.FilePaths.{Walked, Ends, Fails, LeadsOutside, walked}
-use Rattle.kernel_model.specs.Families.Numbers.{can_number, next_object, process_updates}
+use Rattle.abi_types.specs.declared.counts.Counts.{Counts}
+use Rattle.kernel_model.specs.Families.Numbers.{can_number, next_object, object_of, process_updates}
 use Rattle.kernel_model.specs.Families.Opening.{Opened, NotOpened, OpenedOutside, Opens, open_at, open_mode, open_walked, opened_descriptor, opened_outcome}
 use Rattle.kernel_model.specs.Families.TreeUpdates.{Change, change_updates}
 use Rattle.kernel_model.specs.OpenLaws.{IsOpenBelow, LeadsBelow}
@@ -40,21 +41,22 @@ use Rattle.kernel_model.proofs.Opened.{IsThere, OpensWell, opens_well}
 use Rattle.kernel_model.proofs.Outcomes.{outcome_holds}
 use Rattle.kernel_model.proofs.Refusals.{on_reply, refusal_is_other}
 use Rattle.kernel_model.proofs.Tests.{none_is_no, same_some}
-use Rattle.kernel_model.proofs.Valids.{get_released, named_is_kept, root_is_kept, tick_nearly_valid}
+use Rattle.kernel_model.proofs.Valids.{get_released, left_counts, named_is_kept, root_is_kept, tick_nearly_valid}
 use Rattle.authority_laws.specs.Ledger.{last_made}
 use Rattle.authority_laws.specs.Origins.{IsNewBelow, IsOpenedBelow}
-use Rattle.authority_laws.proofs.Openings.{RefusesByError, kind_is, tree_is, walk_by_error}
+use Rattle.authority_laws.proofs.Openings.{RefusesByError, kind_is, number_is, tree_is, walk_by_error}
 use Rattle.authority_laws.proofs.Rows.{again_is_error, badf_is_error, mfile_is_error, notcapable_is_error, row_in, row_of}
 use Rattle.authority_laws.proofs.Successes.{no_memory}
 
--- x stands under fd in the state S, its open is of the directory `start`, and what the process has made last in the state U is of
--- what is below that
+-- x stands under fd in the state S, its open is of the directory `start`, and what the process has made last in the state U was not
+-- there in S, and is of what is below that
 pub record Leads (S U : State) (p fd : ℕ) : Type 0 where
   pub x : Descriptor
   pub start : ℕ
   pub flags : ℕ
   pub held : row_of S p fd ≡ Some x
   pub directory : get S.opens x.id ≡ Some (Directory start flags)
+  pub absent : get S.opens (last_made U p).number ≡ None
   pub leads : (kind : OpenKind) → (last_made U p).kind ≡ Some kind → IsOpenedBelow (tree_of S) (tree_of U) start kind
 
 -- so it is where the reply is a success
@@ -121,6 +123,8 @@ module _ (S : State) (p : ℕ) (table : Table) (lookup : Lookup) (path : List �
         let none : get S.nodes new ≡ None = (next_is_absent S p 1 v fits.0 (omega arith) fits.1).1 in
         let well = by none in
         let tree = tree_is S p table lookup path oflags stat there own fd kind change (new_nodes + 1) (omega arith) can new new_nodes v.tree well.1 in
+        let number = number_is S p table lookup path oflags stat there own fd kind change (new_nodes + 1) (omega arith) can in
+        let last = fewer_fit p (new_nodes + 1) (new_nodes + 1) own (omega arith) (omega arith) can in
         let made = kind_is S p table lookup path oflags stat there own fd kind change (new_nodes + 1) (omega arith) can in
         let u : Tree = tree_of (after fd kind change new_nodes) in
         record {
@@ -129,6 +133,8 @@ module _ (S : State) (p : ℕ) (table : Table) (lookup : Lookup) (path : List �
           flags = flags;
           held = ap (λ t. row_in t lookup.fd) there ∙ held;
           directory = directory;
+          absent = ap (get S.opens) number
+              ∙ (next_is_absent S p (new_nodes + 1) v last.0 (omega arith) last.1).0;
           leads = λ other at.
               subst (IsOpenedBelow (tree_of S) u start) (same_some kind other (sym made ∙ at))
               (opened_below (tree_of S) u change start new kind tree none well.2 under);
@@ -238,7 +244,10 @@ release_leads S U p fd tree by = record {
   flags = by.flags;
   held = by.held;
   directory = by.directory;
-  leads = λ kind at.
+  absent = ap (λ (c : Counts). get S.opens (object_of p c.objects)) (left_counts U p) ∙ by.absent;
+  leads = λ kind now.
+      let number : (last_made (release U) p).number ≡ (last_made U p).number = ap (λ (c : Counts). object_of p c.objects) (left_counts U p) in
+      let at : get (release U).opens (last_made U p).number ≡ Some kind = ap (get (release U).opens) (sym number) ∙ now in
       below_stays U (tree_of S) by.start kind tree
       (by.leads kind
       (was_there (not (is_ending U (last_made U p).number)) (get U.opens (last_made U p).number) kind (sym (get_released U (last_made U p).number) ∙ at)));

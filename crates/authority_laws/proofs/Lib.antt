@@ -1,4 +1,5 @@
 pub mod Rows
+pub mod Unbuilt
 pub mod Openings
 pub mod Calls
 pub mod States

@@ -1,32 +1,37 @@
 -- An entry leaves each open of what it is of, and so does a history.
 --     opens_stay      so it is at an entry
 --     traced_stays      the open of a traced descriptor is of what it was of when it came
-use Rattle.std.proofs.Common.{◌≡◌, ℕ, List, [], ◌∷◌, ◌++◌, Option, Some, None, refl, sym, subst}
+--     files_come_from_grants      the trace of a descriptor of a file, a directory or a standard stream begins with a grant
+use Rattle.std.proofs.Common.{◌≡◌, ℕ, true, List, [], ◌∷◌, ◌++◌, Option, Some, None, refl, sym, subst, ◌∙◌}
 use Rattle.std.specs.FinMap.{get}
 use Rattle.abi_base.specs.declared.signal.Signal.TheVariants.{Xcpu}
 use Rattle.tree_model.specs.Grants.{MayBegin}
 use Rattle.abi_types.specs.declared.descriptor.Descriptor.{Descriptor}
 use Rattle.abi_types.specs.declared.open_kind.OpenKind.{OpenKind}
+use Rattle.abi_types.specs.declared.open_kind.OpenKind.TheVariants.{File, Directory, End, Terminal, Process}
 use Rattle.abi_types.specs.declared.status.Status.TheVariants.{Killed}
 use Rattle.abi_types.specs.declared.who.Who.{Who}
 use Rattle.run_types.specs.declared.history.Act.{Act}
 use Rattle.run_types.specs.declared.history.Act.TheVariants as act
 use Rattle.run_types.specs.declared.history.Entry.{Entry}
 use Rattle.run_types.specs.declared.launch.Launch.{Launch}
-use Rattle.kernel_model.specs.OpenLaws.{OpensStay}
+use Rattle.kernel_model.specs.OpenLaws.{IsOfSame, OpensStay}
 use Rattle.kernel_model.specs.State.{State}
 use Rattle.kernel_model.specs.Valid.{IsNamed, IsValid}
 use Rattle.kernel_model.proofs.OpenTargets.{of_same_itself, of_same_through}
 use Rattle.kernel_model.proofs.OpenTargets as targets
+use Rattle.kernel_model.proofs.Tests.{not_true, same_some}
 use Rattle.run_model.specs.Legal.{FitsAct, Fits, Legal}
 use Rattle.run_model.specs.World.{World, Guest, guest_of, called_state, turned, acted, who_of, apply, world}
 use Rattle.run_model.proofs.Histories.{apply_is, legal_front, legal_next, world_more}
 use Rattle.run_model.proofs.Worlds.{world_is_valid}
-use Rattle.authority_laws.specs.Laws.{OpensStayOfWhatTheyAre, TracedStays}
+use Rattle.authority_laws.specs.Laws.{FilesComeFromGrants, OpensStayOfWhatTheyAre, TracedStays}
+use Rattle.authority_laws.specs.Ledger.{is_new}
 use Rattle.authority_laws.specs.Recorded.{ledger}
-use Rattle.authority_laws.specs.Traces.{IsStillOf, Traced, first_open}
+use Rattle.authority_laws.specs.Traces.{IsOfLaunch, IsStillOf, IsWithin, Traced, first_open, of_grant, root}
 use Rattle.authority_laws.specs.Traces as way
 use Rattle.authority_laws.proofs.Histories.{ledger_reports}
+use Rattle.authority_laws.proofs.Traces.{traced_is_within_root}
 
 acted_stay : (w : World) (who : Who) (guest : Guest) (ts : List ℕ) (a : Act) → IsValid w.state → FitsAct w.constants w.state who guest ts a
     → OpensStay w.state (acted w who a).state
@@ -49,6 +54,21 @@ opens_stay launch front e rest begins legal =
     (applied_stay (world launch front) e (world_is_valid launch front begins (legal_front launch front (e ∷ rest) legal)) (legal_next launch front e rest legal))
 
 -- ---- what is traced
+
+-- what is of the same as an open of the launch is one of the launch
+launch_of_same : (a b : OpenKind) → IsOfSame a b → IsOfLaunch b → IsOfLaunch a
+launch_of_same (File n offset flags) b same of = tt
+launch_of_same (Directory n flags) b same of = tt
+launch_of_same (Terminal which flags) b same of = tt
+launch_of_same (End reads writes flags) (End other_reads other_writes other_flags) same of = of
+launch_of_same (Process q) (Process r) same of = of
+launch_of_same a b same of = absurd same
+
+new_is_not_of_launch : (kind : OpenKind) → is_new kind ≡ true → IsOfLaunch kind → ⊥
+new_is_not_of_launch (File n offset flags) new of = not_true new
+new_is_not_of_launch (Directory n flags) new of = not_true new
+new_is_not_of_launch (Terminal which flags) new of = not_true new
+new_is_not_of_launch kind new of = absurd of
 
 named_open : (d : Descriptor) (o : Option OpenKind) → IsNamed o d → (kind : OpenKind) × (o ≡ Some kind)
 named_open d None named = absurd named
@@ -85,6 +105,37 @@ module _ (launch : Launch) (begins : MayBegin launch.tree launch.grants) where
       (subst (λ o. IsStillOf (world launch front).state o first) (sym l.id) (stays front e.pid m l.x before (legal_front launch front (e ∷ []) legal)))
       l.stands
   stays history p n d (way.opened front e fd to stat opens o before) legal = (o.kind, o.opened, of_same_itself o.kind)
+  stays history p n d (way.inherited front e q m x child before here) legal =
+      goes_on front e q m x (first_open launch front e.pid m x before) legal (stays front e.pid m x before (legal_front launch front (e ∷ []) legal)) here
+  stays history p n d (way.made front e m x makes is here) legal = (is.kind, is.opened, of_same_itself is.kind)
+
+  -- the trace of what was of a file, a directory or a standard stream when it came begins with a grant
+  from_grant : (history : List Entry) (p n : ℕ) (d : Descriptor) (trace : Traced launch history p n d) → Legal launch history
+      → IsOfLaunch (first_open launch history p n d trace) → (k : ℕ) × (root launch history p n d trace ≡ of_grant k)
+  from_grant history p n d (way.granted k grant is) legal of = (k, refl)
+  from_grant history p n d (way.kept front e q m x before here) legal of = from_grant front q m x before (legal_front launch front (e ∷ []) legal) of
+  from_grant history p n d (way.copied front e from to copies c before) legal of =
+      from_grant front e.pid from c.d before (legal_front launch front (e ∷ []) legal) of
+  from_grant history p n d (way.lowered front e m stat lowers l before) legal of =
+      from_grant front e.pid m l.x before (legal_front launch front (e ∷ []) legal) of
+  from_grant history p n d (way.opened front e fd to stat opens o before) legal of =
+      let earlier = legal_front launch front (e ∷ []) legal in
+      let first : OpenKind = first_open launch front e.pid fd o.x before in
+      let was = stays front e.pid fd o.x before earlier in
+      let directory : OpenKind = Directory o.start o.flags in
+      let same : was.0 ≡ directory = same_some was.0 directory (sym was.1 ∙ o.directory) in
+      from_grant front e.pid fd o.x before earlier (launch_of_same first directory (subst (IsOfSame first) same was.2) tt)
+  from_grant history p n d (way.inherited front e q m x child before here) legal of =
+      from_grant front e.pid m x before (legal_front launch front (e ∷ []) legal) of
+  from_grant history p n d (way.made front e m x makes is here) legal of = absurd (new_is_not_of_launch is.kind is.new of)
+
+pub files_come_from_grants : FilesComeFromGrants
+files_come_from_grants launch history begins legal p n d trace kind there of =
+    let first : OpenKind = first_open launch history p n d trace in
+    let was = stays launch begins history p n d trace legal in
+    let same : was.0 ≡ kind = same_some was.0 kind (sym was.1 ∙ there) in
+    let grant = from_grant launch begins history p n d trace legal (launch_of_same first kind (subst (IsOfSame first) same was.2) of) in
+    (grant.0, grant.1, subst (λ r. IsWithin launch r first d) grant.1 (traced_is_within_root launch history p n d trace))
 
 pub traced_stays : TracedStays
 traced_stays launch history begins legal p n d trace = stays launch begins history p n d trace legal

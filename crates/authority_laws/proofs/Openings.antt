@@ -106,7 +106,8 @@ module _ (S : State) (p : ℕ) (table : Table) (lookup : Lookup) (path : List �
     after_is : after ≡ with_tree (tree_of (put_all (change_updates change) counted)) counted
     after_is = put_both (process_updates p count own) (change_updates change) opened ∙ tree_same (change_updates change) counted (change_of_tree change)
 
-    number_is : (last_made after p).number ≡ made
+    -- what was made last has this number
+    pub number_is : (last_made after p).number ≡ made
     number_is =
         ap (λ (T : State). object_of p (counts_in (get T.processes p)).objects) after_is ∙ ap (object_of p) (process_count opened p count own some can)
 

@@ -19,8 +19,8 @@ use Rattle.authority_laws.specs.Recorded.{ledger}
 use Rattle.authority_laws.specs.Traces.{Traced}
 use Rattle.authority_laws.proofs.Bounds.{opens_are_bounded}
 use Rattle.authority_laws.proofs.Copies.{duplicates_are_equal, replacements_are_equal, rights_are_lowered}
-use Rattle.authority_laws.proofs.Histories.{ledger_reports, rights_never_grow}
-use Rattle.authority_laws.proofs.OpenTargets.{opens_stay, traced_stays}
+use Rattle.authority_laws.proofs.Histories.{ledger_reports, rights_never_grow, sends_are_held}
+use Rattle.authority_laws.proofs.OpenTargets.{files_come_from_grants, opens_stay, traced_stays}
 use Rattle.authority_laws.proofs.Traces.{held_is_traced}
 
 -- a table's descriptor is there by the ledger
@@ -62,6 +62,7 @@ recorded_at : (launch : Launch) (front : List Entry) → Legal launch front → 
 recorded_at launch front legal begins = record {
   reports = ledger_reports launch front begins legal;
   traced = held_is_traced launch front begins legal;
+  granted = files_come_from_grants launch front begins legal;
   stay = traced_stays launch front begins legal;
   sees = sight_is_recorded launch front begins legal;
 }
@@ -69,12 +70,13 @@ recorded_at launch front legal begins = record {
 recorded_entry : (launch : Launch) (front : List Entry) (e : Entry) (rest : List Entry) → Legal launch (front ++ e ∷ rest)
     → MayBegin launch.tree launch.grants → IsRecordedEntry launch front e
 recorded_entry launch front e rest legal begins = record {
-  copied = duplicates_are_equal launch front e rest legal;
-  replaced = replacements_are_equal launch front e rest legal;
-  lowered = rights_are_lowered launch front e rest legal;
+  copied = duplicates_are_equal launch front e rest begins legal;
+  replaced = replacements_are_equal launch front e rest begins legal;
+  lowered = rights_are_lowered launch front e rest begins legal;
   opened = opens_are_bounded launch front e rest begins legal;
   stay = opens_stay launch front e rest begins legal;
   never_grows = rights_never_grow launch front e rest begins legal;
+  sends = sends_are_held launch front e;
 }
 
 pub legal_is_recorded : (launch : Launch) (history : List Entry) → Legal launch history → MayBegin launch.tree launch.grants → IsRecorded launch history

@@ -1,18 +1,18 @@
 -- What a state's tables are as rows, and what errors leave of a row.
-use Rattle.std.proofs.Common.{◌≡◌, ◌≢◌, inl, inr, ℕ, cond, Option, Some, None, refl, sym, ap, ◌∙◌}
+use Rattle.std.proofs.Common.{◌≡◌, ◌≢◌, inl, inr, ℕ, cond, Option, Some, None, refl, sym, ap, subst, ◌∙◌}
 use Rattle.std.proofs.lemmas.Bool.{eq-eqb}
 use Rattle.std.proofs.lemmas.Bool.Decides.{eqb_tells}
 use Rattle.std.specs.Ordering.{nat_cmp}
 use Rattle.std.specs.FinMap.{FinMap, get, get-empty, insert, remove, empty}
 use Rattle.abi_base.specs.declared.errno.Errno.{Errno}
-use Rattle.abi_base.specs.declared.errno.Errno.TheVariants.{Success, Again, Badf, Mfile, Notcapable}
+use Rattle.abi_base.specs.declared.errno.Errno.TheVariants.{Success, Again, Badf, Mfile, Notcapable, Nosys}
 use Rattle.abi_types.specs.declared.call.Call.{Call}
 use Rattle.abi_types.specs.declared.descriptor.Descriptor.{Descriptor}
 use Rattle.maps.specs.Maps.{get-insert-same, get-insert-other, get-remove-same, get-remove-other}
 use Rattle.kernel_model.specs.Outcome.{Outcome, replies}
 use Rattle.kernel_model.specs.Reply.{refused}
 use Rattle.kernel_model.specs.State.{State, Table, put_all}
-use Rattle.authority_laws.specs.Ledger.{Row, no_row, with_held, last_made, granted_row, by_success, answered_row}
+use Rattle.authority_laws.specs.Ledger.{Row, no_row, with_held, after_of, granted_row, by_success, answered_row}
 
 -- what is under each number of a table, where there is a table
 abbrev pub row_in : Option Table → Row
@@ -41,6 +41,19 @@ held_elsewhere row n o m apart =
       | inr other ↦ ap (λ b. cond b o (row m)) other.0
     ]
 
+-- what is put under a number twice is what is put there last
+twice_at : (row : Row) (n : ℕ) (o other last : Option Descriptor) (m : ℕ) → with_held (with_held row n o) n last m ≡ with_held (with_held row n other) n last m
+twice_at row n o other last m =
+    elim (eqb_tells m n) [
+      | inl is ↦ subst (λ j. with_held (with_held row n o) n last j ≡ with_held (with_held row n other) n last j) (sym is.1)
+          (held_here (with_held row n o) n last ∙ sym (held_here (with_held row n other) n last))
+      | inr apart ↦ held_elsewhere (with_held row n o) n last m apart.1 ∙ held_elsewhere row n o m apart.1
+          ∙ sym (held_elsewhere (with_held row n other) n last m apart.1 ∙ held_elsewhere row n other m apart.1)
+    ]
+
+pub put_twice : (row : Row) (n : ℕ) (o other last : Option Descriptor) → with_held (with_held row n o) n last ≡ with_held (with_held row n other) n last
+put_twice row n o other last = λ i m. twice_at row n o other last m i
+
 inserted_at : (table : Table) (n : ℕ) (d : Descriptor) (m : ℕ) → get (insert table n d) m ≡ with_held (row_in (Some table)) n (Some d) m
 inserted_at table n d m =
     elim (eqb_tells m n) [
@@ -65,24 +78,24 @@ row_removed table n = λ i m. removed_at table n m i
 
 -- ---- errors
 
-pub by_error : (errno : Errno) (granted row : Row) → errno ≢ Success → by_success errno granted row ≡ row
-by_error Success granted row other = absurd (other refl)
-by_error _ granted row other = refl
+pub by_error : {X : Type 0} (errno : Errno) (done otherwise : X) → errno ≢ Success → by_success errno done otherwise ≡ otherwise
+by_error Success done otherwise other = absurd (other refl)
+by_error _ done otherwise other = refl
 
 -- where nothing is granted it does not matter whether the call succeeded
-pub by_either : (errno : Errno) (row : Row) → by_success errno row row ≡ row
-by_either Success row = refl
-by_either _ row = refl
+pub by_either : {X : Type 0} (errno : Errno) (same : X) → by_success errno same same ≡ same
+by_either Success same = refl
+by_either _ same = refl
 
 -- ---- what an outcome leaves
 
 -- after the outcome's updates its process has what the ledger says after this answer
 abbrev pub LeavesRow : State → ℕ → Call → Outcome → Type 0
-LeavesRow S p call o = row_of (put_all o.updates S) p ≡ answered_row (last_made (put_all o.updates S) p) (row_of S p) call o.answer
+LeavesRow S p call o = row_of (put_all o.updates S) p ≡ answered_row (after_of (put_all o.updates S) p) (row_of S p) call o.answer
 
 -- an error, after which its process has the table that it had
 pub refused_reported : (S : State) (p : ℕ) (call : Call) (errno : Errno) → errno ≢ Success → LeavesRow S p call (replies (refused errno))
-refused_reported S p call errno other = sym (by_error errno (granted_row (last_made S p) (row_of S p) call (refused errno)) (row_of S p) other)
+refused_reported S p call errno other = sym (by_error errno (granted_row (after_of S p) (row_of S p) call (refused errno)) (row_of S p) other)
 
 pub badf_is_error : Badf ≢ Success
 badf_is_error e = cc
@@ -95,3 +108,6 @@ again_is_error e = cc
 
 pub notcapable_is_error : Notcapable ≢ Success
 notcapable_is_error e = cc
+
+pub nosys_is_error : Nosys ≢ Success
+nosys_is_error e = cc

@@ -2,7 +2,7 @@
 --     has_table, met_of_success      its process has a table, in which its needs are met
 --     opened_inherits      what is opened through a descriptor that has the rights needed has no right but those which that passes on
 --     act_is_within      so it is of each entry that fits
-use Rattle.std.proofs.Common.{◌≡◌, ◌≢◌, inl, inr, ℕ, ◌-◌, ◌^◌, ◌<◌, ◌&&◌, ◌==◌, Bool, true, false, cond, max, List, Option, Some, None, refl, sym, ap, subst, ◌∙◌, arith}
+use Rattle.std.proofs.Common.{◌≡◌, ◌≢◌, inl, inr, ℕ, ◌-◌, ◌^◌, ◌<◌, ◌&&◌, ◌==◌, Bool, true, false, max, List, Option, Some, None, refl, sym, ap, ◌∙◌, arith}
 use Rattle.std.proofs.lemmas.Bool.{eqb-true}
 use Rattle.std.proofs.lemmas.Bool.Decides.{eqb_tells}
 use Rattle.std.proofs.lemmas.Nat.{and_le_l}
@@ -29,6 +29,7 @@ use Rattle.abi_types.specs.declared.reply.Reply.{Reply}
 use Rattle.abi_types.specs.declared.who.Who.{Who}
 use Rattle.run_types.specs.declared.history.Act.{Act}
 use Rattle.run_types.specs.declared.history.Act.TheVariants as act
+use Rattle.run_types.specs.declared.history.Entry.{Entry}
 use Rattle.kernel_model.specs.Calls.{need, refusal}
 use Rattle.kernel_model.specs.Laws.{IsMet}
 use Rattle.kernel_model.specs.Need.{has_needed, lack_base, lack_inheriting}
@@ -37,7 +38,8 @@ use Rattle.kernel_model.specs.Outcome.{Outcome}
 use Rattle.kernel_model.specs.Reply.{refused}
 use Rattle.kernel_model.specs.State.{State, Table}
 use Rattle.kernel_model.specs.Step.{tick, outcome_on, step_answer, IsStep}
-use Rattle.kernel_model.specs.Valid.{IsNamed, IsValid, fits, fits_inheriting}
+use Rattle.kernel_model.specs.Fits.{fits, fits_inheriting}
+use Rattle.kernel_model.specs.Valid.{IsNamed, IsValid}
 use Rattle.kernel_model.specs.View.{whole}
 use Rattle.kernel_model.proofs.FoundOpens.{fits_small, lacks_none}
 use Rattle.kernel_model.proofs.Outcomes.{outcome_reads}
@@ -45,8 +47,8 @@ use Rattle.kernel_model.proofs.Reaches.{all_met}
 use Rattle.kernel_model.proofs.Refusals.{refused_answer, refusal_is_other, same_reply}
 use Rattle.kernel_model.proofs.Tests.{not_true}
 use Rattle.run_model.specs.Legal.{FitsAct}
-use Rattle.run_model.specs.World.{Guest, called_state}
-use Rattle.authority_laws.specs.Ledger.{Ledger, Made}
+use Rattle.run_model.specs.World.{Guest, called_state, who_of}
+use Rattle.authority_laws.specs.Ledger.{After, Ledger}
 use Rattle.authority_laws.specs.Origins.{InheritsFrom, was_opened}
 use Rattle.authority_laws.proofs.Origins.{ActIsWithin, AnswerIsWithin, OpensWithin}
 use Rattle.authority_laws.proofs.Rows.{row_in, badf_is_error}
@@ -182,23 +184,24 @@ opener_is constants S who lookup path oflags stat reply T step success valid =
 
 -- ---- entries that fit
 
-opens_within : (constants : Constants) (S : State) (who : Who) (made : Made) (l : Ledger) (call : Call) (reply : Reply) (T : State)
-    → IsStep constants S who call (answer.Reply reply) T → reply.errno ≡ Success → IsValid S → HasRows S l → OpensWithin made l who.pid call
-opens_within constants S who made l (FileOpen lookup path oflags stat) reply T step success valid rows =
-    let by = opener_is constants S who lookup path oflags stat reply T step success valid in
-    λ kind. was_opened lookup.fd by.x ((λ i. sym (rows who.pid) i lookup.fd) ∙ by.held) refl (by.inherits made.number kind)
-opens_within constants S who made l call reply T step success valid rows = tt
+opens_within : (constants : Constants) (S : State) (after : After) (l : Ledger) (e : Entry) (call : Call) (reply : Reply) (T : State)
+    → IsStep constants S (who_of e) call (answer.Reply reply) T → reply.errno ≡ Success → IsValid S → HasRows S l → OpensWithin after l e call
+opens_within constants S after l e (FileOpen lookup path oflags stat) reply T step success valid rows =
+    let by = opener_is constants S (who_of e) lookup path oflags stat reply T step success valid in
+    λ kind.
+    was_opened lookup.fd by.x refl ((λ i. sym (rows e.pid) i lookup.fd) ∙ by.held) refl (by.inherits (after.made 0).number kind)
+opens_within constants S after l e call reply T step success valid rows = tt
 
-answer_is_within : (constants : Constants) (S : State) (who : Who) (made : Made) (l : Ledger) (call : Call) (given : Answer) (T : State)
-    → IsStep constants S who call given T → IsValid S → HasRows S l → AnswerIsWithin made l who.pid call given
-answer_is_within constants S who made l call (answer.Reply reply) T step valid rows =
-    λ success. opens_within constants S who made l call reply T step success valid rows
+answer_is_within : (constants : Constants) (S : State) (after : After) (l : Ledger) (e : Entry) (call : Call) (given : Answer) (T : State)
+    → IsStep constants S (who_of e) call given T → IsValid S → HasRows S l → AnswerIsWithin after l e call given
+answer_is_within constants S after l e call (answer.Reply reply) T step valid rows =
+    λ success. opens_within constants S after l e call reply T step success valid rows
 
-pub act_is_within : (constants : Constants) (S : State) (who : Who) (guest : Guest) (ts : List ℕ) (made : Made) (l : Ledger) (a : Act)
-    → FitsAct constants S who guest ts a → IsValid S → HasRows S l → ActIsWithin made l who.pid a
-act_is_within constants S who guest ts made l (act.Call call given) fits valid rows =
-    answer_is_within constants S who made l call given (called_state constants S who call given) fits.1 valid rows
-act_is_within constants S who guest ts made l (act.Wake call given answered) fits valid rows = absurd fits.0
-act_is_within constants S who guest ts made l (act.Trap signal) fits valid rows = tt
-act_is_within constants S who guest ts made l act.Expire fits valid rows = tt
-act_is_within constants S who guest ts made l act.Idle fits valid rows = absurd fits.0
+pub act_is_within : (constants : Constants) (S : State) (guest : Guest) (ts : List ℕ) (after : After) (l : Ledger) (e : Entry) (a : Act)
+    → FitsAct constants S (who_of e) guest ts a → IsValid S → HasRows S l → ActIsWithin after l e a
+act_is_within constants S guest ts after l e (act.Call call given) fits valid rows =
+    answer_is_within constants S after l e call given (called_state constants S (who_of e) call given) fits.1 valid rows
+act_is_within constants S guest ts after l e (act.Wake call given answered) fits valid rows = absurd fits.0
+act_is_within constants S guest ts after l e (act.Trap signal) fits valid rows = tt
+act_is_within constants S guest ts after l e act.Expire fits valid rows = tt
+act_is_within constants S guest ts after l e act.Idle fits valid rows = absurd fits.0

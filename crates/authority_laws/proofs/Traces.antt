@@ -1,7 +1,7 @@
--- Each descriptor that is held after a legal history is traced to a grant.
+-- Each descriptor that is held after a legal history is traced.
 --     held_is_traced      so it is
---     traced_is_held, traced_is_within_grant      what is traced is held, with no right that its grant neither has nor passes on
-use Rattle.std.proofs.Common.{◌≡◌, ◌≢◌, inl, inr, ℕ, cond, List, [], ◌∷◌, ◌++◌, Option, Some, None, refl, sym, ap, subst, ◌∙◌, append-nil, append_assoc}
+--     traced_is_held, traced_is_within_root      what is traced is held, with no right that its root neither has nor passes on
+use Rattle.std.proofs.Common.{◌≡◌, ◌≢◌, inl, inr, ℕ, Bool, true, false, cond, List, [], ◌∷◌, ◌++◌, Option, Some, None, refl, sym, ap, subst, ◌∙◌, append-nil, append_assoc}
 use Rattle.std.proofs.lemmas.Bool.Decides.{eqb_tells}
 use Rattle.std.specs.Prelude.{bit_and, option_map, slice_get}
 use Rattle.std.specs.FinMap.{get}
@@ -11,8 +11,9 @@ use Rattle.abi_base.specs.declared.grant.Grant.{Grant}
 use Rattle.abi_structures.specs.declared.structures.FdStat.{FdStat}
 use Rattle.tree_model.specs.Grants.{MayBegin}
 use Rattle.abi_types.specs.declared.call.Call.{Call}
-use Rattle.abi_types.specs.declared.call.Call.TheVariants.{FdClose, FdDup, FdReplace, FdStatPut, FileOpen, ProcExit}
+use Rattle.abi_types.specs.declared.call.Call.TheVariants.{FdClose, FdCreate2, FdDup, FdReplace, FdStatPut, FileOpen, ProcExit, ProcFork}
 use Rattle.abi_types.specs.declared.descriptor.Descriptor.{Descriptor}
+use Rattle.abi_types.specs.declared.open_kind.OpenKind.{OpenKind}
 use Rattle.abi_types.specs.declared.reply.Answer.{Answer}
 use Rattle.abi_types.specs.declared.reply.Answer.TheVariants as answer
 use Rattle.abi_types.specs.declared.reply.Reply.{Reply}
@@ -25,19 +26,21 @@ use Rattle.kernel_model.specs.State.{State}
 use Rattle.kernel_model.proofs.OpenLaws.{grants_are_held}
 use Rattle.kernel_model.proofs.Tests.{none_is_no, same_some}
 use Rattle.run_model.specs.Legal.{FitsAct, Legal}
-use Rattle.run_model.specs.World.{World, guest_of, who_of, world}
+use Rattle.run_model.specs.World.{World, called_state, guest_of, who_of, world}
 use Rattle.run_model.proofs.Histories.{first_state, legal_next, world_none}
-use Rattle.authority_laws.specs.Ledger.{Ledger, Made, Row, no_row, with_held, launch_ledger, launch_row, lowered_row, granted_row, by_success}
-use Rattle.authority_laws.specs.Origins.{ComesFromGrant}
-use Rattle.authority_laws.specs.Recorded.{Succeeds, acted_row, held_after, held_before, ledger, made_at}
-use Rattle.authority_laws.specs.Traces.{AllTraced, IsGranted, Lowers, OpensFrom, Traced, root}
+use Rattle.authority_laws.specs.Ledger.{After, Ledger, Row, no_row, with_child, with_held, launch_ledger, launch_row, lowered_row, granted_row, by_success}
+use Rattle.authority_laws.specs.Laws.{TracedIsWithinRoot}
+use Rattle.authority_laws.specs.Origins.{InheritsFrom, IsCopied, IsNoMoreThan}
+use Rattle.authority_laws.specs.Recorded.{Succeeds, acted_row, after_at, child_at, held_after, held_before, ledger}
+use Rattle.authority_laws.specs.Traces.{AllTraced, IsGranted, IsWithin, Lowers, OpensFrom, Root, Traced, first_open, of_entry, of_grant, root}
 use Rattle.authority_laws.specs.Traces as way
 use Rattle.authority_laws.proofs.Bounds.{opens_are_bounded}
-use Rattle.authority_laws.proofs.Copies.{duplicates_are_equal, granted_after, replacements_are_equal, rights_are_lowered}
-use Rattle.authority_laws.proofs.Histories.{ledger_none, others_after, own_after, up_to}
+use Rattle.authority_laws.proofs.Copies.{copied, duplicates_are_equal, rights_are_lowered, stepped}
+use Rattle.authority_laws.proofs.Histories.{ledger_none, other_after, own_after, up_to}
 use Rattle.authority_laws.proofs.Origins.{inherits_of_granted, itself, no_more_than_granted}
 use Rattle.authority_laws.proofs.Rows.{held_elsewhere, held_here, row_in, row_of}
 use Rattle.authority_laws.proofs.States.{start_rows}
+use Rattle.authority_laws.proofs.Unbuilt.{IsUnbuilt, unbuilt_fails}
 
 -- ---- the grants
 
@@ -90,8 +93,8 @@ module _ (launch : Launch) (front : List Entry) (e : Entry) (begins : MayBegin l
   abbrev after : Row
   after = held_after launch front e
 
-  abbrev made : Made
-  made = made_at launch front e
+  abbrev shown : After
+  shown = after_at launch front e
 
   stays : (p n : ℕ) (d : Descriptor) → (ledger launch front).held p n ≡ Some d → (ledger launch (front ++ e ∷ [])).held p n ≡ Some d → Is p n d
   stays p n d was here = way.kept front e p n d (before p n d was) here
@@ -119,57 +122,96 @@ module _ (launch : Launch) (front : List Entry) (e : Entry) (begins : MayBegin l
         | inr other ↦ stays e.pid n d (sym ((λ i. is i n) ∙ held_elsewhere row fd None n other.1) ∙ here) here
       ]
 
-  lowered_traced : (fd : ℕ) (stat : FdStat) (flags : ℕ) (reply : Reply) → Succeeds e (FdStatPut fd stat flags) reply → (n : ℕ) (d : Descriptor)
-      → after n ≡ Some d → Is e.pid n d
-  lowered_traced fd stat flags reply done n d here =
+  lowered_traced : (fd : ℕ) (stat : FdStat) (flags : ℕ) (reply : Reply) → Succeeds e (FdStatPut fd stat flags) reply
+      → after ≡ granted_row shown row (FdStatPut fd stat flags) reply → (n : ℕ) (d : Descriptor) → after n ≡ Some d → Is e.pid n d
+  lowered_traced fd stat flags reply done left n d here =
       elim (eqb_tells (bit_and flags 2) 0) [
-        | inl is ↦ same_traced (granted_after launch front e (FdStatPut fd stat flags) reply done ∙ ap (λ b. cond b row (lowered_row row fd stat)) is.0) n d here
+        | inl is ↦ same_traced (left ∙ ap (λ b. cond b row (lowered_row row fd stat)) is.0) n d here
         | inr set ↦ (
-            let l = rights_are_lowered launch front e [] legal fd stat flags reply done set.1 in
+            let l = rights_are_lowered launch front e [] begins legal fd stat flags reply done set.1 in
             let lowers : Lowers e fd stat = record { flags = flags; reply = reply; succeeds = done; rights = set.1 } in
             changed_at fd l.d l.stands (way.lowered front e fd stat lowers l (before e.pid fd l.x l.stood)) l.others n d here)
       ]
 
-  call_traced : (call : Call) (reply : Reply) → Succeeds e call reply → (n : ℕ) (d : Descriptor) → after n ≡ Some d → Is e.pid n d
-  call_traced (FdClose fd) reply done = closed_traced fd (granted_after launch front e (FdClose fd) reply done)
-  call_traced (FdDup fd) reply done =
-      let c = (duplicates_are_equal launch front e [] legal fd reply done).1 in
-      changed_at reply.r1 c.d c.copy (way.copied front e fd reply.r1 (inl (reply, done, refl)) c (before e.pid fd c.d c.source)) c.others
-  call_traced (FdReplace from to) reply done =
-      let c = (replacements_are_equal launch front e [] legal from to reply done).1 in
+  -- where under `to` stands what stood under `from`, if anything did
+  source_traced : (from to : ℕ) (reply : Reply) (o : Option Descriptor) → Succeeds e (FdReplace from to) reply → row from ≡ o → after ≡ with_held row to o
+      → (n : ℕ) (d : Descriptor) → after n ≡ Some d → Is e.pid n d
+  source_traced from to reply None done there left = closed_traced to left
+  source_traced from to reply (Some x) done there left =
+      let c : IsCopied row after from to = copied row after from to x there (left ∙ ap (with_held row to) (sym there)) in
       changed_at to c.d c.copy (way.copied front e from to (inr (reply, done)) c (before e.pid from c.d c.source)) c.others
-  call_traced (FdStatPut fd stat flags) reply done = lowered_traced fd stat flags reply done
-  call_traced (FileOpen lookup path oflags stat) reply done =
+
+  -- a call that isn't built yet does not succeed
+  never_done : {X : Type 0} (call : Call) (reply : Reply) → IsUnbuilt call → Succeeds e call reply → X
+  never_done call reply unbuilt done =
+      let w = world launch front in
+      absurd (unbuilt_fails w.constants w.state (who_of e) call reply (called_state w.constants w.state (who_of e) call (answer.Reply reply)) unbuilt
+      (stepped launch front e [] call reply legal done) done.success)
+
+  call_traced : (call : Call) (reply : Reply) → Succeeds e call reply → after ≡ granted_row shown row call reply → (n : ℕ) (d : Descriptor)
+      → after n ≡ Some d → Is e.pid n d
+  call_traced (FdClose fd) reply done left = closed_traced fd left
+  call_traced (FdCreate2 kind) reply done left = never_done (FdCreate2 kind) reply (λ constants v who table. refl) done
+  call_traced (FdDup fd) reply done left =
+      let c = (duplicates_are_equal launch front e [] begins legal fd reply done).1 in
+      changed_at reply.r1 c.d c.copy (way.copied front e fd reply.r1 (inl (reply, done, refl)) c (before e.pid fd c.d c.source)) c.others
+  call_traced (FdReplace from to) reply done left = source_traced from to reply (row from) done refl left
+  call_traced (FdStatPut fd stat flags) reply done left = lowered_traced fd stat flags reply done left
+  call_traced (FileOpen lookup path oflags stat) reply done left =
       let o = opens_are_bounded launch front e [] begins legal lookup path oflags stat reply done in
       let from : OpensFrom e lookup.fd reply.r1 stat = record { lookup = lookup; path = path; oflags = oflags; reply = reply; succeeds = done; from = refl; result = refl } in
       changed_at reply.r1 o.d o.stands (way.opened front e lookup.fd reply.r1 stat from o (before e.pid lookup.fd o.x o.source)) o.others
-  call_traced (ProcExit code) reply done = none_traced (granted_after launch front e (ProcExit code) reply done)
-  call_traced call reply done = same_traced (granted_after launch front e call reply done)
+  call_traced (ProcExit code) reply done left = none_traced left
+  call_traced (ProcFork count) reply done left = never_done (ProcFork count) reply (λ constants v who table. refl) done
+  call_traced call reply done left = same_traced left
 
   errno_traced : (call : Call) (reply : Reply) (errno : Errno) → e.act ≡ act.Call call (answer.Reply reply) → reply.errno ≡ errno
-      → after ≡ by_success errno (granted_row made row call reply) row → (n : ℕ) (d : Descriptor) → after n ≡ Some d → Is e.pid n d
-  errno_traced call reply Success is success left = call_traced call reply (record { is = is; success = success })
+      → after ≡ by_success errno (granted_row shown row call reply) row → (n : ℕ) (d : Descriptor) → after n ≡ Some d → Is e.pid n d
+  errno_traced call reply Success is success left = call_traced call reply (record { is = is; success = success }) left
   errno_traced call reply _ is error left = same_traced left
 
-  answer_traced : (call : Call) (given : Answer) → e.act ≡ act.Call call given → after ≡ acted_row made row (act.Call call given)
+  answer_traced : (call : Call) (given : Answer) → e.act ≡ act.Call call given → after ≡ acted_row shown row (act.Call call given)
       → (n : ℕ) (d : Descriptor) → after n ≡ Some d → Is e.pid n d
   answer_traced call (answer.Reply reply) is left = errno_traced call reply reply.errno is refl left
 
   act_traced : (a : Act) → e.act ≡ a → FitsAct (world launch front).constants (world launch front).state (who_of e) (guest_of (world launch front) e.pid) e.turns a
-      → after ≡ acted_row made row a → (n : ℕ) (d : Descriptor) → after n ≡ Some d → Is e.pid n d
+      → after ≡ acted_row shown row a → (n : ℕ) (d : Descriptor) → after n ≡ Some d → Is e.pid n d
   act_traced (act.Call call given) is fits left = answer_traced call given is left
   act_traced (act.Wake call given answered) is fits left = absurd fits.0
   act_traced (act.Trap signal) is fits left = none_traced left
   act_traced act.Expire is fits left = none_traced left
   act_traced act.Idle is fits left = absurd fits.0
 
+  -- what the entry's process holds, whether it is live or not
+  own_traced : (live : Bool) → after ≡ cond live (acted_row shown row e.act) no_row → (n : ℕ) (d : Descriptor) → after n ≡ Some d → Is e.pid n d
+  own_traced true left = act_traced e.act refl (legal_next launch front e [] legal).act left
+  own_traced false left = none_traced left
+
+  -- what another process holds by this ledger, in which the process that the entry made holds what the entry's process held
+  child_traced : (child : Option ℕ) → child_at launch front e ≡ child → (p n : ℕ) (d : Descriptor)
+      → (with_child child row (ledger launch front)).held p n ≡ Some d → (ledger launch (front ++ e ∷ [])).held p n ≡ Some d → Is p n d
+  child_traced None is p n d was here = stays p n d was here
+  child_traced (Some c) is p n d was here =
+      elim (eqb_tells p c) [
+        | inl same ↦ (
+            let inherits : row n ≡ Some d = sym (ap (λ b. cond b row ((ledger launch front).held p) n) same.0) ∙ was in
+            way.inherited front e p n d (is ∙ ap (λ k. Some k) (sym same.1)) (before e.pid n d inherits) here)
+        | inr other ↦ stays p n d (sym (ap (λ b. cond b row ((ledger launch front).held p) n) other.0) ∙ was) here
+      ]
+
+  other_traced : (p n : ℕ) (d : Descriptor) (live : Bool)
+      → (ledger launch (front ++ e ∷ [])).held p ≡ cond live ((with_child (child_at launch front e) row (ledger launch front)).held p) no_row
+      → (ledger launch (front ++ e ∷ [])).held p n ≡ Some d → Is p n d
+  other_traced p n d true left here = child_traced (child_at launch front e) refl p n d ((λ i. sym left i n) ∙ here) here
+  other_traced p n d false left here = absurd (none_is_no d ((λ i. sym left i n) ∙ here))
+
   entry_traced : AllTraced launch (front ++ e ∷ [])
   entry_traced p n d here =
       elim (eqb_tells p e.pid) [
         | inl is ↦ subst (λ q. Is q n d) (sym is.1)
-            (act_traced e.act refl (legal_next launch front e [] legal).act (own_after launch front e) n d
+            (own_traced (shown.live e.pid) (own_after launch front e) n d
             (sym (ap (λ q. (ledger launch (front ++ e ∷ [])).held q n) is.1) ∙ here))
-        | inr other ↦ stays p n d ((λ i. sym (others_after launch front e p other.1) i n) ∙ here) here
+        | inr other ↦ other_traced p n d (shown.live p) (other_after launch front e p other.1) here
       ]
 
 -- ---- a history
@@ -199,20 +241,44 @@ traced_is_held launch history p n d (way.kept front e q m x before here) = here
 traced_is_held launch history p n d (way.copied front e from to copies c before) = c.copy
 traced_is_held launch history p n d (way.lowered front e m stat lowers l before) = l.stands
 traced_is_held launch history p n d (way.opened front e fd to stat opens o before) = o.stands
+traced_is_held launch history p n d (way.inherited front e q m x child before here) = here
+traced_is_held launch history p n d (way.made front e m x makes is here) = here
 
-pub traced_is_within_grant : (launch : Launch) (history : List Entry) (p n : ℕ) (d : Descriptor) (trace : Traced launch history p n d)
-    → ComesFromGrant launch.tree launch.grants (root launch history p n d trace) d
-traced_is_within_grant launch history p n d (way.granted k grant is) = record {
+-- ---- the root of a trace
+
+-- what is no more than what has such a root, and what inherits from it
+less_within : (launch : Launch) (r : Root) (first : OpenKind) (d x : Descriptor) → IsNoMoreThan d x → IsWithin launch r first x → IsWithin launch r first d
+less_within launch (of_grant k) first d x less within = no_more_than_granted launch.tree launch.grants k d x less within
+less_within launch of_entry first d x less within = (
+  λ k has. within.0 k (less.inheriting k has),
+  elim within.1 [
+    | inl new ↦ inl new
+    | inr none ↦ inr (record { base = λ k has. none.base k (less.base k has); inheriting = λ k has. none.inheriting k (less.inheriting k has) })
+  ],
+)
+
+inherits_within : (launch : Launch) (r : Root) (first then : OpenKind) (d x : Descriptor) → InheritsFrom d x → IsWithin launch r first x
+    → IsWithin launch r then d
+inherits_within launch (of_grant k) first then d x from within = inherits_of_granted launch.tree launch.grants k d x from within
+inherits_within launch of_entry first then d x from within = (
+  λ k has. within.0 k (from.inheriting k has),
+  inr (record { base = λ k has. within.0 k (from.base k has); inheriting = λ k has. within.0 k (from.inheriting k has) }),
+)
+
+pub traced_is_within_root : TracedIsWithinRoot
+traced_is_within_root launch history p n d (way.granted k grant is) = record {
   grant = grant;
   listed = is.listed;
   comes = inl (itself (granted_descriptor launch.tree k grant));
 }
-traced_is_within_grant launch history p n d (way.kept front e q m x before here) = traced_is_within_grant launch front q m x before
-traced_is_within_grant launch history p n d (way.copied front e from to copies c before) = traced_is_within_grant launch front e.pid from c.d before
-traced_is_within_grant launch history p n d (way.lowered front e m stat lowers l before) =
-    no_more_than_granted launch.tree launch.grants (root launch front e.pid m l.x before) l.d l.x
+traced_is_within_root launch history p n d (way.kept front e q m x before here) = traced_is_within_root launch front q m x before
+traced_is_within_root launch history p n d (way.copied front e from to copies c before) = traced_is_within_root launch front e.pid from c.d before
+traced_is_within_root launch history p n d (way.lowered front e m stat lowers l before) =
+    less_within launch (root launch front e.pid m l.x before) (first_open launch front e.pid m l.x before) l.d l.x
     (record { id = l.id; base = λ k has. ((l.base k).0 has).0; inheriting = λ k has. ((l.inheriting k).0 has).0 })
-    (traced_is_within_grant launch front e.pid m l.x before)
-traced_is_within_grant launch history p n d (way.opened front e fd to stat opens o before) =
-    inherits_of_granted launch.tree launch.grants (root launch front e.pid fd o.x before) o.d o.x o.within
-    (traced_is_within_grant launch front e.pid fd o.x before)
+    (traced_is_within_root launch front e.pid m l.x before)
+traced_is_within_root launch history p n d (way.opened front e fd to stat opens o before) =
+    inherits_within launch (root launch front e.pid fd o.x before) (first_open launch front e.pid fd o.x before) o.kind o.d o.x o.within
+    (traced_is_within_root launch front e.pid fd o.x before)
+traced_is_within_root launch history p n d (way.inherited front e q m x child before here) = traced_is_within_root launch front e.pid m x before
+traced_is_within_root launch history p n d (way.made front e m x makes is here) = (is.passes, inl is.new)

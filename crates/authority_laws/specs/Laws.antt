@@ -1,5 +1,5 @@
 -- What the ledger says of every legal history: the statements that are the contracts of the functions of src/laws.rt.
-use Rattle.std.specs.Prelude.{◌≡◌, ◌≢◌, ◌⊎◌, ℕ, bit_and, true, List, [], ◌∷◌, ◌++◌, None, Some, IsSome}
+use Rattle.std.specs.Prelude.{◌≡◌, ◌≢◌, ◌⊎◌, ℕ, bit_and, true, false, List, [], ◌∷◌, ◌++◌, None, Some, IsSome}
 use Rattle.std.specs.FinMap.{get}
 use Rattle.tree_model.specs.Grants.{MayBegin}
 use Rattle.abi_structures.specs.declared.structures.FdStat.{FdStat}
@@ -18,14 +18,15 @@ use Rattle.kernel_model.specs.Need.{has_needed}
 use Rattle.kernel_model.specs.OpenLaws.{OpensStay}
 use Rattle.kernel_model.specs.Proper.{IsIn}
 use Rattle.kernel_model.specs.Sight.{process_parts, behind}
-use Rattle.kernel_model.specs.State.{State, Table, Part, at_open, has_part}
-use Rattle.kernel_model.specs.Step.{sight}
+use Rattle.kernel_model.specs.Release.{is_released}
+use Rattle.kernel_model.specs.State.{State, Table, Part, at_open, at_status, has_part}
+use Rattle.kernel_model.specs.Step.{sight, unreleased}
 use Rattle.run_model.specs.Legal.{Legal}
-use Rattle.run_model.specs.World.{world}
+use Rattle.run_model.specs.World.{who_of, world}
 use Rattle.authority_laws.specs.Ledger.{Ledger, launch_ledger}
-use Rattle.authority_laws.specs.Origins.{Change, ComesFrom, ComesFromGrant, IsCopied, IsLowered, IsOpened}
-use Rattle.authority_laws.specs.Recorded.{Succeeds, held_after, held_before, ledger, made_at, noted}
-use Rattle.authority_laws.specs.Traces.{AllStay, AllTraced, Traced, root}
+use Rattle.authority_laws.specs.Origins.{Change, ChangeOfOther, ComesFrom, SendsComeFrom, IsCopied, IsLowered, IsOpened}
+use Rattle.authority_laws.specs.Recorded.{Succeeds, after_at, held_after, held_before, ledger, noted}
+use Rattle.authority_laws.specs.Traces.{AllOfGrants, AllStay, AllTraced, IsWithin, Traced, first_open, root}
 
 -- ---- the ledger of one more entry
 
@@ -37,7 +38,7 @@ LedgerBegins = (launch : Launch) → ledger launch [] ≡ launch_ledger launch.t
 abbrev pub LedgerGoesOn : Type 0
 LedgerGoesOn =
     (launch : Launch) (history : List Entry) (e : Entry)
-    → ledger launch (history ++ e ∷ []) ≡ noted (made_at launch history e) (ledger launch history) e
+    → ledger launch (history ++ e ∷ []) ≡ noted (after_at launch history e) (ledger launch history) e
 
 -- ---- the kernel's tables
 
@@ -59,20 +60,29 @@ LedgerReports =
 
 -- ---- where descriptors come from
 
--- Each descriptor that a process holds after an entry of a legal history names the open of one that it held before that entry,
--- with no right that this one lacked; or it names an open that the process made at that entry, with no right but those that a
--- descriptor passes on which it held before.
+-- Each descriptor that a process holds after an entry of a legal history names the open of one that it held before that entry, or that
+-- its parent held where the entry made it, with no right that this one lacked; or it names the open that the process made last at
+-- that entry, with no right but those that a descriptor passes on which it held before; or it names an open of a process or an end of
+-- channels that the process made at that entry, and passes on nothing.
 abbrev pub RightsNeverGrow : Type 0
 RightsNeverGrow =
     (launch : Launch) (front : List Entry) (e : Entry) (rest : List Entry) → MayBegin launch.tree launch.grants → Legal launch (front ++ e ∷ rest)
-    → ComesFrom (made_at launch front e) (ledger launch front) (ledger launch (front ++ e ∷ []))
+    → ComesFrom (after_at launch front e) e (ledger launch front) (ledger launch (front ++ e ∷ []))
 
--- An entry changes what its process holds in one of the few ways of `Change`, and leaves what each other process holds.
+-- What a send carries after an entry it carried before it, or the entry's process held it then, with the same rights.
+abbrev pub SendsAreHeld : Type 0
+SendsAreHeld =
+    (launch : Launch) (front : List Entry) (e : Entry) → SendsComeFrom e (ledger launch front) (ledger launch (front ++ e ∷ []))
+
+-- An entry changes what its process holds in one of the few ways of `Change`, and leaves what each other process holds, but for one
+-- that isn't live after it and one that it made.
 abbrev pub EntryChangesOne : Type 0
 EntryChangesOne =
     (launch : Launch) (front : List Entry) (e : Entry)
-    → Change (made_at launch front e) (held_before launch front e) (held_after launch front e)
-    × ((q : ℕ) → q ≢ e.pid → (ledger launch (front ++ e ∷ [])).held q ≡ (ledger launch front).held q)
+    → Change (after_at launch front e) (held_before launch front e) (held_after launch front e)
+    × ((q : ℕ) → q ≢ e.pid
+    → ChangeOfOther (after_at launch front e) e q (held_before launch front e) ((ledger launch front).held q)
+    ((ledger launch (front ++ e ∷ [])).held q))
 
 -- After an fd_dup that succeeded there stands under its result, under which nothing stood, what stood under the descriptor's
 -- number before it.
@@ -83,17 +93,28 @@ DuplicatesAt launch front e =
 
 -- So it is at each entry of a legal history.
 abbrev pub DuplicatesAreEqual : Type 0
-DuplicatesAreEqual = (launch : Launch) (front : List Entry) (e : Entry) (rest : List Entry) → Legal launch (front ++ e ∷ rest) → DuplicatesAt launch front e
+DuplicatesAreEqual =
+    (launch : Launch) (front : List Entry) (e : Entry) (rest : List Entry) → MayBegin launch.tree launch.grants → Legal launch (front ++ e ∷ rest)
+    → DuplicatesAt launch front e
 
--- After an fd_replace that succeeded there stands under `to`, under which something stood, what stood under `from` before it.
+-- what the entry lets go by this call does not end its own process
+abbrev pub ReleaseKeeps : Launch → List Entry → Entry → Call → Type 0
+ReleaseKeeps launch front e call =
+    is_released (unreleased (world launch front).constants (world launch front).state (who_of e) call) (at_status e.pid) ≡ false
+
+-- After an fd_replace that succeeded there stands under `to`, under which something stood, what stood under `from` before it, unless
+-- what it lets go ends its own process.
 abbrev pub ReplacesAt : Launch → List Entry → Entry → Type 0
 ReplacesAt launch front e =
     (from to : ℕ) (reply : Reply) → Succeeds e (FdReplace from to) reply
-    → IsSome (held_before launch front e to) × IsCopied (held_before launch front e) (held_after launch front e) from to
+    → IsSome (held_before launch front e to)
+    × (ReleaseKeeps launch front e (FdReplace from to) → IsCopied (held_before launch front e) (held_after launch front e) from to)
 
 -- So it is at each entry of a legal history.
 abbrev pub ReplacementsAreEqual : Type 0
-ReplacementsAreEqual = (launch : Launch) (front : List Entry) (e : Entry) (rest : List Entry) → Legal launch (front ++ e ∷ rest) → ReplacesAt launch front e
+ReplacementsAreEqual =
+    (launch : Launch) (front : List Entry) (e : Entry) (rest : List Entry) → MayBegin launch.tree launch.grants → Legal launch (front ++ e ∷ rest)
+    → ReplacesAt launch front e
 
 -- After an fd_stat_put with RIGHTS (2) that succeeded the descriptor has exactly those of the rights which it had before it that
 -- are asked.
@@ -104,7 +125,9 @@ LowersAt launch front e =
 
 -- So it is at each entry of a legal history.
 abbrev pub RightsAreLowered : Type 0
-RightsAreLowered = (launch : Launch) (front : List Entry) (e : Entry) (rest : List Entry) → Legal launch (front ++ e ∷ rest) → LowersAt launch front e
+RightsAreLowered =
+    (launch : Launch) (front : List Entry) (e : Entry) (rest : List Entry) → MayBegin launch.tree launch.grants → Legal launch (front ++ e ∷ rest)
+    → LowersAt launch front e
 
 -- After a file_open that succeeded there stands under its result, under which nothing stood, the open that it made, with exactly
 -- those of the rights asked that are of its type, each among those that the descriptor passed on from which it began; and its open
@@ -112,7 +135,7 @@ RightsAreLowered = (launch : Launch) (front : List Entry) (e : Entry) (rest : Li
 abbrev pub OpensAt : Launch → List Entry → Entry → Type 0
 OpensAt launch front e =
     (lookup : Lookup) (path : List ℕ) (oflags : ℕ) (stat : FdStat) (reply : Reply) → Succeeds e (FileOpen lookup path oflags stat) reply
-    → IsOpened (world launch front).state (world launch (front ++ e ∷ [])).state (made_at launch front e) (held_before launch front e)
+    → IsOpened (world launch front).state (world launch (front ++ e ∷ [])).state ((after_at launch front e).made 0) (held_before launch front e)
     (held_after launch front e) lookup.fd reply.r1 stat
 
 -- So it is at each entry of a legal history.
@@ -132,11 +155,18 @@ OpensStayOfWhatTheyAre =
     (launch : Launch) (front : List Entry) (e : Entry) (rest : List Entry) → MayBegin launch.tree launch.grants → Legal launch (front ++ e ∷ rest)
     → OpensStayAt launch front e
 
--- Each descriptor that the ledger of a legal history says is held is traced to one of the launch's grants.
+-- Each descriptor that the ledger of a legal history says is held is traced: to one of the launch's grants, or to an open of a process
+-- or an end of channels that an entry made.
 abbrev pub HeldIsTraced : Type 0
 HeldIsTraced = (launch : Launch) (history : List Entry) → MayBegin launch.tree launch.grants → Legal launch history → AllTraced launch history
 
--- The open of each traced descriptor is of what it was of when the launch granted it or an entry opened it.
+-- Each traced descriptor of a file, a directory or a standard stream is traced to a grant, and has no right but those that this has or
+-- passes on.
+abbrev pub FilesComeFromGrants : Type 0
+FilesComeFromGrants =
+    (launch : Launch) (history : List Entry) → MayBegin launch.tree launch.grants → Legal launch history → AllOfGrants launch history
+
+-- The open of each traced descriptor is of what it was of when the launch granted it or an entry opened or made it.
 abbrev pub TracedStays : Type 0
 TracedStays = (launch : Launch) (history : List Entry) → MayBegin launch.tree launch.grants → Legal launch history → AllStay launch history
 
@@ -145,13 +175,14 @@ abbrev pub TracedIsHeld : Type 0
 TracedIsHeld =
     (launch : Launch) (history : List Entry) (p n : ℕ) (d : Descriptor) → Traced launch history p n d → (ledger launch history).held p n ≡ Some d
 
--- A traced descriptor has no right but those that the grant at the root of its trace has or passes on.
-abbrev pub TracedIsWithinGrant : Type 0
-TracedIsWithinGrant =
+-- A traced descriptor has no right but those that the grant at the root of its trace has or passes on. Where an entry made the open at
+-- the root, it passes on nothing, and is of an open of a process or an end of channels, or has no right at all.
+abbrev pub TracedIsWithinRoot : Type 0
+TracedIsWithinRoot =
     (launch : Launch) (history : List Entry) (p n : ℕ) (d : Descriptor) (trace : Traced launch history p n d)
-    → ComesFromGrant launch.tree launch.grants (root launch history p n d trace) d
+    → IsWithin launch (root launch history p n d trace) (first_open launch history p n d trace) d
 
--- Each descriptor in a table of a legal history's world is there by the ledger, and traced to one of the launch's grants.
+-- Each descriptor in a table of a legal history's world is there by the ledger, and traced.
 abbrev pub TablesAreRecorded : Type 0
 TablesAreRecorded =
     (launch : Launch) (history : List Entry) → MayBegin launch.tree launch.grants → Legal launch history
@@ -161,7 +192,7 @@ TablesAreRecorded =
 -- ---- what a call may read
 
 -- the part is the open of a descriptor which the ledger says that process p holds, which has all rights that a row of the
--- call's needs asks of it, and which is traced to one of the grants; or it stands behind that open
+-- call's needs asks of it, and which is traced; or it stands behind that open
 pub record IsReachedByHeld (launch : Launch) (history : List Entry) (p : ℕ) (rows : List Needed) (part : Part) : Type 0 where
   pub row : Needed
   pub asked : IsIn row rows
@@ -172,7 +203,7 @@ pub record IsReachedByHeld (launch : Launch) (history : List Entry) (p : ℕ) (r
   pub reached : has_part (at_open d.id ∷ behind (world launch history).state (get (world launch history).state.opens d.id)) part ≡ true
 
 -- the call needs no right at all, and the part is the open of a descriptor that it names, which the ledger says that process p
--- holds, and which is traced to one of the grants; or it stands behind that open
+-- holds, and which is traced; or it stands behind that open
 pub record IsReachedByNamed (launch : Launch) (history : List Entry) (p : ℕ) (call : Call) (part : Part) : Type 0 where
   pub none : need call ≡ []
   pub fd : ℕ
@@ -196,23 +227,25 @@ SightIsRecorded = (launch : Launch) (history : List Entry) → MayBegin launch.t
 
 -- ---- all of it, at each point and at each entry of a history
 
--- after these entries the ledger says who holds what, all that is held is traced to one of the launch's grants, its open is of what it
--- was of when it came, and what a call may read is reached by it
+-- after these entries the ledger says who holds what, all that is held is traced, of files, directories and standard streams to one of
+-- the launch's grants, its open is of what it was of when it came, and what a call may read is reached by it
 pub record IsRecordedAt (launch : Launch) (front : List Entry) : Type 0 where
   pub reports : Reports (world launch front).state (ledger launch front)
   pub traced : AllTraced launch front
+  pub granted : AllOfGrants launch front
   pub stay : AllStay launch front
   pub sees : SeesByHeld launch front
 
 -- at this entry copies are equal, rights are lowered to those asked, what is opened is bounded, each open stays of what it was of, and
--- no right comes that was neither held nor passed on
+-- no right comes that was neither held nor passed on, but for a process or an end of channels that was made; and what is sent was held
 pub record IsRecordedEntry (launch : Launch) (front : List Entry) (e : Entry) : Type 0 where
   pub copied : DuplicatesAt launch front e
   pub replaced : ReplacesAt launch front e
   pub lowered : LowersAt launch front e
   pub opened : OpensAt launch front e
   pub stay : OpensStayAt launch front e
-  pub never_grows : ComesFrom (made_at launch front e) (ledger launch front) (ledger launch (front ++ e ∷ []))
+  pub never_grows : ComesFrom (after_at launch front e) e (ledger launch front) (ledger launch (front ++ e ∷ []))
+  pub sends : SendsComeFrom e (ledger launch front) (ledger launch (front ++ e ∷ []))
 
 -- so it is at each point of the history, and at each entry
 pub record IsRecorded (launch : Launch) (history : List Entry) : Type 0 where

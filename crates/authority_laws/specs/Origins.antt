@@ -1,5 +1,5 @@
 -- Where a descriptor that a process holds comes from, and how what it holds may change.
-use Rattle.std.specs.Prelude.{◌≡◌, ◌≢◌, ◌↔◌, ◌⊎◌, ℕ, true, List, None, Some, slice_get}
+use Rattle.std.specs.Prelude.{◌≡◌, ◌≢◌, ◌↔◌, ◌⊎◌, ℕ, true, false, List, None, Some, slice_get}
 use Rattle.std.specs.FinMap.{get}
 use Rattle.abi_base.specs.declared.grant.Grant.{Grant}
 use Rattle.abi_base.specs.Rights.{Has}
@@ -10,11 +10,14 @@ use Rattle.abi_types.specs.declared.open_kind.OpenKind.TheVariants.{File, Direct
 use Rattle.maps.specs.Closure.{member}
 use Rattle.tree_model.specs.Changes.{is_file}
 use Rattle.tree_model.specs.Tree.{HasName, below}
+use Rattle.run_types.specs.declared.history.Entry.{Entry}
 use Rattle.kernel_model.specs.Families.Opening.{opened_descriptor}
+use Rattle.kernel_model.specs.Proper.{IsIn}
 use Rattle.kernel_model.specs.Start.{granted_descriptor}
 use Rattle.kernel_model.specs.State.{State, Tree, tree_of}
-use Rattle.kernel_model.specs.Valid.{fits, fits_inheriting}
-use Rattle.authority_laws.specs.Ledger.{Row, no_row, with_held, Ledger, Made}
+use Rattle.kernel_model.specs.Fits.{fits, fits_inheriting}
+use Rattle.authority_laws.specs.Ledger.{Row, no_row, with_held, Ledger, Made, After, is_new, new_held}
+use Rattle.authority_laws.specs.Recorded.{acted_child}
 
 -- each of the rights is among the others
 abbrev pub AreAmong : ℕ → ℕ → Type 0
@@ -31,17 +34,39 @@ pub record InheritsFrom (d x : Descriptor) : Type 0 where
   pub base : AreAmong d.base.0 x.inheriting.0
   pub inheriting : AreAmong d.inheriting.0 x.inheriting.0
 
--- How a descriptor that process p holds after an entry came there, by the ledger before it, where p has made this last. Each way
--- in which an entry may give a process a descriptor has a line.
-pub data Origin (made : Made) (l : Ledger) (p : ℕ) (d : Descriptor) : Type 0 where
-  -- the process held one that names the same open, under whatever number, and d has no right that that one lacked
-  was_held : (m : ℕ) (x : Descriptor) → l.held p m ≡ Some x → IsNoMoreThan d x → Origin made l p d
-  -- it is of the open that was made, and its rights are among those that a descriptor passes on which the process held
-  was_opened : (m : ℕ) (x : Descriptor) → l.held p m ≡ Some x → d.id ≡ made.number → InheritsFrom d x → Origin made l p d
+-- d passes on no right
+abbrev pub PassesOnNothing : Descriptor → Type 0
+PassesOnNothing d = (k : ℕ) → ¬ Has d.inheriting.0 k
+
+-- d has no right, nor does it pass on one
+pub record HasNoRight (d : Descriptor) : Type 0 where
+  pub base : (k : ℕ) → ¬ Has d.base.0 k
+  pub inheriting : PassesOnNothing d
+
+-- What process q held before an entry process p may hold after it: it is p itself, or it did the entry, by which p was made.
+abbrev pub Gives : After → Entry → ℕ → ℕ → Type 0
+Gives after e q p = (q ≡ p) ⊎ ((q ≡ e.pid) × (acted_child after e.act ≡ Some p))
+
+-- How a descriptor that process p holds after an entry came there, by the ledger before it and what the state after it shows. Each
+-- way in which an entry may give a process a descriptor has a line.
+pub data Origin (after : After) (l : Ledger) (e : Entry) (p : ℕ) (d : Descriptor) : Type 0 where
+  -- a process that gives to p held one that names the same open, under whatever number, and d has no right that that one lacked
+  was_held : (q m : ℕ) (x : Descriptor) → Gives after e q p → l.held q m ≡ Some x → IsNoMoreThan d x → Origin after l e p d
+  -- p did the entry, d is of the open that it made last, and its rights are among those that a descriptor passes on which it held
+  was_opened : (m : ℕ) (x : Descriptor) → p ≡ e.pid → l.held p m ≡ Some x → d.id ≡ (after.made 0).number → InheritsFrom d x
+      → Origin after l e p d
+  -- p did the entry, and d is of an open that it made, which is a process's or an end of channels; d passes on nothing
+  was_made : (k : ℕ) (kind : OpenKind) → p ≡ e.pid → d.id ≡ (after.made k).number → (after.made k).kind ≡ Some kind → is_new kind ≡ true
+      → PassesOnNothing d → Origin after l e p d
 
 -- each descriptor that a process holds by the one ledger has an origin in the other
-abbrev pub ComesFrom : Made → Ledger → Ledger → Type 0
-ComesFrom made before after = (p n : ℕ) (d : Descriptor) → after.held p n ≡ Some d → Origin made before p d
+abbrev pub ComesFrom : After → Entry → Ledger → Ledger → Type 0
+ComesFrom after e before then = (p n : ℕ) (d : Descriptor) → then.held p n ≡ Some d → Origin after before e p d
+
+-- what each send carries by the one ledger it carried by the other, or the entry's process held it by that
+abbrev pub SendsComeFrom : Entry → Ledger → Ledger → Type 0
+SendsComeFrom e before then =
+    (c j : ℕ) (d : Descriptor) → IsIn d (then.sent c j) → IsIn d (before.sent c j) ⊎ ((n : ℕ) × (before.held e.pid n ≡ Some d))
 
 -- the descriptor is no more than what the grant of this number gave, or has no right but those which that passes on
 pub record ComesFromGrant (tree : Tree) (grants : List Grant) (number : ℕ) (d : Descriptor) : Type 0 where
@@ -51,21 +76,34 @@ pub record ComesFromGrant (tree : Tree) (grants : List Grant) (number : ℕ) (d 
 
 -- ---- how what a process holds may change
 
--- How what a process holds after an entry may differ from what it held before it, where it has made this last.
-pub data Change (made : Made) (before after : Row) : Type 0 where
+-- How what the process of an entry holds after it may differ from what it held before it, by what the state after it shows.
+pub data Change (after : After) (before then : Row) : Type 0 where
   -- all stands as it did
-  stays : after ≡ before → Change made before after
+  stays : then ≡ before → Change after before then
   -- nothing is held any more
-  ends : after ≡ no_row → Change made before after
+  ends : then ≡ no_row → Change after before then
   -- nothing stands under n any more
-  closes : (n : ℕ) → after ≡ with_held before n None → Change made before after
+  closes : (n : ℕ) → then ≡ with_held before n None → Change after before then
   -- under `to` stands what stood under `from`
-  copies : (from to : ℕ) (d : Descriptor) → before from ≡ Some d → after ≡ with_held before to (Some d) → Change made before after
+  copies : (from to : ℕ) (d : Descriptor) → before from ≡ Some d → then ≡ with_held before to (Some d) → Change after before then
   -- under n stands the same open as before, with no right more
-  lowers : (n : ℕ) (d x : Descriptor) → before n ≡ Some x → IsNoMoreThan d x → after ≡ with_held before n (Some d) → Change made before after
-  -- under n stands the open that was made, with rights of its type that are asked
-  opens : (n : ℕ) (kind : OpenKind) (stat : FdStat) → made.kind ≡ Some kind
-      → after ≡ with_held before n (Some (opened_descriptor made.number kind stat)) → Change made before after
+  lowers : (n : ℕ) (d x : Descriptor) → before n ≡ Some x → IsNoMoreThan d x → then ≡ with_held before n (Some d) → Change after before then
+  -- under n stands the open that was made last, with rights of its type that are asked
+  opens : (n : ℕ) (kind : OpenKind) (stat : FdStat) → (after.made 0).kind ≡ Some kind
+      → then ≡ with_held before n (Some (opened_descriptor (after.made 0).number kind stat)) → Change after before then
+  -- under n stands the open that was made last, if it is a process's or an end of channels
+  makes : (n : ℕ) → then ≡ with_held before n (new_held (after.made 0)) → Change after before then
+  -- so it is under m, and under n stands the open that was made before that
+  makes_both : (n m : ℕ) → then ≡ with_held (with_held before n (new_held (after.made 1))) m (new_held (after.made 0)) → Change after before then
+
+-- How what another process q holds after an entry may differ from what it held before it, where the entry's process held `own`.
+pub data ChangeOfOther (after : After) (e : Entry) (q : ℕ) (own before then : Row) : Type 0 where
+  -- all stands as it did
+  remains : then ≡ before → ChangeOfOther after e q own before then
+  -- q isn't live after the entry, and holds nothing
+  is_over : after.live q ≡ false → then ≡ no_row → ChangeOfOther after e q own before then
+  -- the entry made q, which holds what the entry's process held
+  is_born : acted_child after e.act ≡ Some q → then ≡ own → ChangeOfOther after e q own before then
 
 -- under `to` stands what stood under `from`, the same open with the same rights, and under each other number what stood there
 pub record IsCopied (before after : Row) (from to : ℕ) : Type 0 where
@@ -105,8 +143,8 @@ IsOpenedBelow before after start _ = ⊥
 
 -- under `to`, under which nothing stood, stands d, which names the open that was made, with exactly those of the rights asked that
 -- are of its type; these are among the rights that x passes on, which stood under fd; the open of x, in the state S before, was of
--- a directory, and the open that was made, in the state U after, is of what is below that; and under each other number stands what
--- stood there
+-- a directory, and the open that was made, which was not there in that state, is in the state U after of what is below that; and
+-- under each other number stands what stood there
 pub record IsOpened (S U : State) (made : Made) (before after : Row) (fd to : ℕ) (stat : FdStat) : Type 0 where
   pub d : Descriptor
   pub x : Descriptor
@@ -118,6 +156,7 @@ pub record IsOpened (S U : State) (made : Made) (before after : Row) (fd to : �
   pub free : before to ≡ None
   pub stands : after to ≡ Some d
   pub id : d.id ≡ made.number
+  pub absent : get S.opens d.id ≡ None
   pub opened : get U.opens d.id ≡ Some kind
   pub leads : IsOpenedBelow (tree_of S) (tree_of U) start kind
   pub base : (k : ℕ) → Has d.base.0 k ↔ (Has (fits kind) k × Has stat.base.0 k)

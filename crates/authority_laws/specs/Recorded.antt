@@ -1,6 +1,6 @@
 -- The ledger of a launch and a history, carried forward from entry to entry. It is read from the launch and the recorded
--- entries, and of the state after an entry only which open its process made last: no table comes in.
-use Rattle.std.specs.Prelude.{◌≡◌, List, [], ◌∷◌, ◌++◌}
+-- entries, and of the state after an entry only which opens its process made last and who is live: no table comes in.
+use Rattle.std.specs.Prelude.{◌≡◌, ℕ, List, [], ◌∷◌, ◌++◌, Option, None}
 use Rattle.abi_base.specs.declared.errno.Errno.TheVariants.{Success}
 use Rattle.abi_types.specs.declared.call.Call.{Call}
 use Rattle.abi_types.specs.declared.reply.Answer.TheVariants as answer
@@ -10,29 +10,44 @@ use Rattle.run_types.specs.declared.history.Act.TheVariants as act
 use Rattle.run_types.specs.declared.history.Entry.{Entry}
 use Rattle.run_types.specs.declared.launch.Launch.{Launch}
 use Rattle.run_model.specs.World.{World, apply, start_world, world}
-use Rattle.authority_laws.specs.Ledger.{Row, no_row, Ledger, Made, last_made, with_row, launch_ledger, answered_row}
+use Rattle.authority_laws.specs.Ledger.{Row, no_row, Sends, Ledger, After, after_of, with_row, with_sends, with_child, of_live, launch_ledger, answered_row, answered_sends, answered_child}
 
 -- What a process holds after an act of its thread: a wake is answered as its call is, a process that ended holds nothing, and an
 -- idle jump leaves what each process held.
-abbrev pub acted_row : Made → Row → Act → Row
-acted_row made row (act.Call call given) = answered_row made row call given
-acted_row made row (act.Wake call given answered) = answered_row made row call answered
-acted_row made row (act.Trap signal) = no_row
-acted_row made row act.Expire = no_row
-acted_row made row act.Idle = row
+abbrev pub acted_row : After → Row → Act → Row
+acted_row after row (act.Call call given) = answered_row after row call given
+acted_row after row (act.Wake call given answered) = answered_row after row call answered
+acted_row after row (act.Trap signal) = no_row
+acted_row after row act.Expire = no_row
+acted_row after row act.Idle = row
 
--- the ledger after an entry, whose process then has made this last
-abbrev pub noted : Made → Ledger → Entry → Ledger
-noted made l e = with_row l e.pid (acted_row made (l.held e.pid) e.act)
+-- the process that an act made: a wake makes none
+abbrev pub acted_child : After → Act → Option ℕ
+acted_child after (act.Call call given) = answered_child after call given
+acted_child after _ = None
 
--- what the entry's process has made last in the world after it
-abbrev pub made_in : World → Entry → Made
-made_in w e = last_made w.state e.pid
+-- what the sends carried after an act of a process that held this before: a wake is answered as its call is
+abbrev pub acted_sends : After → Row → Sends → Act → Sends
+acted_sends after row sent (act.Call call given) = answered_sends after row sent call given
+acted_sends after row sent (act.Wake call given answered) = answered_sends after row sent call answered
+acted_sends after row sent _ = sent
+
+-- The ledger after an entry, by what the state after it shows: the entry's process holds what its act leaves it, and the process
+-- that it made holds what the entry's process held before it. Who isn't live after it holds nothing. What was sent stays as it was.
+abbrev pub noted : After → Ledger → Entry → Ledger
+noted after l e =
+    with_sends
+    (of_live after.live (with_row (with_child (acted_child after e.act) (l.held e.pid) l) e.pid (acted_row after (l.held e.pid) e.act)))
+    (acted_sends after (l.held e.pid) l.sent e.act)
+
+-- what the world after an entry shows
+abbrev pub after_in : World → Entry → After
+after_in w e = after_of w.state e.pid
 
 -- the ledger after these entries, one after another from this world on
 unfoldable pub noted_all : World → Ledger → List Entry → Ledger
 noted_all w l [] = l
-noted_all w l (e ∷ es) = noted_all (apply w e) (noted (made_in (apply w e) e) l e) es
+noted_all w l (e ∷ es) = noted_all (apply w e) (noted (after_in (apply w e) e) l e) es
 
 -- the ledger of a launch and a history
 unfoldable pub ledger : Launch → List Entry → Ledger
@@ -40,9 +55,13 @@ ledger launch history = noted_all (start_world launch) (launch_ledger launch.tre
 
 -- ---- at one entry, behind these in front of it
 
--- what the entry's process has made last in the world after it
-abbrev pub made_at : Launch → List Entry → Entry → Made
-made_at launch front e = made_in (world launch (front ++ e ∷ [])) e
+-- what the world after it shows
+abbrev pub after_at : Launch → List Entry → Entry → After
+after_at launch front e = after_in (world launch (front ++ e ∷ [])) e
+
+-- the process that the entry made
+abbrev pub child_at : Launch → List Entry → Entry → Option ℕ
+child_at launch front e = acted_child (after_at launch front e) e.act
 
 -- what the entry's process holds before it
 abbrev pub held_before : Launch → List Entry → Entry → Row

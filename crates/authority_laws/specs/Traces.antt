@@ -1,12 +1,13 @@
 -- How each descriptor that is held came there, from a grant of the launch on.
-use Rattle.std.specs.Prelude.{◌≡◌, ◌≢◌, ◌⊎◌, ℕ, bit_and, List, [], ◌∷◌, ◌++◌, Some, slice_get}
+use Rattle.std.specs.Prelude.{◌≡◌, ◌≢◌, ◌⊎◌, ⊤, ℕ, bit_and, true, List, [], ◌∷◌, ◌++◌, None, Some, slice_get}
 use Rattle.std.specs.FinMap.{get}
 use Rattle.abi_base.specs.declared.grant.Grant.{Grant}
 use Rattle.abi_structures.specs.declared.structures.FdStat.{FdStat}
-use Rattle.abi_types.specs.declared.call.Call.TheVariants.{FdDup, FdReplace, FdStatPut, FileOpen}
+use Rattle.abi_types.specs.declared.call.Call.TheVariants.{FdCreate2, FdDup, FdReplace, FdStatPut, FileOpen, ProcFork}
 use Rattle.abi_types.specs.declared.call.Lookup.{Lookup}
 use Rattle.abi_types.specs.declared.descriptor.Descriptor.{Descriptor}
 use Rattle.abi_types.specs.declared.open_kind.OpenKind.{OpenKind}
+use Rattle.abi_types.specs.declared.open_kind.OpenKind.TheVariants.{File, Directory, Terminal}
 use Rattle.abi_types.specs.declared.reply.Reply.{Reply}
 use Rattle.run_types.specs.declared.history.Entry.{Entry}
 use Rattle.run_types.specs.declared.launch.Launch.{Launch}
@@ -14,8 +15,9 @@ use Rattle.kernel_model.specs.OpenLaws.{IsOfSame, IsOpenOf}
 use Rattle.kernel_model.specs.Start.{granted_descriptor}
 use Rattle.kernel_model.specs.State.{State}
 use Rattle.run_model.specs.World.{world}
-use Rattle.authority_laws.specs.Origins.{IsCopied, IsLowered, IsOpened}
-use Rattle.authority_laws.specs.Recorded.{Succeeds, held_after, held_before, ledger, made_at}
+use Rattle.authority_laws.specs.Ledger.{is_new}
+use Rattle.authority_laws.specs.Origins.{ComesFromGrant, HasNoRight, IsCopied, IsLowered, IsOpened, PassesOnNothing}
+use Rattle.authority_laws.specs.Recorded.{Succeeds, after_at, child_at, held_after, held_before, ledger}
 
 -- the launch lists this grant under number k, and the open that it gives at the start is of what the grant is of
 pub record IsGranted (launch : Launch) (k : ℕ) (grant : Grant) : Type 0 where
@@ -46,6 +48,20 @@ pub record OpensFrom (e : Entry) (fd to : ℕ) (stat : FdStat) : Type 0 where
   pub from : fd ≡ lookup.fd
   pub result : to ≡ reply.r1
 
+-- the entry is an fd_create2 or a proc_fork that succeeded, which makes opens of no descriptor, and n is one of its results
+abbrev pub Makes : Entry → ℕ → Type 0
+Makes e n =
+    ((kind : ℕ) × (reply : Reply) × Succeeds e (FdCreate2 kind) reply × ((n ≡ reply.r1) ⊎ (n ≡ reply.r2)))
+    ⊎ ((left : ℕ) × (reply : Reply) × Succeeds e (ProcFork left) reply × (n ≡ reply.r1))
+
+-- d names an open that was made between the states S and U, of a process or of an end of channels, and passes on nothing
+pub record IsMade (S U : State) (d : Descriptor) : Type 0 where
+  pub kind : OpenKind
+  pub absent : get S.opens d.id ≡ None
+  pub opened : get U.opens d.id ≡ Some kind
+  pub new : is_new kind ≡ true
+  pub passes : PassesOnNothing d
+
 -- After these entries process p holds d under number n, and it came there so. Each way in which a descriptor may come to a process
 -- has a line; but for the first, the last of the entries is the one by which it came or after which it is still there.
 pub data Traced (launch : Launch) : List Entry → ℕ → ℕ → Descriptor → Type 0 where
@@ -66,25 +82,41 @@ pub data Traced (launch : Launch) : List Entry → ℕ → ℕ → Descriptor �
   -- it was opened at the entry, through a descriptor of a directory that the process held before it: it has no right that this
   -- one does not pass on, and its open is of what is below that directory
   opened : (front : List Entry) (e : Entry) (fd to : ℕ) (stat : FdStat) → OpensFrom e fd to stat
-      → (o : IsOpened (world launch front).state (world launch (front ++ e ∷ [])).state (made_at launch front e)
+      → (o : IsOpened (world launch front).state (world launch (front ++ e ∷ [])).state ((after_at launch front e).made 0)
       (held_before launch front e) (held_after launch front e) fd to stat)
       → Traced launch front e.pid fd o.x → Traced launch (front ++ e ∷ []) e.pid to o.d
+  -- the entry made the process, and the process that did the entry held it before, under the same number
+  inherited : (front : List Entry) (e : Entry) (q n : ℕ) (d : Descriptor) → child_at launch front e ≡ Some q → Traced launch front e.pid n d
+      → (ledger launch (front ++ e ∷ [])).held q n ≡ Some d → Traced launch (front ++ e ∷ []) q n d
+  -- it is of an open that the entry made of no descriptor, a process's or an end of channels
+  made : (front : List Entry) (e : Entry) (n : ℕ) (d : Descriptor) → Makes e n
+      → IsMade (world launch front).state (world launch (front ++ e ∷ [])).state d → held_after launch front e n ≡ Some d
+      → Traced launch (front ++ e ∷ []) e.pid n d
 
--- the number of the grant at the root of a trace
-abbrev pub root : (launch : Launch) (history : List Entry) (p n : ℕ) (d : Descriptor) → Traced launch history p n d → ℕ
-root launch history p n d (granted k grant is) = k
+-- where a trace begins: with the grant of this number, or with an open of a process or an end of channels that an entry made
+pub data Root : Type 0 where
+  of_grant : ℕ → Root
+  of_entry : Root
+
+abbrev pub root : (launch : Launch) (history : List Entry) (p n : ℕ) (d : Descriptor) → Traced launch history p n d → Root
+root launch history p n d (granted k grant is) = of_grant k
 root launch history p n d (kept front e q m x before here) = root launch front q m x before
 root launch history p n d (copied front e from to copies c before) = root launch front e.pid from c.d before
 root launch history p n d (lowered front e m stat lowers l before) = root launch front e.pid m l.x before
 root launch history p n d (opened front e fd to stat opens o before) = root launch front e.pid fd o.x before
+root launch history p n d (inherited front e q m x child before here) = root launch front e.pid m x before
+root launch history p n d (made front e m x makes is here) = of_entry
 
 -- the open that a traced descriptor names as it was when it came: as the launch granted it, or as the last entry on the way opened it
+-- or made it
 abbrev pub first_open : (launch : Launch) (history : List Entry) (p n : ℕ) (d : Descriptor) → Traced launch history p n d → OpenKind
 first_open launch history p n d (granted k grant is) = is.kind
 first_open launch history p n d (kept front e q m x before here) = first_open launch front q m x before
 first_open launch history p n d (copied front e from to copies c before) = first_open launch front e.pid from c.d before
 first_open launch history p n d (lowered front e m stat lowers l before) = first_open launch front e.pid m l.x before
 first_open launch history p n d (opened front e fd to stat opens o before) = o.kind
+first_open launch history p n d (inherited front e q m x child before here) = first_open launch front e.pid m x before
+first_open launch history p n d (made front e m x makes is here) = is.kind
 
 -- the open of this number is there, and is of what this open is of
 abbrev pub IsStillOf : State → ℕ → OpenKind → Type 0
@@ -99,3 +131,23 @@ AllStay launch history =
 -- each descriptor that the ledger of these entries says is held is traced, whichever process holds it, and under whatever number
 abbrev pub AllTraced : Launch → List Entry → Type 0
 AllTraced launch history = (p n : ℕ) (d : Descriptor) → (ledger launch history).held p n ≡ Some d → Traced launch history p n d
+
+-- What a descriptor has whose trace begins so: it is no more than what its grant gives, or inherits from it; or it passes on nothing,
+-- and is of an open of a process or an end of channels, or has no right at all.
+abbrev pub IsWithin : Launch → Root → OpenKind → Descriptor → Type 0
+IsWithin launch (of_grant k) first d = ComesFromGrant launch.tree launch.grants k d
+IsWithin launch of_entry first d = PassesOnNothing d × ((is_new first ≡ true) ⊎ HasNoRight d)
+
+-- the open is of what stands in a launch's tree or streams: of a file, a directory or a standard stream
+abbrev pub IsOfLaunch : OpenKind → Type 0
+IsOfLaunch (File n offset flags) = ⊤
+IsOfLaunch (Directory n flags) = ⊤
+IsOfLaunch (Terminal which flags) = ⊤
+IsOfLaunch _ = ⊥
+
+-- The trace of each descriptor of a file, a directory or a standard stream begins with a grant, and the descriptor is no more than that
+-- gave, or inherits from it.
+abbrev pub AllOfGrants : Launch → List Entry → Type 0
+AllOfGrants launch history =
+    (p n : ℕ) (d : Descriptor) (trace : Traced launch history p n d) (kind : OpenKind) → get (world launch history).state.opens d.id ≡ Some kind
+    → IsOfLaunch kind → (k : ℕ) × (root launch history p n d trace ≡ of_grant k) × ComesFromGrant launch.tree launch.grants k d

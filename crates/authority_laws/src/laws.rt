@@ -1,5 +1,5 @@
 //! Laws of the ledger. The statements are in `specs/Laws.antt`, and each holds of every launch and history.
-ghost use Rattle.authority_laws.specs.Laws.{LedgerBegins, LedgerGoesOn, LedgerReports, RightsNeverGrow, EntryChangesOne, DuplicatesAreEqual, ReplacementsAreEqual, RightsAreLowered, OpensAreBounded, OpensStayOfWhatTheyAre, HeldIsTraced, TracedStays, TracedIsHeld, TracedIsWithinGrant, TablesAreRecorded, SightIsRecorded, LegalIsRecorded};
+ghost use Rattle.authority_laws.specs.Laws.{LedgerBegins, LedgerGoesOn, LedgerReports, RightsNeverGrow, SendsAreHeld, EntryChangesOne, DuplicatesAreEqual, ReplacementsAreEqual, RightsAreLowered, OpensAreBounded, OpensStayOfWhatTheyAre, HeldIsTraced, TracedStays, TracedIsHeld, TracedIsWithinRoot, FilesComeFromGrants, TablesAreRecorded, SightIsRecorded, LegalIsRecorded};
 
 /// The ledger of no entry is the launch's, and that of one more entry is the ledger before it with the entry noted.
 pub fn ledger_goes_on()
@@ -15,22 +15,28 @@ pub fn ledger_reports()
 {}
 
 /// Rights never grow: each descriptor that a process holds after an entry of a legal history names the open of one that the
-/// same process held before that entry, with no right that this one lacked. Or it names an open that the process made at that
-/// entry, with no right but those that a descriptor passes on which the process held before.
+/// same process held before that entry, or that the process held which made it at that entry, with no right that this one
+/// lacked. Or it names the open that the process made last at that entry, with no right but those that a descriptor passes on
+/// which the process held before. Or it names a process or an end of channels that the process made at that entry, and passes
+/// on nothing. What a send carries after an entry it carried before it, or the entry's process held it then, with the same
+/// rights.
 pub fn rights_never_grow()
-    ensures { RightsNeverGrow }
+    ensures held { RightsNeverGrow }
+    ensures sent { SendsAreHeld }
 {}
 
-/// An entry leaves what each process but its own holds. What that holds stays; or it holds nothing any more; or what stands
-/// under one number changes, to nothing, to what stood under another number, to the same open with no right more, or to the
-/// open that it made, with rights of its type that were asked.
+/// An entry leaves what each process but its own holds, unless that isn't live after it and holds nothing, or the entry made
+/// it, and it holds what the entry's process held. What the entry's process holds stays; or it holds nothing any more; or what
+/// stands under one number changes, to nothing, to what stood under another number, to the same open with no right more, to the
+/// open that it made, with rights of its type that were asked, or to a process or an end of channels that it made. Where it
+/// made two ends, so it is under two numbers.
 pub fn entry_changes_one()
     ensures { EntryChangesOne }
 {}
 
 /// A copy has the open and exactly the rights of what was copied, as they were at that entry. After an `fd_dup` of a legal
 /// history that succeeded, its result, under which nothing stood, is a copy of the descriptor; after such an `fd_replace`
-/// `to` is one of `from`. Under each other number stands what stood there.
+/// `to` is one of `from`, unless what is let go there ends the process. Under each other number stands what stood there.
 pub fn copies_are_equal()
     ensures duplicates { DuplicatesAreEqual }
     ensures replacements { ReplacementsAreEqual }
@@ -52,33 +58,38 @@ pub fn opens_are_bounded()
 
 /// At each entry of a legal history an open that is there before and after it is after it of the same file, directory, standard
 /// stream, channels or process as before. So the open of each traced descriptor is of what it was of when the launch granted it or
-/// an entry opened it.
+/// an entry opened or made it.
 pub fn opens_stay_of_what_they_are()
     ensures entries { OpensStayOfWhatTheyAre }
     ensures traced { TracedStays }
 {}
 
-/// Each descriptor that the ledger of a legal history says is held was granted by the launch, or copied, lowered or opened
+/// Each descriptor that the ledger of a legal history says is held was granted by the launch; or copied, lowered or opened
 /// through a directory's descriptor which the process held at that entry and which is traced itself, with no right that this
-/// one does not pass on, and of what is below that directory. What is traced is held, and has no right but those that its
-/// grant has or passes on. Each descriptor in a table of the history's world is there by the ledger, and traced.
+/// one does not pass on, and of what is below that directory; or the process that made the process held it; or it is of a
+/// process or an end of channels that an entry made, and passes on nothing. What is traced is held. The trace of a file, a
+/// directory or a standard stream begins with a grant, and what is traced has no right but those that its grant has or passes
+/// on. Where an open that was made stands in place of the grant it passes on nothing, and is of a process or an end of
+/// channels, or has no right at all. Each descriptor in a table of the history's world is there by the ledger, and traced.
 pub fn held_is_traced()
     ensures ledger { HeldIsTraced }
     ensures held { TracedIsHeld }
-    ensures rights { TracedIsWithinGrant }
+    ensures rights { TracedIsWithinRoot }
+    ensures files { FilesComeFromGrants }
     ensures tables { TablesAreRecorded }
 {}
 
 /// What a call may read in the world of a legal history is the clock, what is its process's own and its status, or it is
 /// reached by a descriptor which the ledger says that its process holds. That has the rights needed, or the call names it and
-/// needs no right at all; and it is traced to one of the launch's grants.
+/// needs no right at all; and it is traced.
 pub fn sight_is_recorded()
     ensures { SightIsRecorded }
 {}
 
 /// At each point of a legal history of a launch with proper grants the ledger says who holds what, all that is held is traced,
-/// its open is of what it was of when it came, and calls see by what is held. At each entry copies are equal, rights are lowered
-/// to those asked, opens are bounded, each open stays of what it is of, and rights never grow.
+/// of files, directories and standard streams to the launch's grants, its open is of what it was of when it came, and calls see
+/// by what is held. At each entry copies are equal, rights are lowered to those asked, opens are bounded, each open stays of
+/// what it is of, rights never grow, and what is sent was held.
 pub fn legal_is_recorded()
     ensures { LegalIsRecorded }
 {}

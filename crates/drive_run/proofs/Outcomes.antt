@@ -1,10 +1,12 @@
 -- The answer of a run, from the book that was closed.
-use Rattle.std.proofs.Common.{◌≡◌, ◌≢◌, ℕ, ◌*◌, ◌<◌, Bool, List, [], length, refl, sym, ap, subst, ◌∙◌, arith}
+use Rattle.std.proofs.Common.{◌≡◌, ◌≢◌, ◌<◌, Bool, List, [], sym, ap, subst, ◌∙◌, arith}
 use Rattle.run_types.specs.declared.history.Entry.{Entry}
 use Rattle.run_types.specs.declared.launch.Launch.{Launch}
 use Rattle.kernel_model.specs.Ends.{NoneLive}
 use Rattle.kernel_model.specs.State.{State}
-use Rattle.run_model.proofs.Worlds.{clock_counts}
+use Rattle.run_model.specs.World.{World, world}
+use Rattle.run_model.proofs.Histories.{world_none}
+use Rattle.run_model.proofs.Worlds.{first_clock}
 use Rattle.kernel_cell.specs.Cell.{IsBookOf}
 use Rattle.kernel_cell.specs.declared.cell.Book.{Book}
 use Rattle.drive_run.specs.Driven.{IsDriven, ComesOut}
@@ -14,9 +16,11 @@ use Rattle.drive_run.specs.declared.run.Driven.TheVariants as driven
 -- where the clock has moved there is an entry
 some_entry : (launch : Launch) (all : Bool) (book : Book) → IsBookOf launch all book → 0 < book.kernel.clock → book.history ≢ []
 some_entry launch all book is moved none =
-    let counts : book.kernel.clock ≡ 1000 * length book.history =
-    ap (λ (S : State). S.clock) is.state ∙ clock_counts launch book.history is.legal in
-    let no_entry : length book.history ≡ 0 = ap (λ (h : List Entry). length h) none in
+    let still : book.kernel.clock ≡ 0 =
+    ap (λ (S : State). S.clock) is.state
+    ∙ ap (λ (h : List Entry). (world launch h).state.clock) none
+    ∙ ap (λ (w : World). w.state.clock) (world_none launch)
+    ∙ first_clock launch in
     omega arith
 
 pub driven_is : (launch : Launch) (all : Bool) (book : Book) (answer : Driven) → IsBookOf launch all book → ComesOut book answer → IsDriven launch all answer

@@ -10,7 +10,7 @@ use Rattle.std.proofs.Common.{◌≡◌, ◌<◌, ◌≤◌, ℕ, ◌==◌, ◌&
 use Rattle.std.proofs.lemmas.Bool.{false_from_ne_true, lt-leb, ltb-true}
 use Rattle.std.proofs.Math.Dec.{leb-suc-zero}
 use Rattle.std.specs.Prelude.{bit_and, max, nat_le, nat_lt}
-use Rattle.std.specs.FinMap.{empty, get}
+use Rattle.std.specs.FinMap.{get}
 use Rattle.std.specs.Option.{option_map}
 use Rattle.abi_base.specs.declared.errno.Errno.TheVariants.{Fbig}
 use Rattle.abi_structures.specs.declared.structures.FileStat.{FileStat}
@@ -29,7 +29,7 @@ use Rattle.kernel_model.specs.Families.FileBytes.{overwritten, overwrites, write
 use Rattle.kernel_model.specs.Families.FileChanges.{allocated, becomes, becomes_in, has_size, modified, put_size, put_stat, put_times, retimed, retimed_in, sized, times_put}
 use Rattle.kernel_model.specs.Outcome.{Outcome, IsSuccess, replies}
 use Rattle.kernel_model.specs.Reply.{refused, success}
-use Rattle.kernel_model.specs.State.{State}
+use Rattle.kernel_model.specs.State.{State, no_state}
 use Rattle.kernel_model.specs.Families.TreeUpdates.{node_update}
 use Rattle.kernel_model.proofs.FileBytes.{overwritten_reworks}
 use Rattle.kernel_model.proofs.Reworks.{Reworks, put_tree}
@@ -97,8 +97,7 @@ module _ (flags : ℕ) (stat : FileStat) (now : ℕ) where
 
 -- a state with this tree
 abbrev bare : Tree → State
-bare t =
-    record { clock = 0; tables = empty; processes = empty; statuses = empty; opens = empty; nodes = t.nodes; names = t.names; terms = empty }
+bare t = record no_state { nodes = t.nodes; names = t.names }
 
 counts_none : (o : Option Node) → count o ≡ None → o ≡ None
 counts_none None is = refl

@@ -130,12 +130,14 @@ pub(crate) fn file_stat_fget(tree: &Tree, kind: &OpenKind) -> Reply
         OpenKind::Terminal { which, .. } => {
             reported(object_stat(stream_number(*which), type_number(kind)))
         }
+        OpenKind::Process(number) => {
+            reported(object_stat(u64::from(number.0), type_number(kind)))
+        }
         OpenKind::End {
             reads: None,
             writes: None,
             ..
-        }
-        | OpenKind::Process(_) => refused(Errno::Badf),
+        } => refused(Errno::Badf),
     }
 }
 

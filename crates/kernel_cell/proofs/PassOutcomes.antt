@@ -16,7 +16,7 @@ use Rattle.run_model.specs.Own.{is_idle, is_own, own, Made, IsLiveIn, Same}
 use Rattle.run_model.specs.World.{Guest, world, guest_of, turned_guest_by}
 use Rattle.run_model.proofs.Histories.{legal_more}
 use Rattle.run_model.proofs.Asks.{asks_stay}
-use Rattle.run_model.proofs.Own.{made_later, left_alone}
+use Rattle.run_model.proofs.Own.{made_later, same_threads, left_alone}
 use Rattle.kernel_cell.specs.Acting.{AsksCall, Added, AddedCall, AddedEnd, Looked, AppendsCall, AppendsEnd, IsActed, IsActedOn, IsStopped, IsStoppedOn, act_of, thread_of_pass}
 use Rattle.shared_history.specs.Entries.{entry_of}
 use Rattle.shared_history.specs.Passes.{Passing, IsSeen, Later}
@@ -52,7 +52,9 @@ pub asks_since : (launch : Launch) (who : Who) (seen log : List Entry) (turns : 
     → Made (world launch seen) who.pid → Asks (world launch seen).state who (guest_of (world launch seen) who.pid) turns a
     → IsLiveIn (world launch log) who.pid → Asks (world launch log).state who (guest_of (world launch log) who.pid) turns a
 asks_since launch who seen log turns a legal later made asks live =
-    asks_stay (world launch seen) (world launch log) who turns a (same_since launch who.pid seen log legal later made live) asks
+    let same = same_since launch who.pid seen log legal later made live in
+    asks_stay (world launch seen) (world launch log) who turns a same.guest
+    (same_threads (world launch log) (world launch seen) who.pid same) asks
 
 pub asks_call_since : (launch : Launch) (who : Who) (seen log : List Entry) (turns : List ℕ) (guest : Guest) (call : Call) → Legal launch log
     → Later who.pid seen log → Made (world launch seen) who.pid → AsksCall (world launch seen) who turns guest call → IsLiveIn (world launch log) who.pid

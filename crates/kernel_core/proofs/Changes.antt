@@ -13,7 +13,7 @@ use Rattle.fd_table.specs.Table.{IsTable}
 use Rattle.kernel_model.specs.Families.DescriptorCalls.{dup_at, dup_of, free_from, lowest_free, lowered_to, replaced_by, stat_put, stat_set, with_flags}
 use Rattle.kernel_model.specs.Outcome.{Outcome}
 use Rattle.kernel_model.specs.Release.{count_in}
-use Rattle.kernel_model.specs.State.{State, Table, Update, set_table, set_process, set_status, set_open, set_node, set_names, set_term, put_all}
+use Rattle.kernel_model.specs.State.{State, Table, Update, set_table, set_open, put_all}
 use Rattle.kernel_model.specs.Valid.{IsNearlyValid}
 use Rattle.kernel_model.specs.View.{whole}
 use Rattle.kernel_model.proofs.DescriptorCalls.{close_is, dup_errors, dup_is, put_valid, replaced_is, setting_valid}
@@ -76,11 +76,7 @@ puts_are (set_table q new ∷ us) S p table there of =
       opens = opens_after S.opens us;
     })
 puts_are (set_open o kind ∷ us) S p table there of = puts_are us (record S { opens = insert S.opens o kind }) p table there of
-puts_are (set_process q own ∷ us) S p table there of = absurd of
-puts_are (set_status q status ∷ us) S p table there of = absurd of
-puts_are (set_node n node ∷ us) S p table there of = absurd of
-puts_are (set_names n names ∷ us) S p table there of = absurd of
-puts_are (set_term k stream ∷ us) S p table there of = absurd of
+puts_are (u ∷ us) S p table there of = absurd of
 
 -- ---- the state is nearly valid after them
 

@@ -1,8 +1,9 @@
 -- What the code keeps of tables and processes, and that the holders of an open stay far from what a count can have.
-use Rattle.std.proofs.Common.{◌≡◌, ℕ, ◌+◌, ◌*◌, ◌^◌, ◌<◌, ◌≤◌, cond, Some, inl, inr, sym, ap, subst, ◌∙◌, arith}
+use Rattle.std.proofs.Common.{◌≡◌, ℕ, ◌+◌, ◌*◌, ◌^◌, ◌<◌, ◌≤◌, Bool, true, false, cond, Option, None, Some, is_some, inl, inr, sym, ap, subst, ◌∙◌, arith}
 use Rattle.std.proofs.lemmas.Bool.Decides.{eqb_tells}
 use Rattle.std.proofs.Math.Nat.{mul-suc}
 use Rattle.std.proofs.Math.Numerals.{suc-eq-add-one}
+use Rattle.std.specs.Option.{option_map}
 use Rattle.std.specs.Ordering.{nat_cmp}
 use Rattle.std.specs.FinMap.{FinMap, empty, get, insert, len}
 use Rattle.abi_base.specs.declared.limits.TheConstants.{MOST_DESCRIPTORS}
@@ -10,9 +11,11 @@ use Rattle.abi_types.specs.declared.descriptor.Descriptor.{Descriptor}
 use Rattle.maps.specs.Maps.{get-insert-same, get-insert-other, len-insert_new, map_induction, total, total-empty, total-insert_new}
 use Rattle.fd_table.specs.Sizes.{KeysBelow, below-empty, len_at_most}
 use Rattle.fd_table.specs.Table.{IsTable}
-use Rattle.kernel_model.specs.Release.{count_in, holders, names_open}
+use Rattle.kernel_model.specs.Release.{count_in, ends, holders, is_killed, names_open, release, table_left}
 use Rattle.kernel_model.specs.State.{State, Table}
+use Rattle.kernel_model.proofs.Ends.{table_after}
 use Rattle.kernel_model.proofs.Tests.{none_is_no, same_some}
+use Rattle.kernel_model.proofs.Valids.{some_mapped}
 
 -- ---- tables
 
@@ -28,6 +31,21 @@ small_set tables p new small fits q table there =
 
 pub small_empty : IsTable empty
 small_empty = below-empty Descriptor MOST_DESCRIPTORS
+
+-- what the release leaves of tables, of a process that it kills nothing
+left_small : (killed : Bool) (before : Option Table) → ((table : Table) → before ≡ Some table → IsTable table) → (table : Table)
+    → option_map (table_left killed) before ≡ Some table → IsTable table
+left_small killed None small table there = absurd (none_is_no table there)
+left_small true (Some t) small table there = subst IsTable (same_some empty table there) small_empty
+left_small false (Some t) small table there = small table there
+
+pub small_released : (S : State) → AreSmall S.tables → AreSmall (release S).tables
+small_released S small p table there =
+    left_small (is_killed S (ends S) p) (get S.tables p) (small p) table (sym (table_after S (ends S) p) ∙ there)
+
+pub below_released : (S : State) (n : ℕ) → KeysBelow n S.tables → KeysBelow n (release S).tables
+below_released S n below p there =
+    below p (sym (some_mapped (table_left (is_killed S (ends S) p)) (get S.tables p)) ∙ ap is_some (sym (table_after S (ends S) p)) ∙ there)
 
 -- ---- holders
 

@@ -16,7 +16,7 @@ use Rattle.kernel_model.specs.Families.NameMeaning.{NameOutcome, Refuses, LeadsO
 use Rattle.kernel_model.specs.Families.Numbers.{can_number, made_more, next_object, process_updates}
 use Rattle.kernel_model.specs.Outcome.{replies}
 use Rattle.kernel_model.specs.Reply.{refused, success}
-use Rattle.kernel_model.specs.Release.{count_in, holders, names_open, release, without_nodes}
+use Rattle.kernel_model.specs.Release.{carriers, count_in, holders, names_open, release, without_nodes}
 use Rattle.kernel_model.specs.State.{State, ProcessState, Table, Tree, tree_of, put_all}
 use Rattle.kernel_model.specs.Families.TreeUpdates.{Change, change_updates}
 use Rattle.kernel_model.specs.Valid.{IsNamed, IsNearlyValid}
@@ -104,6 +104,6 @@ none_holds S o none v = total_none (count_in o) S.tables (λ p. table_none S o p
 
 -- ---- the release
 
-pub released_is : (T : State) → ((o : ℕ) → IsSome (get T.opens o) → 0 < holders T o)
+pub released_is : (T : State) → ((o : ℕ) → IsSome (get T.opens o) → 0 < holders T o + carriers T o)
     → (let u : Tree = retained (tree_of T) (is_used T.opens (tree_of T)) in record T { nodes = u.nodes; names = u.names }) ≡ release T
 released_is T held = sym (ap without_nodes (ended_held T held))

@@ -1,6 +1,5 @@
 pub mod Kept
 pub mod Changes
-pub mod Ends
 pub mod Lives
 pub mod Streams
 pub mod OffsetCalls

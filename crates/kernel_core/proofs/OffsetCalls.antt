@@ -199,12 +199,12 @@ record Keeps (kind : OpenKind) (m : OffsetOutcome) : Type 0 where
   node : (n : ℕ) → one_of_node n (open_after kind m.moved) ≡ one_of_node n kind
 
 stays_keeps : (kind : OpenKind) (reply : Reply) → Keeps kind (stays reply)
-stays_keeps kind reply = record { tree = tt; behind = record { base = refl; inheriting = refl; behind = λ S h. h }; node = λ n. refl }
+stays_keeps kind reply = record { tree = tt; behind = record { base = refl; inheriting = refl; behind = λ S h. h; alike = λ k. (refl, refl, refl) }; node = λ n. refl }
 
 moved_keeps : (node old new flags : ℕ) (o : Outcome) → AllByRecursion IsOfTree o.updates
     → Keeps (File node old flags) (record { outcome = o; moved = Some (File node new flags) })
 moved_keeps node old new flags o tree =
-    record { tree = tree; behind = record { base = refl; inheriting = refl; behind = λ S h. h }; node = λ n. refl }
+    record { tree = tree; behind = record { base = refl; inheriting = refl; behind = λ S h. h; alike = λ k. (refl, refl, refl) }; node = λ n. refl }
 
 node_tree : (n : ℕ) (o : Option Node) → AllByRecursion IsOfTree (node_update n o)
 node_tree n None = tt

@@ -33,7 +33,7 @@ use Rattle.kernel_model.specs.Families.FilePaths.{walked}
 use Rattle.kernel_model.specs.Families.Numbers.{can_number, made_more, next_object, process_updates}
 use Rattle.kernel_model.specs.Families.Opening.{Opened, file_open, open_at, open_mode, open_walked, opened_descriptor, opened_outcome}
 use Rattle.kernel_model.specs.Outcome.{Outcome, replies}
-use Rattle.kernel_model.specs.Release.{count_in, holders, names_open, release}
+use Rattle.kernel_model.specs.Release.{carriers, count_in, holders, names_open, release}
 use Rattle.kernel_model.specs.Reply.{refused, success}
 use Rattle.kernel_model.specs.State.{State, ProcessState, Table, Tree, Update, counts_in, put_all, put_one, set_open, set_table, tree_of}
 use Rattle.kernel_model.specs.Families.TreeUpdates.{Change, change_updates}
@@ -246,7 +246,8 @@ module _ (S : State) (p : ℕ) (table : Table) (lookup : Lookup) (path : List �
         let grown = total-insert_new (names_open q) table o.fd o.descriptor planned.free.1 in
         omega (arith, own, sums, grown)
 
-    pub open_held : (q : ℕ) → IsSome (get (insert S.opens o.descriptor.id o.kind) q) → 0 < total (count_in q) (insert S.tables p (insert table o.fd o.descriptor))
+    pub open_held : (q : ℕ) → IsSome (get (insert S.opens o.descriptor.id o.kind) q)
+        → 0 < total (count_in q) (insert S.tables p (insert table o.fd o.descriptor)) + carriers S q
     open_held q there =
         let more = one_more q in
         elim (eqb_tells q o.descriptor.id) [

@@ -73,7 +73,13 @@ impl Kernel {
     {
         let p = u64::from(pid.0);
         let reply = change_table(self.tables.get_mut(p), &mut self.objects, change)?;
-        release(&mut self.objects, &mut self.tree);
+        release(
+            &mut self.objects,
+            &mut self.tree,
+            &mut self.tables,
+            &mut self.processes,
+            &mut self.statuses,
+        );
         Ok(Answer::Reply(reply))
     }
 }

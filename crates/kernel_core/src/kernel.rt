@@ -47,7 +47,7 @@ pub struct Kernel {
 }
 
 impl Model for Kernel {
-    ghost use Rattle.kernel_model.specs.State.{State};
+    ghost use Rattle.kernel_model.specs.State.{State, no_state};
     ghost use Rattle.kernel_model.specs.Codes.{state_code};
     ghost use Rattle.kernel_core.specs.Kernel.{IsKept};
 
@@ -55,9 +55,9 @@ impl Model for Kernel {
 
     ghost coded = { state_code };
 
-    ghost view = { λ k. record { clock = k.clock; tables = k.tables; processes = k.processes; statuses = k.statuses; opens = k.objects.kinds; nodes = k.tree.nodes; names = k.tree.names; terms = k.terms } };
+    ghost view = { λ k. record no_state { clock = k.clock; tables = k.tables; processes = k.processes; statuses = k.statuses; opens = k.objects.kinds; nodes = k.tree.nodes; names = k.tree.names; terms = k.terms } };
 
-    ghost invariant = { λ k. IsKept (record { clock = k.clock; tables = k.tables; processes = k.processes; statuses = k.statuses; opens = k.objects.kinds; nodes = k.tree.nodes; names = k.tree.names; terms = k.terms }) k.objects.counts };
+    ghost invariant = { λ k. IsKept (record no_state { clock = k.clock; tables = k.tables; processes = k.processes; statuses = k.statuses; opens = k.objects.kinds; nodes = k.tree.nodes; names = k.tree.names; terms = k.terms }) k.objects.counts };
 }
 
 // Whether the status is that of a live process.
@@ -97,7 +97,13 @@ impl Kernel {
         self.statuses.replace(p, status);
         self.processes.get_mut(p).end();
         let_go_all(self.tables.get_mut(p), &mut self.objects);
-        release(&mut self.objects, &mut self.tree);
+        release(
+            &mut self.objects,
+            &mut self.tree,
+            &mut self.tables,
+            &mut self.processes,
+            &mut self.statuses,
+        );
     }
 
     // A call, with the clock.

@@ -3,16 +3,19 @@ use Rattle.std.proofs.Common.{◌≡◌, ℕ, ◌+◌, ◌||◌, not, Bool, true
 use Rattle.std.proofs.lemmas.Bool.{eq-eqb}
 use Rattle.std.specs.Ordering.{nat_cmp}
 use Rattle.std.specs.FinMap.{FinMap, get, retain_keys}
+use Rattle.std.specs.Option.{option_map}
 use Rattle.maps.specs.Maps.{get-retain, same_numbers}
 use Rattle.abi_types.specs.declared.call.Call.{Call}
 use Rattle.abi_types.specs.declared.constants.Constants.{Constants}
 use Rattle.abi_types.specs.declared.who.Who.{Who}
 use Rattle.kernel_model.specs.Outcome.{Outcome}
-use Rattle.kernel_model.specs.Laws.{HasSameSight, EndsAlike}
-use Rattle.kernel_model.specs.Release.{is_node_kept, is_released, release, without_ended}
-use Rattle.kernel_model.specs.State.{State, Part, at_clock, at_proc, at_status, at_open, at_node, at_names, at_term, same_part, has_part, Agree, AgreeOn, put_all}
+use Rattle.kernel_model.specs.Laws.{HasSameSight, EndsSame, EndsAlike}
+use Rattle.kernel_model.specs.Channels.{channel_left}
+use Rattle.kernel_model.specs.Release.{ends, is_node_kept, process_left, release, status_left, table_left, without_ended}
+use Rattle.kernel_model.specs.State.{State, Part, at_clock, at_proc, at_status, at_open, at_node, at_names, at_term, at_chan, same_part, has_part, Agree, AgreeOn, put_all}
 use Rattle.kernel_model.specs.Step.{tick, sight, outcome_by, outcome, unreleased, step_answer, step_state}
 use Rattle.kernel_model.specs.View.{only, restrict}
+use Rattle.kernel_model.proofs.Ends.{channel_after, process_after, status_after, table_after}
 use Rattle.kernel_model.proofs.Parts.{agree_at, put_same}
 use Rattle.kernel_model.proofs.Valids.{get_released}
 use Rattle.kernel_model.proofs.Tests.{not_true, or_true}
@@ -40,6 +43,7 @@ restrict_alike S T parts now all =
         names = retained_alike S.names T.names (λ n. has_part parts (at_names n)) (λ n h. agree_at S T parts (at_names n) all h) i;
       };
       term = λ k. only_alike (has_part parts (at_term k)) (get S.terms k) (get T.terms k) (λ h. agree_at S T parts (at_term k) all h) i;
+      channel = λ c. only_alike (has_part parts (at_chan c)) (get S.chans c) (get T.chans c) (λ h. agree_at S T parts (at_chan c) all h) i;
     }
 
 -- the clock is the first of the parts that a call sees
@@ -58,12 +62,7 @@ sight_decides constants S T who call same =
 
 tick_alike : (S T : State) (q : Part) → Agree S T q → Agree (tick S) (tick T) q
 tick_alike S T at_clock h = ap (λ n. n + 1000) h
-tick_alike S T (at_proc p) h = h
-tick_alike S T (at_status p) h = h
-tick_alike S T (at_open o) h = h
-tick_alike S T (at_node n) h = h
-tick_alike S T (at_names n) h = h
-tick_alike S T (at_term k) h = h
+tick_alike S T q h = h
 
 pub ticks_alike : (S T : State) (parts : List Part) → AgreeOn S T parts → AgreeOn (tick S) (tick T) parts
 ticks_alike S T [] h = tt
@@ -82,19 +81,24 @@ same_test true false e = absurd (not_true e)
 same_test false true e = absurd (not_true (sym e))
 same_test false false e = refl
 
-pub release_alike : (S T : State) (q : Part) → Agree S T q → is_released S q ≡ is_released T q → Agree (release S) (release T) q
-release_alike S T at_clock h ends = h
-release_alike S T (at_proc p) h ends = h
-release_alike S T (at_status p) h ends = h
-release_alike S T (at_open o) h ends =
-    get_released S o ∙ (λ i. cond (not (ends i)) (h i) None) ∙ sym (get_released T o)
-release_alike S T (at_node n) h ends =
+pub release_alike : (S T : State) (q : Part) → Agree S T q → EndsSame S T q → Agree (release S) (release T) q
+release_alike S T (at_proc p) h alike = (
+  table_after S (ends S) p ∙ (λ i. option_map (table_left (alike i)) (h.0 i)) ∙ sym (table_after T (ends T) p),
+  process_after S (ends S) p ∙ (λ i. option_map (process_left (alike i)) (h.1 i)) ∙ sym (process_after T (ends T) p),
+)
+release_alike S T (at_status p) h alike =
+    status_after S (ends S) p ∙ (λ i. option_map (status_left (alike i)) (h i)) ∙ sym (status_after T (ends T) p)
+release_alike S T (at_open o) h alike =
+    get_released S o ∙ (λ i. cond (not (alike i)) (h i) None) ∙ sym (get_released T o)
+release_alike S T (at_node n) h alike =
     get-retain S.nodes (is_node_kept (without_ended S)) n
-    ∙ (λ i. cond (same_test _ _ ends i) (h i) None) ∙ sym (get-retain T.nodes (is_node_kept (without_ended T)) n)
-release_alike S T (at_names n) h ends =
+    ∙ (λ i. cond (same_test _ _ alike i) (h i) None) ∙ sym (get-retain T.nodes (is_node_kept (without_ended T)) n)
+release_alike S T (at_names n) h alike =
     get-retain S.names (is_node_kept (without_ended S)) n
-    ∙ (λ i. cond (same_test _ _ ends i) (h i) None) ∙ sym (get-retain T.names (is_node_kept (without_ended T)) n)
-release_alike S T (at_term k) h ends = h
+    ∙ (λ i. cond (same_test _ _ alike i) (h i) None) ∙ sym (get-retain T.names (is_node_kept (without_ended T)) n)
+release_alike S T (at_chan c) h alike =
+    channel_after S (ends S) c ∙ (λ i. option_map (channel_left (alike.0 i) (alike.1 i)) (h i)) ∙ sym (channel_after T (ends T) c)
+release_alike S T q h alike = h
 
 same_itself : (q : Part) → same_part q q ≡ true
 same_itself at_clock = refl
@@ -104,6 +108,7 @@ same_itself (at_open o) = eq-eqb o o refl
 same_itself (at_node n) = eq-eqb n n refl
 same_itself (at_names n) = eq-eqb n n refl
 same_itself (at_term k) = eq-eqb k k refl
+same_itself (at_chan c) = eq-eqb c c refl
 
 -- each part of a list
 each_part : (S T : State) (parts : List Part) → ((q : Part) → has_part parts q ≡ true → Agree S T q) → AgreeOn S T parts

@@ -1,5 +1,5 @@
 -- The meanings of the calls on descriptors themselves are proper.
-use Rattle.std.proofs.Common.{◌≡◌, ◌≢◌, ◌⊎◌, inl, inr, ℕ, ◌==◌, ◌||◌, Bool, true, false, cond, List, [], ◌∷◌, ◌++◌, map, Option, Some, None, refl, sym, ap, subst, ◌∙◌}
+use Rattle.std.proofs.Common.{◌≡◌, ◌≢◌, ◌⊎◌, inl, inr, ℕ, zero, suc, ◌+◌, ◌==◌, ◌||◌, Bool, true, false, cond, List, [], ◌∷◌, ◌++◌, map, Option, Some, None, is_some, refl, sym, ap, subst, ◌∙◌}
 use Rattle.std.proofs.lemmas.Bool.{eq-eqb}
 use Rattle.std.proofs.lemmas.Bool.Decides.{eqb_tells}
 use Rattle.std.proofs.lemmas.Nat.{and_assoc}
@@ -15,7 +15,7 @@ use Rattle.abi_types.specs.declared.descriptor.Descriptor.{Descriptor}
 use Rattle.abi_types.specs.declared.open_kind.OpenKind.{OpenKind}
 use Rattle.abi_types.specs.declared.open_kind.OpenKind.TheVariants.{File, Directory, End, Terminal, Process}
 use Rattle.maps.specs.Maps.{get-insert-same, get-insert-other, get-remove-same, get-remove-other}
-use Rattle.kernel_model.specs.Families.DescriptorCalls.{with_table, fd_close, lowest_free, dup_at, dup_of, fd_dup, replaced_by, fd_replace, stat_open, stat_get, fd_stat_get, stat_put_row, with_flags, lowered_to, stat_set, stat_put, open_part, fd_stat_put}
+use Rattle.kernel_model.specs.Families.DescriptorCalls.{with_table, fd_close, free_from, lowest_free, dup_at, dup_of, fd_dup, replaced_by, fd_replace, stat_open, stat_get, fd_stat_get, stat_put_row, with_flags, lowered_to, stat_set, stat_put, open_part, fd_stat_put}
 use Rattle.kernel_model.specs.Outcome.{Outcome, replies}
 use Rattle.kernel_model.specs.Proper.{IsIn, IsUnset, IsPlain, IsProper}
 use Rattle.kernel_model.specs.Reply.{refused}
@@ -132,6 +132,17 @@ fd_close_is_proper fd =
     setting_is_proper (fd ∷ []) [] false (λ p table. with_table p 0 (remove table fd)) (λ p table. close_is p table fd) (λ h. absurd (not_true h))
 
 -- fd_dup
+
+-- the number that it gives was free
+pub free_is_absent : (table : Table) (n k m : ℕ) → free_from table n k ≡ Some m → get table m ≡ None
+unfolding free_from
+free_is_absent table zero k m is = absurd (none_is_no m is)
+free_is_absent table (suc n) k m is =
+    elim (get table k) as (λ o. get table k ≡ o → cond (is_some o) (free_from table n (k + 1)) (Some k) ≡ Some m → get table m ≡ None) [
+      | None ↦ λ here h. ap (get table) (sym (same_some k m h)) ∙ here
+      | Some d ↦ λ here h. free_is_absent table n (k + 1) m h
+    ] refl is
+
 badf_is_no_lack : Badf ≢ Nomem
 badf_is_no_lack e = cc
 
@@ -201,11 +212,14 @@ fd_stat_get_is_proper fd = record {
 
 -- the open's flags may be set
 pub same_with_flags : (kind : OpenKind) (new : ℕ) → IsSameBehind kind (with_flags kind new)
-same_with_flags (File node offset flags) new = record { base = refl; inheriting = refl; behind = λ S h. h }
-same_with_flags (Directory node flags) new = record { base = refl; inheriting = refl; behind = λ S h. h }
-same_with_flags (End reads writes flags) new = record { base = refl; inheriting = refl; behind = λ S h. h }
-same_with_flags (Terminal which flags) new = record { base = refl; inheriting = refl; behind = λ S h. h }
-same_with_flags (Process p) new = record { base = refl; inheriting = refl; behind = λ S h. h }
+same_with_flags (File node offset flags) new = record { base = refl; inheriting = refl; behind = λ S h. h; alike = λ k. (refl, refl, refl) }
+same_with_flags (Directory node flags) new = record { base = refl; inheriting = refl; behind = λ S h. h; alike = λ k. (refl, refl, refl) }
+same_with_flags (End None None flags) new = record { base = refl; inheriting = refl; behind = λ S h. h; alike = λ k. (refl, refl, refl) }
+same_with_flags (End None (Some writes) flags) new = record { base = refl; inheriting = refl; behind = λ S h. h; alike = λ k. (refl, refl, refl) }
+same_with_flags (End (Some reads) None flags) new = record { base = refl; inheriting = refl; behind = λ S h. h; alike = λ k. (refl, refl, refl) }
+same_with_flags (End (Some reads) (Some writes) flags) new = record { base = refl; inheriting = refl; behind = λ S h. h; alike = λ k. (refl, refl, refl) }
+same_with_flags (Terminal which flags) new = record { base = refl; inheriting = refl; behind = λ S h. h; alike = λ k. (refl, refl, refl) }
+same_with_flags (Process p) new = record { base = refl; inheriting = refl; behind = λ S h. h; alike = λ k. (refl, refl, refl) }
 
 -- what holds of none, of either and of both of two updates
 pub either_set : (P : List Update → Type 0) (no_first no_second : Bool) (u w : Update) → P [] → P (u ∷ []) → P (w ∷ []) → P (u ∷ w ∷ [])
@@ -221,7 +235,7 @@ set_open_holds : (P : Outcome → Type 0) (p : ℕ) (table : Table) (fd : ℕ) (
 set_open_holds P p table fd stat flags d None absent done = absent
 set_open_holds P p table fd stat flags d (Some kind) absent done = done kind refl
 
-put_holds : (P : Outcome → Type 0) (v : View) (p : ℕ) (table : Table) (fd : ℕ) (stat : FdStat) (flags : ℕ) (o : Option Descriptor) → P (replies (refused Badf))
+pub put_holds : (P : Outcome → Type 0) (v : View) (p : ℕ) (table : Table) (fd : ℕ) (stat : FdStat) (flags : ℕ) (o : Option Descriptor) → P (replies (refused Badf))
     → ((d : Descriptor) (kind : OpenKind) → o ≡ Some d → v.opened d.id ≡ Some kind → P (stat_set p table fd stat flags d (Some kind)))
     → P (stat_put v p table fd stat flags o)
 put_holds P v p table fd stat flags None absent done = absent

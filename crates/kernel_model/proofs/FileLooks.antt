@@ -136,7 +136,7 @@ report_open_answers t (Some (End (Some reads) writes flags)) = answers_done (Bad
 report_open_answers t (Some (End None (Some writes) flags)) = answers_done (Badf ∷ []) _ refl refl
 report_open_answers t (Some (End None None flags)) = answers_refused (Badf ∷ []) Badf ([], [], refl)
 report_open_answers t (Some (Terminal which flags)) = answers_done (Badf ∷ []) _ refl refl
-report_open_answers t (Some (Process p)) = answers_refused (Badf ∷ []) Badf ([], [], refl)
+report_open_answers t (Some (Process p)) = answers_done (Badf ∷ []) _ refl refl
 
 pub report_open_keeps_well : KeepsWell (looking report_open)
 report_open_keeps_well = looking_keeps_well report_open report_open_alike report_open_answers

@@ -32,7 +32,8 @@ use Rattle.kernel_model.specs.Outcome.{OnReply}
 use Rattle.kernel_model.specs.Rows.{base_row, both, either_row}
 use Rattle.kernel_model.specs.State.{State, Tree, tree_of}
 use Rattle.kernel_model.specs.Step.{tick}
-use Rattle.kernel_model.specs.Valid.{IsNearlyValid, fits}
+use Rattle.kernel_model.specs.Fits.{fits}
+use Rattle.kernel_model.specs.Valid.{IsNearlyValid}
 use Rattle.kernel_model.specs.View.{whole}
 use Rattle.kernel_model.proofs.FoundOpens.{IsGranted, NeverBadf, OnlyWhere, at_file, by_kind, by_open_found, either, file_alone, granted, granted_base, held_fits, on_open_found, zero_or_one}
 
@@ -66,7 +67,8 @@ module _ (S : State) (nearly : IsNearlyValid S) where
       by_kind S (λ k. Has (fits k) 6 → OnlyWhere ⊥ (write_open now (whole (tick S)) bytes o (Some k)))
       (λ node offset flags file right. write_found (tree_of S) node flags now (write_place (tree_of S) node offset flags) bytes)
       (λ node flags directory right. absurd (zero_or_one (bit_at (rights_of type.Directory) 6) refl right))
-      (λ which flags stream right. write_term_found bytes which (get S.terms which) stream) kind g.behind
+      (λ which flags stream right. write_term_found bytes which (get S.terms which) stream)
+      (λ p right. absurd (zero_or_one (bit_at (rights_of type.Process) 6) refl right)) kind g.silent g.behind
       (granted_base g 6 (omega arith) refl refl))
 
   pub fd_read_found : (fd n : ℕ) → NeverBadf ⊥ S (fd_read fd n)
@@ -76,7 +78,8 @@ module _ (S : State) (nearly : IsNearlyValid S) where
       by_kind S (λ k. Has (fits k) 1 → OnlyWhere ⊥ (read_open (whole (tick S)) n o (Some k)))
       (λ node offset flags file right. λ e. cc)
       (λ node flags directory right. absurd (zero_or_one (bit_at (rights_of type.Directory) 1) refl right))
-      (λ which flags stream right. read_term_found n which (get S.terms which) stream) kind g.behind
+      (λ which flags stream right. read_term_found n which (get S.terms which) stream)
+      (λ p right. absurd (zero_or_one (bit_at (rights_of type.Process) 1) refl right)) kind g.silent g.behind
       (granted_base g 1 (omega arith) refl refl))
 
   -- who seeks has FD_SEEK, or FD_TELL where that will do
@@ -97,8 +100,8 @@ module _ (S : State) (nearly : IsNearlyValid S) where
       let file : (node offset flags : ℕ) → is_file (tree_of S) node ≡ true → P (File node offset flags) =
       λ node offset flags there. seek_found node flags (sought (tree_of S) node offset bits whence) in
       elim (seek_right fd kind ((bits == 0) && (whence == 1)) g) [
-        | inl tell ↦ file_alone S P 5 (omega arith, refl, refl, refl) file kind g.behind tell
-        | inr seek ↦ file_alone S P 2 (omega arith, refl, refl, refl) file kind g.behind seek
+        | inl tell ↦ file_alone S P 5 ((omega arith, refl, refl, refl), refl) file kind g.silent g.behind tell
+        | inr seek ↦ file_alone S P 2 ((omega arith, refl, refl, refl), refl) file kind g.silent g.behind seek
       ])
 
 -- ---- mem_map
@@ -124,7 +127,7 @@ module _ (S : State) (nearly : IsNearlyValid S) where
       on_open_found S nearly (HasBadfPlace place) row (mapping place length offset)
       (λ now.
       at_file S (λ k. OnlyWhere (HasBadfPlace place) (map_open place length offset (tree_of S) (Some k))) 26 row alone needs
-      (omega arith, refl, refl, refl) (λ node at flags file. placed_with_found place _))
+      ((omega arith, refl, refl, refl), refl) (λ node at flags file. placed_with_found place _))
 
   pub mem_map_found : (place : Place) (length prot flags fd offset : ℕ) → NeverBadf (HasBadfPlace place) S (mem_map place length prot flags fd offset)
   mem_map_found place length prot flags fd offset =

@@ -2,6 +2,9 @@ pub mod Tests
 pub mod Lists
 pub mod Parts
 pub mod Ends
+pub mod Ending
+pub mod SoleOpens
+pub mod Children
 pub mod Valids
 pub mod Sights
 pub mod ObjectNumbers
@@ -37,6 +40,7 @@ pub mod NameLinking
 pub mod NameMoving
 pub mod Calls
 pub mod Outcomes
+pub mod HeldOpens
 pub mod Touches
 pub mod Threads
 pub mod Steps
@@ -45,6 +49,7 @@ pub mod Lacks
 pub mod Refusals
 pub mod Reaches
 pub mod Starts
+pub mod ChildLaws
 pub mod OpenLaws
 pub mod OpenTargets
 pub mod OpenConditions

@@ -14,7 +14,7 @@ use Rattle.abi_types.specs.declared.status.Status.TheVariants.{Live}
 use Rattle.maps.specs.Maps.{get-insert-same, get-insert-other}
 use Rattle.kernel_model.specs.Families.Numbers.{object_of}
 use Rattle.kernel_model.specs.State.{State, Table, Update, counts_in, put_all, put_one, set_names, set_node, set_open, set_process, set_table}
-use Rattle.kernel_model.specs.Valid.{HasBehind, IsNamed, IsNearlyValid}
+use Rattle.kernel_model.specs.Valid.{AreSole, HasBehind, IsNamed, IsNearlyValid}
 use Rattle.kernel_model.proofs.Tests.{none_is_no}
 use Rattle.kernel_model.proofs.Valids.{behind_same, same_value, some_again}
 
@@ -62,12 +62,13 @@ module _ (S : State) (o : ℕ) (kind : OpenKind) (none : get S.opens o ≡ None)
         | inr other ↦ v.behind r k (sym (get-insert-other S.opens o kind r other.1) ∙ at)
       ]
 
-  pub new_open_nearly_valid : HasBehind S kind
+  pub new_open_nearly_valid : HasBehind S kind → AreSole (insert S.opens o kind)
       → ((p k : ℕ) → p < 0xffffffff → (counts_in (get S.processes p)).objects < k → k < 2 ^ 32 → object_of p k ≢ o)
       → IsNearlyValid (put_one (set_open o kind) S)
-  new_open_nearly_valid there apart = record {
+  new_open_nearly_valid there sole apart = record {
     named = λ q n table d at here. still_named d (v.named q n table d at here);
-    behind = λ r k at. behind_same S (put_one (set_open o kind) S) (λ _. refl) (λ _ h. h) k (still_behind there r k at);
+    behind = λ r k at. behind_same S (put_one (set_open o kind) S) (λ _. refl) (λ _ h. h) (λ _. refl) (λ _ h. h) k (still_behind there r k at);
+    sole = sole;
     tables = v.tables;
     owns = v.owns;
     ended = v.ended;
@@ -75,7 +76,9 @@ module _ (S : State) (o : ℕ) (kind : OpenKind) (none : get S.opens o ≡ None)
     made = λ p k small beyond fits.
         get-insert-other S.opens o kind (object_of p k) (apart p k small beyond fits) ∙ v.made p k small beyond fits;
     made_nodes = v.made_nodes;
+    born = v.born;
     tree = v.tree;
+    silent = v.silent;
   }
 
 -- ---- one descriptor more
@@ -118,12 +121,15 @@ module _ (S : State) (p : ℕ) (table : Table) (there : get S.tables p ≡ Some 
   pub new_descriptor_nearly_valid : (n : ℕ) (d : Descriptor) → get table n ≡ Some d → IsNearlyValid (put_one (set_table p (insert table fd e)) S)
   new_descriptor_nearly_valid n d here = record {
     named = more_named;
-    behind = λ o kind at. behind_same S (put_one (set_table p (insert table fd e)) S) (λ _. refl) (λ _ h. h) kind (v.behind o kind at);
+    behind = λ o kind at. behind_same S (put_one (set_table p (insert table fd e)) S) (λ _. refl) (λ _ h. h) (λ _. refl) (λ _ h. h) kind (v.behind o kind at);
+    sole = v.sole;
     tables = λ q. some_again S.tables p table (insert table fd e) q there ∙ v.tables q;
     owns = v.owns;
     ended = λ q status is ends. (ended_bare q n d status here is ends, (v.ended q status is ends).1);
     numbered = v.numbered;
     made = v.made;
     made_nodes = v.made_nodes;
+    born = v.born;
     tree = v.tree;
+    silent = v.silent;
   }

@@ -17,7 +17,7 @@ use Rattle.kernel_model.specs.Families.FileMeaning.{open_of}
 use Rattle.kernel_model.specs.Families.OpenMeaning.{OpenMeaning, at_descriptor, by_open}
 use Rattle.kernel_model.specs.Proper.{IsIn, IsPlain, IsProper, IsUnset}
 use Rattle.kernel_model.specs.Sight.{process_parts, behind, reached_by}
-use Rattle.kernel_model.specs.State.{State, Part, Update, at_proc, at_status, at_open, same_part, has_part, part_of, put_all, put_one, set_node, set_names, set_open, set_term, threads_of}
+use Rattle.kernel_model.specs.State.{State, Part, Update, at_proc, at_status, at_open, same_part, has_part, part_of, put_all, put_one, threads_of, set_table, set_process, set_status}
 use Rattle.kernel_model.specs.Step.{tick}
 use Rattle.kernel_model.specs.Valid.{IsNearlyValid}
 use Rattle.kernel_model.specs.View.{View, restrict, whole}
@@ -30,21 +30,19 @@ use Rattle.kernel_model.proofs.Tests.{either_true, or_true}
 
 -- the update is of nothing that a process has of its own
 abbrev pub IsOfNoProcess : Update → Type 0
-IsOfNoProcess (set_open o kind) = ⊤
-IsOfNoProcess (set_node n node) = ⊤
-IsOfNoProcess (set_names n names) = ⊤
-IsOfNoProcess (set_term k stream) = ⊤
-IsOfNoProcess _ = ⊥
+IsOfNoProcess (set_table p table) = ⊥
+IsOfNoProcess (set_process p own) = ⊥
+IsOfNoProcess (set_status p status) = ⊥
+IsOfNoProcess _ = ⊤
 
 abbrev pub AreOfNoProcess : List Update → Type 0
 AreOfNoProcess us = AllByRecursion IsOfNoProcess us
 
 one_unset : (u : Update) (q : ℕ) → IsOfNoProcess u → (same_part (part_of u) (at_proc q) ≡ false) × (same_part (part_of u) (at_status q) ≡ false)
-one_unset (set_open o kind) q h = (refl, refl)
-one_unset (set_node n node) q h = (refl, refl)
-one_unset (set_names n names) q h = (refl, refl)
-one_unset (set_term k stream) q h = (refl, refl)
-one_unset u q h = absurd h
+one_unset (set_table p table) q h = absurd h
+one_unset (set_process p own) q h = absurd h
+one_unset (set_status p status) q h = absurd h
+one_unset u q h = (refl, refl)
 
 pub apart_unset : (us : List Update) (q : ℕ) → AreOfNoProcess us
     → (has_part (map part_of us) (at_proc q) ≡ false) × (has_part (map part_of us) (at_status q) ≡ false)
@@ -57,22 +55,16 @@ apart_unset (u ∷ us) q h =
     )
 
 one_threads : (u : Update) (S : State) (p : ℕ) → IsOfNoProcess u → threads_of (put_one u S) p ≡ threads_of S p
-one_threads (set_open o kind) S p h = refl
-one_threads (set_node n node) S p h = refl
-one_threads (set_names n names) S p h = refl
-one_threads (set_term k stream) S p h = refl
-one_threads u S p h = absurd h
+one_threads (set_process q own) S p h = absurd h
+one_threads u S p h = refl
 
 pub apart_threads : (us : List Update) (S : State) (p : ℕ) → AreOfNoProcess us → threads_of (put_all us S) p ≡ threads_of S p
 apart_threads [] S p h = refl
 apart_threads (u ∷ us) S p h = apart_threads us (put_one u S) p h.1 ∙ one_threads u S p h.0
 
 one_tables : (u : Update) (S : State) → IsOfNoProcess u → (put_one u S).tables ≡ S.tables
-one_tables (set_open o kind) S h = refl
-one_tables (set_node n node) S h = refl
-one_tables (set_names n names) S h = refl
-one_tables (set_term k stream) S h = refl
-one_tables u S h = absurd h
+one_tables (set_table p table) S h = absurd h
+one_tables u S h = refl
 
 pub apart_tables : (us : List Update) (S : State) → AreOfNoProcess us → (put_all us S).tables ≡ S.tables
 apart_tables [] S h = refl

@@ -6,7 +6,8 @@
 --     open_threads, open_valid      the state after it
 --     file_open_is_proper      all of it
 use Rattle.std.proofs.Common.{◌≡◌, ◌≢◌, inl, inr, ℕ, zero, suc, ◌+◌, ◌^◌, ◌<◌, ◌||◌, Bool, true, false, cond, List, [], ◌∷◌, ◌++◌, map, Option, Some, None, refl, sym, ap, subst, ◌∙◌, arith}
-use Rattle.std.specs.FinMap.{get, insert}
+use Rattle.std.specs.FinMap.{FinMap, get, insert}
+use Rattle.std.specs.Ordering.{nat_cmp}
 use Rattle.std.specs.List.{AllByRecursion}
 use Rattle.abi_base.specs.declared.errno.Errno.TheVariants.{Again, Badf, Exist, Isdir, Mfile, Nomem}
 use Rattle.abi_structures.specs.declared.structures.FdStat.{FdStat}
@@ -35,7 +36,8 @@ use Rattle.kernel_model.specs.Sight.{process_parts, behind, reached_by}
 use Rattle.kernel_model.specs.State.{State, ProcessState, Part, Table, Tree, Update, at_clock, at_node, at_names, at_open, at_proc, at_status, counts_in, has_part, part_of, put_all, put_one, same_part, set_names, set_node, set_open, set_table, threads_of, tree_of}
 use Rattle.kernel_model.specs.Step.{tick}
 use Rattle.kernel_model.specs.Families.TreeUpdates.{Change, change_updates}
-use Rattle.kernel_model.specs.Valid.{HasBehind, IsNamed, IsNearlyValid, fits, fits_inheriting}
+use Rattle.kernel_model.specs.Fits.{fits, fits_inheriting}
+use Rattle.kernel_model.specs.Valid.{AreSole, HasBehind, IsNamed, IsNearlyValid}
 use Rattle.kernel_model.specs.View.{View, restrict, whole}
 use Rattle.kernel_model.proofs.Branches.{IsSeen}
 use Rattle.kernel_model.proofs.DescriptorCalls.{met_within}
@@ -45,6 +47,7 @@ use Rattle.kernel_model.proofs.LastNames.{EndsBelow, WalksBelow, all_both, direc
 use Rattle.kernel_model.proofs.Lists.{all_weaker}
 use Rattle.kernel_model.proofs.NameMeanings.{IsChangeOf}
 use Rattle.kernel_model.proofs.NameProper.{HasReached, behind_is_reached, sees_behind, sees_open}
+use Rattle.kernel_model.proofs.SoleOpens.{more_sole}
 use Rattle.kernel_model.proofs.NewOpens.{IsBeside, new_descriptor_nearly_valid, new_open_nearly_valid, put_last}
 use Rattle.kernel_model.proofs.ObjectNumbers.{fewer_fit, next_is_absent}
 use Rattle.kernel_model.proofs.Opened.{IsFew, IsThere, OpensAlike, OpensBeside, OpensPlainly, OpensWell, Unset, again_among, mfile_among, open_errors, opens_alike, opens_beside, opens_plainly, opens_well, path_among}
@@ -56,13 +59,13 @@ use Rattle.kernel_model.proofs.TreeUpdates.{both_unset, change_nearly_valid, cha
 -- ---- the outcome where something is opened
 
 -- the updates, before those of the tree
-abbrev open_updates : ℕ → Option ProcessState → Table → FdStat → ℕ → OpenKind → ℕ → List Update → List Update
+abbrev pub open_updates : ℕ → Option ProcessState → Table → FdStat → ℕ → OpenKind → ℕ → List Update → List Update
 open_updates p own table stat fd kind new_nodes us =
     set_open (next_object p own (new_nodes + 1)) kind
     ∷ set_table p (insert table fd (opened_descriptor (next_object p own (new_nodes + 1)) kind stat))
     ∷ (process_updates p (new_nodes + 1) own ++ us)
 
-abbrev opening : ℕ → Option ProcessState → Table → FdStat → ℕ → OpenKind → ℕ → List Update → Outcome
+abbrev pub opening : ℕ → Option ProcessState → Table → FdStat → ℕ → OpenKind → ℕ → List Update → Outcome
 opening p own table stat fd kind new_nodes us = record { answer = answer.Reply (success fd 0); updates = open_updates p own table stat fd kind new_nodes us }
 
 -- what holds of a refusal, and of the outcome where the test is true
@@ -73,7 +76,7 @@ either_outcome Q false x y first second = second
 module _ (p : ℕ) (own : Option ProcessState) (table : Table) (stat : FdStat) where
   -- what holds of each reply with nothing set, and of what is set where something is opened, holds of the outcome
   module _ (Q : Outcome → Type 0) (answers : (reply : Reply) → Q (replies reply)) where
-    opened_by : (fd : ℕ) (o : Opened)
+    pub opened_by : (fd : ℕ) (o : Opened)
         → ((kind : OpenKind) (c : Change) (new_nodes : ℕ) → o ≡ Opens kind c new_nodes → can_number p (new_nodes + 1) own ≡ true
         → Q (opening p own table stat fd kind new_nodes (change_updates c)))
         → Q (opened_outcome p own table stat fd o)
@@ -309,6 +312,14 @@ there_behind S u (End reads writes flags) h = absurd h
 there_behind S u (Terminal which flags) h = absurd h
 there_behind S u (Process q) h = absurd h
 
+-- it is of no process and no end of a channel
+there_sole : (opens : FinMap nat_cmp OpenKind) (o : ℕ) (u : Tree) (kind : OpenKind) → IsThere u kind → AreSole opens → AreSole (insert opens o kind)
+there_sole opens o u (File n offset flags) h sole = more_sole opens o (File n offset flags) (λ k. (refl, refl, refl)) sole
+there_sole opens o u (Directory n flags) h sole = more_sole opens o (Directory n flags) (λ k. (refl, refl, refl)) sole
+there_sole opens o u (End reads writes flags) h sole = absurd h
+there_sole opens o u (Terminal which flags) h sole = absurd h
+there_sole opens o u (Process q) h sole = absurd h
+
 -- a process has opened this, and changed the tree for it
 module _ (S : State) (p : ℕ) (table : Table) (has_table : get S.tables p ≡ Some table) (v : IsNearlyValid S) (kind : OpenKind) (c : Change) (new_nodes : ℕ)
     (can : can_number p (new_nodes + 1) (get S.processes p) ≡ true) (change : IsChangeOf (tree_of S) (next_object p (get S.processes p) 1) new_nodes c)
@@ -347,7 +358,8 @@ module _ (S : State) (p : ℕ) (table : Table) (has_table : get S.tables p ≡ S
 
   opened_valid : IsNearlyValid (put_one (set_open new_open kind) changed)
   opened_valid =
-      new_open_nearly_valid changed new_open kind new_open_absent changed_valid (there_behind (counted p (new_nodes + 1) S) c.tree kind there) new_open_apart
+      new_open_nearly_valid changed new_open kind new_open_absent changed_valid (there_behind (counted p (new_nodes + 1) S) c.tree kind there)
+      (there_sole changed.opens new_open c.tree kind there changed_valid.sole) new_open_apart
 
   new_descriptor_named : (stat : FdStat) → IsNamed (get (insert changed.opens new_open kind) new_open) (opened_descriptor new_open kind stat)
   new_descriptor_named stat =

@@ -7,7 +7,7 @@ use Rattle.maps.specs.Maps.{get-insert-same, get-insert-other}
 use Rattle.abi_types.specs.declared.status.Status.TheVariants.{Live}
 use Rattle.kernel_model.specs.Outcome.{Outcome}
 use Rattle.kernel_model.specs.Sight.{process_parts}
-use Rattle.kernel_model.specs.State.{State, Part, at_clock, at_proc, at_status, at_open, at_node, at_names, at_term, same_part, has_part, Agree, AgreeOn, Update, set_table, set_process, set_status, set_open, set_node, set_names, set_term, part_of, put_one, put_all, threads_of}
+use Rattle.kernel_model.specs.State.{State, Part, at_clock, at_proc, at_status, at_open, at_node, at_names, at_term, at_chan, same_part, has_part, Agree, AgreeOn, Update, set_table, set_process, set_status, set_open, set_node, set_names, set_term, set_chan, part_of, put_one, put_all, threads_of}
 use Rattle.kernel_model.proofs.Tests.{not_true, either_false, either_true, or_true}
 
 -- ---- lists of parts
@@ -49,22 +49,12 @@ beyond_process p parts q h = outside_both (process_parts p) parts q h
 -- ---- the same values
 
 pub agree_self : (S : State) (q : Part) → Agree S S q
-agree_self S at_clock = refl
 agree_self S (at_proc p) = (refl, refl)
-agree_self S (at_status p) = refl
-agree_self S (at_open o) = refl
-agree_self S (at_node n) = refl
-agree_self S (at_names n) = refl
-agree_self S (at_term k) = refl
+agree_self S q = refl
 
 pub agree_through : (S T U : State) (q : Part) → Agree S T q → Agree T U q → Agree S U q
-agree_through S T U at_clock a b = a ∙ b
 agree_through S T U (at_proc p) a b = (a.0 ∙ b.0, a.1 ∙ b.1)
-agree_through S T U (at_status p) a b = a ∙ b
-agree_through S T U (at_open o) a b = a ∙ b
-agree_through S T U (at_node n) a b = a ∙ b
-agree_through S T U (at_names n) a b = a ∙ b
-agree_through S T U (at_term k) a b = a ∙ b
+agree_through S T U q a b = a ∙ b
 
 same_number : (a b : ℕ) → (a == b) ≡ true → a ≡ b
 same_number a b h = elim (eqb_tells a b) [ inl is ↦ is.1 | inr other ↦ absurd (not_true (sym other.0 ∙ h)) ]
@@ -84,6 +74,7 @@ same_part_is (at_open o) (at_open r) h = ap at_open (same_number o r h)
 same_part_is (at_node n) (at_node m) h = ap at_node (same_number n m h)
 same_part_is (at_names n) (at_names m) h = ap at_names (same_number n m h)
 same_part_is (at_term k) (at_term j) h = ap at_term (same_number k j h)
+same_part_is (at_chan c) (at_chan e) h = ap at_chan (same_number c e h)
 same_part_is a b h = absurd (not_true h)
 
 -- states that agree on a list of parts agree on each part of it
@@ -105,6 +96,7 @@ put_one_keeps (set_open o kind) S (at_open r) h = get-insert-other S.opens o kin
 put_one_keeps (set_node n node) S (at_node m) h = get-insert-other S.nodes n node m (other_number n m h)
 put_one_keeps (set_names n names) S (at_names m) h = get-insert-other S.names n names m (other_number n m h)
 put_one_keeps (set_term k stream) S (at_term j) h = get-insert-other S.terms k stream j (other_number k j h)
+put_one_keeps (set_chan c channel) S (at_chan e) h = get-insert-other S.chans c channel e (other_number c e h)
 put_one_keeps u S q h = agree_self S q
 
 -- a part that no update sets keeps its value
@@ -129,6 +121,7 @@ put_one_same (set_open o kind) S T (at_open r) h = insert_alike S.opens T.opens 
 put_one_same (set_node n node) S T (at_node m) h = insert_alike S.nodes T.nodes n node m h
 put_one_same (set_names n names) S T (at_names m) h = insert_alike S.names T.names n names m h
 put_one_same (set_term k stream) S T (at_term j) h = insert_alike S.terms T.terms k stream j h
+put_one_same (set_chan c channel) S T (at_chan e) h = insert_alike S.chans T.chans c channel e h
 put_one_same u S T q h = h
 
 -- states that agree on a part still agree on it after the same updates

@@ -1,5 +1,5 @@
 -- The meanings of the calls on processes are proper.
-use Rattle.std.proofs.Common.{◌≡◌, ◌≢◌, inl, ℕ, ◌||◌, false, [], ◌∷◌, map, Option, Some, refl, sym, ap, ◌∙◌}
+use Rattle.std.proofs.Common.{◌≡◌, ◌≢◌, inl, ℕ, ◌||◌, false, [], ◌∷◌, map, Option, Some, is_some, refl, sym, ap, ◌∙◌}
 use Rattle.std.specs.FinMap.{get}
 use Rattle.abi_types.specs.declared.status.Status.{Status}
 use Rattle.abi_types.specs.declared.status.Status.TheVariants.{Live, Exit}
@@ -50,5 +50,5 @@ proc_exit_is_proper code = record {
   lacks = λ h. absurd (not_true h);
   others = λ constants v who table q apart. end_others who.pid (v.process who.pid) (Exit code) q apart;
   threads = λ constants S who table live. absurd (exit_is_not_live code (sym (get-insert-same S.statuses who.pid (Exit code)) ∙ live));
-  valid = λ constants S who table there nearly. end_nearly_valid S who.pid (Exit code) nearly;
+  valid = λ constants S who table there nearly. end_nearly_valid S who.pid (Exit code) (sym (nearly.tables who.pid) ∙ ap is_some there) nearly;
 }

@@ -22,7 +22,7 @@ use Rattle.kernel_model.specs.Families.FileChanges.{retimed_in, retimed}
 use Rattle.kernel_model.specs.Families.Numbers.{object_of}
 use Rattle.kernel_model.specs.State.{State, Tree, tree_of, put_one, set_node}
 use Rattle.kernel_model.specs.Valid.{HasBehind, IsNearlyValid}
-use Rattle.kernel_model.proofs.Tests.{not_true}
+use Rattle.kernel_model.proofs.Tests.{none_of, not_true}
 
 -- ---- trees that differ in one node
 
@@ -129,10 +129,6 @@ pub retimed_alike : (t u : Tree) (n : ℕ) (new : Times → Times) → Alike t u
 retimed_alike t u n new same =
     retimed_in_alike t u n new (get t.nodes n) same ∙ ap (λ o. get (retimed_in u n new o).nodes n) same
 
-none_of : {X : Type 0} (o : Option X) → is_some o ≡ false → o ≡ None
-none_of None h = refl
-none_of (Some x) h = absurd (not_true (sym h))
-
 -- ---- a state with another node
 
 module _ (S : State) (n : ℕ) (node : Node) (u : Tree) (works : Reworks (tree_of S) u n) (there : get u.nodes n ≡ Some node) where
@@ -171,11 +167,14 @@ module _ (S : State) (n : ℕ) (node : Node) (u : Tree) (works : Reworks (tree_o
   set_node_nearly_valid v = record {
     named = v.named;
     behind = λ o kind e. behind_stays kind (v.behind o kind e);
+    sole = v.sole;
     tables = v.tables;
     owns = v.owns;
     ended = v.ended;
     numbered = v.numbered;
     made = v.made;
     made_nodes = λ p k small beyond fits. none_comes (object_of p k) (v.made_nodes p k small beyond fits);
+    born = v.born;
     tree = subst IsTree (sym put_tree) (works.tree v.tree);
+    silent = v.silent;
   }

@@ -1,11 +1,11 @@
 -- The state that a launch starts from is valid.
-use Rattle.std.proofs.Common.{◌≡◌, ◌≢◌, inl, inr, ℕ, zero, suc, ◌+◌, ◌*◌, ◌^◌, ◌-◌, ◌<◌, ◌≤◌, true, cond, List, [], ◌∷◌, ◌++◌, length, Option, Some, None, IsSome, is_some, refl, sym, ap, subst, ◌∙◌, arith}
+use Rattle.std.proofs.Common.{◌≡◌, ◌≢◌, inl, inr, ℕ, zero, suc, ◌+◌, ◌*◌, ◌^◌, ◌-◌, ◌<◌, ◌≤◌, Bool, true, false, cond, List, [], ◌∷◌, ◌++◌, length, Option, Some, None, IsSome, is_some, refl, sym, ap, subst, ◌∙◌, arith}
 use Rattle.std.proofs.lemmas.Bool.Decides.{eqb_tells}
 use Rattle.std.specs.Prelude.{option_map, slice_get, if◌then◌else◌}
 use Rattle.std.specs.Ordering.{nat_cmp, eq_by_cmp, is_eq}
 use Rattle.std.specs.Cmp.{nat_cmp_total, tied_itself}
 use Rattle.std.specs.List.{AllByRecursion}
-use Rattle.std.specs.FinMap.{get, len, get-empty, get-from_entries, insert, empty, find, from_entries, from_entries_push, nat_cmp-IsAntisymmetric}
+use Rattle.std.specs.FinMap.{FinMap, get, len, get-empty, get-from_entries, insert, empty, find, from_entries, from_entries_push, nat_cmp-IsAntisymmetric}
 use Rattle.abi_types.specs.declared.descriptor.Descriptor.{Descriptor}
 use Rattle.abi_base.specs.declared.grant.Grant.{Grant}
 use Rattle.abi_base.specs.declared.grant.GrantTarget.{GrantTarget}
@@ -19,16 +19,18 @@ use Rattle.abi_types.specs.declared.node.Node.{Node}
 use Rattle.abi_types.specs.declared.node.NodeKind.TheVariants as node_kind
 use Rattle.abi_types.specs.declared.open_kind.OpenKind.TheVariants as kind
 use Rattle.tree_model.specs.Tree.{is_directory_kind, is_directory_node}
-use Rattle.kernel_model.specs.Release.{holders}
+use Rattle.kernel_model.specs.Release.{holders, is_of_process, is_reader, is_writer}
 use Rattle.tree_model.specs.Changes.{is_file_kind, is_file_node}
 use Rattle.tree_model.specs.declared.limits.TheConstants.{ROOT}
 use Rattle.tree_model.specs.Grants.{IsStartTree, IsGrant, IsGrantOf, AreGrants, HasRightsOfType, MayBegin, type_of_kind, type_of_node}
 use Rattle.kernel_model.specs.Start.{first_open, numbered, granted_descriptor, open_of, open_of_node, granted_open, granted_table, first_process, unwritten, start_state}
 use Rattle.kernel_model.specs.State.{State, Table, ProcessState, Tree, thread_in, thread_of, counts_in}
+use Rattle.kernel_model.specs.Families.Children.{IsBorn}
 use Rattle.kernel_model.specs.Families.Numbers.{object_of}
-use Rattle.kernel_model.specs.Valid.{HasRightsOf, IsNamed, HasBehind, IsValid}
+use Rattle.kernel_model.specs.Fits.{HasRightsOf}
+use Rattle.kernel_model.specs.Valid.{AreSole, AtMostOne, IsNamed, HasBehind, IsValid}
 use Rattle.kernel_model.proofs.Tests.{none_is_no, not_true}
-use Rattle.kernel_model.proofs.Valids.{same_value, named_is_held, named_is_kept, same_keys_inserted}
+use Rattle.kernel_model.proofs.Valids.{same_value, held_or_carried, named_is_held, named_is_kept, same_keys_inserted}
 
 -- ---- numbered values
 
@@ -215,6 +217,43 @@ start_behind tree grants stdin all o kind there =
     let at = of_open tree grants o kind all there in
     subst (HasBehind (start_state tree grants stdin)) at.4 (behind_there tree grants stdin at.1 at.1.target at.3.allowed)
 
+-- what is granted is of no process and no end of a channel
+node_untested : (test : Option OpenKind → Bool) → ((node offset flags : ℕ) → test (Some (kind.File node offset flags)) ≡ false)
+    → ((node flags : ℕ) → test (Some (kind.Directory node flags)) ≡ false) → (n : ℕ) (o : Option Node) → test (Some (open_of_node n o)) ≡ false
+node_untested test file directory n None = file n 0 0
+node_untested test file directory n (Some node) =
+    elim (is_directory_kind node.kind) as (λ b. test (Some (if b then kind.Directory n 0 else kind.File n 0 0)) ≡ false) [
+      | true ↦ directory n 0
+      | false ↦ file n 0 0
+    ]
+
+untested : (test : Option OpenKind → Bool) → ((node offset flags : ℕ) → test (Some (kind.File node offset flags)) ≡ false)
+    → ((node flags : ℕ) → test (Some (kind.Directory node flags)) ≡ false) → ((which flags : ℕ) → test (Some (kind.Terminal which flags)) ≡ false)
+    → (tree : Tree) (t : GrantTarget) → test (Some (open_of tree t)) ≡ false
+untested test file directory stream tree (target.Terminal which) = stream which 0
+untested test file directory stream tree (target.Node n) = node_untested test file directory n (get tree.nodes n)
+
+none_passes : (test : Option OpenKind → Bool) → test None ≡ false → (tree : Tree) (grants : List Grant) → AreGrants tree grants
+    → ((t : GrantTarget) → test (Some (open_of tree t)) ≡ false) → (o : ℕ) → test (get (start_state tree grants []).opens o) ≡ false
+none_passes test none tree grants all each o =
+    elim (get (start_state tree grants []).opens o) as (λ x. get (start_state tree grants []).opens o ≡ x → test x ≡ false) [
+      | None ↦ λ _. none
+      | Some kind ↦ λ there. (let at = of_open tree grants o kind all there in ap (λ k. test (Some k)) (sym at.4) ∙ each at.1.target)
+    ] refl
+
+none_is_one : (test : Option OpenKind → Bool) (opens : FinMap nat_cmp OpenKind) → ((o : ℕ) → test (get opens o) ≡ false) → AtMostOne test opens
+none_is_one test opens none o r passes other = absurd (not_true (sym (none o) ∙ passes))
+
+start_sole : (tree : Tree) (grants : List Grant) → AreGrants tree grants → AreSole (start_state tree grants []).opens
+start_sole tree grants all k = (
+  none_is_one (is_of_process k) (start_state tree grants []).opens
+      (none_passes (is_of_process k) refl tree grants all (untested (is_of_process k) (λ _ _ _. refl) (λ _ _. refl) (λ _ _. refl) tree)),
+  none_is_one (is_reader k) (start_state tree grants []).opens
+      (none_passes (is_reader k) refl tree grants all (untested (is_reader k) (λ _ _ _. refl) (λ _ _. refl) (λ _ _. refl) tree)),
+  none_is_one (is_writer k) (start_state tree grants []).opens
+      (none_passes (is_writer k) refl tree grants all (untested (is_writer k) (λ _ _ _. refl) (λ _ _. refl) (λ _ _. refl) tree)),
+)
+
 -- ---- what is numbered
 
 -- thread 1 alone is there, and it is the one thread that was numbered
@@ -256,6 +295,13 @@ start_nodes tree starts p k small fits =
           absurd (omega (arith, above, small, fits)))
     ] refl
 
+-- process 0 is the one process
+start_born : (p : ℕ) (own : ProcessState) → get (insert (empty {R = nat_cmp}) 0 first_process) p ≡ Some own
+    → IsBorn (insert (empty {R = nat_cmp}) 0 first_process) p own.depth
+start_born p own there =
+    let is = only_one first_process own p there in
+    inl (is.0, ap (λ (x : ProcessState). x.depth) (sym is.1))
+
 same_keys_one : {X Y : Type 0} (x : X) (y : Y) (p : ℕ) → is_some (get (insert (empty {R = nat_cmp}) 0 x) p) ≡ is_some (get (insert (empty {R = nat_cmp}) 0 y) p)
 same_keys_one x y = same_keys_inserted empty empty 0 x y (λ q. ap is_some (get-empty nat_cmp q) ∙ sym (ap is_some (get-empty nat_cmp q)))
 
@@ -264,14 +310,17 @@ start_valid tree grants stdin begins = record {
   nearly = record {
     named = start_named tree grants begins.grants;
     behind = start_behind tree grants stdin begins.grants;
+    sole = start_sole tree grants begins.grants;
     tables = same_keys_one _ _;
     owns = same_keys_one _ _;
     ended = λ p status there ends. absurd (ends (sym (only_one Live status p there).1));
     numbered = start_numbered tree grants stdin;
     made = λ p k small beyond fits. start_made tree grants begins.grants p k small fits;
     made_nodes = λ p k small beyond fits. start_nodes tree begins.tree p k small fits;
+    born = start_born;
     tree = begins.tree.tree;
+    silent = λ c. get-empty nat_cmp c;
   };
-  held = start_held tree grants begins.grants;
+  held = λ o there. held_or_carried (start_state tree grants stdin) o (start_held tree grants begins.grants o there);
   kept = λ n there. named_is_kept (start_state tree grants stdin) n (begins.tree.named n there);
 }

@@ -1,9 +1,10 @@
 -- What each step keeps: a valid state, the clock's pace, other processes, and of a process that lives on the threads that its call
 -- neither makes nor ends.
-use Rattle.std.proofs.Common.{◌≡◌, ◌≢◌, inl, inr, ℕ, false, List, [], ◌∷◌, map, Some, IsSome, refl, sym, subst, ◌∙◌}
+use Rattle.std.proofs.Common.{◌≡◌, ◌≢◌, inl, inr, ℕ, false, List, [], ◌∷◌, map, true, Some, IsSome, is_some, ◌⊎◌, refl, sym, ap, subst, ◌∙◌}
 use Rattle.std.proofs.lemmas.Bool.Decides.{eqb_tells}
 use Rattle.std.specs.Ordering.{nat_cmp}
-use Rattle.std.specs.FinMap.{FinMap, get, insert}
+use Rattle.std.specs.Option.{option_map}
+use Rattle.std.specs.FinMap.{FinMap, get, empty, insert}
 use Rattle.abi_types.specs.declared.reply.Answer.{Answer}
 use Rattle.abi_types.specs.declared.call.Call.{Call}
 use Rattle.abi_types.specs.declared.constants.Constants.{Constants}
@@ -11,20 +12,24 @@ use Rattle.abi_types.specs.declared.status.Status.{Status}
 use Rattle.abi_types.specs.declared.status.Status.TheVariants.{Live}
 use Rattle.abi_types.specs.declared.who.Who.{Who}
 use Rattle.maps.specs.Maps.{get-insert-same, get-insert-other}
-use Rattle.kernel_model.specs.Laws.{HasSameProcess, MovesOnly, EndsOnly}
+use Rattle.kernel_model.specs.Laws.{HasSameProcess, IsKilled, MovesOnly, EndsOnly}
 use Rattle.kernel_model.specs.Outcome.{Outcome}
-use Rattle.kernel_model.specs.Families.ProcessCalls.{end_updates}
+use Rattle.kernel_model.specs.Families.ProcessCalls.{ended_process, end_updates}
 use Rattle.kernel_model.specs.Proper.{IsUnset}
-use Rattle.kernel_model.specs.State.{State, Update, set_table, set_process, set_status, set_open, set_node, set_names, set_term, at_proc, at_status, has_part, part_of, put_one, put_all, threads_of}
+use Rattle.kernel_model.specs.Release.{ends, is_killed, release, status_left}
+use Rattle.kernel_model.specs.State.{State, Table, ProcessState, Update, set_table, set_status, at_proc, at_status, has_part, part_of, put_one, put_all, threads_of}
 use Rattle.kernel_model.specs.Step.{tick, outcome, unreleased, step_state, IsStep, end_unreleased, end_state}
 use Rattle.kernel_model.specs.Valid.{IsNearlyValid, IsValid}
 use Rattle.kernel_model.specs.View.{whole}
 use Rattle.kernel_model.proofs.Calls.{proper}
+use Rattle.kernel_model.proofs.Ends.{killed_by, process_spared, status_after, status_spared}
 use Rattle.kernel_model.proofs.Outcomes.{outcome_holds}
 use Rattle.kernel_model.proofs.Parts.{KeepsThreads, put_keeps}
 use Rattle.kernel_model.proofs.ProcessCalls.{end_others}
+use Rattle.kernel_model.proofs.Tests.{same_some}
 use Rattle.kernel_model.proofs.Threads.{leaves_threads}
-use Rattle.kernel_model.proofs.Valids.{release_restores, tick_nearly_valid, tick_valid, end_nearly_valid}
+use Rattle.kernel_model.proofs.Touches.{killed_is_not_live, live_spared, release_ends, release_keeps}
+use Rattle.kernel_model.proofs.Valids.{release_restores, some_mapped, tick_nearly_valid, tick_valid, end_nearly_valid}
 
 -- ---- valid states
 
@@ -43,20 +48,15 @@ pub step_keeps_valid : (constants : Constants) (S : State) (who : Who) (call : C
 step_keeps_valid constants S who call given T (inl done) v = subst IsValid (sym done.1) (step_valid constants S who call v)
 step_keeps_valid constants S who call given T (inr lacking) v = subst IsValid (sym lacking.2) (tick_valid S v)
 
-pub end_valid : (S : State) (p : ℕ) (status : Status) → IsValid S → IsValid (end_state S p status)
+pub end_valid : (S : State) (p : ℕ) (status : Status) → IsSome (get S.statuses p) → IsValid S → IsValid (end_state S p status)
 unfolding end_state
-end_valid S p status v = release_restores (end_unreleased S p status) (end_nearly_valid (tick S) p status (tick_nearly_valid S v.nearly))
+end_valid S p status made v = release_restores (end_unreleased S p status) (end_nearly_valid (tick S) p status made (tick_nearly_valid S v.nearly))
 
 -- ---- the clock
 
 put_one_clock : (u : Update) (S : State) → (put_one u S).clock ≡ S.clock
 put_one_clock (set_table p t) S = refl
-put_one_clock (set_process p own) S = refl
-put_one_clock (set_status p s) S = refl
-put_one_clock (set_open o kind) S = refl
-put_one_clock (set_node n node) S = refl
-put_one_clock (set_names n names) S = refl
-put_one_clock (set_term k stream) S = refl
+put_one_clock u S = refl
 
 put_clock : (us : List Update) (S : State) → (put_all us S).clock ≡ S.clock
 put_clock [] S = refl
@@ -75,10 +75,37 @@ outcome_others constants S who call q apart =
     outcome_holds (λ (o : Outcome). IsUnset o (at_proc q) × IsUnset o (at_status q)) constants S who call (λ reply _. (refl, refl))
     (λ table _. (proper call).others constants (whole (tick S)) who table q apart)
 
-step_others : (constants : Constants) (S : State) (who : Who) (call : Call) (q : ℕ) → q ≢ who.pid → HasSameProcess (step_state constants S who call) S q
+-- the release leaves a process as it is, or it kills it
+release_others : (U : State) (q : ℕ) → HasSameProcess (release U) U q ⊎ IsKilled U (release U) q
+release_others U q =
+    elim (is_killed U (ends U) q) as (λ b. is_killed U (ends U) q ≡ b → HasSameProcess (release U) U q ⊎ IsKilled U (release U) q) [
+      | true ↦ λ e. inr (release_ends U (at_proc q) e, release_ends U (at_status q) e)
+      | false ↦ λ e. (let own = release_keeps U (at_proc q) e in inl (own.0, own.1, release_keeps U (at_status q) e))
+    ] refl
+
+-- the same of two states that have the same of the process before the release
+others_from : (S U T : State) (q : ℕ) → HasSameProcess U S q → HasSameProcess T U q ⊎ IsKilled U T q → HasSameProcess T S q ⊎ IsKilled S T q
+others_from S U T q same (inl kept) = inl (kept.0 ∙ same.0, kept.1 ∙ same.1, kept.2 ∙ same.2)
+others_from S U T q same (inr killed) =
+    inr (
+      (
+        killed.0.0 ∙ ap (option_map (λ (table : Table). empty)) same.0,
+        killed.0.1 ∙ ap (option_map (λ (own : ProcessState). ended_process (Some own))) same.1,
+      ),
+      (sym same.2 ∙ killed.1.0, killed.1.1),
+    )
+
+step_others : (constants : Constants) (S : State) (who : Who) (call : Call) (q : ℕ) → q ≢ who.pid
+    → HasSameProcess (step_state constants S who call) S q ⊎ IsKilled S (step_state constants S who call) q
 step_others constants S who call q apart =
     let unset = outcome_others constants S who call q apart in
-    put_others (outcome constants S who call).updates (tick S) q unset.0 unset.1
+    others_from S (unreleased constants S who call) (step_state constants S who call) q
+    (put_others (outcome constants S who call).updates (tick S) q unset.0 unset.1) (release_others (unreleased constants S who call) q)
+
+-- a process that lives after it was not killed
+pub unless_killed : (S T : State) (q : ℕ) → get T.statuses q ≡ Some Live → HasSameProcess T S q ⊎ IsKilled S T q → HasSameProcess T S q
+unless_killed S T q live (inl same) = same
+unless_killed S T q live (inr killed) = absurd (killed_is_not_live (sym killed.1.1 ∙ live))
 
 -- ---- a process that was made stays made
 
@@ -94,35 +121,47 @@ abbrev IsMade : State → ℕ → Type 0
 IsMade S q = IsSome (get S.statuses q)
 
 put_one_made : (u : Update) (S : State) (q : ℕ) → IsMade S q → IsMade (put_one u S) q
-put_one_made (set_table p t) S q made = made
-put_one_made (set_process p own) S q made = made
 put_one_made (set_status p s) S q made = insert_some S.statuses p s q made
-put_one_made (set_open o kind) S q made = made
-put_one_made (set_node n node) S q made = made
-put_one_made (set_names n names) S q made = made
-put_one_made (set_term k stream) S q made = made
+put_one_made u S q made = made
 
 put_made : (us : List Update) (S : State) (q : ℕ) → IsMade S q → IsMade (put_all us S) q
 put_made [] S q made = made
 put_made (u ∷ us) S q made = put_made us (put_one u S) q (put_one_made u S q made)
 
+release_made : (S : State) (q : ℕ) → IsMade S q → IsMade (release S) q
+release_made S q made =
+    ap is_some (status_after S (ends S) q) ∙ some_mapped (status_left (is_killed S (ends S) q)) (get S.statuses q) ∙ made
+
 pub step_keeps_made : (constants : Constants) (S : State) (who : Who) (call : Call) (given : Answer) (T : State) (q : ℕ)
     → IsStep constants S who call given T → IsSome (get S.statuses q) → IsSome (get T.statuses q)
 step_keeps_made constants S who call given T q (inl done) made =
-    subst (λ U. IsMade U q) (sym done.1) (put_made (outcome constants S who call).updates (tick S) q made)
+    subst (λ U. IsMade U q) (sym done.1)
+    (release_made (unreleased constants S who call) q (put_made (outcome constants S who call).updates (tick S) q made))
 step_keeps_made constants S who call given T q (inr lacking) made = subst (λ U. IsMade U q) (sym lacking.2) made
 
 pub end_keeps_made : (S : State) (p : ℕ) (status : Status) (q : ℕ) → IsSome (get S.statuses q) → IsSome (get (end_state S p status).statuses q)
 unfolding end_state
-end_keeps_made S p status q made = put_made (end_updates p (get S.processes p) status) (tick S) q made
+end_keeps_made S p status q made = release_made (end_unreleased S p status) q (put_made (end_updates p (get S.processes p) status) (tick S) q made)
 
 -- ---- threads
 
-step_threads : (constants : Constants) (S : State) (who : Who) (call : Call) → get (step_state constants S who call).statuses who.pid ≡ Some Live
-    → threads_of (step_state constants S who call) who.pid ≡ threads_of S who.pid
-step_threads constants S who call =
+outcome_threads : (constants : Constants) (S : State) (who : Who) (call : Call) → KeepsThreads (tick S) who.pid (outcome constants S who call)
+outcome_threads constants S who call =
     outcome_holds (KeepsThreads (tick S) who.pid) constants S who call (λ reply _ _. refl)
     (λ table _. (proper call).threads constants (tick S) who table)
+
+-- a process that lives after the release has the threads that it had
+released_threads : (U : State) (p : ℕ) → get (release U).statuses p ≡ Some Live → (get U.statuses p ≡ Some Live) × (threads_of (release U) p ≡ threads_of U p)
+released_threads U p live =
+    let spared = live_spared U p live in (
+      sym (status_spared U (ends U) p spared) ∙ live,
+      ap (option_map (λ (own : ProcessState). own.threads)) (process_spared U (ends U) p spared),
+    )
+
+step_threads : (constants : Constants) (S : State) (who : Who) (call : Call) → get (step_state constants S who call).statuses who.pid ≡ Some Live
+    → threads_of (step_state constants S who call) who.pid ≡ threads_of S who.pid
+step_threads constants S who call live =
+    let both = released_threads (unreleased constants S who call) who.pid live in both.1 ∙ outcome_threads constants S who call both.0
 
 -- ---- all of them
 
@@ -137,14 +176,25 @@ step_moves_only constants S who call given T (inl done) =
 step_moves_only constants S who call given T (inr lacking) =
     subst (MovesOnly S who call given) (sym lacking.2) (record {
       clock = refl;
-      others = λ q apart. (refl, refl, refl);
+      others = λ q apart. inl (refl, refl, refl);
       threads = λ live. leaves_threads S who call given (tick S) refl;
     })
 
-pub end_ends_only : (S : State) (p : ℕ) (status : Status) → EndsOnly S p status (end_state S p status)
+end_spared : (S : State) (p : ℕ) (status : Status) → status ≢ Live → is_killed (end_unreleased S p status) (ends (end_unreleased S p status)) p ≡ false
+end_spared S p status ends_it =
+    let U = end_unreleased S p status in
+    elim (is_killed U (ends U) p) as (λ b. is_killed U (ends U) p ≡ b → b ≡ false) [
+      | true ↦ λ e. absurd (ends_it (same_some status Live (sym (get-insert-same S.statuses p status) ∙ (killed_by U (ends U) p e).3)))
+      | false ↦ λ e. refl
+    ] refl
+
+pub end_ends_only : (S : State) (p : ℕ) (status : Status) → status ≢ Live → EndsOnly S p status (end_state S p status)
 unfolding end_state
-end_ends_only S p status = record {
+end_ends_only S p status ends_it = record {
   clock = refl;
-  others = λ q apart. (let unset = end_others p (get S.processes p) status q apart in put_others (end_updates p (get S.processes p) status) (tick S) q unset.0 unset.1);
-  stands = get-insert-same S.statuses p status;
+  others = λ q apart. (
+      let unset = end_others p (get S.processes p) status q apart in
+      others_from S (end_unreleased S p status) (end_state S p status) q (put_others (end_updates p (get S.processes p) status) (tick S) q unset.0 unset.1)
+      (release_others (end_unreleased S p status) q));
+  stands = status_spared (end_unreleased S p status) (ends (end_unreleased S p status)) p (end_spared S p status ends_it) ∙ get-insert-same S.statuses p status;
 }

@@ -57,7 +57,7 @@ module _ (errors : List Errno) (touched : List Part) (t : Tree) (o : ℕ) where
 
 -- the offset of a file that is open
 same_with_offset : (node old new flags : ℕ) → IsSameBehind (File node old flags) (File node new flags)
-same_with_offset node old new flags = record { base = refl; inheriting = refl; behind = λ S h. h }
+same_with_offset node old new flags = record { base = refl; inheriting = refl; behind = λ S h. h; alike = λ k. (refl, refl, refl) }
 
 fine_moved : (errors : List Errno) (touched : List Part) (t : Tree) (o node old new flags : ℕ) (reply : Reply) → reply.denial ≡ None → reply.errno ≡ Success
     → Fine errors touched t o (Some (File node old flags)) (done reply (set_open o (File node new flags) ∷ []))

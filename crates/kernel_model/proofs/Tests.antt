@@ -1,8 +1,12 @@
 -- Tests and options that contradict each other, or that fall into cases.
-use Rattle.std.proofs.Common.{◌≡◌, ◌≢◌, ◌⊎◌, ◌||◌, Bool, true, false, not, T, inl, inr, Some, None, is_some, refl, sym, ap, subst}
+use Rattle.std.proofs.Common.{◌≡◌, ◌≢◌, ◌⊎◌, ◌||◌, Bool, true, false, not, T, inl, inr, Option, Some, None, is_some, refl, sym, ap, subst}
 
 pub not_true : false ≢ true
 not_true e = subst T (sym e) tt
+
+pub none_of : {X : Type 0} (o : Option X) → is_some o ≡ false → o ≡ None
+none_of None h = refl
+none_of (Some x) h = absurd (not_true (sym h))
 
 pub none_is_no : {X : Type 0} (x : X) → None ≢ Some x
 none_is_no x e = subst T (ap is_some (sym e)) tt

@@ -1,29 +1,35 @@
 -- A call changes nothing outside what it touches and what the release after it ends.
-use Rattle.std.proofs.Common.{◌≡◌, inl, inr, ℕ, false, T, [], ◌∷◌, ◌++◌, map, Option, Some, None, refl, sym, subst}
-use Rattle.std.specs.FinMap.{get}
+use Rattle.std.proofs.Common.{◌≡◌, ◌≢◌, inl, inr, ℕ, Bool, true, false, not, cond, T, [], ◌∷◌, ◌++◌, map, Option, Some, None, refl, sym, ap, subst, ◌∙◌, arith}
+use Rattle.std.specs.FinMap.{get, empty}
+use Rattle.std.specs.Option.{option_map}
+use Rattle.abi_base.specs.declared.signal.Signal.TheVariants.{Kill}
 use Rattle.abi_types.specs.declared.reply.Answer.{Answer}
 use Rattle.abi_types.specs.declared.call.Call.{Call}
 use Rattle.abi_types.specs.declared.reply.Reply.{Reply}
 use Rattle.abi_types.specs.declared.constants.Constants.{Constants}
 use Rattle.abi_types.specs.declared.status.Status.{Status}
+use Rattle.abi_types.specs.declared.status.Status.TheVariants.{Live, Killed}
 use Rattle.abi_types.specs.declared.who.Who.{Who}
 use Rattle.kernel_model.specs.Calls.{meaning_of, refusal}
 use Rattle.kernel_model.specs.Families.Numbers.{new_parts}
+use Rattle.kernel_model.specs.Laws.{IsLeftBy}
 use Rattle.kernel_model.specs.Outcome.{Outcome}
-use Rattle.kernel_model.specs.Families.ProcessCalls.{end_updates}
+use Rattle.kernel_model.specs.Families.ProcessCalls.{ended_process, end_updates}
 use Rattle.kernel_model.specs.Proper.{IsUnset}
-use Rattle.tree_model.specs.Retained.{retained-node, retained-table}
-use Rattle.kernel_model.specs.Release.{is_node_kept, is_released, release, without_ended}
+use Rattle.tree_model.specs.Retained.{retained-no_node, retained-no_table, retained-node, retained-table}
+use Rattle.kernel_model.specs.Release.{ends, loses_reader, loses_writer, is_killed, is_node_kept, is_released, process_left, release, status_left, table_left, without_ended, IsEnded}
+use Rattle.kernel_model.specs.Channels.{Channel, channel_left}
 use Rattle.kernel_model.specs.Sight.{process_parts}
-use Rattle.kernel_model.specs.State.{State, Table, tree_of, Part, at_clock, at_proc, at_status, at_open, at_node, at_names, at_term, same_part, has_part, Agree, part_of}
+use Rattle.kernel_model.specs.State.{State, Table, ProcessState, tree_of, Part, at_clock, at_proc, at_status, at_open, at_node, at_names, at_chan, same_part, has_part, Agree, part_of}
 use Rattle.kernel_model.specs.Step.{tick, unless_refused, changed, made_by, made_on, touch, unless, outcome_on, outcome, unreleased, step_state, IsStep, IsUntouched, end_unreleased, end_state}
 use Rattle.kernel_model.specs.View.{whole}
 use Rattle.kernel_model.proofs.Calls.{proper}
+use Rattle.kernel_model.proofs.Ends.{channel_after, channel_spared, killed_by, process_after, process_spared, status_after, status_spared, table_after, table_spared}
 use Rattle.kernel_model.proofs.Outcomes.{outcome_reads}
 use Rattle.kernel_model.proofs.Parts.{outside_cons, agree_through, put_keeps}
 use Rattle.kernel_model.proofs.ProcessCalls.{end_unset}
-use Rattle.kernel_model.proofs.Tests.{not_false}
-use Rattle.kernel_model.proofs.Valids.{released_stays}
+use Rattle.kernel_model.proofs.Tests.{not_false, not_true}
+use Rattle.kernel_model.proofs.Valids.{get_released, released_stays}
 
 -- ---- what a call sets
 
@@ -48,24 +54,104 @@ sets_touched constants S who call q h =
 
 -- ---- the clock and the release
 
+not_true_is : (b : Bool) → not b ≡ true → b ≡ false
+not_true_is true h = absurd (not_true h)
+not_true_is false h = refl
+
+pub killed_is_not_live : Some (Killed Kill) ≢ Some Live
+killed_is_not_live e = cc
+
 pub tick_keeps : (S : State) (q : Part) → same_part at_clock q ≡ false → Agree (tick S) S q
 tick_keeps S at_clock h = absurd (subst T h tt)
 tick_keeps S (at_proc p) h = (refl, refl)
-tick_keeps S (at_status p) h = refl
-tick_keeps S (at_open o) h = refl
-tick_keeps S (at_node n) h = refl
-tick_keeps S (at_names n) h = refl
-tick_keeps S (at_term k) h = refl
+tick_keeps S q h = refl
 
 -- a part that the release does not end stays
 pub release_keeps : (S : State) (q : Part) → is_released S q ≡ false → Agree (release S) S q
-release_keeps S at_clock h = refl
-release_keeps S (at_proc p) h = (refl, refl)
-release_keeps S (at_status p) h = refl
+release_keeps S (at_proc p) h = (table_spared S (ends S) p h, process_spared S (ends S) p h)
+release_keeps S (at_status p) h = status_spared S (ends S) p h
 release_keeps S (at_open o) h = released_stays S o h
 release_keeps S (at_node n) h = retained-node (tree_of S) (is_node_kept (without_ended S)) n (not_false _ h)
 release_keeps S (at_names n) h = retained-table (tree_of S) (is_node_kept (without_ended S)) n (not_false _ h)
-release_keeps S (at_term k) h = refl
+release_keeps S (at_chan c) h = channel_spared S (ends S) c h
+release_keeps S q h = refl
+
+-- what becomes of a part that the release ends
+killed_table : (t : Option Table) → option_map (table_left true) t ≡ option_map (λ (table : Table). empty) t
+killed_table None = refl
+killed_table (Some t) = refl
+
+killed_process : (own : Option ProcessState) → option_map (process_left true) own ≡ option_map (λ (x : ProcessState). ended_process (Some x)) own
+killed_process None = refl
+killed_process (Some own) = refl
+
+pub release_ends : (S : State) (q : Part) → is_released S q ≡ true → IsEnded S (release S) q
+release_ends S (at_proc p) h = (
+  table_after S (ends S) p ∙ ap (λ b. option_map (table_left b) (get S.tables p)) h ∙ killed_table (get S.tables p),
+  process_after S (ends S) p ∙ ap (λ b. option_map (process_left b) (get S.processes p)) h ∙ killed_process (get S.processes p),
+)
+release_ends S (at_status p) h =
+    let by = killed_by S (ends S) p h in (
+      by.3,
+      status_after S (ends S) p ∙ ap (λ b. option_map (status_left b) (get S.statuses p)) h ∙ ap (option_map (status_left true)) by.3,
+    )
+release_ends S (at_open o) h = get_released S o ∙ ap (λ b. cond (not b) (get S.opens o) None) h
+release_ends S (at_node n) h = retained-no_node (tree_of S) (is_node_kept (without_ended S)) n (not_true_is _ h)
+release_ends S (at_names n) h = retained-no_table (tree_of S) (is_node_kept (without_ended S)) n (not_true_is _ h)
+release_ends S (at_chan c) h = (loses_reader S (ends S) c, loses_writer S (ends S) c, h, channel_after S (ends S) c)
+release_ends S q h = absurd (not_true h)
+
+pub release_keeps_or_ends : (S : State) (q : Part) → (is_released S q ≡ false → Agree (release S) S q) × (is_released S q ≡ true → IsEnded S (release S) q)
+release_keeps_or_ends S q = (release_keeps S q, release_ends S q)
+
+false_is_no : {X : Type 0} → false ≡ true → X
+false_is_no e = absurd (not_true e)
+
+is_left_by : (reader writer : Bool) (channel : Channel) → IsLeftBy reader writer channel (channel_left reader writer channel)
+is_left_by true true channel = record {
+  reader_gone = λ _. (refl, refl, refl);
+  reader_stays = λ e. false_is_no (sym e);
+  writer_gone = λ _. refl;
+  writer_stays = λ e. false_is_no (sym e);
+  sends = omega arith;
+}
+is_left_by true false channel = record {
+  reader_gone = λ _. (refl, refl, refl);
+  reader_stays = λ e. false_is_no (sym e);
+  writer_gone = λ e. false_is_no e;
+  writer_stays = λ _. refl;
+  sends = omega arith;
+}
+is_left_by false true channel = record {
+  reader_gone = λ e. false_is_no e;
+  reader_stays = λ _. (refl, refl, refl);
+  writer_gone = λ _. refl;
+  writer_stays = λ e. false_is_no (sym e);
+  sends = refl;
+}
+is_left_by false false channel = record {
+  reader_gone = λ e. false_is_no e;
+  reader_stays = λ _. (refl, refl, refl);
+  writer_gone = λ e. false_is_no e;
+  writer_stays = λ _. refl;
+  sends = refl;
+}
+
+pub channels_are_left : (S : State) (c : ℕ) (before : Channel) → get S.chans c ≡ Some before
+    → (after : Channel) × (get (release S).chans c ≡ Some after) × IsLeftBy (loses_reader S (ends S) c) (loses_writer S (ends S) c) before after
+channels_are_left S c before there = (
+  channel_left (loses_reader S (ends S) c) (loses_writer S (ends S) c) before,
+  channel_after S (ends S) c ∙ ap (option_map (channel_left (loses_reader S (ends S) c) (loses_writer S (ends S) c))) there,
+  is_left_by (loses_reader S (ends S) c) (loses_writer S (ends S) c) before,
+)
+
+-- a process whose status is that it lives still was not killed
+pub live_spared : (S : State) (p : ℕ) → get (release S).statuses p ≡ Some Live → is_killed S (ends S) p ≡ false
+live_spared S p live =
+    elim (is_killed S (ends S) p) as (λ b. is_killed S (ends S) p ≡ b → b ≡ false) [
+      | true ↦ λ e. absurd (killed_is_not_live (sym (release_ends S (at_status p) e).1 ∙ live))
+      | false ↦ λ e. refl
+    ] refl
 
 -- ---- steps
 

@@ -24,6 +24,7 @@ use Rattle.kernel_model.specs.Families.Numbers.{can_number, next_object, object_
 use Rattle.kernel_model.specs.State.{State, Names, ProcessState, Tree, tree_of, Part, Update, counts_in, has_part, part_of, put_all, put_one, set_node, set_names, set_process, thread_in, threads_of}
 use Rattle.kernel_model.specs.Families.TreeUpdates.{Change, change_updates, names_update, names_updates, node_update, nodes_updates}
 use Rattle.kernel_model.specs.Valid.{HasBehind, IsNearlyValid}
+use Rattle.kernel_model.proofs.Children.{all_born, one_keeps, KeepsChildren}
 use Rattle.kernel_model.proofs.FileMeanings.{IsOfTree}
 use Rattle.kernel_model.proofs.NameMeanings.{IsChangeOf}
 use Rattle.kernel_model.proofs.ObjectNumbers.{fewer_fit}
@@ -179,22 +180,26 @@ pub with_tree_nearly_valid : (S : State) (u : Tree) → IsTreeAfter S u → IsNe
 with_tree_nearly_valid S u after v = record {
   named = v.named;
   behind = λ o kind e. behind_after S u after kind (v.behind o kind e);
+  sole = v.sole;
   tables = v.tables;
   owns = v.owns;
   ended = v.ended;
   numbered = v.numbered;
   made = v.made;
   made_nodes = after.made;
+  born = v.born;
   tree = after.tree;
+  silent = v.silent;
 }
 
 -- ---- a process that has made more
 
--- the process has as many threads, and has made no less
+-- the process has as many threads, and has made no less, and no fewer children
 record Grows (own new : ProcessState) : Type 0 where
   threads : new.threads ≡ own.threads
   numbered : new.counts.threads ≡ own.counts.threads
   more : own.counts.objects ≤ new.counts.objects
+  children : KeepsChildren (Some own) (Some new)
 
 module _ (S : State) (p : ℕ) (own new : ProcessState) (there : get S.processes p ≡ Some own) (grows : Grows own new) where
   same_threads : (q : ℕ) → threads_of (put_one (set_process p new) S) q ≡ threads_of S q
@@ -222,6 +227,7 @@ module _ (S : State) (p : ℕ) (own new : ProcessState) (there : get S.processes
   set_process_nearly_valid v = record {
     named = v.named;
     behind = λ o kind e. behind_process kind (v.behind o kind e);
+    sole = v.sole;
     tables = v.tables;
     owns = λ q. some_again S.processes p own new q there ∙ v.owns q;
     ended = λ q status is ends. ((v.ended q status is ends).0, same_threads q ∙ (v.ended q status is ends).1);
@@ -231,7 +237,9 @@ module _ (S : State) (p : ℕ) (own new : ProcessState) (there : get S.processes
         v.made q k small (let more = more_made q in omega (arith, more, beyond)) fits;
     made_nodes = λ q k small beyond fits.
         v.made_nodes q k small (let more = more_made q in omega (arith, more, beyond)) fits;
+    born = all_born S.processes (insert S.processes p new) (one_keeps S.processes p own new there grows.children) v.born;
     tree = v.tree;
+    silent = v.silent;
   } where
     behind_process : (kind : OpenKind) → HasBehind S kind → HasBehind (put_one (set_process p new) S) kind
     behind_process (File q offset flags) h = h
@@ -260,12 +268,12 @@ counted_tree S p count = counted_holds (λ (T : State). tree_of T ≡ tree_of S)
 pub counted_nearly_valid : (S : State) (p count : ℕ) → IsNearlyValid S → IsNearlyValid (counted p count S)
 counted_nearly_valid S p count v =
     counted_holds IsNearlyValid S p count v (λ own there.
-    set_process_nearly_valid S p own (made_more count own) there (record { threads = refl; numbered = refl; more = omega arith }) v)
+    set_process_nearly_valid S p own (made_more count own) there (record { threads = refl; numbered = refl; more = omega arith; children = (refl, omega arith) }) v)
 
 pub counted_threads : (S : State) (p count q : ℕ) → threads_of (counted p count S) q ≡ threads_of S q
 counted_threads S p count q =
     counted_holds (λ (T : State). threads_of T q ≡ threads_of S q) S p count refl (λ own there.
-    same_threads S p own (made_more count own) there (record { threads = refl; numbered = refl; more = omega arith }) q)
+    same_threads S p own (made_more count own) there (record { threads = refl; numbered = refl; more = omega arith; children = (refl, omega arith) }) q)
 
 pub counted_more : (S : State) (p count : ℕ) → can_number p count (get S.processes p) ≡ true
     → (counts_in (get (counted p count S).processes p)).objects ≡ (counts_in (get S.processes p)).objects + count

@@ -6,7 +6,8 @@ use Rattle.std.proofs.lemmas.Nat.{and_assoc}
 use Rattle.std.specs.Prelude.{bit_and, nat_lt, IsTrue}
 use Rattle.abi_base.specs.Rights.{has_all}
 use Rattle.std.specs.Ordering.{nat_cmp}
-use Rattle.std.specs.FinMap.{FinMap, get, get-empty, insert, empty, retain_keys}
+use Rattle.std.specs.FinMap.{FinMap, get, get-empty, insert, empty}
+use Rattle.std.specs.List.{list_any}
 use Rattle.std.specs.Option.{option_map}
 use Rattle.abi_types.specs.declared.counts.Counts.{Counts}
 use Rattle.abi_types.specs.declared.descriptor.Descriptor.{Descriptor}
@@ -25,12 +26,16 @@ use Rattle.tree_model.specs.Opens.{one_of_node, opens_of_node}
 use Rattle.tree_model.specs.Releasing.{retained-all, used_by_links, used_by_opens}
 use Rattle.tree_model.specs.Retained.{retained, retained-node, retained-no_node, retained-tree}
 use Rattle.tree_model.specs.Tree.{IsTree, is_directory_node, links_in, links_of}
-use Rattle.kernel_model.specs.Release.{names_open, count_in, holders, ends, release, is_ending, is_node_kept, without_ended, without_nodes}
-use Rattle.kernel_model.specs.State.{State, Table, ProcessState, tree_of, put_one, put_all, set_open, set_table, set_term, threads_of, thread_in, thread_of, counts_in}
+use Rattle.kernel_model.specs.Channels.{Channel, channel_left}
+use Rattle.kernel_model.specs.Release.{names_open, count_in, holders, carriers, is_of_process, is_reader, is_writer, loses_reader, loses_writer, is_killed, table_left, process_left, status_left, without, ends, release, is_ending, is_node_kept, without_ended, without_nodes}
+use Rattle.kernel_model.specs.State.{State, Table, Threads, ProcessState, tree_of, put_one, put_all, set_open, set_table, set_term, threads_of, thread_in, thread_of, counts_in}
 use Rattle.kernel_model.specs.Step.{tick}
 use Rattle.kernel_model.specs.Families.Numbers.{object_of}
-use Rattle.kernel_model.specs.Valid.{fits, fits_inheriting, IsNamed, HasBehind, IsNearlyValid, IsValid}
-use Rattle.kernel_model.proofs.Ends.{ends_closed, ends_unheld}
+use Rattle.kernel_model.specs.Fits.{fits, fits_inheriting}
+use Rattle.kernel_model.specs.Valid.{AreSole, AtMostOne, IsNamed, HasBehind, HasReader, HasWriter, IsNearlyValid, IsValid}
+use Rattle.kernel_model.proofs.Children.{all_born, end_keeps, left_keeps, KeepsChildren}
+use Rattle.kernel_model.proofs.Ends.{any_member, channel_after, ends_closed, ends_none, ends_unheld, process_after, same_process, same_status, same_table, status_after, table_after, without_none}
+use Rattle.kernel_model.proofs.SoleOpens.{PassesAsBefore, one_more, one_still}
 use Rattle.kernel_model.proofs.Tests.{not_true, none_is_no, same_some}
 
 -- ---- what holds an open
@@ -45,6 +50,9 @@ named_is_held S p n table d there here =
     let inside : names_open d.id d ≤ count_in d.id table = total_at_least (names_open d.id) table n d here in
     let all : count_in d.id table ≤ holders S d.id = total_at_least (count_in d.id) S.tables p table there in
     omega arith
+
+pub held_or_carried : (S : State) (o : ℕ) → 0 < holders S o → 0 < holders S o + carriers S o
+held_or_carried S o held = omega (arith, held)
 
 -- a process that gives up its descriptors takes just its own holders along
 pub emptied_holders : (tables : FinMap nat_cmp Table) (p o : ℕ) (table : Table) → get tables p ≡ Some table
@@ -65,11 +73,15 @@ kept_some false o x e = absurd (none_is_no x e)
 pub get_released : (S : State) (o : ℕ) → get (release S).opens o ≡ cond (not (is_ending S o)) (get S.opens o) None
 get_released S o = get-retain S.opens (λ r. not (member r (ends S))) o
 
--- an open that is held does not end
-pub held_stays : (S : State) (o : ℕ) → 0 < holders S o → is_ending S o ≡ false
+-- an open that is held by what is left does not end
+pub held_stays : (S : State) (o : ℕ) → 0 < holders (release S) o + carriers (release S) o → is_ending S o ≡ false
 held_stays S o held =
     elim (is_ending S o) as (λ b. is_ending S o ≡ b → b ≡ false) [
-      | true ↦ λ e. (let none : holders S o ≡ 0 = (ends_unheld S o e).1 in absurd (omega arith))
+      | true ↦ λ e. (
+          let unheld = ends_unheld S o e in
+          let none : holders (release S) o ≡ 0 = unheld.1 in
+          let bare : carriers (release S) o ≡ 0 = unheld.2 in
+          absurd (omega arith))
       | false ↦ λ e. refl
     ] refl
 
@@ -77,22 +89,119 @@ pub released_stays : (S : State) (o : ℕ) → is_ending S o ≡ false → get (
 released_stays S o stays = get_released S o ∙ ap (λ b. cond (not b) (get S.opens o) None) stays
 
 -- an open that is there after the release is held
-left_is_held : (S : State) (o : ℕ) (b : Bool) → is_ending S o ≡ b → IsSome (cond (not b) (get S.opens o) None) → 0 < holders S o
-left_is_held S o true ends there = absurd (not_true there)
-left_is_held S o false stays there =
-    elim (eqb_tells (holders S o) 0) [
+is_held_by : (S : State) (o : ℕ) (b : Bool) → is_ending S o ≡ b → IsSome (cond (not b) (get S.opens o) None)
+    → 0 < holders (release S) o + carriers (release S) o
+is_held_by S o true gone there = absurd (not_true there)
+is_held_by S o false stays there =
+    elim (eqb_tells (holders (release S) o + carriers (release S) o) 0) [
       | inl is ↦ absurd (not_true (sym stays ∙ ends_closed S o there is.1))
-      | inr other ↦ (let apart : holders S o ≢ 0 = other.1 in omega arith)
+      | inr other ↦ (let apart : holders (release S) o + carriers (release S) o ≢ 0 = other.1 in omega arith)
     ]
 
+pub left_is_held : (S : State) (o : ℕ) → IsSome (get (release S).opens o) → 0 < holders (release S) o + carriers (release S) o
+left_is_held S o there = is_held_by S o (is_ending S o) refl (subst IsSome (get_released S o) there)
+
+-- ---- the processes that are left
+
+pub some_mapped : {X Y : Type 0} (f : X → Y) (o : Option X) → is_some (option_map f o) ≡ is_some o
+some_mapped f None = refl
+some_mapped f (Some x) = refl
+
+-- a table that has a descriptor after the release is what it was
+unemptied : (killed : Bool) (before : Option Table) (table : Table) (n : ℕ) (d : Descriptor) → option_map (table_left killed) before ≡ Some table
+    → get table n ≡ Some d → before ≡ Some table
+unemptied killed None table n d e here = absurd (none_is_no table e)
+unemptied true (Some t) table n d e here =
+    absurd (none_is_no d (sym (get-empty nat_cmp n) ∙ ap (λ (m : Table). get m n) (same_some empty table e) ∙ here))
+unemptied false (Some t) table n d e here = e
+
+pub table_before : (S : State) (p n : ℕ) (table : Table) (d : Descriptor) → get (release S).tables p ≡ Some table → get table n ≡ Some d
+    → get S.tables p ≡ Some table
+table_before S p n table d there here =
+    unemptied (is_killed S (ends S) p) (get S.tables p) table n d (sym (table_after S (ends S) p) ∙ there) here
+
+left_tables : (S : State) (p : ℕ) → is_some (get S.tables p) ≡ is_some (get S.statuses p) → is_some (get (release S).tables p) ≡ is_some (get (release S).statuses p)
+left_tables S p same =
+    let killed : Bool = is_killed S (ends S) p in
+    ap is_some (table_after S (ends S) p) ∙ some_mapped (table_left killed) (get S.tables p) ∙ same
+    ∙ sym (ap is_some (status_after S (ends S) p) ∙ some_mapped (status_left killed) (get S.statuses p))
+
+left_processes : (S : State) (p : ℕ) → is_some (get S.processes p) ≡ is_some (get S.statuses p)
+    → is_some (get (release S).processes p) ≡ is_some (get (release S).statuses p)
+left_processes S p same =
+    let killed : Bool = is_killed S (ends S) p in
+    ap is_some (process_after S (ends S) p) ∙ some_mapped (process_left killed) (get S.processes p) ∙ same
+    ∙ sym (ap is_some (status_after S (ends S) p) ∙ some_mapped (status_left killed) (get S.statuses p))
+
+-- a process that has ended, now or before, has no descriptor and no thread
+abbrev threads_in : Option ProcessState → Option Threads
+threads_in own = option_map (λ (x : ProcessState). x.threads) own
+
+bare_left : (killed : Bool) (before : Option Status) (table : Option Table) (own : Option ProcessState) (status : Status)
+    → ((s : Status) → before ≡ Some s → s ≢ Live → (table ≡ Some empty) × (threads_in own ≡ Some empty))
+    → is_some table ≡ is_some before → is_some own ≡ is_some before → option_map (status_left killed) before ≡ Some status → status ≢ Live
+    → (option_map (table_left killed) table ≡ Some empty) × (threads_in (option_map (process_left killed) own) ≡ Some empty)
+bare_left true None table own status bare t o e ends = absurd (none_is_no status e)
+bare_left true (Some s) None own status bare t o e ends = absurd (not_true t)
+bare_left true (Some s) (Some table) None status bare t o e ends = absurd (not_true o)
+bare_left true (Some s) (Some table) (Some own) status bare t o e ends = (refl, refl)
+bare_left false before table own status bare t o e ends =
+    let both = bare status (sym (same_status before) ∙ e) ends in (same_table table ∙ both.0, ap threads_in (same_process own) ∙ both.1)
+
+left_bare : (S : State) (p : ℕ) (status : Status) → IsNearlyValid S → get (release S).statuses p ≡ Some status → status ≢ Live
+    → (get (release S).tables p ≡ Some empty) × (threads_of (release S) p ≡ Some empty)
+left_bare S p status v is ended =
+    let killed : Bool = is_killed S (ends S) p in
+    let bare = bare_left killed (get S.statuses p) (get S.tables p) (get S.processes p) status (v.ended p) (v.tables p) (v.owns p)
+    (sym (status_after S (ends S) p) ∙ is) ended in
+    (table_after S (ends S) p ∙ bare.0, ap threads_in (process_after S (ends S) p) ∙ bare.1)
+
+-- what a process has made so far it has made after it was killed too
+same_counts : (killed : Bool) (own : Option ProcessState) → counts_in (option_map (process_left killed) own) ≡ counts_in own
+same_counts killed None = refl
+same_counts true (Some own) = refl
+same_counts false (Some own) = refl
+
+pub left_counts : (S : State) (p : ℕ) → counts_in (get (release S).processes p) ≡ counts_in (get S.processes p)
+left_counts S p = ap counts_in (process_after S (ends S) p) ∙ same_counts (is_killed S (ends S) p) (get S.processes p)
+
+-- and so has it its depth
+left_born : (S : State) (p : ℕ) → KeepsChildren (get S.processes p) (get (release S).processes p)
+left_born S p =
+    subst (KeepsChildren (get S.processes p)) (sym (process_after S (ends S) p)) (left_keeps (is_killed S (ends S) p) (get S.processes p))
+
+no_thread : (t : ℕ) → IsSome (thread_in (Some empty) t) → ⊥
+no_thread t h = not_true (subst IsSome (get-empty nat_cmp t) h)
+
+same_thread : (killed : Bool) (own : Option ProcessState) (t : ℕ) → IsSome (thread_in (threads_in (option_map (process_left killed) own)) t)
+    → IsSome (thread_in (threads_in own) t)
+same_thread killed None t h = h
+same_thread true (Some own) t h = absurd (no_thread t h)
+same_thread false (Some own) t h = h
+
+left_thread : (S : State) (p t : ℕ) → IsSome (thread_of (release S) p t) → IsSome (thread_of S p t)
+left_thread S p t there =
+    same_thread (is_killed S (ends S) p) (get S.processes p) t
+    (subst (λ (own : Option ProcessState). IsSome (thread_in (threads_in own) t)) (process_after S (ends S) p) there)
+
 -- what stands behind an open does not depend on the parts that aren't behind any
-pub behind_same : (S T : State) → ((n : ℕ) → get T.nodes n ≡ get S.nodes n) → ((k : ℕ) → IsSome (get S.terms k) → IsSome (get T.terms k)) → (kind : OpenKind)
+reader_same : (before after : FinMap nat_cmp Channel) → ((c : ℕ) → get after c ≡ get before c) → (reads : Option ℕ) → HasReader before reads → HasReader after reads
+reader_same before after same None h = h
+reader_same before after same (Some c) h = (h.0, same c ∙ h.1, h.2)
+
+writer_same : (before after : FinMap nat_cmp Channel) → ((c : ℕ) → get after c ≡ get before c) → (writes : Option ℕ) → HasWriter before writes → HasWriter after writes
+writer_same before after same None h = h
+writer_same before after same (Some c) h = (h.0, same c ∙ h.1, h.2)
+
+pub behind_same : (S T : State) → ((n : ℕ) → get T.nodes n ≡ get S.nodes n) → ((k : ℕ) → IsSome (get S.terms k) → IsSome (get T.terms k))
+    → ((c : ℕ) → get T.chans c ≡ get S.chans c) → ((p : ℕ) → IsSome (get S.statuses p) → IsSome (get T.statuses p)) → (kind : OpenKind)
     → HasBehind S kind → HasBehind T kind
-behind_same S T nodes more (Terminal which flags) h = (more which h.0, h.1)
-behind_same S T nodes more (File node offset flags) h = ap is_file_node (nodes node) ∙ h
-behind_same S T nodes more (Directory node flags) h = ap is_directory_node (nodes node) ∙ h
-behind_same S T nodes more (End reads writes flags) h = absurd h
-behind_same S T nodes more (Process p) h = absurd h
+behind_same S T nodes more chans made (Terminal which flags) h = (more which h.0, h.1)
+behind_same S T nodes more chans made (File node offset flags) h = ap is_file_node (nodes node) ∙ h
+behind_same S T nodes more chans made (Directory node flags) h = ap is_directory_node (nodes node) ∙ h
+behind_same S T nodes more chans made (End reads writes flags) h =
+    (h.0, reader_same S.chans T.chans chans reads h.1, writer_same S.chans T.chans chans writes h.2)
+behind_same S T nodes more chans made (Process p) h = (made p h.0, h.1)
 
 -- ---- the nodes that stay
 
@@ -108,20 +217,79 @@ open_is_kept S o n kind there one =
     let all : one_of_node n kind ≤ opens_of_node S.opens n = total_at_least (one_of_node n) S.opens o kind there in
     used_by_opens S.opens (tree_of S) n (omega arith)
 
+-- the status of a process that was made stays, or says that it was killed
+left_made : (S : State) (p : ℕ) → IsSome (get S.statuses p) → IsSome (get (release S).statuses p)
+left_made S p made = ap is_some (status_after S (ends S) p) ∙ some_mapped (status_left (is_killed S (ends S) p)) (get S.statuses p) ∙ made
+
+-- an open that is left does not end
+left_is_not_ending : (S : State) (o : ℕ) (kind : OpenKind) → get (release S).opens o ≡ Some kind → is_ending S o ≡ false
+left_is_not_ending S o kind there =
+    elim (is_ending S o) as (λ b. cond (not b) (get S.opens o) None ≡ Some kind → b ≡ false) [
+      | true ↦ λ e. absurd (none_is_no kind e)
+      | false ↦ λ e. refl
+    ] (sym (get_released S o) ∙ there)
+
+-- what at most one open is does not end where that one is left
+sole_left : (S : State) (test : Option OpenKind → Bool) (o : ℕ) (kind : OpenKind) → AtMostOne test S.opens → get (release S).opens o ≡ Some kind
+    → test (get S.opens o) ≡ true → list_any (λ r. test (get S.opens r)) (ends S) ≡ false
+sole_left S test o kind sole there is =
+    elim (list_any (λ r. test (get S.opens r)) (ends S)) as (λ b. list_any (λ r. test (get S.opens r)) (ends S) ≡ b → b ≡ false) [
+      | true ↦ λ e. (
+          let one = any_member (λ r. test (get S.opens r)) (ends S) e in
+          let ending : is_ending S o ≡ true = ap (λ r. member r (ends S)) (sole o one.0 is one.2) ∙ one.1 in
+          absurd (not_true (sym (left_is_not_ending S o kind there) ∙ ending)))
+      | false ↦ λ e. refl
+    ] refl
+
+reader_kept : (writer : Bool) (channel : Channel) → (channel_left false writer channel).reader ≡ channel.reader
+reader_kept true channel = refl
+reader_kept false channel = refl
+
+writer_kept : (reader : Bool) (channel : Channel) → (channel_left reader false channel).writer ≡ channel.writer
+writer_kept true channel = refl
+writer_kept false channel = refl
+
+-- the channels of an end that is left still have its sides
+left_reader : (S : State) (o : ℕ) (reads writes : Option ℕ) (flags : ℕ) → AreSole S.opens → get (release S).opens o ≡ Some (End reads writes flags)
+    → get S.opens o ≡ Some (End reads writes flags) → HasReader S.chans reads → HasReader (release S).chans reads
+left_reader S o None writes flags sole there before h = h
+left_reader S o (Some c) writes flags sole there before h =
+    let kept : loses_reader S (ends S) c ≡ false =
+    sole_left S (is_reader c) o (End (Some c) writes flags) (sole c).1 there (ap (is_reader c) before ∙ eq-eqb c c refl) in
+    let lost : Bool = loses_writer S (ends S) c in (
+      channel_left false lost h.0,
+      channel_after S (ends S) c ∙ ap (λ b. option_map (channel_left b lost) (get S.chans c)) kept ∙ ap (option_map (channel_left false lost)) h.1,
+      λ gone. h.2 (sym (reader_kept lost h.0) ∙ gone),
+    )
+
+left_writer : (S : State) (o : ℕ) (reads writes : Option ℕ) (flags : ℕ) → AreSole S.opens → get (release S).opens o ≡ Some (End reads writes flags)
+    → get S.opens o ≡ Some (End reads writes flags) → HasWriter S.chans writes → HasWriter (release S).chans writes
+left_writer S o reads None flags sole there before h = h
+left_writer S o reads (Some c) flags sole there before h =
+    let kept : loses_writer S (ends S) c ≡ false =
+    sole_left S (is_writer c) o (End reads (Some c) flags) (sole c).2 there (ap (is_writer c) before ∙ eq-eqb c c refl) in
+    let lost : Bool = loses_reader S (ends S) c in (
+      channel_left lost false h.0,
+      channel_after S (ends S) c ∙ ap (λ b. option_map (channel_left lost b) (get S.chans c)) kept ∙ ap (option_map (channel_left lost false)) h.1,
+      λ gone. h.2 (sym (writer_kept lost h.0) ∙ gone),
+    )
+
 -- what stands behind an open that is left is left
-released_behind : (S : State) (o : ℕ) (kind : OpenKind) → get (release S).opens o ≡ Some kind → HasBehind S kind → HasBehind (release S) kind
-released_behind S o (Terminal which flags) there h = h
-released_behind S o (File node offset flags) there h =
+released_behind : (S : State) (o : ℕ) (kind : OpenKind) → AreSole S.opens → get (release S).opens o ≡ Some kind → get S.opens o ≡ Some kind
+    → HasBehind S kind → HasBehind (release S) kind
+released_behind S o (Terminal which flags) sole there before h = h
+released_behind S o (File node offset flags) sole there before h =
     ap is_file_node (retained-node (tree_of S) (is_node_kept (without_ended S)) node
     (open_is_kept (without_ended S) o node (File node offset flags) there (one_for-same node))) ∙ h
-released_behind S o (Directory node flags) there h =
+released_behind S o (Directory node flags) sole there before h =
     ap is_directory_node (retained-node (tree_of S) (is_node_kept (without_ended S)) node
     (open_is_kept (without_ended S) o node (Directory node flags) there (one_for-same node))) ∙ h
-released_behind S o (End reads writes flags) there h = absurd h
-released_behind S o (Process p) there h = absurd h
+released_behind S o (End reads writes flags) sole there before h =
+    (h.0, left_reader S o reads writes flags sole there before h.1, left_writer S o reads writes flags sole there before h.2)
+released_behind S o (Process p) sole there before h = (left_made S p h.0, h.1)
 
 -- a node that is left stays still
-released_kept : (S : State) (n : ℕ) → IsSome (get (release S).nodes n) → is_node_kept (release S) n ≡ true
+pub released_kept : (S : State) (n : ℕ) → IsSome (get (release S).nodes n) → is_node_kept (release S) n ≡ true
 released_kept S n there =
     elim (is_node_kept (without_ended S) n) as (λ b. is_node_kept (without_ended S) n ≡ b → is_node_kept (release S) n ≡ true) [
       | true ↦ λ kept.
@@ -129,6 +297,22 @@ released_kept S n there =
           (ap links_in (retained-node (tree_of S) (is_node_kept (without_ended S)) n kept)) ∙ kept
       | false ↦ λ gone. absurd (not_true (sym (ap is_some (retained-no_node (tree_of S) (is_node_kept (without_ended S)) n gone)) ∙ there))
     ] refl
+
+-- ---- opens that are one
+
+passes_left : (test : Option OpenKind → Bool) (S : State) → test None ≡ false → PassesAsBefore test S.opens (release S).opens
+passes_left test S none o h =
+    elim (is_ending S o) as (λ b. test (cond (not b) (get S.opens o) None) ≡ true → test (get S.opens o) ≡ true) [
+      | true ↦ λ e. absurd (not_true (sym none ∙ e))
+      | false ↦ λ e. e
+    ] (ap test (sym (get_released S o)) ∙ h)
+
+left_sole : (S : State) → AreSole S.opens → AreSole (release S).opens
+left_sole S sole k = (
+  one_still (is_of_process k) S.opens (release S).opens (passes_left (is_of_process k) S refl) (sole k).0,
+  one_still (is_reader k) S.opens (release S).opens (passes_left (is_reader k) S refl) (sole k).1,
+  one_still (is_writer k) S.opens (release S).opens (passes_left (is_writer k) S refl) (sole k).2,
+)
 
 none_left : {X : Type 0} (b : Bool) (o : Option X) → o ≡ None → cond b o None ≡ None
 none_left true o h = h
@@ -138,41 +322,37 @@ pub release_restores : (S : State) → IsNearlyValid S → IsValid (release S)
 release_restores S v = record {
   nearly = record {
     named = λ p n table d there here.
-        subst (λ o. IsNamed o d) (sym (released_stays S d.id (held_stays S d.id (named_is_held S p n table d there here))))
-        (v.named p n table d there here);
+        subst (λ o. IsNamed o d)
+        (sym (released_stays S d.id (held_stays S d.id (held_or_carried (release S) d.id (named_is_held (release S) p n table d there here)))))
+        (v.named p n table d (table_before S p n table d there here) here);
     behind = λ o kind e.
-        released_behind S o kind e (v.behind o kind (kept_some (not (is_ending S o)) (get S.opens o) kind (sym (get_released S o) ∙ e)));
-    tables = v.tables;
-    owns = v.owns;
-    ended = v.ended;
-    numbered = v.numbered;
+        let before : get S.opens o ≡ Some kind = kept_some (not (is_ending S o)) (get S.opens o) kind (sym (get_released S o) ∙ e) in
+        released_behind S o kind v.sole e before (v.behind o kind before);
+    sole = left_sole S v.sole;
+    tables = λ p. left_tables S p (v.tables p);
+    owns = λ p. left_processes S p (v.owns p);
+    ended = λ p status. left_bare S p status v;
+    numbered = λ p t there. subst (λ (c : Counts). t ≤ c.threads) (sym (left_counts S p)) (v.numbered p t (left_thread S p t there));
     made = λ p k small beyond fits.
-        get_released S (object_of p k) ∙ none_left (not (is_ending S (object_of p k))) (get S.opens (object_of p k)) (v.made p k small beyond fits);
+        get_released S (object_of p k)
+        ∙ none_left (not (is_ending S (object_of p k))) (get S.opens (object_of p k))
+        (v.made p k small (subst (λ (c : Counts). c.objects < k) (left_counts S p) beyond) fits);
     made_nodes = λ p k small beyond fits.
         get-retain S.nodes (is_node_kept (without_ended S)) (object_of p k)
-        ∙ none_left (is_node_kept (without_ended S) (object_of p k)) (get S.nodes (object_of p k)) (v.made_nodes p k small beyond fits);
+        ∙ none_left (is_node_kept (without_ended S) (object_of p k)) (get S.nodes (object_of p k))
+        (v.made_nodes p k small (subst (λ (c : Counts). c.objects < k) (left_counts S p) beyond) fits);
+    born = all_born S.processes (release S).processes (left_born S) v.born;
     tree = retained-tree (tree_of S) (is_node_kept (without_ended S)) v.tree (root_is_kept (without_ended S)) (named_is_kept (without_ended S));
+    silent = λ c.
+        channel_after S (ends S) c ∙ ap (option_map (channel_left (loses_reader S (ends S) c) (loses_writer S (ends S) c))) (v.silent c);
   };
-  held = λ o h. left_is_held S o (is_ending S o) refl (subst IsSome (get_released S o) h);
+  held = left_is_held S;
   kept = released_kept S;
 }
 
--- where each open is held none ends
-held_or_absent : (S : State) → ((o : ℕ) → IsSome (get S.opens o) → 0 < holders S o) → (o : ℕ) → is_ending S o ≡ false
-held_or_absent S held o =
-    elim (is_ending S o) as (λ b. is_ending S o ≡ b → b ≡ false) [
-      | true ↦ λ e. (
-          let unheld = ends_unheld S o e in
-          let none : holders S o ≡ 0 = unheld.1 in
-          let some : 0 < holders S o = held o unheld.0 in
-          absurd (omega arith))
-      | false ↦ λ e. refl
-    ] refl
-
-pub ended_held : (S : State) → ((o : ℕ) → IsSome (get S.opens o) → 0 < holders S o) → without_ended S ≡ S
-ended_held S held =
-    let same : (without_ended S).opens ≡ S.opens = same_numbers _ _ (λ o. released_stays S o (held_or_absent S held o)) in
-    λ i. record S { opens = same i }
+-- where each open is held none ends, and nothing with it
+pub ended_held : (S : State) → ((o : ℕ) → IsSome (get S.opens o) → 0 < holders S o + carriers S o) → without_ended S ≡ S
+ended_held S held = ap (λ ended. without ended S) (ends_none S held) ∙ without_none S
 
 -- where each node that is there stays, no node goes
 pub nodes_stay : (S : State) → IsTree (tree_of S) → ((n : ℕ) → IsSome (get S.nodes n) → is_node_kept S n ≡ true) → without_nodes S ≡ S
@@ -185,42 +365,22 @@ pub release_valid : (S : State) → IsValid S → release S ≡ S
 release_valid S v =
     ap without_nodes (ended_held S v.held) ∙ nodes_stay S v.nearly.tree v.kept
 
--- the opens that are left are those that are held
-ending_is : (S : State) (o : ℕ) → IsSome (get S.opens o) → is_ending S o ≡ (holders S o == 0)
-ending_is S o there =
-    elim (eqb_tells (holders S o) 0) [
-      | inl is ↦ ends_closed S o there is.1 ∙ sym is.0
-      | inr other ↦ held_stays S o (let apart : holders S o ≢ 0 = other.1 in omega arith) ∙ sym other.0
-    ]
-
-left_alike : {X : Type 0} (b c : Bool) (o : Option X) → (IsSome o → b ≡ c) → cond (not b) o None ≡ cond (not c) o None
-left_alike b c (Some x) h = ap (λ d. cond (not d) (Some x) None) (h refl)
-left_alike true true None h = refl
-left_alike true false None h = refl
-left_alike false true None h = refl
-left_alike false false None h = refl
-
-pub ended_is : (S : State) → without_ended S ≡ record S { opens = retain_keys S.opens (λ o. not (holders S o == 0)) }
-ended_is S =
-    let same : (without_ended S).opens ≡ retain_keys S.opens (λ o. not (holders S o == 0)) =
-    same_numbers _ _ (λ o.
-    get_released S o ∙ left_alike (is_ending S o) (holders S o == 0) (get S.opens o) (ending_is S o)
-    ∙ sym (get-retain S.opens (λ r. not (holders S r == 0)) o)) in
-    λ i. record S { opens = same i }
-
 -- ---- one more moment
 
 pub tick_nearly_valid : (S : State) → IsNearlyValid S → IsNearlyValid (tick S)
 tick_nearly_valid S v = record {
   named = v.named;
-  behind = λ o kind e. behind_same S (tick S) (λ _. refl) (λ _ h. h) kind (v.behind o kind e);
+  behind = λ o kind e. behind_same S (tick S) (λ _. refl) (λ _ h. h) (λ _. refl) (λ _ h. h) kind (v.behind o kind e);
+  sole = v.sole;
   tables = v.tables;
   owns = v.owns;
   ended = v.ended;
   numbered = v.numbered;
   made = v.made;
   made_nodes = v.made_nodes;
+  born = v.born;
   tree = v.tree;
+  silent = v.silent;
 }
 
 pub tick_valid : (S : State) → IsValid S → IsValid (tick S)
@@ -251,14 +411,17 @@ pub streams_nearly_valid : (S : State) (terms : FinMap nat_cmp Stream) → ((k :
     → IsNearlyValid (record S { terms = terms })
 streams_nearly_valid S terms more v = record {
   named = v.named;
-  behind = λ o kind e. behind_same S (record S { terms = terms }) (λ _. refl) more kind (v.behind o kind e);
+  behind = λ o kind e. behind_same S (record S { terms = terms }) (λ _. refl) more (λ _. refl) (λ _ h. h) kind (v.behind o kind e);
+  sole = v.sole;
   tables = v.tables;
   owns = v.owns;
   ended = v.ended;
   numbered = v.numbered;
   made = v.made;
   made_nodes = v.made_nodes;
+  born = v.born;
   tree = v.tree;
+  silent = v.silent;
 }
 
 pub set_term_nearly_valid : (S : State) (k : ℕ) (stream : Stream) → IsNearlyValid S → IsNearlyValid (put_one (set_term k stream) S)
@@ -315,9 +478,6 @@ threads_ended S p status v q s e ends =
           ∙ (v.ended q s (sym (get-insert-other S.statuses p status q other.1) ∙ e) ends).1
     ]
 
-no_thread : (t : ℕ) → IsSome (thread_in (Some empty) t) → ⊥
-no_thread t h = not_true (subst IsSome (get-empty nat_cmp t) h)
-
 counts_stay : (S : State) (p : ℕ) (status : Status) (q : ℕ) → counts_in (get (put_all (end_updates p (get S.processes p) status) S).processes q) ≡ counts_in (get S.processes q)
 counts_stay S p status q =
     elim (eqb_tells q p) [
@@ -335,10 +495,13 @@ ended_numbered S p status v q t there =
       | inr other ↦ v.numbered q t (subst (λ o. IsSome (thread_in (option_map (λ (own : ProcessState). own.threads) o) t)) (process_apart S p status q other.1) there)
     ]
 
-pub end_nearly_valid : (S : State) (p : ℕ) (status : Status) → IsNearlyValid S → IsNearlyValid (put_all (end_updates p (get S.processes p) status) S)
-end_nearly_valid S p status v = record {
+-- a process that was made may end
+pub end_nearly_valid : (S : State) (p : ℕ) (status : Status) → IsSome (get S.statuses p) → IsNearlyValid S
+    → IsNearlyValid (put_all (end_updates p (get S.processes p) status) S)
+end_nearly_valid S p status made v = record {
   named = λ q n table d there here. v.named q n table d (emptied_before S.tables p q n table d there here) here;
-  behind = λ o kind e. behind_same S (put_all (end_updates p (get S.processes p) status) S) (λ _. refl) (λ _ h. h) kind (v.behind o kind e);
+  behind = λ o kind e. behind_same S (put_all (end_updates p (get S.processes p) status) S) (λ _. refl) (λ _ h. h) (λ _. refl) (some_inserted S.statuses p status) kind (v.behind o kind e);
+  sole = v.sole;
   tables = same_keys_inserted S.tables S.statuses p empty status v.tables;
   owns = same_keys_inserted S.processes S.statuses p (ended_process (get S.processes p)) status v.owns;
   ended = λ q s e ends. (
@@ -350,7 +513,9 @@ end_nearly_valid S p status v = record {
       v.made q k small (subst (λ (c : Counts). c.objects < k) (counts_stay S p status q) beyond) fits;
   made_nodes = λ q k small beyond fits.
       v.made_nodes q k small (subst (λ (c : Counts). c.objects < k) (counts_stay S p status q) beyond) fits;
+  born = all_born S.processes _ (end_keeps S.processes p (v.owns p ∙ made)) v.born;
   tree = v.tree;
+  silent = v.silent;
 }
 
 -- ---- another table
@@ -421,14 +586,17 @@ pub set_table_nearly_valid : (S : State) (p : ℕ) (old new : Table) → get S.t
     → IsNearlyValid (put_one (set_table p new) S)
 set_table_nearly_valid S p old new there from v = record {
   named = table_named S p old new there from v;
-  behind = λ o kind e. behind_same S (put_one (set_table p new) S) (λ _. refl) (λ _ h. h) kind (v.behind o kind e);
+  behind = λ o kind e. behind_same S (put_one (set_table p new) S) (λ _. refl) (λ _ h. h) (λ _. refl) (λ _ h. h) kind (v.behind o kind e);
+  sole = v.sole;
   tables = λ q. some_again S.tables p old new q there ∙ v.tables q;
   owns = v.owns;
   ended = λ q status is ends. (ended_table S p old new there from v q status is ends, (v.ended q status is ends).1);
   numbered = v.numbered;
   made = v.made;
   made_nodes = v.made_nodes;
+  born = v.born;
   tree = v.tree;
+  silent = v.silent;
 }
 
 -- ---- another value of an open
@@ -438,6 +606,17 @@ pub record IsSameBehind (kind new : OpenKind) : Type 0 where
   pub base : fits new ≡ fits kind
   pub inheriting : fits_inheriting new ≡ fits_inheriting kind
   pub behind : (S : State) → HasBehind S kind → HasBehind S new
+  pub alike : (k : ℕ)
+      → (is_of_process k (Some new) ≡ is_of_process k (Some kind)) × (is_reader k (Some new) ≡ is_reader k (Some kind))
+      × (is_writer k (Some new) ≡ is_writer k (Some kind))
+
+same_sole : (opens : FinMap nat_cmp OpenKind) (o : ℕ) (kind new : OpenKind) → get opens o ≡ Some kind → IsSameBehind kind new → AreSole opens
+    → AreSole (insert opens o new)
+same_sole opens o kind new there same sole k = (
+  one_more (is_of_process k) opens o new (λ passes. ap (is_of_process k) there ∙ sym (same.alike k).0 ∙ passes) (sole k).0,
+  one_more (is_reader k) opens o new (λ passes. ap (is_reader k) there ∙ sym (same.alike k).1 ∙ passes) (sole k).1,
+  one_more (is_writer k) opens o new (λ passes. ap (is_writer k) there ∙ sym (same.alike k).2 ∙ passes) (sole k).2,
+)
 
 named_again : (o : Option OpenKind) (kind new : OpenKind) (d : Descriptor) → o ≡ Some kind → IsSameBehind kind new → IsNamed o d → IsNamed (Some new) d
 named_again None kind new d is same named = absurd named
@@ -477,12 +656,15 @@ pub set_open_nearly_valid : (S : State) (o : ℕ) (kind new : OpenKind) → get 
     → IsNearlyValid (put_one (set_open o new) S)
 set_open_nearly_valid S o kind new there same v = record {
   named = λ q n table d at here. open_named S o kind new there same d (v.named q n table d at here);
-  behind = λ r k at. behind_same S (put_one (set_open o new) S) (λ _. refl) (λ _ h. h) k (open_behind S o kind new there same v r k at);
+  behind = λ r k at. behind_same S (put_one (set_open o new) S) (λ _. refl) (λ _ h. h) (λ _. refl) (λ _ h. h) k (open_behind S o kind new there same v r k at);
+  sole = same_sole S.opens o kind new there same v.sole;
   tables = v.tables;
   owns = v.owns;
   ended = v.ended;
   numbered = v.numbered;
   made = λ p k small beyond fits. open_made S o kind new (object_of p k) there (v.made p k small beyond fits);
   made_nodes = v.made_nodes;
+  born = v.born;
   tree = v.tree;
+  silent = v.silent;
 }

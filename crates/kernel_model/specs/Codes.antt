@@ -1,5 +1,5 @@
 -- The code of a state, by which proofs distinguish states: the tuple of its fields.
-use Rattle.std.specs.Prelude.{ℕ, List, refl}
+use Rattle.std.specs.Prelude.{◌≡◌, ℕ, zero, suc, List, refl}
 use Rattle.std.specs.Ordering.{nat_cmp}
 use Rattle.std.specs.FinMap.{FinMap, code}
 use Rattle.std.specs.Coded.{Coded, code_by, coded×, coded_list, coded_ℕ}
@@ -7,8 +7,10 @@ use Rattle.abi_types.specs.declared.node.Node.{Node}
 use Rattle.abi_types.specs.declared.open_kind.OpenKind.{OpenKind}
 use Rattle.abi_types.specs.declared.status.Status.{Status}
 use Rattle.abi_types.specs.declared.counts.Counts.{Counts}
+use Rattle.abi_types.specs.declared.descriptor.Descriptor.{Descriptor}
 use Rattle.abi_types.specs.declared.stream.Stream.{Stream}
 use Rattle.abi_types.specs.contracts.counts.Counts as counts
+use Rattle.abi_types.specs.contracts.descriptor.Descriptor as descriptor
 use Rattle.abi_types.specs.contracts.node.Node as node
 use Rattle.abi_types.specs.contracts.open_kind.OpenKind as open_kind
 use Rattle.abi_types.specs.contracts.status.Status as status
@@ -17,6 +19,7 @@ use Rattle.abi_types.specs.contracts.thread.Thread as thread
 use Rattle.abi_types.specs.contracts.waiter.Waiter as waiter
 use Rattle.abi_types.specs.declared.waiter.Waiter.{Waiter}
 use Rattle.fd_table.specs.Table.{table_code}
+use Rattle.kernel_model.specs.Channels.{Side, side_open, side_shut, side_gone, Send, Channel}
 use Rattle.kernel_model.specs.State.{State, Table, Threads, Locks, ProcessState, Names}
 
 abbrev pub threads_code : Coded Threads
@@ -40,13 +43,45 @@ locks_code =
 
 abbrev pub process_code : Coded ProcessState
 process_code =
-    code_by (Threads × (Counts × Locks)) (coded× threads_code (coded× counts.the_row.coded locks_code))
-    (λ own. (own.threads, (own.counts, own.locks))) (λ f. record { threads = f.0; counts = f.1.0; locks = f.1.1 }) (λ _. refl)
+    code_by (Threads × (Counts × (Locks × ℕ))) (coded× threads_code (coded× counts.the_row.coded (coded× locks_code coded_ℕ)))
+    (λ own. (own.threads, (own.counts, (own.locks, own.depth))))
+    (λ f. record { threads = f.0; counts = f.1.0; locks = f.1.1.0; depth = f.1.1.1 }) (λ _. refl)
+
+-- a side as a number
+abbrev side_number : Side → ℕ
+side_number side_open = 0
+side_number side_shut = 1
+side_number side_gone = 2
+
+abbrev side_of : ℕ → Side
+side_of zero = side_open
+side_of (suc zero) = side_shut
+side_of (suc (suc n)) = side_gone
+
+pub side_back : (side : Side) → side_of (side_number side) ≡ side
+side_back side_open = refl
+side_back side_shut = refl
+side_back side_gone = refl
+
+abbrev side_code : Coded Side
+side_code = code_by ℕ coded_ℕ side_number side_of side_back
+
+abbrev send_code : Coded Send
+send_code =
+    code_by (List ℕ × List Descriptor) (coded× (coded_list coded_ℕ) (coded_list descriptor.the_row.coded)) (λ s. (s.bytes, s.carried))
+    (λ f. record { bytes = f.0; carried = f.1 }) (λ _. refl)
+
+abbrev pub channel_code : Coded Channel
+channel_code =
+    code_by (ℕ × (List Send × (ℕ × (Side × Side))))
+    (coded× coded_ℕ (coded× (coded_list send_code) (coded× coded_ℕ (coded× side_code side_code))))
+    (λ c. (c.left, (c.waiting, (c.drawn, (c.reader, c.writer)))))
+    (λ f. record { left = f.0; waiting = f.1.0; drawn = f.1.1.0; reader = f.1.1.1.0; writer = f.1.1.1.1 }) (λ _. refl)
 
 -- the fields as nested pairs
 abbrev Fields : Type 0
 Fields =
-    ℕ × (FinMap nat_cmp Table × (FinMap nat_cmp ProcessState × (FinMap nat_cmp Status × (FinMap nat_cmp OpenKind × (FinMap nat_cmp Node × (FinMap nat_cmp Names × FinMap nat_cmp Stream))))))
+    ℕ × (FinMap nat_cmp Table × (FinMap nat_cmp ProcessState × (FinMap nat_cmp Status × (FinMap nat_cmp OpenKind × (FinMap nat_cmp Node × (FinMap nat_cmp Names × (FinMap nat_cmp Stream × FinMap nat_cmp Channel)))))))
 
 abbrev fields_code : Coded Fields
 fields_code =
@@ -56,9 +91,10 @@ fields_code =
     (coded× (code coded_ℕ status.the_row.coded)
     (coded× (code coded_ℕ open_kind.the_row.coded)
     (coded× (code coded_ℕ node.the_row.coded)
-    (coded× (code coded_ℕ names_code) (code coded_ℕ stream.the_row.coded)))))))
+    (coded× (code coded_ℕ names_code)
+    (coded× (code coded_ℕ stream.the_row.coded) (code coded_ℕ channel_code))))))))
 
 abbrev pub state_code : Coded State
 state_code =
-    code_by Fields fields_code (λ S. (S.clock, (S.tables, (S.processes, (S.statuses, (S.opens, (S.nodes, (S.names, S.terms))))))))
-    (λ f. record { clock = f.0; tables = f.1.0; processes = f.1.1.0; statuses = f.1.1.1.0; opens = f.1.1.1.1.0; nodes = f.1.1.1.1.1.0; names = f.1.1.1.1.1.1.0; terms = f.1.1.1.1.1.1.1 }) (λ _. refl)
+    code_by Fields fields_code (λ S. (S.clock, (S.tables, (S.processes, (S.statuses, (S.opens, (S.nodes, (S.names, (S.terms, S.chans)))))))))
+    (λ f. record { clock = f.0; tables = f.1.0; processes = f.1.1.0; statuses = f.1.1.1.0; opens = f.1.1.1.1.0; nodes = f.1.1.1.1.1.0; names = f.1.1.1.1.1.1.0; terms = f.1.1.1.1.1.1.1.0; chans = f.1.1.1.1.1.1.1.1 }) (λ _. refl)

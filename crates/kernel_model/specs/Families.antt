@@ -11,6 +11,7 @@ pub mod TreeUpdates
 pub mod FileBytes
 pub mod FileOffsets
 pub mod Numbers
+pub mod Children
 pub mod LastNames
 pub mod NameMeaning
 pub mod NameMaking

@@ -1,5 +1,5 @@
 -- What holds of every step of the kernel: the statements that are the contracts of the functions of src/laws.rt.
-use Rattle.std.specs.Prelude.{◌≡◌, ◌≢◌, ◌⊎◌, ℕ, ◌+◌, true, false, List, [], ◌∷◌, ◌++◌, None, Some, IsSome}
+use Rattle.std.specs.Prelude.{◌≡◌, ◌≢◌, ◌⊎◌, ◌↔◌, ℕ, ◌+◌, Bool, true, false, List, [], length, ◌∷◌, ◌++◌, Option, None, Some, IsSome}
 use Rattle.std.specs.List.{AllByRecursion}
 use Rattle.std.specs.FinMap.{get}
 use Rattle.abi_types.specs.declared.reply.Answer.{Answer}
@@ -13,19 +13,22 @@ use Rattle.abi_types.specs.declared.descriptor.Descriptor.{Descriptor}
 use Rattle.abi_base.specs.declared.errno.Errno.TheVariants.{Success, Badf, Nomem, Notcapable}
 use Rattle.abi_base.specs.declared.grant.Grant.{Grant}
 use Rattle.abi_types.specs.declared.needed.Needed.{Needed}
+use Rattle.abi_types.specs.declared.open_kind.OpenKind.TheVariants.{End, Process}
 use Rattle.abi_types.specs.declared.status.Status.{Status}
 use Rattle.abi_types.specs.declared.status.Status.TheVariants.{Live}
 use Rattle.abi_types.specs.declared.who.Who.{Who}
+use Rattle.maps.specs.Closure.{member}
 use Rattle.kernel_model.specs.Calls.{meaning_of, named, need, errors_of, takes_memory, refusal_of}
+use Rattle.kernel_model.specs.Channels.{Channel, side_gone}
 use Rattle.kernel_model.specs.Need.{has_needed, missing}
 use Rattle.kernel_model.specs.Families.Numbers.{can_number}
 use Rattle.kernel_model.specs.Proper.{IsIn, IsProper}
-use Rattle.kernel_model.specs.Release.{ends, is_released, IsEnd}
+use Rattle.kernel_model.specs.Release.{ends, is_node_kept, is_released, loses_reader, loses_writer, release, without_ended, AllAreHeld, IsEnd, IsEnded, LetsGo}
 use Rattle.kernel_model.specs.Reply.{refused, denied}
 use Rattle.kernel_model.specs.Sight.{process_parts, behind}
 use Rattle.tree_model.specs.Grants.{MayBegin}
 use Rattle.kernel_model.specs.Start.{start_state}
-use Rattle.kernel_model.specs.State.{State, Tree, Table, Part, at_open, at_node, at_names, has_part, Agree, AgreeOn}
+use Rattle.kernel_model.specs.State.{State, Tree, Table, Part, at_proc, at_status, at_open, at_node, at_names, at_chan, has_part, Agree, AgreeOn}
 use Rattle.kernel_model.specs.Step.{made_by, tick, sight, touch, outcome_by, outcome, outside, outside_by, unreleased, step_answer, step_state, failed, MayLackMemory, IsStep, IsUntouched, end_unreleased, end_state}
 use Rattle.kernel_model.specs.Threads.{LeavesThreads, ends_caller, ends_others, makes_thread}
 use Rattle.kernel_model.specs.Valid.{IsValid}
@@ -58,9 +61,14 @@ SightDecides =
     (constants : Constants) (S T : State) (who : Who) (call : Call) → HasSameSight S T who call
     → outcome constants S who call ≡ outcome constants T who call
 
+-- the release of both states ends the part or leaves it; and of a channel it ends the same sides
+abbrev pub EndsSame : State → State → Part → Type 0
+EndsSame S T (at_chan c) = (loses_reader S (ends S) c ≡ loses_reader T (ends T) c) × (loses_writer S (ends S) c ≡ loses_writer T (ends T) c)
+EndsSame S T q = is_released S q ≡ is_released T q
+
 -- of these parts, the release of both states ends the same
 abbrev pub EndsAlike : State → State → List Part → Type 0
-EndsAlike S T parts = (q : Part) → has_part parts q ≡ true → is_released S q ≡ is_released T q
+EndsAlike S T parts = (q : Part) → has_part parts q ≡ true → EndsSame S T q
 
 -- A call that sees the same in two states answers the same in both; and where the release after it ends the same of what
 -- it sees, each part that it sees has the same value in both states after the step.
@@ -150,11 +158,16 @@ ErrorKeeps =
 abbrev pub HasSameProcess : State → State → ℕ → Type 0
 HasSameProcess S T q = (get S.tables q ≡ get T.tables q) × (get S.processes q ≡ get T.processes q) × (get S.statuses q ≡ get T.statuses q)
 
--- A step takes 1000 nanoseconds, changes nothing of other processes, and changes the threads of a process that lives on as
--- its call and its answer say.
+-- From the first state to the second the release has killed the process: it lived, an open of it ended, and it has no descriptor
+-- and no thread left.
+abbrev pub IsKilled : State → State → ℕ → Type 0
+IsKilled S T q = IsEnded S T (at_proc q) × IsEnded S T (at_status q)
+
+-- A step takes 1000 nanoseconds, changes nothing of other processes but of those that the release after it kills, and changes the
+-- threads of a process that lives on as its call and its answer say.
 pub record MovesOnly (S : State) (who : Who) (call : Call) (given : Answer) (T : State) : Type 0 where
   pub clock : T.clock ≡ S.clock + 1000
-  pub others : (q : ℕ) → q ≢ who.pid → HasSameProcess T S q
+  pub others : (q : ℕ) → q ≢ who.pid → HasSameProcess T S q ⊎ IsKilled S T q
   pub threads : get T.statuses who.pid ≡ Some Live → LeavesThreads S who call given T
 
 abbrev pub StepMovesOnly : Type 0
@@ -168,18 +181,63 @@ NoThreadIsMadeOrEnded =
     (constants : Constants) (S : State) (who : Who) (call : Call) (given : Answer) (T : State) → IsStep constants S who call given T
     → (ends_caller call given ≡ false) × (ends_others call given ≡ false) × (makes_thread call given ≡ false)
 
--- The end of a process from outside takes as long, changes nothing of other processes, and leaves it its status.
+-- The end of a process from outside takes as long, changes nothing of other processes but of those that the release after it kills,
+-- and leaves it its status.
 pub record EndsOnly (S : State) (p : ℕ) (status : Status) (T : State) : Type 0 where
   pub clock : T.clock ≡ S.clock + 1000
-  pub others : (q : ℕ) → q ≢ p → HasSameProcess T S q
+  pub others : (q : ℕ) → q ≢ p → HasSameProcess T S q ⊎ IsKilled S T q
   pub stands : get T.statuses p ≡ Some status
 
 abbrev pub EndStateEndsOnly : Type 0
-EndStateEndsOnly = (S : State) (p : ℕ) (status : Status) → EndsOnly S p status (end_state S p status)
+EndStateEndsOnly = (S : State) (p : ℕ) (status : Status) → status ≢ Live → EndsOnly S p status (end_state S p status)
 
 -- The opens that end are the least set that has each open which nothing holds once the set has ended.
 abbrev pub EndsAreLeast : Type 0
 EndsAreLeast = (S : State) → IsEnd S (ends S)
+
+-- The release kills just the processes that live and of which an open ends.
+abbrev pub KilledByLastOpen : Type 0
+KilledByLastOpen =
+    (S : State) (p : ℕ)
+    → (is_released S (at_proc p) ≡ true)
+    ↔ ((get S.statuses p ≡ Some Live) × ((o : ℕ) × (member o (ends S) ≡ true) × (get S.opens o ≡ Some (Process p))))
+
+-- A channel loses its reader just where an end that reads it ends, and its writer where one does that writes it.
+abbrev pub HungUpByEnd : Type 0
+HungUpByEnd =
+    (S : State) (c : ℕ)
+    → ((loses_reader S (ends S) c ≡ true)
+    ↔ ((o : ℕ) × (member o (ends S) ≡ true) × (writes : Option ℕ) × (flags : ℕ) × (get S.opens o ≡ Some (End (Some c) writes flags))))
+    × ((loses_writer S (ends S) c ≡ true)
+    ↔ ((o : ℕ) × (member o (ends S) ≡ true) × (reads : Option ℕ) × (flags : ℕ) × (get S.opens o ≡ Some (End reads (Some c) flags))))
+
+-- A channel that has lost its reader or its writer, or not: without its reader nothing waits in it, without its writer what waits still
+-- does, and the count of all its sends stays.
+pub record IsLeftBy (reader writer : Bool) (before after : Channel) : Type 0 where
+  pub reader_gone : reader ≡ true → (after.reader ≡ side_gone) × (after.waiting ≡ []) × (after.drawn ≡ 0)
+  pub reader_stays : reader ≡ false → (after.reader ≡ before.reader) × (after.waiting ≡ before.waiting) × (after.drawn ≡ before.drawn)
+  pub writer_gone : writer ≡ true → after.writer ≡ side_gone
+  pub writer_stays : writer ≡ false → after.writer ≡ before.writer
+  pub sends : after.left + length after.waiting ≡ before.left + length before.waiting
+
+-- Each channel stays, and is left so by the ends that end.
+abbrev pub ChannelsAreLeft : Type 0
+ChannelsAreLeft =
+    (S : State) (c : ℕ) (before : Channel) → get S.chans c ≡ Some before
+    → (after : Channel) × (get (release S).chans c ≡ Some after) × IsLeftBy (loses_reader S (ends S) c) (loses_writer S (ends S) c) before after
+
+-- In whatever order unheld opens end one after another, where none is left the state is the one without the opens that end.
+abbrev pub EndsInAnyOrder : Type 0
+EndsInAnyOrder = (S T : State) → LetsGo S T → AllAreHeld T → T ≡ without_ended S
+
+-- The release leaves each part that it does not end as it was, and ends each other one.
+abbrev pub ReleaseEnds : Type 0
+ReleaseEnds = (S : State) (q : Part) → (is_released S q ≡ false → Agree (release S) S q) × (is_released S q ≡ true → IsEnded S (release S) q)
+
+-- After the release each open has a holder or a carrier, and each node is the root, has a name or is open.
+abbrev pub NothingUnheldIsLeft : Type 0
+NothingUnheldIsLeft =
+    (S : State) → AllAreHeld (release S) × ((n : ℕ) → IsSome (get (release S).nodes n) → is_node_kept (release S) n ≡ true)
 
 -- ---- why a call is denied
 
@@ -297,9 +355,9 @@ abbrev pub StepKeepsValid : Type 0
 StepKeepsValid =
     (constants : Constants) (S : State) (who : Who) (call : Call) (given : Answer) (T : State) → IsStep constants S who call given T → IsValid S → IsValid T
 
--- The end of a process from outside leaves a valid state valid.
+-- The end from outside of a process that was made leaves a valid state valid.
 abbrev pub EndKeepsValid : Type 0
-EndKeepsValid = (S : State) (p : ℕ) (status : Status) → IsValid S → IsValid (end_state S p status)
+EndKeepsValid = (S : State) (p : ℕ) (status : Status) → IsSome (get S.statuses p) → IsValid S → IsValid (end_state S p status)
 
 -- The state that a launch starts from is valid, where it may begin with its tree and its grants.
 abbrev pub StartIsValid : Type 0

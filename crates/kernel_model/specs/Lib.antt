@@ -1,5 +1,7 @@
+pub mod Channels
 pub mod State
 pub mod Release
+pub mod Fits
 pub mod Valid
 pub mod Ends
 pub mod Codes
@@ -17,6 +19,7 @@ pub mod Start
 pub mod Proper
 pub mod Threads
 pub mod Laws
+pub mod ChildLaws
 pub mod OpenLaws
 pub mod OpenConditions
 pub mod CallBounds

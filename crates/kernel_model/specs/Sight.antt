@@ -5,7 +5,7 @@ use Rattle.abi_types.specs.declared.descriptor.Descriptor.{Descriptor}
 use Rattle.abi_types.specs.declared.open_kind.OpenKind.{OpenKind}
 use Rattle.abi_types.specs.declared.open_kind.OpenKind.TheVariants.{File, Directory, End, Terminal, Process}
 use Rattle.tree_model.specs.Tree.{below}
-use Rattle.kernel_model.specs.State.{State, Table, tree_of, Part, at_clock, at_proc, at_status, at_open, at_node, at_names, at_term}
+use Rattle.kernel_model.specs.State.{State, Table, tree_of, Part, at_clock, at_proc, at_status, at_open, at_node, at_names, at_term, at_chan}
 
 -- the clock, what is the process's own, and its status
 abbrev pub process_parts : ℕ → List Part
@@ -16,13 +16,17 @@ abbrev pub node_parts : List ℕ → List Part
 node_parts [] = []
 node_parts (n ∷ ns) = at_node n ∷ at_names n ∷ node_parts ns
 
--- The parts that stand behind an open: behind a directory all that is below it. An end's channels come with the calls that
--- make them.
+-- the channel that an end reads, or that it writes
+abbrev pub channel_part : Option ℕ → List Part
+channel_part None = []
+channel_part (Some c) = at_chan c ∷ []
+
+-- The parts that stand behind an open: behind a directory all that is below it, and behind an end the channels that it reads and writes.
 abbrev pub behind : State → Option OpenKind → List Part
 behind S None = []
 behind S (Some (File node offset flags)) = at_node node ∷ []
 behind S (Some (Directory node flags)) = node_parts (below (tree_of S) node)
-behind S (Some (End reads writes flags)) = []
+behind S (Some (End reads writes flags)) = channel_part reads ++ channel_part writes
 behind S (Some (Terminal which flags)) = at_term which ∷ []
 behind S (Some (Process p)) = at_status p ∷ []
 

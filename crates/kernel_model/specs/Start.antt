@@ -12,7 +12,7 @@ use Rattle.abi_types.specs.declared.status.Status.TheVariants.{Live}
 use Rattle.abi_types.specs.declared.stream.Stream.{Stream}
 use Rattle.abi_types.specs.declared.thread.Thread.TheVariants.{Runnable}
 use Rattle.tree_model.specs.Tree.{is_directory_kind}
-use Rattle.kernel_model.specs.State.{State, Table, ProcessState, Tree, no_locks}
+use Rattle.kernel_model.specs.State.{State, Table, ProcessState, Tree, no_locks, no_state}
 
 -- Objects that the launch makes have numbers of process 0xffffffff: 1 to 3 are the standard streams, 4 is the root of
 -- the file tree, and from 5 on come the tree's other nodes and then the opens of the granted descriptors.
@@ -49,9 +49,9 @@ granted_open tree n grant = open_of tree grant.target
 abbrev pub granted_table : Tree → List Grant → Table
 granted_table tree grants = from_entries (numbered (granted_descriptor tree) 0 grants)
 
--- what process 0 starts with beside its descriptors: thread 1, the one thread that it has numbered, and nobody who waits
+-- what process 0 starts with beside its descriptors: thread 1, the one thread that it has numbered, nobody who waits, and depth 0
 abbrev pub first_process : ProcessState
-first_process = record { threads = insert empty 1 Runnable; counts = record { objects = 0; threads = 1; forks = 0; words = 0 }; locks = no_locks }
+first_process = record { threads = insert empty 1 Runnable; counts = record { objects = 0; threads = 1; forks = 0; words = 0 }; locks = no_locks; depth = 0 }
 
 -- a standard stream of which so much can be read
 abbrev pub unwritten : List ℕ → Stream
@@ -60,8 +60,7 @@ unwritten left = record { left = left; written = [] }
 -- Process 0 is live with thread 1 and the granted descriptors, the file tree is this one, standard input has these bytes, and
 -- nothing was written.
 abbrev pub start_state : Tree → List Grant → List ℕ → State
-start_state tree grants stdin = record {
-  clock = 0;
+start_state tree grants stdin = record no_state {
   tables = insert empty 0 (granted_table tree grants);
   processes = insert empty 0 first_process;
   statuses = insert empty 0 Live;

@@ -10,6 +10,7 @@ use Rattle.abi_types.specs.declared.status.Status.{Status}
 use Rattle.abi_types.specs.declared.stream.Stream.{Stream}
 use Rattle.abi_types.specs.declared.thread.Thread.{Thread}
 use Rattle.abi_types.specs.declared.waiter.Waiter.{Waiter}
+use Rattle.kernel_model.specs.Channels.{Channel}
 pub use Rattle.fd_table.specs.Table.{Table}
 pub use Rattle.tree_model.specs.Tree.{Tree, Names}
 
@@ -30,15 +31,16 @@ pub record Locks : Type 0 where
 abbrev pub no_locks : Locks
 no_locks = record { waiting = empty; at_conditions = empty; granted = []; signalled = []; late = [] }
 
--- what a process has of its own beside its descriptors: its threads, what it has made so far, and who waits. No call makes a
--- thread wait yet.
+-- What a process has of its own beside its descriptors: its threads, what it has made so far, who waits, and how many forks lie
+-- between it and process 0. No call makes a thread wait yet.
 pub record ProcessState : Type 0 where
   pub threads : Threads
   pub counts : Counts
   pub locks : Locks
+  pub depth : ℕ
 
 -- the moment in nanoseconds; each process's descriptors, what else it has of its own, and its status; the opens that
--- descriptors name; the nodes of the file tree, and the names in each directory; and the standard streams
+-- descriptors name; the nodes of the file tree, and the names in each directory; the standard streams; and the channels
 pub record State : Type 0 where
   pub clock : ℕ
   pub tables : FinMap nat_cmp Table
@@ -48,6 +50,21 @@ pub record State : Type 0 where
   pub nodes : FinMap nat_cmp Node
   pub names : FinMap nat_cmp Names
   pub terms : FinMap nat_cmp Stream
+  pub chans : FinMap nat_cmp Channel
+
+-- a state with nothing in it
+abbrev pub no_state : State
+no_state = record {
+  clock = 0;
+  tables = empty;
+  processes = empty;
+  statuses = empty;
+  opens = empty;
+  nodes = empty;
+  names = empty;
+  terms = empty;
+  chans = empty;
+}
 
 -- the file tree
 abbrev pub tree_of : State → Tree
@@ -83,8 +100,13 @@ abbrev pub counts_in : Option ProcessState → Counts
 counts_in None = no_counts
 counts_in (Some own) = own.counts
 
+-- its depth; one that was never made has none, and 0 stands for that
+abbrev pub depth_in : Option ProcessState → ℕ
+depth_in None = 0
+depth_in (Some own) = own.depth
+
 -- A state is a map from parts to values. Its parts are the clock, what a process has of its own (descriptors,
--- threads and counts), its status, an open, a node, the names in a directory, and a standard stream.
+-- threads and counts), its status, an open, a node, the names in a directory, a standard stream, and a channel.
 pub data Part : Type 0 where
   at_clock : Part
   at_proc : ℕ → Part
@@ -93,6 +115,7 @@ pub data Part : Type 0 where
   at_node : ℕ → Part
   at_names : ℕ → Part
   at_term : ℕ → Part
+  at_chan : ℕ → Part
 
 -- whether two parts are one
 abbrev pub same_part : Part → Part → Bool
@@ -103,6 +126,7 @@ same_part (at_open o) (at_open r) = o == r
 same_part (at_node n) (at_node m) = n == m
 same_part (at_names n) (at_names m) = n == m
 same_part (at_term k) (at_term j) = k == j
+same_part (at_chan c) (at_chan e) = c == e
 same_part _ _ = false
 
 -- whether the list has the part
@@ -119,6 +143,7 @@ Agree S T (at_open o) = get S.opens o ≡ get T.opens o
 Agree S T (at_node n) = get S.nodes n ≡ get T.nodes n
 Agree S T (at_names n) = get S.names n ≡ get T.names n
 Agree S T (at_term k) = get S.terms k ≡ get T.terms k
+Agree S T (at_chan c) = get S.chans c ≡ get T.chans c
 
 -- each part of the list has the same value in both states
 abbrev pub AgreeOn : State → State → List Part → Type 0
@@ -134,6 +159,7 @@ pub data Update : Type 0 where
   set_node : ℕ → Node → Update
   set_names : ℕ → Names → Update
   set_term : ℕ → Stream → Update
+  set_chan : ℕ → Channel → Update
 
 -- the part that an update sets
 abbrev pub part_of : Update → Part
@@ -144,6 +170,7 @@ part_of (set_open o kind) = at_open o
 part_of (set_node n node) = at_node n
 part_of (set_names n names) = at_names n
 part_of (set_term k stream) = at_term k
+part_of (set_chan c channel) = at_chan c
 
 -- the state with one part set
 abbrev pub put_one : Update → State → State
@@ -154,6 +181,7 @@ put_one (set_open o kind) S = record S { opens = insert S.opens o kind }
 put_one (set_node n node) S = record S { nodes = insert S.nodes n node }
 put_one (set_names n names) S = record S { names = insert S.names n names }
 put_one (set_term k stream) S = record S { terms = insert S.terms k stream }
+put_one (set_chan c channel) S = record S { chans = insert S.chans c channel }
 
 -- the state with the parts set, one after another
 abbrev pub put_all : List Update → State → State

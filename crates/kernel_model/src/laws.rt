@@ -1,6 +1,9 @@
-//! Laws of the kernel's steps. The statements are in `specs/Laws.antt`, and each holds of every state, process and call.
+//! Laws of the kernel's steps. The statements are in `specs/Laws.antt` and `specs/ChildLaws.antt`, and each holds of every state, process
+//! and call.
+ghost use Rattle.kernel_model.specs.ChildLaws.{ChildNumbersAreUnique, DeepestHasNoChild, NextChildIsUnmade, ProcessNumbersAreSmall, ProcessZeroHasDepthZero};
 ghost use Rattle.kernel_model.specs.Laws.{MeaningsAreProper, ReadsSight, SightDecides, StepDecided, SightIsReached, TouchIsSeen, MadeIsNew};
-ghost use Rattle.kernel_model.specs.Laws.{OthersStay, EndKeeps, ErrorKeeps, StepMovesOnly, NoThreadIsMadeOrEnded, EndStateEndsOnly, EndsAreLeast};
+ghost use Rattle.kernel_model.specs.Laws.{OthersStay, EndKeeps, ErrorKeeps, StepMovesOnly, NoThreadIsMadeOrEnded, EndStateEndsOnly, EndsAreLeast, EndsInAnyOrder, KilledByLastOpen};
+ghost use Rattle.kernel_model.specs.Laws.{HungUpByEnd, ReleaseEnds, ChannelsAreLeft, NothingUnheldIsLeft};
 ghost use Rattle.kernel_model.specs.Laws.{FirstLackIsNamed, DenialIsOfFirstLack, NotcapableIsDenied, OutsideIsDenied, OutsideReadsSight};
 ghost use Rattle.kernel_model.specs.Laws.{RepliesAreListed, NoMemoryIsExact, ErrorsAreExact, AbsentIsBadf, LackIsDenied, LeavingIsDenied};
 ghost use Rattle.kernel_model.specs.Laws.{StepKeepsValid, EndKeepsValid, StartIsValid};
@@ -51,9 +54,10 @@ pub fn end_keeps()
     ensures { EndKeeps }
 {}
 
-/// A step takes 1000 nanoseconds and changes nothing that another process has of its own. A process that lives on keeps its
-/// threads, but for those that its call makes or ends (`specs/Threads.antt`). The end of a process from outside takes as long,
-/// changes nothing of other processes either, and leaves the process the status that it was given.
+/// A step takes 1000 nanoseconds and changes nothing that another process has of its own, unless the release after it kills that
+/// process. A process that lives on keeps its threads, but for those that its call makes or ends (`specs/Threads.antt`). The end
+/// of a process from outside takes as long, changes nothing of other processes either but of those that the release kills, and
+/// leaves the process the status that it was given.
 pub fn steps_move_only()
     ensures step { StepMovesOnly }
     ensures end { EndStateEndsOnly }
@@ -64,9 +68,23 @@ pub fn no_thread_is_made_or_ended()
     ensures { NoThreadIsMadeOrEnded }
 {}
 
-/// The opens that a release ends are the least set that has each open which nothing holds once the set has ended.
+/// The opens that a release ends are the least set that has each open which nothing holds once the set has ended. With an open
+/// of a process that lives the process ends too: it is killed, and holds nothing any more. It ends no other process. A channel
+/// loses its reader or its writer exactly where that end of it ends. In whatever order opens that nothing holds end one after
+/// another, the same are left.
 pub fn ends_are_least()
-    ensures { EndsAreLeast }
+    ensures opens { EndsAreLeast }
+    ensures processes { KilledByLastOpen }
+    ensures channels { HungUpByEnd }
+    ensures order { EndsInAnyOrder }
+{}
+
+/// A release leaves each part that it does not end as it was, and ends each other one; a channel keeps the sides that it does not
+/// lose. After it each open has a holder or waits in a channel, and each node is the root, has a name or is open.
+pub fn release_ends()
+    ensures parts { ReleaseEnds }
+    ensures channels { ChannelsAreLeft }
+    ensures left { NothingUnheldIsLeft }
 {}
 
 /// A call that answers an error, lack of memory among them, changes only the clock of a valid state.
@@ -111,7 +129,7 @@ pub fn step_keeps_valid()
     ensures { StepKeepsValid }
 {}
 
-/// The end of a process from outside leaves a valid state valid.
+/// The end from outside of a process that was made leaves a valid state valid.
 pub fn end_keeps_valid()
     ensures { EndKeepsValid }
 {}
@@ -119,4 +137,24 @@ pub fn end_keeps_valid()
 /// The state that a launch starts from is valid, where the launch may begin with its tree and its grants.
 pub fn start_is_valid()
     ensures { StartIsValid }
+{}
+
+/// In a valid state the number of a child says which process is its parent, and which of the parent's children it is. So no two
+/// forks give a process the same number.
+pub fn child_numbers_are_unique()
+    ensures { ChildNumbersAreUnique }
+{}
+
+/// A child that its parent has not counted was not made in a valid state: it has no table, no status and nothing of its own, and
+/// nothing is there under the numbers of its objects.
+pub fn next_child_is_unmade()
+    ensures { NextChildIsUnmade }
+{}
+
+/// The number of each process of a valid state is less than 0xffffffff, which stands for the objects of the launch. Process 0 has
+/// depth 0, no process is deeper than 4, and one of depth 4 has no child.
+pub fn process_numbers_are_small()
+    ensures small { ProcessNumbersAreSmall }
+    ensures first { ProcessZeroHasDepthZero }
+    ensures deepest { DeepestHasNoChild }
 {}

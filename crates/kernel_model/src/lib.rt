@@ -8,8 +8,9 @@ mod open_laws;
 
 pub use call_bounds::calls_keep_bounds;
 pub use laws::{
-    end_keeps, end_keeps_valid, ends_are_least, error_keeps, errors_are_exact, meanings_are_proper,
-    no_thread_is_made_or_ended, others_stay, reads_sight, refusal_names_lack, refusals_come_first,
+    child_numbers_are_unique, end_keeps, end_keeps_valid, ends_are_least, error_keeps,
+    errors_are_exact, meanings_are_proper, next_child_is_unmade, no_thread_is_made_or_ended,
+    others_stay, process_numbers_are_small, reads_sight, refusal_names_lack, refusals_come_first,
     replies_are_listed, sight_decides, sight_is_reached, start_is_valid, step_decided,
     step_keeps_valid, steps_move_only,
 };

@@ -1,72 +1,323 @@
--- Opens that nothing holds go one after another, and with them the nodes that are no longer used.
-use Rattle.std.proofs.Common.{◌≡◌, ◌≢◌, ℕ, ◌<◌, Bool, true, false, cond, Option, Some, None, IsSome, refl, sym, ap, subst, ◌∙◌}
+-- Opens that nothing holds go one after another, and with them the processes that they are of and the nodes that are no longer used.
+--     covered, left_holders      what a process holds, and the holders that are left once its table is empty
+--     one_fewer      one open less
+--     without_process, without_other      what the state is without one more open, of a process or of anything else
+--     IsGoing, going_starts      between two turns of the loop, and before the first
+--     after_process, after_none, after_node      an open of a process has gone, one of no node, or one of a node
+--     in_the_end      in the end the state is the release's
+--     release_besides      what the release doesn't look at stays
+use Rattle.std.proofs.Common.{◌≡◌, ◌≢◌, ℕ, ◌+◌, ◌<◌, ◌≤◌, ◌==◌, ◌||◌, ◌&&◌, not, Bool, true, false, cond, [], ◌∷◌, Option, Some, None, IsSome, is_some, inl, inr, refl, sym, ap, subst, ◌∙◌, arith}
+use Rattle.std.proofs.lemmas.Bool.{eq-eqb}
+use Rattle.std.proofs.lemmas.Bool.Decides.{eqb_tells}
 use Rattle.std.specs.Ordering.{nat_cmp}
-use Rattle.std.specs.FinMap.{FinMap, get, len, remove}
+use Rattle.std.specs.Option.{option_map}
+use Rattle.std.specs.FinMap.{FinMap, get, get-empty, empty, insert, len, remove}
 use Rattle.abi_types.specs.declared.open_kind.OpenKind.{OpenKind}
-use Rattle.maps.specs.Maps.{get-retain}
-use Rattle.object_store.specs.Objects.{Held, is_held, unheld_removed}
-use Rattle.object_store.proofs.Unheld.{popped}
+use Rattle.abi_types.specs.declared.open_kind.OpenKind.TheVariants.{File, Directory, End, Terminal, Process}
+use Rattle.abi_types.specs.declared.status.Status.{Status}
+use Rattle.abi_types.specs.declared.status.Status.TheVariants.{Killed}
+use Rattle.abi_types.specs.declared.stream.Stream.{Stream}
+use Rattle.abi_base.specs.declared.signal.Signal.TheVariants.{Kill}
+use Rattle.maps.specs.Closure.{member, changed, get-changed}
+use Rattle.maps.specs.Maps.{number, total, total_at_least, total-empty, get-insert-same, get-insert-other, get-remove-same, get-remove-other, get-retain, len-removed, same_numbers}
+use Rattle.object_store.specs.Objects.{Held, HasCounts}
 use Rattle.tree_model.specs.Changes.{forgotten}
 use Rattle.tree_model.specs.Counts.{one_for-other}
 use Rattle.tree_model.specs.Opens.{is_used, one_of_node}
 use Rattle.tree_model.specs.Releasing.{IsReleasing, releasing_end, releasing_next, releasing_other, releasing_start}
 use Rattle.tree_model.specs.Retained.{retained}
 use Rattle.tree_model.specs.Tree.{Tree, IsTree, one_for}
-use Rattle.kernel_model.proofs.Tests.{none_is_no}
+use Rattle.kernel_model.specs.Channels.{Channel, channel_left}
+use Rattle.kernel_model.specs.Families.ProcessCalls.{ended_process}
+use Rattle.kernel_model.specs.Release.{count_in, carried_in, holders, carriers, is_of_process, lives, is_killed, loses_reader, loses_writer, table_left, process_left, status_left, without, ends, without_ended, without_nodes, release, AllAreHeld, LetsGo, starts, goes}
+use Rattle.kernel_model.specs.State.{State, Table, ProcessState}
+use Rattle.kernel_model.proofs.Ending.{ended_last, ends_in_any_order}
+use Rattle.kernel_model.proofs.Ends.{channel_after, process_spared, same_process, same_status, same_table, status_spared, table_spared}
+use Rattle.kernel_model.proofs.Tests.{not_true}
+use Rattle.kernel_model.proofs.Valids.{emptied_holders, same_keys_inserted}
+use Rattle.kernel_parts.specs.Released.{IsKilledIn, state_by}
 
-kept_some : {X : Type 0} (b : Bool) (o : Option X) (x : X) → cond b o None ≡ Some x → o ≡ Some x
-kept_some true o x e = e
-kept_some false o x e = absurd (none_is_no x e)
+-- ---- holders
 
--- what is held at last is there
-held_there : (h : Held) (r : ℕ) (k : OpenKind) → get (unheld_removed h).kinds r ≡ Some k → get h.kinds r ≡ Some k
-held_there h r k there = kept_some (is_held h.counts r) (get h.kinds r) k (sym (get-retain h.kinds (is_held h.counts) r) ∙ there)
+pub covered : (tables : FinMap nat_cmp Table) (p : ℕ) (table : Table) → get tables p ≡ Some table → (o : ℕ) → count_in o table ≤ total (count_in o) tables
+covered tables p table there o = total_at_least (count_in o) tables p table there
 
-pub release_starts : (h : Held) (t : Tree) → ((n : ℕ) → IsSome (get t.nodes n) → is_used h.kinds t n ≡ true)
-    → IsReleasing (unheld_removed h).kinds t h.kinds t
-release_starts h t used = releasing_start (unheld_removed h).kinds h.kinds t (held_there h) used
+pub left_holders : (tables : FinMap nat_cmp Table) (p : ℕ) (table : Table) (before after : FinMap nat_cmp ℕ) → get tables p ≡ Some table
+    → ((o : ℕ) → number (get before o) ≡ total (count_in o) tables)
+    → ((o : ℕ) → number (get after o) + count_in o table ≡ number (get before o))
+    → (o : ℕ) → number (get after o) ≡ total (count_in o) (insert tables p empty)
+left_holders tables p table before after there counted less o =
+    let emptied = emptied_holders tables p o table there in
+    omega (arith, emptied, counted o, less o)
+
+pub one_fewer : (kinds new : FinMap nat_cmp OpenKind) (o : ℕ) (kind : OpenKind) → get kinds o ≡ Some kind → new ≡ remove kinds o → len new < len kinds
+one_fewer kinds new o kind there is =
+    let less = len-removed kinds o kind there in
+    let same = ap (λ (m : FinMap nat_cmp OpenKind). len m) is in
+    omega (arith, less, same)
+
+-- ---- the state without one more open
+
+-- a map in which one value is another, if this test says so
+put_left : {X : Type 0} (m : FinMap nat_cmp X) (f : Bool → X → X) (value : X) (p : ℕ) (b : Bool) (killed : ℕ → Bool) → killed p ≡ b
+    → ((q : ℕ) → q ≢ p → killed q ≡ false) → ((o : Option X) → option_map (f false) o ≡ o) → (b ≡ true → option_map (f true) (get m p) ≡ Some value)
+    → cond b (insert m p value) m ≡ changed (λ q. f (killed q)) m
+put_left {X} m f value p b killed here others keeps gives = same_numbers _ _ (λ q. at b q refl ∙ sym (get-changed (λ r. f (killed r)) m q)) where
+  at : (c : Bool) (q : ℕ) → b ≡ c → get (cond c (insert m p value) m) q ≡ option_map (f (killed q)) (get m q)
+  at true q is =
+      elim (eqb_tells q p) [
+        | inl same ↦ subst (λ r. get (insert m p value) r ≡ option_map (f (killed r)) (get m r)) (sym same.1)
+            (get-insert-same m p value ∙ sym (gives is) ∙ sym (ap (λ k. option_map (f k) (get m p)) (here ∙ is)))
+        | inr other ↦ get-insert-other m p value q other.1 ∙ sym (keeps (get m q)) ∙ sym (ap (λ k. option_map (f k) (get m q)) (others q other.1))
+      ]
+  at false q is =
+      elim (eqb_tells q p) [
+        | inl same ↦ sym (keeps (get m q)) ∙ sym (ap (λ k. option_map (f k) (get m q)) (ap killed same.1 ∙ here ∙ is))
+        | inr other ↦ sym (keeps (get m q)) ∙ sym (ap (λ k. option_map (f k) (get m q)) (others q other.1))
+      ]
+
+lives_some : (status : Option Status) → lives status ≡ true → is_some status ≡ true
+lives_some None h = absurd (not_true h)
+lives_some (Some status) h = refl
+
+emptied : (t : Option Table) → is_some t ≡ true → option_map (table_left true) t ≡ Some empty
+emptied None h = absurd (not_true h)
+emptied (Some t) h = refl
+
+ended : (own : Option ProcessState) → is_some own ≡ true → option_map (process_left true) own ≡ Some (ended_process own)
+ended None h = absurd (not_true h)
+ended (Some own) h = refl
+
+killed : (status : Option Status) → is_some status ≡ true → option_map (status_left true) status ≡ Some (Killed Kill)
+killed None h = absurd (not_true h)
+killed (Some status) h = refl
+
+removed : (kinds : FinMap nat_cmp OpenKind) (o : ℕ) (r : ℕ) → get (remove kinds o) r ≡ cond (not (member r (o ∷ []))) (get kinds r) None
+removed kinds o r =
+    elim (eqb_tells r o) [
+      | inl same ↦ ap (get (remove kinds o)) same.1 ∙ get-remove-same kinds o ∙ sym (ap (λ b. cond (not (b || false)) (get kinds r) None) same.0)
+      | inr other ↦ get-remove-other kinds o r other.1 ∙ sym (ap (λ b. cond (not (b || false)) (get kinds r) None) other.0)
+    ]
+
+module _ (C : State) (o : ℕ) (silent : (c : ℕ) → get C.chans c ≡ None) where
+  opens_then : remove C.opens o ≡ (without (o ∷ []) C).opens
+  opens_then = same_numbers _ _ (λ r. removed C.opens o r ∙ sym (get-retain C.opens (λ q. not (member q (o ∷ []))) r))
+
+  chans_then : C.chans ≡ (without (o ∷ []) C).chans
+  chans_then =
+      same_numbers _ _ (λ c.
+      silent c
+      ∙ sym (channel_after C (o ∷ []) c ∙ ap (option_map (channel_left (loses_reader C (o ∷ []) c) (loses_writer C (o ∷ []) c))) (silent c)))
+
+  -- an open of a process goes
+  pub without_process : (p : ℕ) (tables : FinMap nat_cmp Table) (processes : FinMap nat_cmp ProcessState) (statuses : FinMap nat_cmp Status)
+      → get C.opens o ≡ Some (Process p) → ((q : ℕ) → is_some (get C.tables q) ≡ is_some (get C.statuses q))
+      → ((q : ℕ) → is_some (get C.processes q) ≡ is_some (get C.statuses q))
+      → IsKilledIn p C.tables C.processes C.statuses tables processes statuses
+      → record C { tables = tables; processes = processes; statuses = statuses; opens = remove C.opens o } ≡ without (o ∷ []) C
+  without_process p tables processes statuses there all_tables all_own is =
+      let b : Bool = lives (get C.statuses p) in
+      let kills : (q : ℕ) → is_killed C (o ∷ []) q ≡ (((p == q) || false) && lives (get C.statuses q)) =
+      λ q. ap (λ kind. (is_of_process q kind || false) && lives (get C.statuses q)) there in
+      let here : is_killed C (o ∷ []) p ≡ b = kills p ∙ ap (λ c. (c || false) && b) (eq-eqb p p refl) in
+      let others : (q : ℕ) → q ≢ p → is_killed C (o ∷ []) q ≡ false =
+      λ q apart. kills q ∙ ap (λ c. (c || false) && lives (get C.statuses q)) (other_number p q apart) in
+      let some : b ≡ true → is_some (get C.statuses p) ≡ true = lives_some (get C.statuses p) in
+      let first : tables ≡ (without (o ∷ []) C).tables =
+      is.left_tables ∙ put_left C.tables table_left empty p b (is_killed C (o ∷ [])) here others same_table
+      (λ alive. emptied (get C.tables p) (all_tables p ∙ some alive)) in
+      let second : processes ≡ (without (o ∷ []) C).processes =
+      is.left_processes ∙ put_left C.processes process_left (ended_process (get C.processes p)) p b (is_killed C (o ∷ [])) here others same_process
+      (λ alive. ended (get C.processes p) (all_own p ∙ some alive)) in
+      let third : statuses ≡ (without (o ∷ []) C).statuses =
+      is.left_statuses ∙ put_left C.statuses status_left (Killed Kill) p b (is_killed C (o ∷ [])) here others same_status
+      (λ alive. killed (get C.statuses p) (some alive)) in
+      λ i. record C { tables = first i; processes = second i; statuses = third i; opens = opens_then i; chans = chans_then i }
+    where
+      other_number : (a c : ℕ) → c ≢ a → (a == c) ≡ false
+      other_number a c apart = elim (eqb_tells a c) [ inl same ↦ absurd (apart (sym same.1)) | inr other ↦ other.0 ]
+
+  -- another open goes
+  pub without_other : (kind : OpenKind) → get C.opens o ≡ Some kind → ((p : ℕ) → kind ≢ Process p) → record C { opens = remove C.opens o } ≡ without (o ∷ []) C
+  without_other kind there apart =
+      let none : (q : ℕ) → is_killed C (o ∷ []) q ≡ false =
+      λ q. ap (λ k. (is_of_process q k || false) && lives (get C.statuses q)) there
+      ∙ ap (λ b. (b || false) && lives (get C.statuses q)) (no_process kind q apart) in
+      let first : C.tables ≡ (without (o ∷ []) C).tables = same_numbers _ _ (λ q. sym (table_spared C (o ∷ []) q (none q))) in
+      let second : C.processes ≡ (without (o ∷ []) C).processes = same_numbers _ _ (λ q. sym (process_spared C (o ∷ []) q (none q))) in
+      let third : C.statuses ≡ (without (o ∷ []) C).statuses = same_numbers _ _ (λ q. sym (status_spared C (o ∷ []) q (none q))) in
+      λ i. record C { tables = first i; processes = second i; statuses = third i; opens = opens_then i; chans = chans_then i }
+    where
+      no_process : (k : OpenKind) (q : ℕ) → ((p : ℕ) → k ≢ Process p) → is_of_process q (Some k) ≡ false
+      no_process (File node offset flags) q n = refl
+      no_process (Directory node flags) q n = refl
+      no_process (End reads writes flags) q n = refl
+      no_process (Terminal which flags) q n = refl
+      no_process (Process p) q n = absurd (n p refl)
+
+-- ---- the loop
+
+-- some opens have gone, with all that goes with them, and the nodes that are no longer used
+pub record IsGoing (first : State) (old : Tree) (tables : FinMap nat_cmp Table) (processes : FinMap nat_cmp ProcessState) (statuses : FinMap nat_cmp Status)
+    (h : Held) (t : Tree) : Type 0 where
+  pub goes_on : LetsGo first (state_by tables processes statuses h.kinds old)
+  pub counted : (o : ℕ) → number (get h.counts o) ≡ total (count_in o) tables
+  pub all_tables : (p : ℕ) → is_some (get tables p) ≡ is_some (get statuses p)
+  pub all_own : (p : ℕ) → is_some (get processes p) ≡ is_some (get statuses p)
+  pub between : IsReleasing (without_ended first).opens old h.kinds t
+  pub tree : IsTree t
+
+pub going_starts : (tables : FinMap nat_cmp Table) (processes : FinMap nat_cmp ProcessState) (statuses : FinMap nat_cmp Status) (h : Held) (t : Tree) → IsTree t
+    → ((n : ℕ) → IsSome (get t.nodes n) → is_used h.kinds t n ≡ true) → ((o : ℕ) → number (get h.counts o) ≡ total (count_in o) tables)
+    → ((p : ℕ) → is_some (get tables p) ≡ is_some (get statuses p)) → ((p : ℕ) → is_some (get processes p) ≡ is_some (get statuses p))
+    → IsGoing (state_by tables processes statuses h.kinds t) t tables processes statuses h t
+going_starts tables processes statuses h t tree used counted all_tables all_own =
+    let S : State = state_by tables processes statuses h.kinds t in
+    record {
+      goes_on = starts;
+      counted = counted;
+      all_tables = all_tables;
+      all_own = all_own;
+      between = releasing_start (without_ended S).opens h.kinds t (ended_last S S starts) used;
+      tree = tree;
+    }
+
+no_channel : (c : ℕ) → get {X = Channel} (empty {R = nat_cmp}) c ≡ None
+no_channel c = get-empty nat_cmp c
+
+nothing : (o : ℕ) → total (carried_in o) (empty {R = nat_cmp}) ≡ 0
+nothing o = total-empty (carried_in o)
 
 -- an open is of one node alone
 pub of_no_other : (kind : OpenKind) (node : ℕ) → ((n : ℕ) → one_of_node n kind ≡ one_for n node) → (m : ℕ) → m ≢ node → one_of_node m kind ≡ 0
 of_no_other kind node is m other = is m ∙ one_for-other m node (λ same. other (sym same))
 
-module _ (first h new : Held) (old t : Tree) (o : ℕ) (kind : OpenKind) (unheld : get h.counts o ≡ Some 0) (at : get h.kinds o ≡ Some kind)
-    (is : new ≡ record { kinds = remove h.kinds o; counts = remove h.counts o }) (left : unheld_removed h ≡ unheld_removed first) where
-  -- one open less
-  pub fewer : len new.counts < len h.counts
-  fewer = (popped h new (Some (o, kind)) refl unheld is).0
-
-  -- the same are left in the end
-  pub left_after : unheld_removed new ≡ unheld_removed first
-  left_after = (popped h new (Some (o, kind)) refl unheld is).1 ∙ left
-
+module _ (first : State) (old t : Tree) (tables : FinMap nat_cmp Table) (processes : FinMap nat_cmp ProcessState) (statuses : FinMap nat_cmp Status)
+    (h new : Held) (o : ℕ) (kind : OpenKind) (unheld : get h.counts o ≡ Some 0) (there : get h.kinds o ≡ Some kind)
+    (is : new ≡ record { kinds = remove h.kinds o; counts = remove h.counts o }) (going : IsGoing first old tables processes statuses h t) where
   kinds_are : new.kinds ≡ remove h.kinds o
   kinds_are = ap (λ (x : Held). x.kinds) is
 
-  within : (r : ℕ) (k : OpenKind) → get (unheld_removed first).kinds r ≡ Some k → get (remove h.kinds o) r ≡ Some k
-  within r k there =
-      sym (ap (λ (m : FinMap nat_cmp OpenKind). get m r) kinds_are) ∙ held_there new r k (ap (λ (x : Held). get x.kinds r) left_after ∙ there)
+  -- one open less
+  pub fewer : len new.kinds < len h.kinds
+  fewer = one_fewer h.kinds new.kinds o kind there kinds_are
+
+  -- the holders of each open are still counted
+  counts_at : (q : ℕ) → number (get (remove h.counts o) q) ≡ number (get h.counts q)
+  counts_at q =
+      elim (eqb_tells q o) [
+        | inl same ↦ ap number (ap (get (remove h.counts o)) same.1 ∙ get-remove-same h.counts o) ∙ sym (ap number (ap (get h.counts) same.1 ∙ unheld))
+        | inr other ↦ ap number (get-remove-other h.counts o q other.1)
+      ]
+
+  pub still_counted : (q : ℕ) → number (get new.counts q) ≡ total (count_in q) tables
+  still_counted q = ap (λ (x : Held). number (get x.counts q)) is ∙ counts_at q ∙ going.counted q
+
+  abbrev now : State
+  now = state_by tables processes statuses h.kinds old
+
+  none_holds : holders now o + carriers now o ≡ 0
+  none_holds =
+      let none : total (count_in o) tables ≡ 0 = sym (going.counted o) ∙ ap number unheld in
+      let bare = nothing o in
+      omega (arith, none, bare)
+
+  next : LetsGo first (without (o ∷ []) now)
+  next = goes now o going.goes_on (ap is_some there) none_holds
+
+  -- what is left in the end is left now
+  within : (after : State) → LetsGo first after → (r : ℕ) (k : OpenKind) → get (without_ended first).opens r ≡ Some k → get after.opens r ≡ Some k
+  within after by r k last = ended_last first after by r k last
+
+  pub after_process : (p : ℕ) (new_tables : FinMap nat_cmp Table) (new_processes : FinMap nat_cmp ProcessState) (new_statuses : FinMap nat_cmp Status) (killed : Held)
+      → kind ≡ Process p → killed.kinds ≡ new.kinds → ((q : ℕ) → number (get killed.counts q) ≡ total (count_in q) new_tables)
+      → IsKilledIn p tables processes statuses new_tables new_processes new_statuses → IsGoing first old new_tables new_processes new_statuses killed t
+  after_process p new_tables new_processes new_statuses killed of kinds counted parts =
+      let left : killed.kinds ≡ remove h.kinds o = kinds ∙ kinds_are in
+      let state = without_process now o no_channel p new_tables new_processes new_statuses (there ∙ ap Some of) going.all_tables going.all_own parts in
+      let by : LetsGo first (state_by new_tables new_processes new_statuses (remove h.kinds o) old) = subst (LetsGo first) (sym state) next in
+      record {
+        goes_on = subst (λ (m : FinMap nat_cmp OpenKind). LetsGo first (state_by new_tables new_processes new_statuses m old)) (sym left) by;
+        counted = counted;
+        all_tables = same_some_killed tables new_tables empty statuses new_statuses (Killed Kill) parts.left_tables parts.left_statuses going.all_tables;
+        all_own = same_some_killed processes new_processes (ended_process (get processes p)) statuses new_statuses (Killed Kill) parts.left_processes parts.left_statuses going.all_own;
+        between = subst (λ (m : FinMap nat_cmp OpenKind). IsReleasing (without_ended first).opens old m t) (sym left)
+            (releasing_other (without_ended first).opens old h.kinds t o kind there (λ n. ap (one_of_node n) of)
+            (within (state_by new_tables new_processes new_statuses (remove h.kinds o) old) by) going.between);
+        tree = going.tree;
+      }
+    where
+      same_some_killed : {X : Type 0} (m new_m : FinMap nat_cmp X) (value : X) (s new_s : FinMap nat_cmp Status) (status : Status)
+          → new_m ≡ cond (lives (get statuses p)) (insert m p value) m → new_s ≡ cond (lives (get statuses p)) (insert s p status) s
+          → ((q : ℕ) → is_some (get m q) ≡ is_some (get s q)) → (q : ℕ) → is_some (get new_m q) ≡ is_some (get new_s q)
+      same_some_killed {X} m new_m value s new_s status a b same q =
+          ap (λ (x : FinMap nat_cmp X). is_some (get x q)) a ∙ by_test (lives (get statuses p)) ∙ sym (ap (λ (x : FinMap nat_cmp Status). is_some (get x q)) b)
+        where
+          by_test : (c : Bool) → is_some (get (cond c (insert m p value) m) q) ≡ is_some (get (cond c (insert s p status) s) q)
+          by_test true = same_keys_inserted m s p value status same q
+          by_test false = same q
+
+  other_goes : ((p : ℕ) → kind ≢ Process p) → LetsGo first (state_by tables processes statuses (remove h.kinds o) old)
+  other_goes apart = subst (LetsGo first) (sym (without_other now o no_channel kind there apart)) next
 
   -- an open of no node has gone
-  pub after_none : ((n : ℕ) → one_of_node n kind ≡ 0) → IsReleasing (unheld_removed first).kinds old h.kinds t → IsReleasing (unheld_removed first).kinds old new.kinds t
-  after_none none r =
-      subst (λ (m : FinMap nat_cmp OpenKind). IsReleasing (unheld_removed first).kinds old m t) (sym kinds_are)
-      (releasing_other (unheld_removed first).kinds old h.kinds t o kind at none within r)
+  pub after_none : ((p : ℕ) → kind ≢ Process p) → ((n : ℕ) → one_of_node n kind ≡ 0) → IsGoing first old tables processes statuses new t
+  after_none apart none =
+      let by = other_goes apart in
+      record {
+        goes_on = subst (λ (m : FinMap nat_cmp OpenKind). LetsGo first (state_by tables processes statuses m old)) (sym kinds_are) by;
+        counted = still_counted;
+        all_tables = going.all_tables;
+        all_own = going.all_own;
+        between = subst (λ (m : FinMap nat_cmp OpenKind). IsReleasing (without_ended first).opens old m t) (sym kinds_are)
+            (releasing_other (without_ended first).opens old h.kinds t o kind there none
+            (within (state_by tables processes statuses (remove h.kinds o) old) by) going.between);
+        tree = going.tree;
+      }
 
   -- an open of a node has gone, and the node where it isn't used
-  pub after_node : (n : ℕ) (u : Tree) → ((m : ℕ) → m ≢ n → one_of_node m kind ≡ 0) → (is_used new.kinds t n ≡ true → u ≡ t) → (get t.nodes n ≡ None → u ≡ t)
-      → (is_used new.kinds t n ≡ false → IsSome (get t.nodes n) → u ≡ forgotten t n) → IsReleasing (unheld_removed first).kinds old h.kinds t
-      → IsReleasing (unheld_removed first).kinds old new.kinds u
-  after_node n u others used absent unused r =
-      subst (λ (m : FinMap nat_cmp OpenKind). IsReleasing (unheld_removed first).kinds old m u) (sym kinds_are)
-      (releasing_next (unheld_removed first).kinds old h.kinds t u o n kind at others within
-      (λ e. used (ap (λ (m : FinMap nat_cmp OpenKind). is_used m t n) kinds_are ∙ e)) absent
-      (λ e. unused (ap (λ (m : FinMap nat_cmp OpenKind). is_used m t n) kinds_are ∙ e)) r)
+  pub after_node : (n : ℕ) (u : Tree) → ((p : ℕ) → kind ≢ Process p) → ((m : ℕ) → m ≢ n → one_of_node m kind ≡ 0)
+      → (is_used new.kinds t n ≡ true → u ≡ t) → (get t.nodes n ≡ None → u ≡ t)
+      → (is_used new.kinds t n ≡ false → IsSome (get t.nodes n) → u ≡ forgotten t n) → IsTree u → IsGoing first old tables processes statuses new u
+  after_node n u apart others used absent unused tree =
+      let by = other_goes apart in
+      record {
+        goes_on = subst (λ (m : FinMap nat_cmp OpenKind). LetsGo first (state_by tables processes statuses m old)) (sym kinds_are) by;
+        counted = still_counted;
+        all_tables = going.all_tables;
+        all_own = going.all_own;
+        between = subst (λ (m : FinMap nat_cmp OpenKind). IsReleasing (without_ended first).opens old m u) (sym kinds_are)
+            (releasing_next (without_ended first).opens old h.kinds t u o n kind there others
+            (within (state_by tables processes statuses (remove h.kinds o) old) by)
+            (λ e. used (ap (λ (m : FinMap nat_cmp OpenKind). is_used m t n) kinds_are ∙ e)) absent
+            (λ e. unused (ap (λ (m : FinMap nat_cmp OpenKind). is_used m t n) kinds_are ∙ e)) going.between);
+        tree = tree;
+      }
 
--- in the end no open is unheld, and the nodes are left that are used
-pub tree_in_the_end : (first h new : Held) (old t : Tree) → new ≡ h → new ≡ unheld_removed first → IsTree t
-    → IsReleasing (unheld_removed first).kinds old h.kinds t → t ≡ retained old (is_used new.kinds old)
-tree_in_the_end first h new old t same is tree r =
-    let kinds : h.kinds ≡ (unheld_removed first).kinds = ap (λ (x : Held). x.kinds) (sym same ∙ is) in
-    releasing_end (unheld_removed first).kinds old t tree (subst (λ (m : FinMap nat_cmp OpenKind). IsReleasing (unheld_removed first).kinds old m t) kinds r)
-    ∙ ap (λ (x : Held). retained old (is_used x.kinds old)) (sym is)
+-- ---- in the end
+
+more_than_none : (n : Option ℕ) → IsSome n → n ≢ Some 0 → 0 < number n
+more_than_none None some apart = absurd (not_true some)
+more_than_none (Some n) some apart = let other : n ≢ 0 = λ e. apart (ap Some e) in omega arith
+
+pub in_the_end : (first : State) (old t : Tree) (tables : FinMap nat_cmp Table) (processes : FinMap nat_cmp ProcessState) (statuses : FinMap nat_cmp Status) (h : Held)
+    → IsGoing first old tables processes statuses h t → HasCounts h.kinds h.counts → ((o : ℕ) → get h.counts o ≢ Some 0)
+    → state_by tables processes statuses h.kinds t ≡ release first
+in_the_end first old t tables processes statuses h going has none =
+    let now : State = state_by tables processes statuses h.kinds old in
+    let held : AllAreHeld now =
+    λ o there.
+    let some = more_than_none (get h.counts o) (sym (has o) ∙ there) (none o) in
+    let counted : number (get h.counts o) ≡ holders now o = going.counted o in
+    omega (arith, some, counted) in
+    let last : now ≡ without_ended first = ends_in_any_order first now going.goes_on held in
+    let opens : (without_ended first).opens ≡ h.kinds = ap (λ (S : State). S.opens) (sym last) in
+    let tree : t ≡ retained old (is_used h.kinds old) =
+    releasing_end h.kinds old t going.tree (subst (λ (m : FinMap nat_cmp OpenKind). IsReleasing m old h.kinds t) opens going.between) in
+    ap (state_by tables processes statuses h.kinds) tree ∙ ap without_nodes last
+
+-- what the release doesn't look at stays
+pub release_besides : (S : State) (clock : ℕ) (terms : FinMap nat_cmp Stream)
+    → release (record S { clock = clock; terms = terms }) ≡ record (release S) { clock = clock; terms = terms }
+unfolding ends
+release_besides S clock terms = refl

@@ -2,3 +2,4 @@ pub mod Start
 pub mod Changes
 pub mod Entries
 pub mod StreamCalls
+pub mod Released

@@ -8,19 +8,14 @@ use Rattle.abi_types.specs.declared.call.Call.TheVariants as call
 use Rattle.abi_types.specs.declared.stream.Stream.{Stream}
 use Rattle.kernel_model.specs.Outcome.{Outcome, replies}
 use Rattle.kernel_model.specs.Reply.{refused}
-use Rattle.kernel_model.specs.State.{Update, set_table, set_process, set_status, set_open, set_node, set_names, set_term}
+use Rattle.kernel_model.specs.State.{Update, set_term}
 use Rattle.kernel_model.specs.Families.StreamCalls.{read_term, write_term}
 
 -- the standard streams after these updates
 abbrev pub terms_after : List Update → FinMap nat_cmp Stream → FinMap nat_cmp Stream
 terms_after [] terms = terms
 terms_after (set_term k stream ∷ updates) terms = terms_after updates (insert terms k stream)
-terms_after (set_table p table ∷ updates) terms = terms_after updates terms
-terms_after (set_process p own ∷ updates) terms = terms_after updates terms
-terms_after (set_status p status ∷ updates) terms = terms_after updates terms
-terms_after (set_open o kind ∷ updates) terms = terms_after updates terms
-terms_after (set_node n node ∷ updates) terms = terms_after updates terms
-terms_after (set_names n names ∷ updates) terms = terms_after updates terms
+terms_after (update ∷ updates) terms = terms_after updates terms
 
 -- what a call comes to that moves an open, where the open is of this standard stream
 abbrev pub stream_outcome : Call → ℕ → Option Stream → Outcome

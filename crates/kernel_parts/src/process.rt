@@ -12,12 +12,13 @@ use maps::NumMap;
 use std::alloc::{AllocError, Global};
 use std::marker::Model;
 
-/// What a process has of its own beside its descriptors: its live threads by number, and what it has made so far. No thread waits
-/// yet, so there is nothing to keep of that.
+/// What a process has of its own beside its descriptors: its live threads by number, what it has made so far, and its depth, which
+/// is how many forks lie between it and process 0. No thread waits yet, so there is nothing to keep of that.
 #[derive(Drop)]
 pub struct ProcessState {
     threads: NumMap<Thread>,
     counts: Counts,
+    depth: u32,
 }
 
 impl Model for ProcessState {
@@ -28,11 +29,11 @@ impl Model for ProcessState {
 
     ghost coded = { process_code };
 
-    ghost view = { λ own. record { threads = own.threads; counts = own.counts; locks = no_locks } };
+    ghost view = { λ own. record { threads = own.threads; counts = own.counts; locks = no_locks; depth = own.depth } };
 }
 
 impl ProcessState {
-    /// What the launched process starts with: thread 1, the one thread that it has numbered.
+    /// What the launched process starts with: thread 1, the one thread that it has numbered, and depth 0.
     pub fn first(alloc: Global) -> Result<Self, AllocError>
         ensures { IfOk result (λ own. own ≡ first_process) }
     {
@@ -44,10 +45,11 @@ impl ProcessState {
                 forks: 0,
                 words: 0,
             },
+            depth: 0,
         })
     }
 
-    /// Leaves no thread, as a process that ends does. What it has made so far stays.
+    /// Leaves no thread, as a process that ends does. What it has made so far stays, and its depth.
     pub fn end(&mut self)
         ensures { self.new ≡ ended_process (Some self.old) }
     {

@@ -1,14 +1,20 @@
 //! What ends because nothing holds it, and the nodes of the file tree that go with it.
-ghost use Rattle.std.specs.Prelude.{◌≡◌, ◌⊎◌, ℕ, None, Some, IsSome, true, false};
+ghost use Rattle.std.specs.Prelude.{◌≡◌, ◌⊎◌, ℕ, None, Some, IsSome, is_some, true, false};
 ghost use Rattle.std.specs.FinMap as map;
-ghost use Rattle.object_store.specs.Objects.{unheld_removed};
+ghost use Rattle.kernel_model.specs.Release.{count_in, lives, release};
+ghost use Rattle.kernel_parts.specs.Released.{IsKilledIn, state_by};
+ghost use Rattle.maps.specs.Maps.{number, total};
 ghost use Rattle.tree_model.specs.Changes.{forgotten};
 ghost use Rattle.tree_model.specs.Opens.{is_used};
 ghost use Rattle.tree_model.specs.Retained.{retained};
 ghost use Rattle.tree_model.specs.Tree.{IsTree};
 
-use abi_types::ObjId;
+use crate::process::ProcessState;
+use crate::table::let_go_all;
+use abi_types::{ObjId, OpenKind, Pid, Signal, Status};
+use fd_table::FdTable;
 use file_tree::Tree;
+use maps::NumMap;
 use object_store::{Objects, node_of};
 
 // Lets a node go that has neither a name nor an open.
@@ -26,16 +32,57 @@ fn forget_unused(tree: &mut Tree, objects: &Objects, node: ObjId)
     }
 }
 
-/// Takes each open away that nothing holds, and each node that then has neither a name nor an open. Looks at no open that is
-/// held, and at no node but those of the opens that end. Takes no memory.
-pub fn release(objects: &mut Objects, tree: &mut Tree)
+// Whether a process with this status lives.
+fn is_alive(status: Option<Status>) -> bool
+    ensures { result ≡ lives status }
+{
+    matches!(status, Some(Status::Live))
+}
+
+// Kills a process, where it lives: it has no descriptor and no thread left.
+fn kill(
+    pid: Pid,
+    objects: &mut Objects,
+    tables: &mut NumMap<FdTable>,
+    processes: &mut NumMap<ProcessState>,
+    statuses: &mut NumMap<Status>,
+)
+    requires counted { (o : ℕ) → number (map.get objects.old.counts o) ≡ total (count_in o) tables.old }
+    requires tables { (p : ℕ) → is_some (map.get tables.old p) ≡ is_some (map.get statuses.old p) }
+    requires processes { (p : ℕ) → is_some (map.get processes.old p) ≡ is_some (map.get statuses.old p) }
+    ensures kinds { objects.new.kinds ≡ objects.old.kinds }
+    ensures counted { (o : ℕ) → number (map.get objects.new.counts o) ≡ total (count_in o) tables.new }
+    ensures parts { IsKilledIn pid tables.old processes.old statuses.old tables.new processes.new statuses.new }
+{
+    let p = u64::from(pid.0);
+    if is_alive(statuses.get(p).copied()) {
+        statuses.replace(p, Status::Killed(Signal::Kill));
+        processes.get_mut(p).end();
+        let_go_all(tables.get_mut(p), objects);
+    }
+}
+
+/// Takes each open away that nothing holds, with each open of a process that lives the process, and each node that then has neither
+/// a name nor an open. Looks at no open that is held, and at no node but those of the opens that end. Takes no memory.
+pub fn release(
+    objects: &mut Objects,
+    tree: &mut Tree,
+    tables: &mut NumMap<FdTable>,
+    processes: &mut NumMap<ProcessState>,
+    statuses: &mut NumMap<Status>,
+)
     requires tree { IsTree tree.old }
     requires used { (n : ℕ) → IsSome (map.get tree.old.nodes n) → is_used objects.old.kinds tree.old n ≡ true }
-    ensures objects { objects.new ≡ unheld_removed objects.old }
-    ensures tree { tree.new ≡ retained tree.old (is_used objects.new.kinds tree.old) }
+    requires counted { (o : ℕ) → number (map.get objects.old.counts o) ≡ total (count_in o) tables.old }
+    requires tables { (p : ℕ) → is_some (map.get tables.old p) ≡ is_some (map.get statuses.old p) }
+    requires processes { (p : ℕ) → is_some (map.get processes.old p) ≡ is_some (map.get statuses.old p) }
+    ensures state { state_by tables.new processes.new statuses.new objects.new.kinds tree.new ≡ release (state_by tables.old processes.old statuses.old objects.old.kinds tree.old) }
+    ensures counted { (o : ℕ) → number (map.get objects.new.counts o) ≡ total (count_in o) tables.new }
 {
     while let Some((_, kind)) = objects.pop_unheld() {
-        if let Some(node) = node_of(&kind) {
+        if let OpenKind::Process(pid) = kind {
+            kill(pid, objects, tables, processes, statuses);
+        } else if let Some(node) = node_of(&kind) {
             forget_unused(tree, objects, node);
         }
     }

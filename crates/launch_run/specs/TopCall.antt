@@ -160,10 +160,10 @@ pub record HasFailed (lines : Bool) (before after : Option (List ℕ)) (r : Reco
   pub prefix : GrewByPrefix before after (record_report lines r)
 
 -- What every record that is kept is: its history is legal, each entry is confined to what its process's descriptors
--- reach with the rights needed, who holds which descriptors is shown by the entries, each descriptor is traced to one of the
--- launch's grants, and at each entry copies are equal, rights are lowered to those asked and what is opened is bounded; and its
--- launch is the one that is described, where anything is known of it, and in any case one of these settings. In memory are its denied
--- calls, and its entries where the settings ask for the history.
+-- reach with the rights needed, who holds which descriptors is shown by the entries, each descriptor is traced, of a file, a
+-- directory or a standard stream to one of the launch's grants, and at each entry copies are equal, rights are lowered to those
+-- asked and what is opened is bounded; and its launch is the one that is described, where anything is known of it, and in any case
+-- one of these settings. In memory are its denied calls, and its entries where the settings ask for the history.
 pub record IsKept (given : Option Settings) (described : Described) (r : Record) : Type 0 where
   pub legal : Legal r.launch r.history
   pub confined : IsConfined r.launch r.history

@@ -7,7 +7,6 @@ use Rattle.kernel_model.specs.State.{State, threads_of, thread_in}
 use Rattle.rv_interp.specs.declared.turns.TurnEnd.{TurnEnd}
 use Rattle.rv_interp.specs.declared.turns.TurnEnd.TheVariants as turn_end_is
 use Rattle.run_model.specs.Legal.{IsRunnable, AreWhole, LastEnds, Asks}
-use Rattle.run_model.specs.Own.{Same}
 use Rattle.run_model.specs.World.{World, Guest, guest_of, turned_guest}
 
 module _ (S T : State) (p : ℕ) (same : threads_of T p ≡ threads_of S p) where
@@ -29,7 +28,8 @@ asks_there S T who guest ts (act.Trap signal) same asks = last_there S T who.pid
 asks_there S T who guest ts act.Expire same asks = (whole_there S T who.pid same guest ts asks.0, runnable_there S T who.pid same who.tid asks.1, asks.2)
 asks_there S T who guest ts act.Idle same asks = absurd asks
 
-pub asks_stay : (w v : World) (who : Who) (ts : List ℕ) (a : Act) → Same v w who.pid → Asks w.state who (guest_of w who.pid) ts a
+pub asks_stay : (w v : World) (who : Who) (ts : List ℕ) (a : Act) → guest_of v who.pid ≡ guest_of w who.pid
+    → threads_of v.state who.pid ≡ threads_of w.state who.pid → Asks w.state who (guest_of w who.pid) ts a
     → Asks v.state who (guest_of v who.pid) ts a
-asks_stay w v who ts a same asks =
-    asks_there w.state v.state who (guest_of v who.pid) ts a same.threads (subst (λ (g : Guest). Asks w.state who g ts a) (sym same.guest) asks)
+asks_stay w v who ts a guest threads asks =
+    asks_there w.state v.state who (guest_of v who.pid) ts a threads (subst (λ (g : Guest). Asks w.state who g ts a) (sym guest) asks)

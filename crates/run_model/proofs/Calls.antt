@@ -72,4 +72,4 @@ not_live status o other is live = let both : Some status ≡ Some Live = sym is 
 
 -- a process that is ended is not live
 pub ended_by : (S : State) (p : ℕ) (status : Status) → status ≢ Live → get (end_state S p status).statuses p ≢ Some Live
-ended_by S p status other = not_live status (get (end_state S p status).statuses p) other (end_ends_only S p status).stands
+ended_by S p status other = not_live status (get (end_state S p status).statuses p) other (end_ends_only S p status other).stands

@@ -1,12 +1,13 @@
--- Some entry follows each legal history whose run is not ended, so each launch has a run that ends.
-use Rattle.std.proofs.Common.{◌≡◌, ◌≢◌, ◌⊎◌, inl, inr, ℕ, zero, suc, ◌+◌, ◌-◌, ◌≤◌, List, [], ◌∷◌, ◌++◌, length, Option, Some, None, refl, sym, ap, subst, arith, length-append}
+-- Some entry follows each legal history whose run is neither ended nor stalled, so each launch has a run that ends or stalls.
+use Rattle.std.proofs.Common.{◌≡◌, ◌⊎◌, inl, inr, ℕ, zero, suc, ◌+◌, ◌*◌, ◌-◌, ◌≤◌, List, [], ◌∷◌, ◌++◌, length, Some, refl, sym, ap, subst, ◌∙◌, arith, length-append}
 use Rattle.std.proofs.lemmas.Bool.Decides.{eqb_tells}
 use Rattle.std.specs.FinMap.{get}
 use Rattle.abi_types.specs.declared.constants.Constants.{Constants}
 use Rattle.abi_base.specs.declared.signal.Signal.{Signal}
 use Rattle.abi_base.specs.declared.signal.Signal.TheVariants.{Xcpu}
-use Rattle.abi_types.specs.declared.status.Status.{Status}
-use Rattle.abi_types.specs.declared.status.Status.TheVariants.{Live, Exit, Killed}
+use Rattle.abi_types.specs.declared.status.Status.TheVariants.{Live, Killed}
+use Rattle.abi_types.specs.declared.thread.Thread.{Thread}
+use Rattle.abi_types.specs.declared.thread.Thread.TheVariants.{Runnable}
 use Rattle.abi_types.specs.declared.who.Who.{Who}
 use Rattle.abi_base.specs.Registers.{Registers}
 use Rattle.run_types.specs.declared.history.Act.{Act}
@@ -14,61 +15,80 @@ use Rattle.run_types.specs.declared.history.Act.TheVariants as act
 use Rattle.run_types.specs.declared.history.Entry.{Entry}
 use Rattle.run_types.specs.declared.launch.Launch.{Launch}
 use Rattle.kernel_model.specs.Ends.{NoneLive}
-use Rattle.kernel_model.specs.State.{State}
+use Rattle.kernel_model.specs.State.{State, thread_in}
 use Rattle.kernel_model.specs.Step.{step_answer, step_state}
-use Rattle.kernel_model.proofs.Tests.{none_is_no}
+use Rattle.kernel_model.specs.Valid.{IsValid}
+use Rattle.tree_model.specs.Grants.{MayBegin}
 use Rattle.rv_interp.specs.declared.turns.TurnEnd.{TurnEnd}
 use Rattle.rv_interp.specs.declared.turns.TurnEnd.TheVariants as turn_end_is
 use Rattle.guest_memory.specs.Page.{Pages}
 use Rattle.call_codec.specs.Arguments.{args_of}
-use Rattle.run_model.specs.Ends.{Ended}
+use Rattle.run_model.specs.Ends.{Ended, Stalled, HasThread, AllParked}
 use Rattle.run_model.specs.Legal.{IsRunnable, MayTurn, AreWhole, FitsAct, Fits, FollowsFrom, Legal}
+use Rattle.run_model.specs.Own.{IsLeft, is_born, is_ended, stays}
 use Rattle.run_model.specs.World.{World, Guest, start_world, guest_of, registers_of, called_state, turn_end, turned_guest_by, turned, acted, who_of, apply, apply_all, world}
 use Rattle.run_model.proofs.Calls.{called_is, runs_on, ended_by}
-use Rattle.run_model.proofs.Ends.{OnlyFirstLives, fits_live, fits_first, only_first_after, killed_is_not_live, start_only}
+use Rattle.run_model.proofs.Ends.{asks_runnable, killed_is_not_live, start_only}
+use Rattle.run_model.proofs.Own.{own_or_left, no_births, same_threads}
+use Rattle.run_model.proofs.Running.{NoneRuns, one_or_none, some_lives, thread_lives}
+use Rattle.run_model.proofs.Worlds.{world_is_valid}
 use Rattle.run_model.proofs.Potentials.{history_is_short}
 use Rattle.run_model.proofs.Histories.{apply_is, turned_more, whole_more, legal_none, legal_more, first_thread}
 
--- ---- the first process's thread
+-- ---- each process that is live has a thread
 
--- the process's first thread is runnable as long as the process lives
-abbrev HasFirst : State → ℕ → Type 0
-HasFirst S p = get S.statuses p ≡ Some Live → IsRunnable S p 1
+-- the process has a thread, if it is live
+abbrev HasThreads : State → ℕ → Type 0
+HasThreads S p = get S.statuses p ≡ Some Live → (t : ℕ) × (thread : Thread) × HasThread S p t thread
 
-acted_first : (w : World) (who : Who) (guest : Guest) (ts : List ℕ) (a : Act) → FitsAct w.constants w.state who guest ts a
-    → IsRunnable w.state who.pid 1 → HasFirst (acted w who a).state who.pid
-acted_first w who guest ts (act.Call call given) fits has live =
-    runs_on w.constants w.state who call given (called_state w.constants w.state who call given) 1 fits.1 live has
-acted_first w who guest ts (act.Wake call given answered) fits has live = absurd fits.0
-acted_first w who guest ts (act.Trap signal) fits has live = absurd (ended_by w.state who.pid (Killed signal) (killed_is_not_live signal) live)
-acted_first w who guest ts act.Expire fits has live = absurd (ended_by w.state who.pid (Killed Xcpu) (killed_is_not_live Xcpu) live)
-acted_first w who guest ts act.Idle fits has live = absurd fits.0
+-- the thread that did an act is there after it, if its process lives on
+acted_has : (w : World) (who : Who) (guest : Guest) (ts : List ℕ) (a : Act) → FitsAct w.constants w.state who guest ts a
+    → HasThreads (acted w who a).state who.pid
+acted_has w who guest ts (act.Call call given) fits live = (
+  who.tid,
+  Runnable,
+  runs_on w.constants w.state who call given (called_state w.constants w.state who call given) who.tid fits.1 live
+      (asks_runnable w.state who guest ts (act.Call call given) fits.0),
+)
+acted_has w who guest ts (act.Wake call given answered) fits live = absurd fits.0
+acted_has w who guest ts (act.Trap signal) fits live = absurd (ended_by w.state who.pid (Killed signal) (killed_is_not_live signal) live)
+acted_has w who guest ts act.Expire fits live = absurd (ended_by w.state who.pid (Killed Xcpu) (killed_is_not_live Xcpu) live)
+acted_has w who guest ts act.Idle fits live = absurd fits.0
 
-apply_first : (w : World) (e : Entry) → Fits w e → HasFirst w.state e.pid → HasFirst (apply w e).state e.pid
-apply_first w e fits has =
-    subst (λ (v : World). HasFirst v.state e.pid) (sym (apply_is w e))
-    (acted_first (turned w e.pid e.turns) (who_of e) (guest_of w e.pid) e.turns e.act fits.act (has (fits_live w e fits)))
+own_has : (w : World) (e : Entry) → Fits w e → HasThreads (apply w e).state e.pid
+own_has w e fits =
+    subst (λ (v : World). HasThreads v.state e.pid) (sym (apply_is w e))
+    (acted_has (turned w e.pid e.turns) (who_of e) (guest_of w e.pid) e.turns e.act fits.act)
 
--- no process but process 0 lives, and its first thread is runnable as long as it lives
-record IsFirstAlone (S : State) : Type 0 where
-  alone : OnlyFirstLives S
-  has : HasFirst S 0
+others_have : (w v : World) (a : Act) (q : ℕ) → HasThreads w.state q → IsLeft w v a q → HasThreads v.state q
+others_have w v a q before (is_born there) live = absurd (no_births a q there)
+others_have w v a q before (is_ended was dead) live = absurd (dead live)
+others_have w v a q before (stays same) live =
+    let has = before (sym same.status ∙ live) in (has.0, has.1, ap (λ o. thread_in o has.0) (same_threads v w q same) ∙ has.2)
 
-alone_after : (w : World) (e : Entry) → IsFirstAlone w.state → Fits w e → IsFirstAlone (apply w e).state
-alone_after w e before fits = record {
-  alone = only_first_after w e before.alone fits;
-  has = subst (λ p. HasFirst w.state p → HasFirst (apply w e).state p) (fits_first w e before.alone fits) (apply_first w e fits) before.has;
-}
+threads_after : (w : World) (e : Entry) → ((p : ℕ) → HasThreads w.state p) → Fits w e → (p : ℕ) → HasThreads (apply w e).state p
+threads_after w e before fits p =
+    elim (own_or_left w e p fits) [
+      | inl is ↦ subst (HasThreads (apply w e).state) (sym is.0) (own_has w e fits)
+      | inr left ↦ others_have w (apply w e) e.act p (before p) left
+    ]
 
-follows_alone : (w : World) (history : List Entry) → IsFirstAlone w.state → FollowsFrom w history → IsFirstAlone (apply_all w history).state
+follows_threads : (w : World) (history : List Entry) → ((p : ℕ) → HasThreads w.state p) → FollowsFrom w history
+    → (p : ℕ) → HasThreads (apply_all w history).state p
 unfolding FollowsFrom apply_all
-follows_alone w [] before follows = before
-follows_alone w (e ∷ history) before follows = follows_alone (apply w e) history (alone_after w e before follows.0) follows.1
+follows_threads w [] before follows = before
+follows_threads w (e ∷ history) before follows = follows_threads (apply w e) history (threads_after w e before follows.0) follows.1
 
-legal_alone : (launch : Launch) (history : List Entry) → Legal launch history → IsFirstAlone (world launch history).state
+start_threads : (launch : Launch) (p : ℕ) → HasThreads (start_world launch).state p
+start_threads launch p live =
+    elim (eqb_tells p 0) [
+      | inl is ↦ (1, Runnable, subst (λ q. IsRunnable (start_world launch).state q 1) (sym is.1) (first_thread launch))
+      | inr other ↦ absurd (start_only launch p other.1 live)
+    ]
+
+legal_threads : (launch : Launch) (history : List Entry) → Legal launch history → (p : ℕ) → HasThreads (world launch history).state p
 unfolding Legal world
-legal_alone launch history legal =
-    follows_alone (start_world launch) history (record { alone = start_only launch; has = λ _. first_thread launch }) legal
+legal_threads launch history legal = follows_threads (start_world launch) history (start_threads launch) legal
 
 -- ---- an act that follows
 
@@ -127,51 +147,64 @@ entry_of w who live next = (
   record { live = λ _. live; act = next.2; moment = refl },
 )
 
-live_goes_on : (w : World) → IsFirstAlone w.state → get w.state.statuses 0 ≡ Some Live → (e : Entry) × Fits w e
-live_goes_on w alone live =
-    let who : Who = record { pid = 0; tid = 1 } in
-    entry_of w who live
-    (acts w.constants w.state who (guest_of w 0) (guest_of w 0).left [] (alone.has live) tt refl)
+-- a runnable thread of a live process goes on
+thread_goes_on : (w : World) (p t : ℕ) → get w.state.statuses p ≡ Some Live → IsRunnable w.state p t → (e : Entry) × Fits w e
+thread_goes_on w p t live runs =
+    let who : Who = record { pid = p; tid = t } in
+    entry_of w who live (acts w.constants w.state who (guest_of w p) (guest_of w p).left [] runs tt refl)
 
 -- ---- the end
 
-none_lives : (S : State) → OnlyFirstLives S → get S.statuses 0 ≢ Some Live → NoneLive S
-none_lives S alone dead q = elim (eqb_tells q 0) [ inl is ↦ subst (λ j. get S.statuses j ≢ Some Live) (sym is.1) dead | inr other ↦ alone q other.1 ]
+stalled_where : (S : State) → NoneRuns S → (p : ℕ) → HasThreads S p → get S.statuses p ≡ Some Live → AllParked S
+stalled_where S none p has live = let thread = has live in ((p, thread.0, thread.1, thread.2), none)
 
-is_live : (o : Option Status) → (o ≡ Some Live) ⊎ (o ≢ Some Live)
-is_live None = inr (λ e. none_is_no Live e)
-is_live (Some Live) = inl refl
-is_live (Some (Exit code)) = inr (λ e. cc)
-is_live (Some (Killed signal)) = inr (λ e. cc)
-
-world_goes_on : (w : World) → IsFirstAlone w.state → NoneLive w.state ⊎ ((e : Entry) × Fits w e)
-world_goes_on w alone =
-    elim (is_live (get w.state.statuses 0)) [
-      | inl live ↦ inr (live_goes_on w alone live)
-      | inr dead ↦ inl (none_lives w.state alone.alone dead)
+world_goes_on : (w : World) → IsValid w.state → ((p : ℕ) → HasThreads w.state p)
+    → NoneLive w.state ⊎ (AllParked w.state ⊎ ((e : Entry) × Fits w e))
+world_goes_on w valid threads =
+    elim (one_or_none w.state) [
+      | inl runs ↦ inr (inr (thread_goes_on w runs.0 runs.1 (thread_lives w.state runs.0 runs.1 Runnable valid runs.2) runs.2))
+      | inr none ↦ elim (some_lives w.state) [
+        | inl live ↦ inr (inl (stalled_where w.state none live.0 (threads live.0) live.1))
+        | inr dead ↦ inl dead
+      ]
     ]
 
-pub ends_or_goes_on : (launch : Launch) (history : List Entry) → Legal launch history → Ended launch history ⊎ ((e : Entry) × Fits (world launch history) e)
-ends_or_goes_on launch history legal = world_goes_on (world launch history) (legal_alone launch history legal)
+pub ends_or_goes_on : (launch : Launch) (history : List Entry) → MayBegin launch.tree launch.grants → Legal launch history
+    → Ended launch history ⊎ (Stalled launch history ⊎ ((e : Entry) × Fits (world launch history) e))
+ends_or_goes_on launch history begins legal =
+    world_goes_on (world launch history) (world_is_valid launch history begins legal) (legal_threads launch history legal)
 
--- a legal history whose run is ended
+-- an ended process has no thread, so an ended run isn't stalled
+pub ended_or_stalled : (launch : Launch) (history : List Entry) → MayBegin launch.tree launch.grants → Legal launch history → Ended launch history
+    → Stalled launch history → ⊥
+ended_or_stalled launch history begins legal ended stalled =
+    ended stalled.0.0
+    (thread_lives (world launch history).state stalled.0.0 stalled.0.1 stalled.0.2 (world_is_valid launch history begins legal) stalled.0.3)
+
+-- a legal history whose run is ended or stalled
 abbrev HasEnd : Launch → Type 0
-HasEnd launch = (history : List Entry) × Legal launch history × Ended launch history
+HasEnd launch = (history : List Entry) × Legal launch history × (Ended launch history ⊎ Stalled launch history)
 
-too_long : (launch : Launch) (history : List Entry) (e : Entry) → Legal launch (history ++ e ∷ []) → launch.turns + 1 ≤ length history → ⊥
-too_long launch history e legal long = omega (arith, history_is_short launch (history ++ e ∷ []) legal, length-append history (e ∷ []))
+too_long : (launch : Launch) (history : List Entry) (e : Entry) → MayBegin launch.tree launch.grants → Legal launch (history ++ e ∷ [])
+    → 6 * launch.turns + 2 ≤ length history → ⊥
+too_long launch history e begins legal long = omega (arith, history_is_short launch (history ++ e ∷ []) begins legal, length-append history (e ∷ []))
 
-ends_within : (launch : Launch) (n : ℕ) (history : List Entry) → Legal launch history → launch.turns + 1 ≤ length history + n → HasEnd launch
-ends_within launch zero history legal long =
-    elim (ends_or_goes_on launch history legal) [
-      | inl ended ↦ (history, legal, ended)
-      | inr next ↦ absurd (too_long launch history next.0 (legal_more launch history next.0 legal next.1) (omega arith))
+ends_within : (launch : Launch) (n : ℕ) (history : List Entry) → MayBegin launch.tree launch.grants → Legal launch history
+    → 6 * launch.turns + 2 ≤ length history + n → HasEnd launch
+ends_within launch zero history begins legal long =
+    elim (ends_or_goes_on launch history begins legal) [
+      | inl ended ↦ (history, legal, inl ended)
+      | inr (inl stalled) ↦ (history, legal, inr stalled)
+      | inr (inr next) ↦ absurd (too_long launch history next.0 begins (legal_more launch history next.0 legal next.1) (omega arith))
     ]
-ends_within launch (suc n) history legal long =
-    elim (ends_or_goes_on launch history legal) [
-      | inl ended ↦ (history, legal, ended)
-      | inr next ↦ ends_within launch n (history ++ next.0 ∷ []) (legal_more launch history next.0 legal next.1) (omega (arith, length-append history (next.0 ∷ [])))
+ends_within launch (suc n) history begins legal long =
+    elim (ends_or_goes_on launch history begins legal) [
+      | inl ended ↦ (history, legal, inl ended)
+      | inr (inl stalled) ↦ (history, legal, inr stalled)
+      | inr (inr next) ↦ (
+          ends_within launch n (history ++ next.0 ∷ []) begins (legal_more launch history next.0 legal next.1)
+          (omega (arith, length-append history (next.0 ∷ []))))
     ]
 
-pub ends : (launch : Launch) → HasEnd launch
-ends launch = ends_within launch (launch.turns + 1) [] (legal_none launch) (omega arith)
+pub ends : (launch : Launch) → MayBegin launch.tree launch.grants → HasEnd launch
+ends launch begins = ends_within launch (6 * launch.turns + 2) [] begins (legal_none launch) (omega arith)

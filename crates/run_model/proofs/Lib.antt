@@ -2,6 +2,7 @@ pub mod Calls
 pub mod Confinements
 pub mod Ends
 pub mod Potentials
+pub mod Running
 pub mod Entries
 pub mod Followers
 pub mod Histories

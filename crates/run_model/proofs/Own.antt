@@ -1,20 +1,26 @@
 -- What entries leave of the processes that did not do them.
---     others_stay      an entry leaves another process as it was
+--     others_left      an entry makes another process, ends it or leaves it as it was
+--     own_or_left      each process did the entry or is left by it
+--     no_births, born_is_new      a process that an entry makes
+--     others_stay      an entry leaves another process as it was, if it was made before and is live afterwards
 --     made_later      a process that was made stays so
 --     left_alone      entries of others leave a process as it was
-use Rattle.std.proofs.Common.{◌≡◌, ◌≢◌, ℕ, ◌==◌, ◌&&◌, Bool, true, false, not, cond, List, [], ◌∷◌, ◌++◌, inl, inr, refl, sym, ap, subst, ◌∙◌}
+use Rattle.std.proofs.Common.{◌≡◌, ◌≢◌, ◌⊎◌, ℕ, ◌==◌, ◌&&◌, Bool, true, false, not, cond, Contains, List, [], ◌∷◌, ◌++◌, inl, inr, refl, sym, ap, subst, ◌∙◌, arith}
 use Rattle.std.proofs.lemmas.Bool.Decides.{eqb_tells}
 use Rattle.std.proofs.lemmas.List.{append-nil, append_cancel_left}
 use Rattle.std.proofs.lemmas.List.Elements.{filter-append}
 use Rattle.std.specs.Option.{option_map}
+use Rattle.abi_base.specs.declared.signal.Signal.TheVariants.{Kill}
+use Rattle.abi_types.specs.declared.status.Status.TheVariants.{Live, Killed}
+use Rattle.run_types.specs.declared.history.Act.{Act}
 use Rattle.run_types.specs.declared.history.Entry.{Entry}
 use Rattle.run_types.specs.declared.launch.Launch.{Launch}
-use Rattle.kernel_model.specs.State.{ProcessState}
-use Rattle.kernel_model.proofs.Tests.{not_true}
+use Rattle.kernel_model.specs.State.{ProcessState, threads_of}
+use Rattle.kernel_model.proofs.Tests.{not_true, same_some}
 use Rattle.run_model.specs.Legal.{Fits, FollowsFrom, Legal}
-use Rattle.run_model.specs.Own.{is_idle, is_own, own, Made, IsLiveIn, Same}
+use Rattle.run_model.specs.Own.{is_idle, is_own, own, born, Made, IsLiveIn, Same, IsLeft, is_born, is_ended, stays}
 use Rattle.run_model.specs.World.{World, apply, apply_all, world}
-use Rattle.run_model.proofs.Ends.{fits_done, apply_process, apply_made}
+use Rattle.run_model.proofs.Ends.{fits_done, apply_process, apply_made, killed_is_not_live}
 use Rattle.run_model.proofs.Histories.{world_rest, legal_rest}
 use Rattle.run_model.proofs.Worlds.{apply_guest}
 
@@ -26,15 +32,45 @@ other_process q e done other =
     let by_number : is_own q e ≡ (e.pid == q) = ap (λ b. not b && (e.pid == q)) done in
     elim (eqb_tells e.pid q) [ inl is ↦ absurd (not_true (sym other ∙ by_number ∙ is.0)) | inr apart ↦ λ same. apart.1 (sym same) ]
 
-pub others_stay : (w : World) (e : Entry) (q : ℕ) → Fits w e → is_own q e ≡ false → Made w q → IsLiveIn (apply w e) q → Same (apply w e) w q
-others_stay w e q fits other made live =
+pub others_left : (w : World) (e : Entry) (q : ℕ) → Fits w e → is_own q e ≡ false → IsLeft w (apply w e) e.act q
+others_left w e q fits other =
     let apart : q ≢ e.pid = other_process q e (fits_done w e fits) other in
-    let process = apply_process w e q fits apart in
-    record {
-      guest = apply_guest w e q apart;
-      threads = ap (option_map (λ (own : ProcessState). own.threads)) process.1;
-      status = process.2;
-    }
+    elim (apply_process w e q fits apart) [
+      | inl process ↦ stays (record { guest = apply_guest w e q apart; table = process.0; rest = process.1; status = process.2 })
+      | inr killed ↦ is_ended killed.1.0 (λ live. killed_is_not_live Kill (same_some (Killed Kill) Live (sym killed.1.1 ∙ live)))
+    ]
+
+-- who did an entry has its number, and it is no idle jump
+own_is : (idle : Bool) (p q : ℕ) → not idle && (p == q) ≡ true → (idle ≡ false) × (q ≡ p)
+own_is true p q mine = absurd (not_true mine)
+own_is false p q mine = elim (eqb_tells p q) [ inl is ↦ (refl, sym is.1) | inr apart ↦ absurd (not_true (sym apart.0 ∙ mine)) ]
+
+-- each process either did the entry, and was live before it, or is left by it
+pub own_or_left : (w : World) (e : Entry) (q : ℕ) → Fits w e → ((q ≡ e.pid) × IsLiveIn w e.pid) ⊎ IsLeft w (apply w e) e.act q
+own_or_left w e q fits =
+    elim (is_own q e) as (λ (b : Bool). is_own q e ≡ b → ((q ≡ e.pid) × IsLiveIn w e.pid) ⊎ IsLeft w (apply w e) e.act q) [
+      | true ↦ λ mine. (let is = own_is (is_idle e.act) e.pid q mine in inl (is.1, fits.live is.0))
+      | false ↦ λ other. inr (others_left w e q fits other)
+    ] refl
+
+-- an entry leaves each process but that of its number
+pub left_where : (w : World) (e : Entry) (q : ℕ) → Fits w e → q ≢ e.pid → IsLeft w (apply w e) e.act q
+left_where w e q fits apart = elim (own_or_left w e q fits) [ inl is ↦ absurd (apart is.0) | inr left ↦ left ]
+
+-- no act makes a process yet
+pub no_births : (a : Act) (q : ℕ) → Contains (born a) q → ⊥
+no_births a q there = omega (arith, there.1)
+
+pub born_is_new : (w : World) (e : Entry) (q : ℕ) → Fits w e → Contains (born e.act) q → (Made w q → ⊥) × Made (apply w e) q
+born_is_new w e q fits there = absurd (no_births e.act q there)
+
+left_as_it_was : (w : World) (e : Entry) (q : ℕ) → Fits w e → Made w q → IsLiveIn (apply w e) q → IsLeft w (apply w e) e.act q → Same (apply w e) w q
+left_as_it_was w e q fits made live (is_born there) = absurd ((born_is_new w e q fits there).0 made)
+left_as_it_was w e q fits made live (is_ended was dead) = absurd (dead live)
+left_as_it_was w e q fits made live (stays same) = same
+
+pub others_stay : (w : World) (e : Entry) (q : ℕ) → Fits w e → is_own q e ≡ false → Made w q → IsLiveIn (apply w e) q → Same (apply w e) w q
+others_stay w e q fits other made live = left_as_it_was w e q fits made live (others_left w e q fits other)
 
 -- ---- a history
 
@@ -48,13 +84,18 @@ pub made_later : (launch : Launch) (front rest : List Entry) (p : ℕ) → Legal
 made_later launch front rest p legal made =
     subst (λ (v : World). Made v p) (sym (world_rest launch front rest)) (made_all (world launch front) rest p (legal_rest launch front rest legal) made)
 
+-- a process that is the same has the same threads
+pub same_threads : (w v : World) (p : ℕ) → Same w v p → threads_of w.state p ≡ threads_of v.state p
+same_threads w v p same = ap (option_map (λ (own : ProcessState). own.threads)) same.rest
+
 same_self : (w : World) (p : ℕ) → Same w w p
-same_self w p = record { guest = refl; threads = refl; status = refl }
+same_self w p = record { guest = refl; table = refl; rest = refl; status = refl }
 
 pub same_through : (w v u : World) (p : ℕ) → Same w v p → Same v u p → Same w u p
 same_through w v u p first second = record {
   guest = first.guest ∙ second.guest;
-  threads = first.threads ∙ second.threads;
+  table = first.table ∙ second.table;
+  rest = first.rest ∙ second.rest;
   status = first.status ∙ second.status;
 }
 

@@ -1,8 +1,8 @@
--- Each entry takes from the turns that are left and the processes that live, so a history is short.
-use Rattle.std.proofs.Common.{◌≡◌, inl, inr, ℕ, ◌+◌, ◌-◌, ◌<◌, ◌≤◌, List, [], ◌∷◌, length, Option, Some, None, refl, sym, ap, subst, ◌∙◌, arith}
+-- Each entry takes from what is left to do, so a history is short.
+use Rattle.std.proofs.Common.{◌≡◌, ◌≢◌, inl, inr, ℕ, ◌+◌, ◌-◌, ◌*◌, ◌<◌, ◌≤◌, List, [], ◌∷◌, length, Option, Some, None, refl, sym, ap, subst, ◌∙◌, arith, length-append}
 use Rattle.std.proofs.lemmas.Bool.Decides.{eqb_tells}
 use Rattle.std.specs.Ordering.{nat_cmp}
-use Rattle.std.specs.FinMap.{empty, get, get-empty, insert}
+use Rattle.std.specs.FinMap.{FinMap, empty, get, get-empty, remove}
 use Rattle.abi_types.specs.declared.reply.Answer.{Answer}
 use Rattle.abi_types.specs.declared.reply.Answer.TheVariants as answer
 use Rattle.abi_types.specs.declared.call.Call.{Call}
@@ -14,18 +14,26 @@ use Rattle.run_types.specs.declared.history.Act.{Act}
 use Rattle.run_types.specs.declared.history.Act.TheVariants as act
 use Rattle.run_types.specs.declared.history.Entry.{Entry}
 use Rattle.run_types.specs.declared.launch.Launch.{Launch}
-use Rattle.kernel_model.specs.State.{State}
+use Rattle.abi_types.specs.declared.thread.Thread.{Thread}
+use Rattle.abi_types.specs.declared.thread.Thread.TheVariants.{Runnable}
+use Rattle.tree_model.specs.Grants.{MayBegin}
+use Rattle.kernel_model.specs.State.{State, ProcessState}
+use Rattle.kernel_model.specs.Valid.{IsValid}
 use Rattle.kernel_model.specs.Step.{end_state}
-use Rattle.kernel_model.proofs.Steps.{end_ends_only}
 use Rattle.maps.specs.Closure.{total_below}
-use Rattle.maps.specs.Maps.{get-insert-same, get-insert-other, same_around, total, weight, total-empty, total-insert}
+use Rattle.maps.specs.Maps.{get-remove-same, get-remove-other, total, weight, total_none, total-empty, total-insert, total-remove}
 use Rattle.rv_interp.specs.declared.turns.TurnEnd.{TurnEnd}
 use Rattle.rv_interp.specs.declared.turns.TurnEnd.TheVariants.{Ecall, Trap}
-use Rattle.run_model.specs.Ends.{live_number, potential}
-use Rattle.run_model.specs.Legal.{LastEnds, FitsAct, Fits, FollowsFrom, Legal}
+use Rattle.run_model.specs.Ends.{turns_taken, live_number, wakes_left, all_wakes_left, potential}
+use Rattle.run_model.specs.Legal.{AreWhole, LastEnds, Asks, FitsAct, Fits, FollowsFrom, Legal}
+use Rattle.run_model.specs.Own.{IsLeft, is_born, is_ended, stays}
 use Rattle.run_model.specs.World.{World, Guest, start_world, first_guest, guest_of, or_no_guest, called_guest, turned_guest, turned_guest_by, turned, acted, who_of, apply, apply_all, world}
-use Rattle.run_model.proofs.Ends.{acted_status, fits_live}
-use Rattle.run_model.proofs.Histories.{apply_is, turned_more}
+use Rattle.run_model.proofs.Calls.{ended_by}
+use Rattle.run_model.proofs.Ends.{fits_live, killed_is_not_live}
+use Rattle.run_model.proofs.Histories.{apply_is, turned_more, first_thread}
+use Rattle.run_model.proofs.Running.{no_jump, jump_at_most}
+use Rattle.run_model.proofs.Worlds.{apply_valid, first_valid}
+use Rattle.run_model.proofs.Own.{left_where, no_births}
 
 -- ---- turns
 
@@ -36,14 +44,34 @@ turned_left (t ∷ ts) guest =
     let rest : (turned_guest_by ts (turned_guest guest t)).left ≤ guest.left - 1 = turned_left ts (turned_guest guest t) in
     omega arith
 
--- turns of which one is a thread's that may take one leave fewer
-last_takes : (S : State) (p : ℕ) (guest : Guest) (ts : List ℕ) (t : ℕ) (end : TurnEnd) → LastEnds S p guest ts t end → (turned_guest_by ts guest).left < guest.left
-last_takes S p guest ts t end last =
-    let before : (turned_guest_by last.0 guest).left ≤ guest.left = turned_left last.0 guest in
+-- each turn takes one
+whole_take : (S : State) (p : ℕ) (ts : List ℕ) (guest : Guest) → AreWhole S p guest ts → (turned_guest_by ts guest).left + length ts ≡ guest.left
+whole_take S p [] guest whole = omega arith
+whole_take S p (t ∷ ts) guest whole =
+    let rest : (turned_guest_by ts (turned_guest guest t)).left + length ts ≡ guest.left - 1 = whole_take S p ts (turned_guest guest t) whole.2 in
+    let some : 0 < guest.left = whole.0.1 in
+    omega arith
+
+last_take : (S : State) (p : ℕ) (guest : Guest) (ts : List ℕ) (t : ℕ) (end : TurnEnd) → LastEnds S p guest ts t end
+    → ((turned_guest_by ts guest).left + length ts ≡ guest.left) × (0 < length ts)
+last_take S p guest ts t end last =
+    let before : (turned_guest_by last.0 guest).left + length last.0 ≡ guest.left = whole_take S p last.0 guest last.2 in
     let some : 0 < (turned_guest_by last.0 guest).left = last.3.1 in
     let after : (turned_guest_by ts guest).left ≡ (turned_guest_by last.0 guest).left - 1 =
     ap (λ us. (turned_guest_by us guest).left) last.1 ∙ ap (λ (g : Guest). g.left) (turned_more last.0 t guest) in
-    omega arith
+    let many : length ts ≡ length last.0 + 1 = ap length last.1 ∙ length-append last.0 (t ∷ []) in
+    (omega (arith, before, some, after, many), omega (arith, many))
+
+asks_take : (S : State) (who : Who) (guest : Guest) (ts : List ℕ) (a : Act) → Asks S who guest ts a → (turned_guest_by ts guest).left + length ts ≡ guest.left
+asks_take S who guest ts (act.Call call given) asks = (last_take S who.pid guest ts who.tid Ecall asks.0).0
+asks_take S who guest ts (act.Wake call given answered) asks = absurd asks
+asks_take S who guest ts (act.Trap signal) asks = (last_take S who.pid guest ts who.tid (Trap signal) asks).0
+asks_take S who guest ts act.Expire asks = whole_take S who.pid ts guest asks.0
+asks_take S who guest ts act.Idle asks = absurd asks
+
+-- turns of which one is a thread's that may take one leave fewer
+last_takes : (S : State) (p : ℕ) (guest : Guest) (ts : List ℕ) (t : ℕ) (end : TurnEnd) → LastEnds S p guest ts t end → (turned_guest_by ts guest).left < guest.left
+last_takes S p guest ts t end last = let takes = last_take S p guest ts t end last in omega (arith, takes.0, takes.1)
 
 -- ---- the turns that all processes have left
 
@@ -77,6 +105,23 @@ acted_all w who (act.Trap signal) = refl
 acted_all w who act.Expire = refl
 acted_all w who act.Idle = refl
 
+-- an entry takes its turns of those that are left
+entry_takes : (w : World) (e : Entry) → Fits w e → all_left (apply w e) + length e.turns ≡ all_left w
+entry_takes w e fits =
+    let turns = turned_all w e.pid e.turns in
+    let same = acted_all (turned w e.pid e.turns) (who_of e) e.act in
+    let takes = asks_take w.state (who_of e) (guest_of w e.pid) e.turns e.act fits.act.0 in
+    let after : all_left (apply w e) ≡ all_left (acted (turned w e.pid e.turns) (who_of e) e.act) = ap all_left (apply_is w e) in
+    omega (arith, turns, same, takes, after)
+
+follows_take : (w : World) (history : List Entry) → FollowsFrom w history → all_left (apply_all w history) + turns_taken history ≡ all_left w
+unfolding FollowsFrom apply_all
+follows_take w [] follows = omega arith
+follows_take w (e ∷ history) follows =
+    let rest : all_left (apply_all (apply w e) history) + turns_taken history ≡ all_left (apply w e) = follows_take (apply w e) history follows.1 in
+    let here = entry_takes w e follows.0 in
+    omega (arith, rest, here)
+
 -- ---- the processes that live
 
 abbrev all_live : State → ℕ
@@ -88,89 +133,148 @@ at_most_one (Some Live) = omega arith
 at_most_one (Some (Exit code)) = omega arith
 at_most_one (Some (Killed signal)) = omega arith
 
--- no act makes more processes live
-acted_live : (w : World) (who : Who) (guest : Guest) (ts : List ℕ) (a : Act) → get w.state.statuses who.pid ≡ Some Live
-    → FitsAct w.constants w.state who guest ts a → all_live (acted w who a).state ≤ all_live w.state
-acted_live w who guest ts a live fits =
-    total_below live_number live_number (acted w who a).state.statuses w.state.statuses (λ q. elim (eqb_tells q who.pid) [
-      | inl is ↦ (
-          let one : weight live_number (get w.state.statuses q) ≡ 1 = ap (weight live_number) (ap (get w.state.statuses) is.1 ∙ live) in
-          let most = at_most_one (get (acted w who a).state.statuses q) in
-          omega (arith, one, most))
-      | inr other ↦ (
-          let same = ap (weight live_number) (acted_status w who guest ts a q fits other.1) in
-          omega (arith, same))
-    ])
+-- what isn't live counts nothing
+not_counted : (o : Option Status) → o ≢ Some Live → weight live_number o ≡ 0
+not_counted None dead = refl
+not_counted (Some Live) dead = absurd (dead refl)
+not_counted (Some (Exit code)) dead = refl
+not_counted (Some (Killed signal)) dead = refl
 
--- a process that expires lives no more
-expired_live : (S : State) (p : ℕ) → get S.statuses p ≡ Some Live → all_live (end_state S p (Killed Xcpu)) + 1 ≡ all_live S
-expired_live S p live =
-    let ends = end_ends_only S p (Killed Xcpu) in
-    let statuses : (end_state S p (Killed Xcpu)).statuses ≡ insert S.statuses p (Killed Xcpu) =
-    same_around _ _ p (ends.stands ∙ sym (get-insert-same S.statuses p (Killed Xcpu)))
-    (λ q n. (ends.others q n).2 ∙ sym (get-insert-other S.statuses p (Killed Xcpu) q n)) in
-    let sums = total-insert live_number S.statuses p (Killed Xcpu) in
-    let one : weight live_number (get S.statuses p) ≡ 1 = ap (weight live_number) live in
-    let same = ap (total live_number) statuses in
-    omega (arith, sums, one, same)
+-- a process that an entry leaves counts no more after it than before
+other_counts : (w v : World) (a : Act) (q : ℕ) → IsLeft w v a q
+    → weight live_number (get v.state.statuses q) ≤ weight live_number (get w.state.statuses q)
+other_counts w v a q (is_born there) = absurd (no_births a q there)
+other_counts w v a q (is_ended was dead) = let none = not_counted (get v.state.statuses q) dead in omega (arith, none)
+other_counts w v a q (stays same) = let status = ap (weight live_number) same.status in omega (arith, status)
+
+-- where no other key weighs more in m than in n, the total of m is greater by no more than what the key k weighs more
+total_around : {X : Type 0} (f : X → ℕ) (m n : FinMap nat_cmp X) (k : ℕ) → ((q : ℕ) → q ≢ k → weight f (get m q) ≤ weight f (get n q))
+    → total f m + weight f (get n k) ≤ total f n + weight f (get m k)
+total_around f m n k others =
+    let below : total f (remove m k) ≤ total f (remove n k) =
+    total_below f f (remove m k) (remove n k) (λ q. elim (eqb_tells q k) [
+      | inl is ↦ (
+          let none : weight f (get (remove m k) q) ≡ 0 = ap (weight f) (ap (get (remove m k)) is.1 ∙ get-remove-same m k) in
+          omega (arith, none))
+      | inr other ↦ (
+          let there : weight f (get (remove m k) q) ≡ weight f (get m q) = ap (weight f) (get-remove-other m k q other.1) in
+          let here : weight f (get (remove n k) q) ≡ weight f (get n q) = ap (weight f) (get-remove-other n k q other.1) in
+          let less = others q other.1 in
+          omega (arith, there, here, less))
+    ]) in
+    let first = total-remove f m k in
+    let second = total-remove f n k in
+    omega (arith, below, first, second)
+
+-- after an entry at most as many processes are live as before it, and one less if its own is not
+lives_fall : (w : World) (e : Entry) → Fits w e
+    → all_live (apply w e).state + 1 ≤ all_live w.state + weight live_number (get (apply w e).state.statuses e.pid)
+lives_fall w e fits =
+    let one : weight live_number (get w.state.statuses e.pid) ≡ 1 = ap (weight live_number) (fits_live w e fits) in
+    let sums =
+    total_around live_number (apply w e).state.statuses w.state.statuses e.pid
+    (λ q apart. other_counts w (apply w e) e.act q (left_where w e q fits apart)) in
+    omega (arith, one, sums)
+
+-- ---- wakes
+
+no_wake : (o : Option Thread) → weight wakes_left o ≡ 0
+no_wake None = refl
+no_wake (Some Runnable) = refl
+
+no_wakes : (o : Option ProcessState) → weight all_wakes_left o ≡ 0
+no_wakes None = refl
+no_wakes (Some own) = total_none wakes_left own.threads (λ t. no_wake (get own.threads t))
+
+-- no thread has a wake left, since none waits
+wakes_none : (S : State) → total all_wakes_left S.processes ≡ 0
+wakes_none S = total_none all_wakes_left S.processes (λ p. no_wakes (get S.processes p))
 
 -- ---- entries
 
-act_falls : (w : World) (who : Who) (ts : List ℕ) (a : Act) → get w.state.statuses who.pid ≡ Some Live
-    → FitsAct w.constants w.state who (guest_of w who.pid) ts a → potential (acted (turned w who.pid ts) who a) < potential w
-act_falls w who ts (act.Call call given) live fits =
+-- the processes that are live after the entry are as many as before it, or less
+abbrev LivesFall : World → Who → List ℕ → Act → Type 0
+LivesFall w who ts a =
+    let after = (acted (turned w who.pid ts) who a).state in
+    all_live after + 1 ≤ all_live w.state + weight live_number (get after.statuses who.pid)
+
+-- where w becomes v by an act that takes a turn, or ends its process, less is left to do
+falls : (w v : World) → all_left v + 1 ≤ all_left w → all_live v.state ≤ all_live w.state → potential v < potential w
+falls w v left lives = omega (arith, wakes_none w.state, wakes_none v.state, jump_at_most v.state)
+
+act_falls : (w : World) (who : Who) (ts : List ℕ) (a : Act) → LivesFall w who ts a → FitsAct w.constants w.state who (guest_of w who.pid) ts a
+    → potential (acted (turned w who.pid ts) who a) < potential w
+act_falls w who ts (act.Call call given) lives fits =
     let turns = turned_all w who.pid ts in
     let same = acted_all (turned w who.pid ts) who (act.Call call given) in
-    let lives = acted_live (turned w who.pid ts) who (guest_of w who.pid) ts (act.Call call given) live fits in
+    let most = at_most_one (get (acted (turned w who.pid ts) who (act.Call call given)).state.statuses who.pid) in
     let less = last_takes w.state who.pid (guest_of w who.pid) ts who.tid Ecall fits.0.0 in
-    omega (arith, turns, same, lives, less)
-act_falls w who ts (act.Wake call given answered) live fits = absurd fits.0
-act_falls w who ts (act.Trap signal) live fits =
+    falls w (acted (turned w who.pid ts) who (act.Call call given)) (omega (arith, turns, same, less)) (omega (arith, lives, most))
+act_falls w who ts (act.Wake call given answered) lives fits = absurd fits.0
+act_falls w who ts (act.Trap signal) lives fits =
     let turns = turned_all w who.pid ts in
     let same = acted_all (turned w who.pid ts) who (act.Trap signal) in
-    let lives = acted_live (turned w who.pid ts) who (guest_of w who.pid) ts (act.Trap signal) live fits in
+    let most = at_most_one (get (acted (turned w who.pid ts) who (act.Trap signal)).state.statuses who.pid) in
     let less = last_takes w.state who.pid (guest_of w who.pid) ts who.tid (Trap signal) fits.0 in
-    omega (arith, turns, same, lives, less)
-act_falls w who ts act.Expire live fits =
+    falls w (acted (turned w who.pid ts) who (act.Trap signal)) (omega (arith, turns, same, less)) (omega (arith, lives, most))
+act_falls w who ts act.Expire lives fits =
     let turns = turned_all w who.pid ts in
     let same = acted_all (turned w who.pid ts) who act.Expire in
-    let lives = expired_live w.state who.pid live in
+    let after = end_state w.state who.pid (Killed Xcpu) in
+    let none = not_counted (get after.statuses who.pid) (ended_by w.state who.pid (Killed Xcpu) (killed_is_not_live Xcpu)) in
     let most = turned_left ts (guest_of w who.pid) in
-    omega (arith, turns, same, lives, most)
-act_falls w who ts act.Idle live fits = absurd fits.0
+    omega (arith, turns, same, lives, none, most, wakes_none w.state, wakes_none after, jump_at_most after)
+act_falls w who ts act.Idle lives fits = absurd fits.0
 
 -- each entry takes from what is left
-pub potential_falls : (w : World) (e : Entry) → Fits w e → potential (apply w e) < potential w
-potential_falls w e fits =
-    subst (λ (v : World). potential v < potential w) (sym (apply_is w e)) (act_falls w (who_of e) e.turns e.act (fits_live w e fits) fits.act)
+pub potential_falls : (w : World) (e : Entry) → IsValid w.state → Fits w e → potential (apply w e) < potential w
+potential_falls w e valid fits =
+    subst (λ (v : World). potential v < potential w) (sym (apply_is w e))
+    (act_falls w (who_of e) e.turns e.act
+    (subst (λ (v : World). all_live v.state + 1 ≤ all_live w.state + weight live_number (get v.state.statuses e.pid)) (apply_is w e) (lives_fall w e fits)) fits.act)
 
-follows_short : (w : World) (history : List Entry) → FollowsFrom w history → length history + potential (apply_all w history) ≤ potential w
+follows_short : (w : World) (history : List Entry) → IsValid w.state → FollowsFrom w history
+    → length history + potential (apply_all w history) ≤ potential w
 unfolding FollowsFrom apply_all
-follows_short w [] follows = omega arith
-follows_short w (e ∷ history) follows =
-    let rest : length history + potential (apply_all (apply w e) history) ≤ potential (apply w e) = follows_short (apply w e) history follows.1 in
-    let here : potential (apply w e) < potential w = potential_falls w e follows.0 in
-    omega arith
+follows_short w [] valid follows = omega arith
+follows_short w (e ∷ history) valid follows =
+    let rest : length history + potential (apply_all (apply w e) history) ≤ potential (apply w e) =
+    follows_short (apply w e) history (apply_valid w e follows.0 valid) follows.1 in
+    let here : potential (apply w e) < potential w = potential_falls w e valid follows.0 in
+    omega (arith, rest, here)
 
--- a launch begins with its turns and one process that lives
-start_potential : (launch : Launch) → potential (start_world launch) ≡ launch.turns + 1
+first_counts : (launch : Launch) → (all_left (start_world launch) ≡ launch.turns) × (all_live (start_world launch).state ≡ 1)
 unfolding start_world
-start_potential launch =
+first_counts launch =
     let no_guests : total left_of (empty {R = nat_cmp}) ≡ 0 = total-empty left_of in
     let no_lives : total live_number (empty {R = nat_cmp}) ≡ 0 = total-empty live_number in
     let no_guest : weight left_of (get (empty {R = nat_cmp}) 0) ≡ 0 = ap (weight left_of) (get-empty nat_cmp 0) in
     let no_life : weight live_number (get (empty {R = nat_cmp}) 0) ≡ 0 = ap (weight live_number) (get-empty nat_cmp 0) in
     let guests = total-insert left_of (empty {R = nat_cmp}) 0 (first_guest launch) in
     let lives = total-insert live_number (empty {R = nat_cmp}) 0 Live in
-    omega (arith, no_guests, no_lives, no_guest, no_life, guests, lives)
+    (omega (arith, no_guests, no_guest, guests), omega (arith, no_lives, no_life, lives))
 
-pub history_is_paid : (launch : Launch) (history : List Entry) → Legal launch history
-    → length history + potential (world launch history) ≤ launch.turns + 1
+-- a launch begins with its turns and one process that lives, and a thread of it is runnable
+start_potential : (launch : Launch) → potential (start_world launch) ≡ 6 * launch.turns + 2
+start_potential launch =
+    let counts = first_counts launch in
+    omega (arith, counts.0, counts.1, wakes_none (start_world launch).state, no_jump (start_world launch).state 0 1 (first_thread launch))
+
+pub history_is_paid : (launch : Launch) (history : List Entry) → MayBegin launch.tree launch.grants → Legal launch history
+    → length history + potential (world launch history) ≤ 6 * launch.turns + 2
 unfolding Legal world
-history_is_paid launch history legal =
-    let short = follows_short (start_world launch) history legal in
+history_is_paid launch history begins legal =
+    let short = follows_short (start_world launch) history (first_valid launch begins) legal in
     let start = start_potential launch in
     omega (arith, short, start)
 
-pub history_is_short : (launch : Launch) (history : List Entry) → Legal launch history → length history ≤ launch.turns + 1
-history_is_short launch history legal = omega (arith, history_is_paid launch history legal)
+pub history_is_short : (launch : Launch) (history : List Entry) → MayBegin launch.tree launch.grants → Legal launch history
+    → length history ≤ 6 * launch.turns + 2
+history_is_short launch history begins legal = omega (arith, history_is_paid launch history begins legal)
+
+pub turns_are_bounded : (launch : Launch) (history : List Entry) → Legal launch history → turns_taken history ≤ launch.turns
+unfolding Legal
+turns_are_bounded launch history legal =
+    let take = follows_take (start_world launch) history legal in
+    let first = (first_counts launch).0 in
+    omega (arith, take, first)

@@ -2,7 +2,6 @@
 use Rattle.std.proofs.Common.{◌≡◌, ◌≢◌, ◌⊎◌, ℕ, List, [], ◌∷◌, Option, Some, None, IsSome, inl, inr, refl, sym, ap, subst, ◌∙◌}
 use Rattle.std.proofs.lemmas.Bool.Decides.{eqb_tells}
 use Rattle.std.specs.Ordering.{nat_cmp}
-use Rattle.std.specs.Option.{option_map}
 use Rattle.std.specs.FinMap.{empty, get, get-empty}
 use Rattle.abi_types.specs.declared.reply.Answer.{Answer}
 use Rattle.abi_types.specs.declared.call.Call.{Call}
@@ -15,7 +14,7 @@ use Rattle.run_types.specs.declared.history.Act.{Act}
 use Rattle.run_types.specs.declared.history.Act.TheVariants as act
 use Rattle.run_types.specs.declared.history.Entry.{Entry}
 use Rattle.run_types.specs.declared.launch.Launch.{Launch}
-use Rattle.kernel_model.specs.State.{State, ProcessState, thread_in, thread_of}
+use Rattle.kernel_model.specs.State.{State, thread_in, thread_of}
 use Rattle.kernel_model.specs.Step.{IsStep}
 use Rattle.kernel_model.proofs.Steps.{insert_some, step_moves_only}
 use Rattle.kernel_model.proofs.Tests.{not_true}
@@ -24,12 +23,12 @@ use Rattle.maps.specs.Maps.{get-insert-same, get-insert-other}
 use Rattle.call_codec.specs.Put.{answered_of}
 use Rattle.call_codec.specs.Start.{first_registers}
 use Rattle.run_model.specs.Legal.{FitsAct, Fits, FollowsFrom, Legal}
-use Rattle.run_model.specs.Own.{IsLiveIn}
+use Rattle.run_model.specs.Own.{IsLiveIn, IsLeft, is_born, is_ended, stays}
 use Rattle.run_model.specs.World.{World, Guest, start_world, guest_of, registers_of, thread_turn, called_guest, called_state, turned_guest, turned_guest_by, turned, acted, who_of, apply, apply_all, world}
 use Rattle.run_model.proofs.Calls.{ended_by}
-use Rattle.run_model.proofs.Ends.{fits_live, apply_process, killed_is_not_live, start_only}
+use Rattle.run_model.proofs.Ends.{fits_live, killed_is_not_live, start_only}
 use Rattle.run_model.proofs.Histories.{apply_is, guest_set, guest_turned, first_guest_is, first_threads}
-use Rattle.run_model.proofs.Worlds.{apply_guest}
+use Rattle.run_model.proofs.Own.{no_births, own_or_left, same_threads}
 
 -- the guest has registers for the thread
 abbrev HasRegisters : Guest → ℕ → Type 0
@@ -83,17 +82,18 @@ own_registers : (w : World) (e : Entry) → Fits w e → AllHaveRegisters w e.pi
 own_registers w e fits before =
     subst (λ (v : World). AllHaveRegisters v e.pid) (sym (apply_is w e)) (acted_registers w (who_of e) e.turns e.act fits.act (fits_live w e fits) before)
 
-others_registers : (w : World) (e : Entry) (p : ℕ) → Fits w e → p ≢ e.pid → AllHaveRegisters w p → AllHaveRegisters (apply w e) p
-others_registers w e p fits apart before live t here =
-    let process = apply_process w e p fits apart in
-    subst (λ (g : Guest). HasRegisters g t) (sym (apply_guest w e p apart))
-    (before (sym process.2 ∙ live) t (subst IsSome (ap (λ o. thread_in (option_map (λ (own : ProcessState). own.threads) o) t) process.1) here))
+others_registers : (w : World) (e : Entry) (p : ℕ) → AllHaveRegisters w p → IsLeft w (apply w e) e.act p → AllHaveRegisters (apply w e) p
+others_registers w e p before (is_born there) live t here = absurd (no_births e.act p there)
+others_registers w e p before (is_ended was dead) live t here = absurd (dead live)
+others_registers w e p before (stays same) live t here =
+    subst (λ (g : Guest). HasRegisters g t) (sym same.guest)
+    (before (sym same.status ∙ live) t (subst IsSome (ap (λ o. thread_in o t) (same_threads (apply w e) w p same)) here))
 
 apply_registers : (w : World) (e : Entry) → Fits w e → ((p : ℕ) → AllHaveRegisters w p) → (p : ℕ) → AllHaveRegisters (apply w e) p
 apply_registers w e fits before p =
-    elim (eqb_tells p e.pid) [
-      | inl is ↦ subst (AllHaveRegisters (apply w e)) (sym is.1) (own_registers w e fits (before e.pid))
-      | inr other ↦ others_registers w e p fits other.1 (before p)
+    elim (own_or_left w e p fits) [
+      | inl is ↦ subst (AllHaveRegisters (apply w e)) (sym is.0) (own_registers w e fits (before e.pid))
+      | inr left ↦ others_registers w e p (before p) left
     ]
 
 follows_registers : (w : World) (history : List Entry) → FollowsFrom w history → ((p : ℕ) → AllHaveRegisters w p)

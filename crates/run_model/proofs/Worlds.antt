@@ -1,5 +1,5 @@
 -- What every entry keeps: valid states, the clock's pace, and the guests of other processes.
-use Rattle.std.proofs.Common.{◌≡◌, ◌≢◌, ℕ, ◌+◌, ◌*◌, List, [], ◌∷◌, length, refl, sym, ap, subst, ◌∙◌, arith}
+use Rattle.std.proofs.Common.{◌≡◌, ◌≢◌, ◌⊎◌, inl, inr, ℕ, ◌+◌, ◌*◌, ◌^◌, ◌≤◌, false, List, [], ◌∷◌, length, is_some, refl, sym, ap, subst, ◌∙◌, arith}
 use Rattle.abi_base.specs.declared.signal.Signal.TheVariants.{Xcpu}
 use Rattle.abi_types.specs.declared.status.Status.TheVariants.{Killed}
 use Rattle.abi_types.specs.declared.who.Who.{Who}
@@ -13,25 +13,28 @@ use Rattle.kernel_model.specs.Valid.{IsValid}
 use Rattle.kernel_model.proofs.Starts.{start_valid}
 use Rattle.kernel_model.proofs.Steps.{step_keeps_valid, end_valid, step_moves_only, end_ends_only}
 use Rattle.maps.specs.Maps.{get-insert-other}
+use Rattle.run_model.specs.Laws.{TakesTime, HasNoJump}
 use Rattle.run_model.specs.Legal.{FitsAct, Fits, FollowsFrom, Legal}
+use Rattle.run_model.specs.Own.{is_idle, IsLiveIn}
 use Rattle.run_model.specs.World.{World, Guest, start_world, or_no_guest, guest_of, called_guest, called_state, turned_guest_by, turned, acted, who_of, apply, apply_all, world}
+use Rattle.run_model.proofs.Ends.{killed_is_not_live}
 use Rattle.run_model.proofs.Histories.{apply_is, first_state}
 
 -- ---- valid states
 
-acted_valid : (w : World) (who : Who) (guest : Guest) (ts : List ℕ) (a : Act) → FitsAct w.constants w.state who guest ts a → IsValid w.state
-    → IsValid (acted w who a).state
-acted_valid w who guest ts (act.Call call given) fits valid =
+acted_valid : (w : World) (who : Who) (guest : Guest) (ts : List ℕ) (a : Act) → (is_idle a ≡ false → IsLiveIn w who.pid)
+    → FitsAct w.constants w.state who guest ts a → IsValid w.state → IsValid (acted w who a).state
+acted_valid w who guest ts (act.Call call given) live fits valid =
     step_keeps_valid w.constants w.state who call given (called_state w.constants w.state who call given) fits.1 valid
-acted_valid w who guest ts (act.Wake call given answered) fits valid = absurd fits.0
-acted_valid w who guest ts (act.Trap signal) fits valid = end_valid w.state who.pid (Killed signal) valid
-acted_valid w who guest ts act.Expire fits valid = end_valid w.state who.pid (Killed Xcpu) valid
-acted_valid w who guest ts act.Idle fits valid = absurd fits.0
+acted_valid w who guest ts (act.Wake call given answered) live fits valid = absurd fits.0
+acted_valid w who guest ts (act.Trap signal) live fits valid = end_valid w.state who.pid (Killed signal) (ap is_some (live refl)) valid
+acted_valid w who guest ts act.Expire live fits valid = end_valid w.state who.pid (Killed Xcpu) (ap is_some (live refl)) valid
+acted_valid w who guest ts act.Idle live fits valid = absurd fits.0
 
 pub apply_valid : (w : World) (e : Entry) → Fits w e → IsValid w.state → IsValid (apply w e).state
 apply_valid w e fits valid =
     subst (λ (v : World). IsValid v.state) (sym (apply_is w e))
-    (acted_valid (turned w e.pid e.turns) (who_of e) (guest_of w e.pid) e.turns e.act fits.act valid)
+    (acted_valid (turned w e.pid e.turns) (who_of e) (guest_of w e.pid) e.turns e.act fits.live fits.act valid)
 
 follows_valid : (w : World) (history : List Entry) → FollowsFrom w history → IsValid w.state → IsValid (apply_all w history).state
 unfolding FollowsFrom apply_all
@@ -42,9 +45,11 @@ legal_valid : (launch : Launch) (history : List Entry) → IsValid (start_world 
 unfolding Legal world
 legal_valid launch history start legal = follows_valid (start_world launch) history legal start
 
+pub first_valid : (launch : Launch) → MayBegin launch.tree launch.grants → IsValid (start_world launch).state
+first_valid launch begins = subst IsValid (sym (first_state launch)) (start_valid launch.tree launch.grants launch.stdin begins)
+
 pub world_is_valid : (launch : Launch) (history : List Entry) → MayBegin launch.tree launch.grants → Legal launch history → IsValid (world launch history).state
-world_is_valid launch history begins legal =
-    legal_valid launch history (subst IsValid (sym (first_state launch)) (start_valid launch.tree launch.grants launch.stdin begins)) legal
+world_is_valid launch history begins legal = legal_valid launch history (first_valid launch begins) legal
 
 -- ---- the clock
 
@@ -53,28 +58,72 @@ acted_clock : (w : World) (who : Who) (guest : Guest) (ts : List ℕ) (a : Act) 
 acted_clock w who guest ts (act.Call call given) fits =
     (step_moves_only w.constants w.state who call given (called_state w.constants w.state who call given) fits.1).clock
 acted_clock w who guest ts (act.Wake call given answered) fits = absurd fits.0
-acted_clock w who guest ts (act.Trap signal) fits = (end_ends_only w.state who.pid (Killed signal)).clock
-acted_clock w who guest ts act.Expire fits = (end_ends_only w.state who.pid (Killed Xcpu)).clock
+acted_clock w who guest ts (act.Trap signal) fits = (end_ends_only w.state who.pid (Killed signal) (killed_is_not_live signal)).clock
+acted_clock w who guest ts act.Expire fits = (end_ends_only w.state who.pid (Killed Xcpu) (killed_is_not_live Xcpu)).clock
 acted_clock w who guest ts act.Idle fits = absurd fits.0
 
--- an entry takes 1000 nanoseconds
-pub apply_clock : (w : World) (e : Entry) → Fits w e → (apply w e).state.clock ≡ w.state.clock + 1000
+-- an entry takes 1000 nanoseconds, unless it is an idle jump
+pub apply_clock : (w : World) (e : Entry) → Fits w e → TakesTime w (apply w e) e.act
 apply_clock w e fits =
+    let takes : (apply w e).state.clock ≡ w.state.clock + 1000 =
     ap (λ (v : World). v.state.clock) (apply_is w e)
-    ∙ acted_clock (turned w e.pid e.turns) (who_of e) (guest_of w e.pid) e.turns e.act fits.act
+    ∙ acted_clock (turned w e.pid e.turns) (who_of e) (guest_of w e.pid) e.turns e.act fits.act in
+    record { exact = λ _. takes; least = omega (arith, takes); most = inl takes }
 
-follows_clock : (w : World) (history : List Entry) → FollowsFrom w history → (apply_all w history).state.clock ≡ w.state.clock + 1000 * length history
+follows_least : (w : World) (history : List Entry) → FollowsFrom w history → w.state.clock + 1000 * length history ≤ (apply_all w history).state.clock
 unfolding FollowsFrom apply_all
-follows_clock w [] follows = omega arith
-follows_clock w (e ∷ history) follows =
-    let rest : (apply_all (apply w e) history).state.clock ≡ (apply w e).state.clock + 1000 * length history = follows_clock (apply w e) history follows.1 in
-    let here : (apply w e).state.clock ≡ w.state.clock + 1000 = apply_clock w e follows.0 in
+follows_least w [] follows = omega arith
+follows_least w (e ∷ history) follows =
+    let rest : (apply w e).state.clock + 1000 * length history ≤ (apply_all (apply w e) history).state.clock = follows_least (apply w e) history follows.1 in
+    let here : w.state.clock + 1000 ≤ (apply w e).state.clock = (apply_clock w e follows.0).least in
     omega arith
 
-pub clock_counts : (launch : Launch) (history : List Entry) → Legal launch history → (world launch history).state.clock ≡ 1000 * length history
+-- an entry that comes after n others leads to no more than these, it and the jumps take
+most_after : (before after n : ℕ) → before ≤ 2 ^ 62 + 1000 * n → (after ≡ before + 1000) ⊎ (after ≤ 2 ^ 62) → after ≤ 2 ^ 62 + 1000 * (n + 1)
+most_after before after n most (inl exact) = omega arith
+most_after before after n most (inr jump) = omega arith
+
+follows_most : (w : World) (history : List Entry) (n : ℕ) → FollowsFrom w history → w.state.clock ≤ 2 ^ 62 + 1000 * n
+    → (apply_all w history).state.clock ≤ 2 ^ 62 + 1000 * (n + length history)
+unfolding FollowsFrom apply_all
+follows_most w [] n follows most = omega arith
+follows_most w (e ∷ history) n follows most =
+    let here : (apply w e).state.clock ≤ 2 ^ 62 + 1000 * (n + 1) =
+    most_after w.state.clock (apply w e).state.clock n most (apply_clock w e follows.0).most in
+    let rest : (apply_all (apply w e) history).state.clock ≤ 2 ^ 62 + 1000 * (n + 1 + length history) =
+    follows_most (apply w e) history (n + 1) follows.1 here in
+    omega arith
+
+follows_exact : (w : World) (history : List Entry) → FollowsFrom w history → HasNoJump history
+    → (apply_all w history).state.clock ≡ w.state.clock + 1000 * length history
+unfolding FollowsFrom apply_all
+follows_exact w [] follows none = omega arith
+follows_exact w (e ∷ history) follows none =
+    let rest : (apply_all (apply w e) history).state.clock ≡ (apply w e).state.clock + 1000 * length history =
+    follows_exact (apply w e) history follows.1 none.1 in
+    let here : (apply w e).state.clock ≡ w.state.clock + 1000 = (apply_clock w e follows.0).exact none.0 in
+    omega arith
+
+-- the clock is at 0 at the start
+pub first_clock : (launch : Launch) → (start_world launch).state.clock ≡ 0
+first_clock launch = ap (λ (S : State). S.clock) (first_state launch)
+
+pub clock_counts : (launch : Launch) (history : List Entry) → Legal launch history
+    → (1000 * length history ≤ (world launch history).state.clock) × ((world launch history).state.clock ≤ 2 ^ 62 + 1000 * length history)
 unfolding Legal world
 clock_counts launch history legal =
-    follows_clock (start_world launch) history legal ∙ ap (λ (S : State). S.clock + 1000 * length history) (first_state launch) ∙ omega arith
+    let first = first_clock launch in
+    let least = follows_least (start_world launch) history legal in
+    let most = follows_most (start_world launch) history 0 legal (omega (arith, first)) in
+    (omega (arith, first, least), omega (arith, most))
+
+pub clock_is_exact : (launch : Launch) (history : List Entry) → Legal launch history → HasNoJump history
+    → (world launch history).state.clock ≡ 1000 * length history
+unfolding Legal world
+clock_is_exact launch history legal none =
+    let first = first_clock launch in
+    let exact = follows_exact (start_world launch) history legal none in
+    omega (arith, first, exact)
 
 -- ---- the guests of other processes
 

@@ -1,5 +1,5 @@
 -- How a run may end, and how an act ends its process.
-use Rattle.std.specs.Prelude.{◌≡◌, ℕ, ◌+◌, List, Some}
+use Rattle.std.specs.Prelude.{◌≡◌, ℕ, ◌+◌, ◌*◌, Bool, true, false, List, [], ◌∷◌, length, Some, is_some}
 use Rattle.abi_base.specs.declared.signal.Signal.TheVariants.{Xcpu}
 use Rattle.abi_types.specs.declared.status.Status.{Status}
 use Rattle.abi_types.specs.declared.status.Status.TheVariants.{Live, Exit, Killed}
@@ -10,8 +10,8 @@ use Rattle.run_types.specs.declared.history.Act.TheVariants as act
 use Rattle.run_types.specs.declared.history.Entry.{Entry}
 use Rattle.run_types.specs.declared.launch.Launch.{Launch}
 use Rattle.kernel_model.specs.Ends.{NoneLive}
-use Rattle.kernel_model.specs.State.{State, thread_of}
-use Rattle.maps.specs.Maps.{total}
+use Rattle.kernel_model.specs.State.{State, ProcessState, thread_of}
+use Rattle.maps.specs.Maps.{total, least_key}
 use Rattle.run_model.specs.World.{World, Guest, world}
 
 -- the run is ended
@@ -46,12 +46,50 @@ EndsBy act.Idle status = ⊥
 
 -- ---- how long a run may be
 
+-- the turns that the entries of a history took
+abbrev pub turns_taken : List Entry → ℕ
+turns_taken [] = 0
+turns_taken (e ∷ es) = length e.turns + turns_taken es
+
 -- 1 while a process with this status is live
 abbrev pub live_number : Status → ℕ
 live_number Live = 1
 live_number (Exit code) = 0
 live_number (Killed signal) = 0
 
--- what is left to do: the turns that the processes have left, and one more for each that lives
+-- How many wakes a thread may still have before its process takes a turn again. One that doesn't wait has none, and no call makes a
+-- thread wait yet.
+abbrev pub wakes_left : Thread → ℕ
+wakes_left Runnable = 0
+
+-- those of all threads of a process
+abbrev pub all_wakes_left : ProcessState → ℕ
+all_wakes_left own = total wakes_left own.threads
+
+-- whether a thread takes its turns
+abbrev pub runs : Thread → Bool
+runs Runnable = true
+
+-- whether some thread of a process does
+abbrev pub some_runs : ℕ → ProcessState → Bool
+some_runs p own = is_some (least_key (λ _ thread. runs thread) own.threads)
+
+-- how many jumps of time may come next: one, unless some thread takes turns
+abbrev pub jumps_unless : Bool → ℕ
+jumps_unless true = 0
+jumps_unless false = 1
+
+abbrev pub jumps_left : State → ℕ
+jumps_left S = jumps_unless (is_some (least_key some_runs S.processes))
+
+-- What is left to do, counted in entries:
+-- Six for each turn that a process has left. These are the entry that the turn comes to, two wakes of a call with a jump each, and one
+-- jump more. A call that makes a process has no wake, so they pay for the process too.
+-- Two for each process that lives, its end and a jump.
+-- Two for each wake that a thread may still have, the wake and a jump.
+-- And the jump that may come next.
 abbrev pub potential : World → ℕ
-potential w = total (λ (guest : Guest). guest.left) w.guests + total live_number w.state.statuses
+potential w =
+    6 * total (λ (guest : Guest). guest.left) w.guests + 2 * total live_number w.state.statuses
+    + 2 * total all_wakes_left w.state.processes
+    + jumps_left w.state

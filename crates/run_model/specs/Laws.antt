@@ -1,5 +1,5 @@
 -- What holds of every legal history: the statements that are the contracts of the functions of src/laws.rt.
-use Rattle.std.specs.Prelude.{◌≡◌, ◌≢◌, ◌⊎◌, ◌+◌, ◌*◌, ◌<◌, ◌≤◌, List, [], ◌∷◌, ◌++◌, length}
+use Rattle.std.specs.Prelude.{◌≡◌, ◌≢◌, ◌⊎◌, ◌+◌, ◌*◌, ◌^◌, ◌<◌, ◌≤◌, false, List, [], ◌∷◌, ◌++◌, length}
 use Rattle.abi_types.specs.declared.reply.Answer.TheVariants as answer
 use Rattle.std.specs.List.{AllByRecursion}
 use Rattle.abi_base.specs.declared.errno.Errno.TheVariants.{Nomem, Notcapable}
@@ -15,8 +15,9 @@ use Rattle.kernel_model.specs.Valid.{IsValid}
 use Rattle.guest_memory.specs.Page.{Pages}
 use Rattle.call_codec.specs.Arguments.{args_of}
 use Rattle.run_model.specs.Confined.{IsConfined}
-use Rattle.run_model.specs.Ends.{Ended, Stalled, potential}
+use Rattle.run_model.specs.Ends.{Ended, Stalled, turns_taken, potential}
 use Rattle.run_model.specs.Legal.{Fits, Legal}
+use Rattle.run_model.specs.Own.{is_idle}
 use Rattle.run_model.specs.World.{World, apply, world}
 
 -- ---- legal histories
@@ -70,21 +71,48 @@ EncodedIsNotBadf = (m : Pages) (r : Registers) → ¬ IsBadfBefore (args_of m r)
 abbrev pub WorldIsValid : Type 0
 WorldIsValid = (launch : Launch) (history : List Entry) → MayBegin launch.tree launch.grants → Legal launch history → IsValid (world launch history).state
 
--- The clock of a legal history is at 1000 nanoseconds for each entry.
+-- Time goes on by 1000 nanoseconds from the world w to the world v, or more where the act between them is an idle jump. A jump that takes
+-- longer leads to a deadline, of which none counts that is later than 2^62.
+pub record TakesTime (w v : World) (a : Act) : Type 0 where
+  pub exact : is_idle a ≡ false → v.state.clock ≡ w.state.clock + 1000
+  pub least : w.state.clock + 1000 ≤ v.state.clock
+  pub most : (v.state.clock ≡ w.state.clock + 1000) ⊎ (v.state.clock ≤ 2 ^ 62)
+
+-- So it is with each entry.
+abbrev pub EntryTakesTime : Type 0
+EntryTakesTime = (w : World) (e : Entry) → Fits w e → TakesTime w (apply w e) e.act
+
+-- The clock of a legal history is at 1000 nanoseconds for each entry at least, and at no more than that and 2^62 for the jumps.
 abbrev pub ClockCounts : Type 0
-ClockCounts = (launch : Launch) (history : List Entry) → Legal launch history → (world launch history).state.clock ≡ 1000 * length history
+ClockCounts =
+    (launch : Launch) (history : List Entry) → Legal launch history
+    → (1000 * length history ≤ (world launch history).state.clock) × ((world launch history).state.clock ≤ 2 ^ 62 + 1000 * length history)
+
+-- no entry of the history is an idle jump
+abbrev pub HasNoJump : List Entry → Type 0
+HasNoJump history = AllByRecursion (λ (e : Entry). is_idle e.act ≡ false) history
+
+-- Where no entry is an idle jump it is at 1000 nanoseconds for each.
+abbrev pub ClockIsExact : Type 0
+ClockIsExact =
+    (launch : Launch) (history : List Entry) → Legal launch history → HasNoJump history → (world launch history).state.clock ≡ 1000 * length history
 
 -- ---- ends
 
--- Each entry takes from what is left to do: a turn of its process, or the life of one that has no turn left.
-abbrev pub EntryTakes : Type 0
-EntryTakes = (w : World) (e : Entry) → Fits w e → potential (apply w e) < potential w
+-- The entries of a legal history took no more turns than the launch has.
+abbrev pub TurnsAreBounded : Type 0
+TurnsAreBounded = (launch : Launch) (history : List Entry) → Legal launch history → turns_taken history ≤ launch.turns
 
--- The entries of a legal history and what is left to do after them are together at most one more than the launch's turns.
--- So it has at most one entry more than the launch has turns.
+-- Each entry takes from what is left to do.
+abbrev pub EntryTakes : Type 0
+EntryTakes = (w : World) (e : Entry) → IsValid w.state → Fits w e → potential (apply w e) < potential w
+
+-- The entries of a legal history of a launch with proper grants and what is left to do after them are together at most six times the
+-- launch's turns and two more. So it has no more entries than that.
 abbrev pub HistoryIsShort : Type 0
 HistoryIsShort =
-    (launch : Launch) (history : List Entry) → Legal launch history → length history + potential (world launch history) ≤ launch.turns + 1
+    (launch : Launch) (history : List Entry) → MayBegin launch.tree launch.grants → Legal launch history
+    → length history + potential (world launch history) ≤ 6 * launch.turns + 2
 
 -- No entry may follow where the run is ended.
 abbrev pub EndedIsFinal : Type 0
@@ -94,14 +122,19 @@ EndedIsFinal = (launch : Launch) (history : List Entry) (e : Entry) → Ended la
 abbrev pub StalledIsFinal : Type 0
 StalledIsFinal = (launch : Launch) (history : List Entry) (e : Entry) → Stalled launch history → Fits (world launch history) e → ⊥
 
--- No run stalls, since no call makes a thread wait.
-abbrev pub NeverStalled : Type 0
-NeverStalled = (launch : Launch) (history : List Entry) → Legal launch history → Stalled launch history → ⊥
+-- No run is both ended and stalled, if the launch's grants are proper.
+abbrev pub EndedOrStalled : Type 0
+EndedOrStalled =
+    (launch : Launch) (history : List Entry) → MayBegin launch.tree launch.grants → Legal launch history → Ended launch history → Stalled launch history → ⊥
 
--- The run of a legal history is ended, or some entry may follow.
+-- The run of a legal history of a launch with proper grants is ended or stalled, or some entry may follow.
 abbrev pub EndsOrGoesOn : Type 0
-EndsOrGoesOn = (launch : Launch) (history : List Entry) → Legal launch history → Ended launch history ⊎ ((e : Entry) × Fits (world launch history) e)
+EndsOrGoesOn =
+    (launch : Launch) (history : List Entry) → MayBegin launch.tree launch.grants → Legal launch history
+    → Ended launch history ⊎ (Stalled launch history ⊎ ((e : Entry) × Fits (world launch history) e))
 
--- Each launch has a legal history whose run is ended.
+-- Each launch with proper grants has a legal history whose run is ended or stalled.
 abbrev pub RunsToItsEnd : Type 0
-RunsToItsEnd = (launch : Launch) → (history : List Entry) × Legal launch history × Ended launch history
+RunsToItsEnd =
+    (launch : Launch) → MayBegin launch.tree launch.grants
+    → (history : List Entry) × Legal launch history × (Ended launch history ⊎ Stalled launch history)

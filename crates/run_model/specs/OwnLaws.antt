@@ -1,21 +1,29 @@
 -- What entries leave of the processes that did not do them, and what each process of a legal history has: the statements that are the
 -- contracts of functions of src/laws.rt.
-use Rattle.std.specs.Prelude.{◌≡◌, ℕ, ◌^◌, ◌<◌, false, List, ◌++◌, length, IsSome}
+use Rattle.std.specs.Prelude.{◌≡◌, ℕ, ◌^◌, ◌<◌, false, List, ◌++◌, length, Contains, IsSome}
 use Rattle.std.specs.FinMap.{get}
 use Rattle.abi_types.specs.declared.who.Who.{Who}
 use Rattle.run_types.specs.declared.history.Act.{Act}
 use Rattle.run_types.specs.declared.history.Entry.{Entry}
 use Rattle.run_types.specs.declared.launch.Launch.{Launch}
 use Rattle.call_codec.specs.Bounded.{IsBounded}
-use Rattle.kernel_model.specs.State.{thread_of}
+use Rattle.kernel_model.specs.State.{threads_of, thread_of}
 use Rattle.run_model.specs.Legal.{Asks, Fits, Legal}
-use Rattle.run_model.specs.Own.{is_own, own, Made, IsLiveIn, Same}
+use Rattle.run_model.specs.Own.{is_own, own, born, Made, IsLiveIn, Same, IsLeft}
 use Rattle.run_model.specs.World.{World, guest_of, apply, world}
 
 -- ---- other processes
 
+-- An entry makes a process that did not do it, or ends it, or leaves it as it was.
+abbrev pub EntryLeavesOthers : Type 0
+EntryLeavesOthers = (w : World) (e : Entry) (q : ℕ) → Fits w e → is_own q e ≡ false → IsLeft w (apply w e) e.act q
+
+-- A process that an entry makes was not made before it, and is made after it.
+abbrev pub BornIsNew : Type 0
+BornIsNew = (w : World) (e : Entry) (q : ℕ) → Fits w e → Contains (born e.act) q → (Made w q → ⊥) × Made (apply w e) q
+
 -- An entry leaves a process that did not do it, that was made before it and that is live after it as it was: its memory, registers and
--- turns, its threads and its status.
+-- turns, its descriptors, its threads and what else is its own, and its status.
 abbrev pub OthersStay : Type 0
 OthersStay = (w : World) (e : Entry) (q : ℕ) → Fits w e → is_own q e ≡ false → Made w q → IsLiveIn (apply w e) q → Same (apply w e) w q
 
@@ -32,10 +40,11 @@ LeftAlone =
     (launch : Launch) (seen rest log : List Entry) (q : ℕ) → Legal launch log → log ≡ seen ++ rest → own q seen ≡ own q log
     → Made (world launch seen) q → IsLiveIn (world launch log) q → Same (world launch log) (world launch seen) q
 
--- What a process asks for by an act it asks for in each world in which it is the same.
+-- What a process asks for by an act it asks for in each world in which it has the same memory, registers, turns and threads.
 abbrev pub AsksStay : Type 0
 AsksStay =
-    (w v : World) (who : Who) (ts : List ℕ) (a : Act) → Same v w who.pid → Asks w.state who (guest_of w who.pid) ts a
+    (w v : World) (who : Who) (ts : List ℕ) (a : Act) → guest_of v who.pid ≡ guest_of w who.pid
+    → threads_of v.state who.pid ≡ threads_of w.state who.pid → Asks w.state who (guest_of w who.pid) ts a
     → Asks v.state who (guest_of v who.pid) ts a
 
 -- ---- each process

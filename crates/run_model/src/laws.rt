@@ -1,7 +1,7 @@
 //! Laws of legal histories. The statements are in `specs/Laws.antt`, and each holds of every launch and history.
-ghost use Rattle.run_model.specs.Laws.{LegalBegins, LegalGoesOn, EachEntryFits, EntryIsOne, LegalIsConfined, WorldIsValid, ClockCounts, EntryTakes, EncodedIsPlain, EncodedIsNotBadf};
-ghost use Rattle.run_model.specs.Laws.{HistoryIsShort, EndedIsFinal, StalledIsFinal, NeverStalled, EndsOrGoesOn, RunsToItsEnd};
-ghost use Rattle.run_model.specs.OwnLaws.{OthersStay, MadeLater, LeftAlone, AsksStay, LegalHasRegisters, MomentIsEarly, LengthIsBounded};
+ghost use Rattle.run_model.specs.Laws.{LegalBegins, LegalGoesOn, EachEntryFits, EntryIsOne, LegalIsConfined, WorldIsValid, EntryTakesTime, ClockCounts, ClockIsExact, TurnsAreBounded, EntryTakes, EncodedIsPlain, EncodedIsNotBadf};
+ghost use Rattle.run_model.specs.Laws.{HistoryIsShort, EndedIsFinal, StalledIsFinal, EndedOrStalled, EndsOrGoesOn, RunsToItsEnd};
+ghost use Rattle.run_model.specs.OwnLaws.{EntryLeavesOthers, BornIsNew, OthersStay, MadeLater, LeftAlone, AsksStay, LegalHasRegisters, MomentIsEarly, LengthIsBounded};
 
 /// The empty history is legal, an entry that fits the world of a legal history may follow it, and no other history is
 /// legal: what stands before each entry of a legal history is legal, and the entry fits its world.
@@ -34,13 +34,24 @@ pub fn world_is_valid()
     ensures { WorldIsValid }
 {}
 
-/// The clock of a legal history is at 1000 nanoseconds for each entry.
+/// An entry takes 1000 nanoseconds, and an idle jump at least as long; one that takes longer leads to a moment of at most 2^62.
+/// So the clock of a legal history is at 1000 nanoseconds for each entry at least, and at no more than that and 2^62, and at
+/// exactly that where no entry is an idle jump.
 pub fn clock_counts()
-    ensures { ClockCounts }
+    ensures each { EntryTakesTime }
+    ensures bounds { ClockCounts }
+    ensures exact { ClockIsExact }
+{}
+
+/// An entry makes a process that did not do it, or ends it, or leaves it as it was; and a process that it makes was not made
+/// before.
+pub fn entry_leaves_others()
+    ensures left { EntryLeavesOthers }
+    ensures born { BornIsNew }
 {}
 
 /// An entry leaves a process that did not do it, that was made before it and that is live after it as it was: its memory,
-/// registers and turns, its threads and its status.
+/// registers and turns, its descriptors, its threads and what else is its own, and its status.
 pub fn others_stay()
     ensures { OthersStay }
 {}
@@ -56,7 +67,7 @@ pub fn left_alone()
     ensures { LeftAlone }
 {}
 
-/// What a process asks for by an act it asks for in each world in which it is the same.
+/// What a process asks for by an act it asks for in each world in which it has the same memory, registers, turns and threads.
 pub fn asks_stay()
     ensures { AsksStay }
 {}
@@ -72,25 +83,24 @@ pub fn moment_is_early()
     ensures short { LengthIsBounded }
 {}
 
-/// Each entry takes from what is left to do, the turns that processes have left and one for each that lives. The entries of
-/// a legal history and what is left after them are together at most one more than the launch's turns.
+/// The entries of a legal history took no more turns than the launch has.
+/// Each entry takes from what is left to do, which is counted in entries: for the turns that processes have left, for those
+/// that live and for the threads that wait. The entries of a legal history and what is left after them are together at most six
+/// times the launch's turns and two more.
 pub fn history_is_short()
+    ensures turns { TurnsAreBounded }
     ensures takes { EntryTakes }
     ensures short { HistoryIsShort }
 {}
 
-/// No entry may follow where the run is ended or stalled.
+/// No entry may follow where the run is ended or stalled, and it isn't both.
 pub fn ended_is_final()
     ensures ended { EndedIsFinal }
     ensures stalled { StalledIsFinal }
+    ensures apart { EndedOrStalled }
 {}
 
-/// No run stalls, since no call makes a thread wait.
-pub fn never_stalled()
-    ensures { NeverStalled }
-{}
-
-/// A run that is not ended may go on, and each launch has a run that ends.
+/// A run that is neither ended nor stalled may go on, and each launch has a run that ends or stalls.
 pub fn runs_to_its_end()
     ensures goes_on { EndsOrGoesOn }
     ensures ends { RunsToItsEnd }

@@ -10,7 +10,7 @@ use Rattle.run_model.specs.Legal.{Fits}
 use Rattle.run_model.specs.Own.{born, Made}
 use Rattle.run_model.specs.World.{World, apply, world}
 use Rattle.run_model.proofs.Histories.{world_none, first_state}
-use Rattle.shared_history.proofs.Owners.{contains_none}
+use Rattle.run_model.proofs.Own as own
 
 -- process 0 is made at the start
 pub first_made : (launch : Launch) → Made (world launch []) 0
@@ -20,7 +20,7 @@ first_made launch =
 
 -- a process that an act makes was not there before, and is there afterwards
 pub born_is_new : (w : World) (e : Entry) (q : ℕ) → Fits w e → Contains (born e.act) q → Made w q → ⊥
-born_is_new w e q fits there made = contains_none q there
+born_is_new w e q fits there made = (own.born_is_new w e q fits there).0 made
 
 pub born_is_made : (w : World) (e : Entry) (q : ℕ) → Fits w e → Contains (born e.act) q → Made (apply w e) q
-born_is_made w e q fits there = absurd (contains_none q there)
+born_is_made w e q fits there = (own.born_is_new w e q fits there).1

@@ -36,7 +36,7 @@ use Rattle.kernel_model.specs.Reply.{denied, refused, success}
 use Rattle.kernel_model.specs.Rows.{asking_row, both, where_set}
 use Rattle.kernel_model.specs.State.{ProcessState, Part, Table, Tree, tree_of, at_node, at_names, set_open, set_table}
 use Rattle.kernel_model.specs.Families.TreeUpdates.{Change, change_updates, no_change}
-use Rattle.kernel_model.specs.Valid.{fits, fits_inheriting}
+use Rattle.kernel_model.specs.Fits.{fits, fits_inheriting}
 use Rattle.kernel_model.specs.View.{whole}
 
 -- ---- flags of opening: CREAT is 1, DIRECTORY is 2, EXCL is 4, TRUNC is 8

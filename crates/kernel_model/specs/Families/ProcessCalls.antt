@@ -9,11 +9,11 @@ use Rattle.kernel_model.specs.Meaning.{Meaning, answering, unbuilt_listing, unbu
 use Rattle.kernel_model.specs.Outcome.{Outcome}
 use Rattle.kernel_model.specs.Reply.{success}
 use Rattle.kernel_model.specs.Rows.{base_row}
-use Rattle.kernel_model.specs.State.{ProcessState, Update, set_table, set_process, set_status, counts_in, no_locks}
+use Rattle.kernel_model.specs.State.{ProcessState, Update, set_table, set_process, set_status, counts_in, depth_in, no_locks}
 
--- what an ended process has left: no thread, nobody who waits, and its counts
+-- what an ended process has left: no thread, nobody who waits, its counts, and its depth
 abbrev pub ended_process : Option ProcessState → ProcessState
-ended_process own = record { threads = empty; counts = counts_in own; locks = no_locks }
+ended_process own = record { threads = empty; counts = counts_in own; locks = no_locks; depth = depth_in own }
 
 -- the end of a process that has this of its own: its status, and no descriptor and no thread left
 abbrev pub end_updates : ℕ → Option ProcessState → Status → List Update

@@ -1,3 +1,4 @@
+use Rattle.authority_laws.proofs.OpenTargets as targets
 use Rattle.authority_laws.proofs.Records as records
 use Rattle.authority_laws.proofs.Traces as traces
 use Rattle.authority_laws.proofs.laws.held_is_traced.Goals as goal
@@ -9,7 +10,10 @@ pub returns-clause-held : goal.returns-clause-held
 returns-clause-held c = traces.traced_is_held
 
 pub returns-clause-rights : goal.returns-clause-rights
-returns-clause-rights c = traces.traced_is_within_grant
+returns-clause-rights c = traces.traced_is_within_root
+
+pub returns-clause-files : goal.returns-clause-files
+returns-clause-files c = targets.files_come_from_grants
 
 pub returns-clause-tables : goal.returns-clause-tables
 returns-clause-tables c = records.tables_are_recorded

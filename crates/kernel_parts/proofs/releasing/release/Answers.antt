@@ -1,53 +1,80 @@
-use Rattle.std.proofs.Common.{◌≡◌, ap, refl, ◌∙◌}
-use Rattle.std.specs.Option.{is_some}
-use Rattle.object_store.proofs.Unheld.{none_popped}
-use Rattle.object_store.specs.Objects.{unheld_removed}
-use Rattle.kernel_parts.proofs.Releases.{after_node, after_none, fewer, left_after, of_no_other, release_starts, tree_in_the_end}
+use Rattle.std.proofs.Common.{◌≡◌, ◌<◌, is_some, sym, ap, subst, ◌∙◌}
+use Rattle.std.specs.FinMap.{get, len}
+use Rattle.maps.specs.Maps.{number}
+use Rattle.object_store.specs.Objects.{Held}
+use Rattle.kernel_model.specs.State.{State}
+use Rattle.kernel_parts.specs.Released.{state_by}
+use Rattle.kernel_parts.proofs.Releases.{after_node, after_none, after_process, fewer, going_starts, in_the_end, of_no_other, still_counted}
 use Rattle.kernel_parts.proofs.releasing.release.Goals as goal
-use Rattle.kernel_parts.proofs.releasing.release.Goals.{After-forget_unused, In_default, In_default-node_of}
+use Rattle.kernel_parts.proofs.releasing.release.Goals.{After-kill-arg-in-Process-3-1}
 
 pub loop-kind-init : goal.loop-kind-init
-loop-kind-init c = record { left = refl; between = release_starts c.args.objects.now c.args.tree.now c.requires.used; tree = c.requires.tree }
+loop-kind-init c =
+    going_starts c.args.tables.now c.args.processes.now c.args.statuses.now c.args.objects.now c.args.tree.now c.requires.tree c.requires.used c.requires.counted
+    c.requires.tables c.requires.processes
+
+abbrev first : (c : After-kill-arg-in-Process-3-1) → State
+first c = state_by c.args.tables.now c.args.processes.now c.args.statuses.now c.args.objects.now.kinds c.args.tree.now
+
+pub kill-requires-clause-counted : goal.kill-requires-clause-counted
+kill-requires-clause-counted c =
+    still_counted (first c) c.args.tree.now c.loop-kind.tree c.loop-kind.tables c.loop-kind.processes c.loop-kind.statuses c.loop-kind.objects c.pop_unheld.new.self
+    c.in-Some.field-0-0 c.in-Some.kind c.in-Some.ensures.unheld c.in-Some.ensures.kind c.in-Some.ensures.new c.loop-kind.invariant
+
+pub kill-requires-clause-tables : goal.kill-requires-clause-tables
+kill-requires-clause-tables c = c.loop-kind.invariant.all_tables
+
+pub kill-requires-clause-processes : goal.kill-requires-clause-processes
+kill-requires-clause-processes c = c.loop-kind.invariant.all_own
+
+pub loop-kind-smaller-in-Process : goal.loop-kind-smaller-in-Process
+loop-kind-smaller-in-Process c =
+    subst (λ n. n < len c.loop-kind.objects.kinds) (sym (ap (λ m. len m) c.kill.ensures.kinds))
+    (fewer (state_by c.args.tables.now c.args.processes.now c.args.statuses.now c.args.objects.now.kinds c.args.tree.now) c.args.tree.now c.loop-kind.tree
+    c.loop-kind.tables c.loop-kind.processes c.loop-kind.statuses c.loop-kind.objects c.pop_unheld.new.self c.in-Some.field-0-0 c.in-Some.kind
+    c.in-Some.ensures.unheld c.in-Some.ensures.kind c.in-Some.ensures.new c.loop-kind.invariant)
+
+pub loop-kind-preserved-in-Process : goal.loop-kind-preserved-in-Process
+loop-kind-preserved-in-Process c =
+    after_process (state_by c.args.tables.now c.args.processes.now c.args.statuses.now c.args.objects.now.kinds c.args.tree.now) c.args.tree.now c.loop-kind.tree
+    c.loop-kind.tables c.loop-kind.processes c.loop-kind.statuses c.loop-kind.objects c.pop_unheld.new.self c.in-Some.field-0-0 c.in-Some.kind
+    c.in-Some.ensures.unheld c.in-Some.ensures.kind c.in-Some.ensures.new c.loop-kind.invariant c.in-Process.pid c.kill.new.tables c.kill.new.processes
+    c.kill.new.statuses c.kill.new.objects c.in-Process.is c.kill.ensures.kinds c.kill.ensures.counted c.kill.ensures.parts
 
 pub loop-kind-smaller-in-Some-node_of : goal.loop-kind-smaller-in-Some-node_of
 loop-kind-smaller-in-Some-node_of c =
-    fewer c.args.objects.now c.loop-kind.objects c.pop_unheld.new.self c.args.tree.now c.loop-kind.tree c.in-Some.field-0-0 c.in-Some.kind
-    c.in-Some.ensures.unheld c.in-Some.ensures.kind c.in-Some.ensures.new c.loop-kind.invariant.left
+    fewer (state_by c.args.tables.now c.args.processes.now c.args.statuses.now c.args.objects.now.kinds c.args.tree.now) c.args.tree.now c.loop-kind.tree
+    c.loop-kind.tables c.loop-kind.processes c.loop-kind.statuses c.loop-kind.objects c.pop_unheld.new.self c.in-Some.field-0-0 c.in-Some.kind
+    c.in-Some.ensures.unheld c.in-Some.ensures.kind c.in-Some.ensures.new c.loop-kind.invariant
 
 pub loop-kind-preserved-in-Some-node_of : goal.loop-kind-preserved-in-Some-node_of
-loop-kind-preserved-in-Some-node_of c = record {
-  left = left_after c.args.objects.now c.loop-kind.objects c.pop_unheld.new.self c.args.tree.now c.loop-kind.tree c.in-Some.field-0-0 c.in-Some.kind
-      c.in-Some.ensures.unheld c.in-Some.ensures.kind c.in-Some.ensures.new c.loop-kind.invariant.left;
-  between = after_node c.args.objects.now c.loop-kind.objects c.pop_unheld.new.self c.args.tree.now c.loop-kind.tree c.in-Some.field-0-0 c.in-Some.kind
-      c.in-Some.ensures.unheld c.in-Some.ensures.kind c.in-Some.ensures.new c.loop-kind.invariant.left c.in-Some-node_of.node c.forget_unused.new.tree
-      (of_no_other c.in-Some.kind c.in-Some-node_of.node c.in-Some-node_of.ensures) c.forget_unused.ensures.used c.forget_unused.ensures.absent c.forget_unused.ensures.unused
-      c.loop-kind.invariant.between;
-  tree = c.forget_unused.ensures.tree;
-}
+loop-kind-preserved-in-Some-node_of c =
+    after_node (state_by c.args.tables.now c.args.processes.now c.args.statuses.now c.args.objects.now.kinds c.args.tree.now) c.args.tree.now c.loop-kind.tree
+    c.loop-kind.tables c.loop-kind.processes c.loop-kind.statuses c.loop-kind.objects c.pop_unheld.new.self c.in-Some.field-0-0 c.in-Some.kind
+    c.in-Some.ensures.unheld c.in-Some.ensures.kind c.in-Some.ensures.new c.loop-kind.invariant c.in-Some-node_of.node c.forget_unused.new.tree
+    c.in_default-kind.not-Process (of_no_other c.in-Some.kind c.in-Some-node_of.node c.in-Some-node_of.ensures) c.forget_unused.ensures.used
+    c.forget_unused.ensures.absent c.forget_unused.ensures.unused c.forget_unused.ensures.tree
 
 pub loop-kind-smaller : goal.loop-kind-smaller
 loop-kind-smaller c =
-    fewer c.args.objects.now c.loop-kind.objects c.pop_unheld.new.self c.args.tree.now c.loop-kind.tree c.in-Some.field-0-0 c.in-Some.kind
-    c.in-Some.ensures.unheld c.in-Some.ensures.kind c.in-Some.ensures.new c.loop-kind.invariant.left
+    fewer (state_by c.args.tables.now c.args.processes.now c.args.statuses.now c.args.objects.now.kinds c.args.tree.now) c.args.tree.now c.loop-kind.tree
+    c.loop-kind.tables c.loop-kind.processes c.loop-kind.statuses c.loop-kind.objects c.pop_unheld.new.self c.in-Some.field-0-0 c.in-Some.kind
+    c.in-Some.ensures.unheld c.in-Some.ensures.kind c.in-Some.ensures.new c.loop-kind.invariant
 
 pub loop-kind-preserved : goal.loop-kind-preserved
-loop-kind-preserved c = record {
-  left = left_after c.args.objects.now c.loop-kind.objects c.pop_unheld.new.self c.args.tree.now c.loop-kind.tree c.in-Some.field-0-0 c.in-Some.kind
-      c.in-Some.ensures.unheld c.in-Some.ensures.kind c.in-Some.ensures.new c.loop-kind.invariant.left;
-  between = after_none c.args.objects.now c.loop-kind.objects c.pop_unheld.new.self c.args.tree.now c.loop-kind.tree c.in-Some.field-0-0 c.in-Some.kind
-      c.in-Some.ensures.unheld c.in-Some.ensures.kind c.in-Some.ensures.new c.loop-kind.invariant.left c.in_default-node_of.ensures c.loop-kind.invariant.between;
-  tree = c.loop-kind.invariant.tree;
-}
+loop-kind-preserved c =
+    after_none (state_by c.args.tables.now c.args.processes.now c.args.statuses.now c.args.objects.now.kinds c.args.tree.now) c.args.tree.now c.loop-kind.tree
+    c.loop-kind.tables c.loop-kind.processes c.loop-kind.statuses c.loop-kind.objects c.pop_unheld.new.self c.in-Some.field-0-0 c.in-Some.kind
+    c.in-Some.ensures.unheld c.in-Some.ensures.kind c.in-Some.ensures.new c.loop-kind.invariant c.in_default-kind.not-Process c.in_default-node_of.ensures
 
-opens : (c : In_default) → c.pop_unheld.new.self ≡ unheld_removed c.args.objects.now
-opens c =
-    none_popped c.loop-kind.objects c.pop_unheld.new.self c.pop_unheld.result (ap is_some c.in_default.is) c.pop_unheld.ensures.unchanged c.pop_unheld.ensures.all
-    c.pop_unheld.ensures.none.0 ∙ c.loop-kind.invariant.left
+pub returns-clause-state : goal.returns-clause-state
+returns-clause-state c =
+    let first = state_by c.args.tables.now c.args.processes.now c.args.statuses.now c.args.objects.now.kinds c.args.tree.now in
+    let same : c.pop_unheld.new.self ≡ c.loop-kind.objects = c.in_default.ensures.unchanged in
+    ap (λ (h : Held). state_by c.loop-kind.tables c.loop-kind.processes c.loop-kind.statuses h.kinds c.loop-kind.tree) same
+    ∙ in_the_end first c.args.tree.now c.loop-kind.tree c.loop-kind.tables c.loop-kind.processes c.loop-kind.statuses c.loop-kind.objects c.loop-kind.invariant
+    c.pop_unheld.ensures.all (c.pop_unheld.ensures.none.0 (ap is_some c.in_default.is))
 
-pub returns-clause-objects : goal.returns-clause-objects
-returns-clause-objects c = opens c
-
-pub returns-clause-tree : goal.returns-clause-tree
-returns-clause-tree c =
-    tree_in_the_end c.args.objects.now c.loop-kind.objects c.pop_unheld.new.self c.args.tree.now c.loop-kind.tree c.in_default.ensures.unchanged (opens c)
-    c.loop-kind.invariant.tree c.loop-kind.invariant.between
+pub returns-clause-counted : goal.returns-clause-counted
+returns-clause-counted c = λ o.
+    ap (λ (h : Held). number (get h.counts o)) c.in_default.ensures.unchanged ∙ c.loop-kind.invariant.counted o

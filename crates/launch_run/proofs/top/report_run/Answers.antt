@@ -1,12 +1,5 @@
-use Rattle.std.proofs.Common.{◌≡◌, ◌∙◌, ap, refl, subst, sym, List, ℕ}
-use Rattle.std.specs.Prelude.{Option}
-use Rattle.abi_types.specs.declared.status.Status.{Status}
-use Rattle.input_output.specs.Sink.{grown, GrewByPrefix}
-use Rattle.input_output.specs.Source.{Rose}
+use Rattle.std.proofs.Common.{◌≡◌, ◌∙◌, refl}
 use Rattle.run_report.specs.Report.{report_of}
-use Rattle.run_types.specs.declared.history.Entry.{Entry}
-use Rattle.launch_run.specs.TopCall.{IsEndOf}
-use Rattle.launch_run.specs.declared.top.RunEnd.TheVariants.{Reported}
 use Rattle.launch_run.proofs.KeptReports.{kept_are_of}
 use Rattle.launch_run.proofs.TopCalls.{reported, unreported, unwritten}
 use Rattle.launch_run.proofs.top.report_run.Goals as goal

@@ -1,5 +1,8 @@
-use Rattle.run_model.proofs.Potentials.{potential_falls, history_is_paid}
+use Rattle.run_model.proofs.Potentials.{turns_are_bounded, potential_falls, history_is_paid}
 use Rattle.run_model.proofs.laws.history_is_short.Goals as goal
+
+pub returns-clause-turns : goal.returns-clause-turns
+returns-clause-turns c = turns_are_bounded
 
 pub returns-clause-takes : goal.returns-clause-takes
 returns-clause-takes c = potential_falls

@@ -1,24 +1,24 @@
-use Rattle.std.proofs.Common.{◌≡◌, ℕ, ◌^◌, ◌<◌, ◌==◌, not, List, Some, is_some, sym, ap, subst, ◌∙◌}
+use Rattle.std.proofs.Common.{◌≡◌, ℕ, ◌^◌, ◌<◌, List, Some, is_some, sym, ap, subst, ◌∙◌}
 use Rattle.std.specs.Ordering.{nat_cmp}
-use Rattle.std.specs.FinMap.{FinMap, get, insert, retain_keys}
+use Rattle.std.specs.FinMap.{FinMap, get, insert}
 use Rattle.abi_types.specs.declared.open_kind.OpenKind.{OpenKind}
-use Rattle.maps.specs.Maps.{number, total, insert_self}
-use Rattle.fd_table.specs.Sizes.{below-insert_again}
+use Rattle.maps.specs.Maps.{insert_self}
+use Rattle.fd_table.specs.Sizes.{KeysBelow, below-insert_again}
 use Rattle.fd_table.specs.Table.{IsTable}
-use Rattle.object_store.specs.Objects.{Held, is_held}
+use Rattle.object_store.specs.Objects.{Held}
 use Rattle.kernel_model.specs.Outcome.{Outcome, IsSuccess}
 use Rattle.tree_model.specs.Opens.{is_used}
-use Rattle.tree_model.specs.Retained.{retained}
-use Rattle.kernel_model.specs.Release.{count_in, holders, release, without_nodes}
+use Rattle.kernel_model.specs.Release.{release}
 use Rattle.kernel_model.specs.State.{State, Table, Update, put_all}
 use Rattle.kernel_model.specs.Valid.{IsValid}
-use Rattle.kernel_model.proofs.Valids.{ended_is, release_restores, same_value}
+use Rattle.kernel_model.proofs.Valids.{release_restores, same_value, some_again}
+use Rattle.kernel_parts.specs.Released.{state_by}
+use Rattle.kernel_parts.proofs.Releases.{covered, release_besides}
 use Rattle.kernel_parts.specs.Changes.{change_outcome, opens_after, table_after}
 use Rattle.kernel_core.specs.Kernel.{IsKept}
 use Rattle.kernel_core.specs.contracts.kernel.Kernel.{the_view}
 use Rattle.kernel_core.proofs.Changes.{change_of_own, change_small, change_valid, moved_holders, puts_are}
-use Rattle.kernel_core.proofs.Ends.{covered, number-retain, retain_same}
-use Rattle.kernel_core.proofs.Kept.{holders_few, small_set}
+use Rattle.kernel_core.proofs.Kept.{AreSmall, below_released, holders_few, small_released, small_set}
 use Rattle.kernel_parts.proofs.Tests.{on_err}
 use Rattle.kernel_core.proofs.Uses.{change_use}
 use Rattle.kernel_core.proofs.kernel.Kernel.change_descriptors.Goals as goal
@@ -34,15 +34,9 @@ change_table-requires-clause-few c = λ o.
 -- ---- where memory runs out nothing has changed
 
 abbrev unchanged : In_err-reply → State
-unchanged c = record {
-  clock = c.self.inside.clock;
+unchanged c = record (the_view c.self.inside) {
   tables = insert c.self.inside.tables c.from-p.result c.change_table.new.table;
-  processes = c.self.inside.processes;
-  statuses = c.self.inside.statuses;
   opens = c.change_table.new.objects.kinds;
-  nodes = c.self.inside.tree.nodes;
-  names = c.self.inside.tree.names;
-  terms = c.self.inside.terms;
 }
 
 same_tables : (c : In_err-reply) → insert c.self.inside.tables c.from-p.result c.change_table.new.table ≡ c.self.inside.tables
@@ -50,15 +44,9 @@ same_tables c =
     ap (insert c.self.inside.tables c.from-p.result) c.in_err-reply.ensures.same_table ∙ insert_self c.self.inside.tables c.from-p.result c.get_mut.result.now (sym c.get_mut.ensures.value)
 
 as_before : (c : In_err-reply) → unchanged c ≡ the_view c.self.inside
-as_before c = λ i. record {
-  clock = c.self.inside.clock;
+as_before c = λ i. record (the_view c.self.inside) {
   tables = same_tables c i;
-  processes = c.self.inside.processes;
-  statuses = c.self.inside.statuses;
   opens = (ap (λ (h : Held). h.kinds) c.in_err-reply.ensures.same_objects) i;
-  nodes = c.self.inside.tree.nodes;
-  names = c.self.inside.tree.names;
-  terms = c.self.inside.terms;
 }
 
 still_kept : (c : In_err-reply) → IsKept (unchanged c) c.change_table.new.objects.counts
@@ -95,15 +83,13 @@ us c = (change_outcome c.args.pid c.self.inside.objects.kinds c.get_mut.result.n
 
 -- the fields as they are in the end
 abbrev fields : After-release → State
-fields c = record {
-  clock = c.self.inside.clock;
-  tables = insert c.self.inside.tables c.from-p.result c.change_table.new.table;
-  processes = c.self.inside.processes;
-  statuses = c.self.inside.statuses;
+fields c = record (the_view c.self.inside) {
+  tables = c.release.new.tables;
+  processes = c.release.new.processes;
+  statuses = c.release.new.statuses;
   opens = c.release.new.objects.kinds;
   nodes = c.release.new.tree.nodes;
   names = c.release.new.tree.names;
-  terms = c.self.inside.terms;
 }
 
 -- the state with the change alone
@@ -118,24 +104,39 @@ set c =
     ap (insert c.self.inside.tables c.from-p.result) (c.in_ok-reply.ensures.table c.args.pid)
     ∙ ap (λ (p : ℕ). insert c.self.inside.tables p (table_after c.get_mut.result.now (us c))) (c.from-p.ensures ∙ c.pid.view_is)
 
-counted : (c : After-release) (o : ℕ) → number (get c.change_table.new.objects.counts o) ≡ total (count_in o) (insert c.self.inside.tables c.args.pid (table_after c.get_mut.result.now (us c)))
-counted c o =
-    moved_holders c.self.inside.tables c.args.pid c.get_mut.result.now c.change_table.new.table c.self.inside.objects.counts c.change_table.new.objects.counts (there c)
-    c.self.invariant.counted c.in_ok-reply.ensures.counts o
-    ∙ ap (λ (t : Table). total (count_in o) (insert c.self.inside.tables c.args.pid t)) (c.in_ok-reply.ensures.table c.args.pid)
+puts : (c : After-release) → put_all (us c) (the_view c.self.inside) ≡ changed c
+puts c =
+    puts_are (us c) (the_view c.self.inside) c.args.pid c.get_mut.result.now (there c)
+    (change_of_own c.args.pid c.self.inside.objects.kinds c.get_mut.result.now c.args.change)
+
+released : (c : After-release) → fields c ≡ release (changed c)
+released c =
+    let k = c.self.inside in
+    let given : state_by (insert k.tables c.from-p.result c.change_table.new.table) k.processes k.statuses c.change_table.new.objects.kinds k.tree
+    ≡ state_by (changed c).tables k.processes k.statuses (changed c).opens k.tree =
+    λ i. state_by (set c i) k.processes k.statuses (c.in_ok-reply.ensures.kinds c.args.pid i) k.tree in
+    ap (λ (S : State). record S { clock = k.clock; terms = k.terms }) (c.release.ensures.state ∙ ap release given)
+    ∙ sym (release_besides (state_by (changed c).tables k.processes k.statuses (changed c).opens k.tree) k.clock k.terms)
 
 after : (c : After-release) → fields c ≡ release (put_all (us c) (the_view c.self.inside))
-after c =
-    let k = c.self.inside in
-    let opens : c.release.new.objects.kinds ≡ retain_keys (opens_after k.objects.kinds (us c)) (λ o. not (holders (changed c) o == 0)) =
-    ap (λ (h : Held). h.kinds) c.release.ensures.objects
-    ∙ ap (λ (m : FinMap nat_cmp OpenKind). retain_keys m (is_held c.change_table.new.objects.counts)) (c.in_ok-reply.ensures.kinds c.args.pid)
-    ∙ retain_same _ _ _ (λ o. ap (λ (n : ℕ). not (n == 0)) (counted c o)) in
-    let tree : c.release.new.tree ≡ retained k.tree (is_used (retain_keys (opens_after k.objects.kinds (us c)) (λ o. not (holders (changed c) o == 0))) k.tree) =
-    c.release.ensures.tree ∙ ap (λ (m : FinMap nat_cmp OpenKind). retained k.tree (is_used m k.tree)) opens in
-    (λ i. record { clock = k.clock; tables = set c i; processes = k.processes; statuses = k.statuses; opens = opens i; nodes = (tree i).nodes; names = (tree i).names; terms = k.terms })
-    ∙ sym (ap without_nodes (ended_is (changed c)))
-    ∙ sym (ap release (puts_are (us c) (the_view k) c.args.pid c.get_mut.result.now (there c) (change_of_own c.args.pid k.objects.kinds c.get_mut.result.now c.args.change)))
+after c = released c ∙ sym (ap release (puts c))
+
+-- the tables are what the release leaves of those before it
+tables_are : (c : After-release) → c.release.new.tables ≡ (release (changed c)).tables
+tables_are c = ap (λ (S : State). S.tables) (released c)
+
+pub release-requires-clause-counted : goal.release-requires-clause-counted
+release-requires-clause-counted c = λ o.
+    moved_holders c.self.inside.tables c.from-p.result c.get_mut.result.now c.change_table.new.table c.self.inside.objects.counts c.change_table.new.objects.counts
+    (sym c.get_mut.ensures.value) c.self.invariant.counted c.in_ok-reply.ensures.counts o
+
+pub release-requires-clause-tables : goal.release-requires-clause-tables
+release-requires-clause-tables c = λ q.
+    some_again c.self.inside.tables c.from-p.result c.get_mut.result.now c.change_table.new.table q (sym c.get_mut.ensures.value)
+    ∙ c.self.invariant.valid.nearly.tables q
+
+pub release-requires-clause-processes : goal.release-requires-clause-processes
+release-requires-clause-processes c = c.self.invariant.valid.nearly.owns
 
 -- each node is as much used after the change as before it, and so is used
 pub release-requires-clause-used : goal.release-requires-clause-used
@@ -159,11 +160,11 @@ invariant_of-self-2 d =
     change_small c.args.pid k.objects.kinds table c.args.change (c.requires.replaced table (had c)) (c.self.invariant.small c.args.pid table (there c)) in
     record {
       valid = subst IsValid (sym (after c)) (release_restores _ (change_valid (the_view k) c.args.pid table c.args.change (there c) c.self.invariant.valid.nearly));
-      counted = λ o.
-          ap (λ (h : Held). number (get h.counts o)) c.release.ensures.objects ∙ number-retain c.change_table.new.objects.counts o ∙ counted c o
-          ∙ sym (ap (λ (m : FinMap nat_cmp Table). total (count_in o) m) (set c));
-      small = small_set k.tables c.from-p.result c.change_table.new.table c.self.invariant.small (subst IsTable (sym (c.in_ok-reply.ensures.table c.args.pid)) fits);
-      processes = below-insert_again (2 ^ 32) k.tables c.from-p.result c.change_table.new.table c.self.invariant.processes (ap is_some (sym c.get_mut.ensures.value));
+      counted = c.release.ensures.counted;
+      small = subst AreSmall (sym (tables_are c)) (small_released (changed c) (small_set k.tables c.args.pid (table_after table (us c)) c.self.invariant.small fits));
+      processes = subst (KeysBelow (2 ^ 32)) (sym (tables_are c))
+          (below_released (changed c) (2 ^ 32)
+          (below-insert_again (2 ^ 32) k.tables c.args.pid (table_after table (us c)) c.self.invariant.processes (ap is_some (there c))));
     }
 
 pub returns-clause-ok : goal.returns-clause-ok

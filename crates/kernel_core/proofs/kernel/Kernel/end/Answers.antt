@@ -1,4 +1,4 @@
-use Rattle.std.proofs.Common.{◌≡◌, sym, ap, subst, ◌∙◌}
+use Rattle.std.proofs.Common.{◌≡◌, is_some, sym, ap, subst, ◌∙◌}
 use Rattle.kernel_model.specs.State.{State, Agree}
 use Rattle.kernel_model.specs.Step.{end_state}
 use Rattle.kernel_model.specs.Valid.{IsValid}
@@ -17,7 +17,7 @@ returns-clause-end c = after (goal.at.returns-clause-end c).After-end_process
 
 pub returns-clause-valid : goal.returns-clause-valid
 returns-clause-valid c =
-    subst IsValid (sym (after c)) (end_valid c.args.self.now c.args.pid c.args.status (subst IsValid c.self.view_is c.self.invariant.valid))
+    subst IsValid (sym (after c)) (end_valid c.args.self.now c.args.pid c.args.status (ap is_some c.requires.live) (subst IsValid c.self.view_is c.self.invariant.valid))
 
 pub returns-clause-others : goal.returns-clause-others
 returns-clause-others c = λ q outside stays.

@@ -1,67 +1,90 @@
-use Rattle.std.proofs.Common.{◌≡◌, ℕ, ◌^◌, ◌==◌, not, Some, is_some, sym, ap, subst, ◌∙◌}
+use Rattle.std.proofs.Common.{◌≡◌, ℕ, ◌^◌, Some, IsSome, is_some, sym, ap, subst, ◌∙◌}
 use Rattle.std.specs.Ordering.{nat_cmp}
-use Rattle.std.specs.FinMap.{FinMap, get, insert, empty, retain_keys}
-use Rattle.abi_types.specs.declared.open_kind.OpenKind.{OpenKind}
-use Rattle.maps.specs.Maps.{number, total}
-use Rattle.object_store.specs.Objects.{Held, is_held}
+use Rattle.std.specs.FinMap.{FinMap, get, insert, empty}
+use Rattle.abi_types.specs.declared.status.Status.{Status}
+use Rattle.maps.specs.Maps.{total}
 use Rattle.kernel_model.specs.Families.ProcessCalls.{ended_process, end_updates}
+use Rattle.abi_types.specs.declared.open_kind.OpenKind.{OpenKind}
 use Rattle.tree_model.specs.Opens.{is_used}
-use Rattle.tree_model.specs.Retained.{retained}
-use Rattle.kernel_model.specs.Release.{count_in, holders, release, without_nodes}
-use Rattle.kernel_model.specs.State.{State, put_all}
-use Rattle.kernel_model.specs.Valid.{IsValid}
-use Rattle.kernel_model.proofs.Valids.{ended_is, end_nearly_valid, release_restores}
+use Rattle.kernel_model.specs.Release.{count_in, release}
+use Rattle.kernel_model.specs.State.{State, Table, put_all}
+use Rattle.kernel_model.specs.Valid.{IsNearlyValid, IsValid}
+use Rattle.kernel_model.proofs.Valids.{end_nearly_valid, release_restores, same_keys_inserted}
+use Rattle.kernel_parts.specs.Released.{state_by}
+use Rattle.kernel_parts.proofs.Releases.{covered, left_holders, release_besides}
 use Rattle.kernel_core.specs.contracts.kernel.Kernel.{the_view}
-use Rattle.fd_table.specs.Sizes.{below-insert_again}
-use Rattle.fd_table.specs.Table.{IsTable}
-use Rattle.kernel_core.proofs.Kept.{small_empty, small_set}
-use Rattle.kernel_core.proofs.Ends.{covered, left_holders, retain_same, number-retain}
+use Rattle.fd_table.specs.Sizes.{KeysBelow, below-insert_again}
+use Rattle.kernel_core.proofs.Kept.{AreSmall, below_released, small_empty, small_released, small_set}
 use Rattle.kernel_core.proofs.kernel.Kernel.end_process.Goals as goal
 use Rattle.kernel_core.proofs.kernel.Kernel.end_process.Goals.{After-release}
 
 pub let_go_all-requires : goal.let_go_all-requires
 let_go_all-requires c = λ o. rw c.self.invariant.counted (covered _ _ _ (sym c.get_mut-2.ensures.value) o)
 
--- the holders that are left once the table is empty
-left : (c : After-release) (o : ℕ) → number (get c.let_go_all.new.objects.counts o) ≡ total (count_in o) (insert c.self.inside.tables c.args.pid empty)
-left c =
-    let k = c.self.inside in
-    let there : get k.tables c.args.pid ≡ Some c.get_mut-2.result.now =
-    ap (get k.tables) (sym (c.from-p.ensures ∙ c.pid.view_is)) ∙ sym c.get_mut-2.ensures.value in
-    left_holders k.tables c.args.pid c.get_mut-2.result.now k.objects.counts c.let_go_all.new.objects.counts there c.self.invariant.counted c.let_go_all.ensures.counts
-
 -- the fields as they are in the end
 abbrev fields : After-release → State
-fields c = record {
-  clock = c.self.inside.clock;
-  tables = insert c.self.inside.tables c.from-p.result c.let_go_all.new.table;
-  processes = insert c.self.inside.processes c.from-p.result c.end.new.self;
-  statuses = c.replace.new.self;
+fields c = record (the_view c.self.inside) {
+  tables = c.release.new.tables;
+  processes = c.release.new.processes;
+  statuses = c.release.new.statuses;
   opens = c.release.new.objects.kinds;
   nodes = c.release.new.tree.nodes;
   names = c.release.new.tree.names;
-  terms = c.self.inside.terms;
 }
 
-after : (c : After-release) → fields c ≡ release (put_all (end_updates c.args.pid (get c.self.inside.processes c.args.pid) c.args.status) (the_view c.self.inside))
+-- before anything is released
+abbrev unreleased : After-release → State
+unreleased c = put_all (end_updates c.args.pid (get c.self.inside.processes c.args.pid) c.args.status) (the_view c.self.inside)
+
+made : (c : After-release) → IsSome (get c.self.inside.statuses c.args.pid)
+made c = subst (λ (S : State). IsSome (get S.statuses c.args.pid)) (sym c.self.view_is) c.requires
+
+nearly : (c : After-release) → IsNearlyValid (unreleased c)
+nearly c = end_nearly_valid (the_view c.self.inside) c.args.pid c.args.status (made c) c.self.invariant.valid.nearly
+
+emptied : (c : After-release) → insert c.self.inside.tables c.from-p.result c.let_go_all.new.table ≡ insert c.self.inside.tables c.args.pid empty
+emptied c =
+    ap (insert c.self.inside.tables c.from-p.result) c.let_go_all.ensures.empty
+    ∙ ap (λ (p : ℕ). insert c.self.inside.tables p empty) (c.from-p.ensures ∙ c.pid.view_is)
+
+after : (c : After-release) → fields c ≡ release (unreleased c)
 after c =
     let k = c.self.inside in
     let same : c.from-p.result ≡ c.args.pid = c.from-p.ensures ∙ c.pid.view_is in
-    let tables : insert k.tables c.from-p.result c.let_go_all.new.table ≡ insert k.tables c.args.pid empty =
-    ap (insert k.tables c.from-p.result) c.let_go_all.ensures.empty ∙ ap (λ (p : ℕ). insert k.tables p empty) same in
     let there : Some c.get_mut.result.now ≡ get k.processes c.args.pid = c.get_mut.ensures.value ∙ ap (get k.processes) same in
     let own : insert k.processes c.from-p.result c.end.new.self ≡ insert k.processes c.args.pid (ended_process (get k.processes c.args.pid)) =
     ap (insert k.processes c.from-p.result) (c.end.ensures ∙ ap ended_process there) ∙ ap (λ (p : ℕ). insert k.processes p (ended_process (get k.processes c.args.pid))) same in
     let statuses : c.replace.new.self ≡ insert k.statuses c.args.pid c.args.status =
     c.replace.ensures.new ∙ ap (λ (p : ℕ). insert k.statuses p c.args.status) same in
-    let opens : c.release.new.objects.kinds ≡ retain_keys k.objects.kinds (λ o. not (total (count_in o) (insert k.tables c.args.pid empty) == 0)) =
-    ap (λ (h : Held). h.kinds) c.release.ensures.objects
-    ∙ ap (λ (m : FinMap nat_cmp OpenKind). retain_keys m (is_held c.let_go_all.new.objects.counts)) c.let_go_all.ensures.kinds
-    ∙ retain_same _ _ _ (λ o. ap (λ (n : ℕ). not (n == 0)) (left c o)) in
-    let tree : c.release.new.tree ≡ retained k.tree (is_used (retain_keys k.objects.kinds (λ o. not (total (count_in o) (insert k.tables c.args.pid empty) == 0))) k.tree) =
-    c.release.ensures.tree ∙ ap (λ (m : FinMap nat_cmp OpenKind). retained k.tree (is_used m k.tree)) opens in
-    (λ i. record { clock = k.clock; tables = tables i; processes = own i; statuses = statuses i; opens = opens i; nodes = (tree i).nodes; names = (tree i).names; terms = k.terms })
-    ∙ sym (ap without_nodes (ended_is (put_all (end_updates c.args.pid (get k.processes c.args.pid) c.args.status) (the_view k))))
+    let given : state_by (insert k.tables c.from-p.result c.let_go_all.new.table) (insert k.processes c.from-p.result c.end.new.self) c.replace.new.self
+    c.let_go_all.new.objects.kinds k.tree
+    ≡ state_by (unreleased c).tables (unreleased c).processes (unreleased c).statuses (unreleased c).opens k.tree =
+    λ i. state_by (emptied c i) (own i) (statuses i) (c.let_go_all.ensures.kinds i) k.tree in
+    ap (λ (S : State). record S { clock = k.clock; terms = k.terms }) (c.release.ensures.state ∙ ap release given)
+    ∙ sym (release_besides (state_by (unreleased c).tables (unreleased c).processes (unreleased c).statuses (unreleased c).opens k.tree) k.clock k.terms)
+
+k_has : (c : After-release) → IsSome (get c.self.inside.tables c.args.pid)
+k_has c = ap (λ p. is_some (get c.self.inside.tables p)) (sym (c.from-p.ensures ∙ c.pid.view_is)) ∙ ap is_some (sym c.get_mut-2.ensures.value)
+
+-- the tables are what the release leaves of those before it
+tables_are : (c : After-release) → c.release.new.tables ≡ (release (unreleased c)).tables
+tables_are c = ap (λ (S : State). S.tables) (after c)
+
+pub release-requires-clause-counted : goal.release-requires-clause-counted
+release-requires-clause-counted c = λ o.
+    left_holders c.self.inside.tables c.from-p.result c.get_mut-2.result.now c.self.inside.objects.counts c.let_go_all.new.objects.counts
+    (sym c.get_mut-2.ensures.value) c.self.invariant.counted c.let_go_all.ensures.counts o
+    ∙ sym (ap (λ (t : Table). total (count_in o) (insert c.self.inside.tables c.from-p.result t)) c.let_go_all.ensures.empty)
+
+pub release-requires-clause-tables : goal.release-requires-clause-tables
+release-requires-clause-tables c = λ q.
+    same_keys_inserted c.self.inside.tables c.self.inside.statuses c.from-p.result c.let_go_all.new.table c.args.status c.self.invariant.valid.nearly.tables q
+    ∙ sym (ap (λ (m : FinMap nat_cmp Status). is_some (get m q)) c.replace.ensures.new)
+
+pub release-requires-clause-processes : goal.release-requires-clause-processes
+release-requires-clause-processes c = λ q.
+    same_keys_inserted c.self.inside.processes c.self.inside.statuses c.from-p.result c.end.new.self c.args.status c.self.invariant.valid.nearly.owns q
+    ∙ sym (ap (λ (m : FinMap nat_cmp Status). is_some (get m q)) c.replace.ensures.new)
 
 -- each node is used before anything ends, as in each valid state
 pub release-requires-clause-used : goal.release-requires-clause-used
@@ -74,15 +97,14 @@ release-requires-clause-tree c = c.self.invariant.valid.nearly.tree
 pub invariant_of-self : goal.invariant_of-self
 invariant_of-self c =
     let a = (goal.at.invariant_of-self c).After-release in
+    let k = a.self.inside in
+    let there : IsSome (get k.tables a.args.pid) = k_has a in
     record {
-      valid = subst IsValid (sym (after a)) (release_restores _ (end_nearly_valid (the_view a.self.inside) a.args.pid a.args.status a.self.invariant.valid.nearly));
-      counted = λ o.
-          ap (λ (h : Held). number (get h.counts o)) a.release.ensures.objects
-          ∙ number-retain a.let_go_all.new.objects.counts o
-          ∙ left a o
-          ∙ sym (ap (λ (S : State). holders S o) (after a));
-      small = small_set a.self.inside.tables a.from-p.result a.let_go_all.new.table a.self.invariant.small (subst IsTable (sym a.let_go_all.ensures.empty) small_empty);
-      processes = below-insert_again (2 ^ 32) a.self.inside.tables a.from-p.result a.let_go_all.new.table a.self.invariant.processes (ap is_some (sym a.get_mut-2.ensures.value));
+      valid = subst IsValid (sym (after a)) (release_restores _ (nearly a));
+      counted = a.release.ensures.counted;
+      small = subst AreSmall (sym (tables_are a)) (small_released (unreleased a) (small_set k.tables a.args.pid empty a.self.invariant.small small_empty));
+      processes = subst (KeysBelow (2 ^ 32)) (sym (tables_are a))
+          (below_released (unreleased a) (2 ^ 32) (below-insert_again (2 ^ 32) k.tables a.args.pid empty a.self.invariant.processes there));
     }
 
 pub returns : goal.returns

@@ -5,7 +5,7 @@ use Rattle.object_store.specs.Objects.{Held}
 use Rattle.object_store.specs.contracts.objects.Objects.{the_view}
 use Rattle.kernel_parts.specs.Start.{granted_objects}
 use Rattle.kernel_model.specs.Start.{granted_table, start_state}
-use Rattle.kernel_model.specs.State.{State, Table, ProcessState}
+use Rattle.kernel_model.specs.State.{State, Table, ProcessState, no_state}
 use Rattle.kernel_model.specs.Valid.{IsValid}
 use Rattle.kernel_model.proofs.Starts.{start_valid}
 use Rattle.kernel_core.proofs.Starts.{start_kept}
@@ -14,8 +14,7 @@ use Rattle.kernel_core.proofs.kernel.Kernel.start.Goals.{In_ok-streams}
 
 -- the fields as they are made
 abbrev fields : In_ok-streams → State
-fields c = record {
-  clock = 0;
+fields c = record no_state {
   tables = c.in_ok-single.field-0;
   processes = c.in_ok-single-2.field-0;
   statuses = c.in_ok-single-3.field-0;
@@ -37,7 +36,7 @@ made c =
     let opens = ap (λ (h : Held). h.kinds) (held c) in
     let terms = c.in_ok-streams.ensures in
     let tree = c.in_ok-copy.ensures in
-    λ i. record { clock = 0; tables = tables i; processes = own i; statuses = statuses i; opens = opens i; nodes = (tree i).nodes; names = (tree i).names; terms = terms i }
+    λ i. record no_state { tables = tables i; processes = own i; statuses = statuses i; opens = opens i; nodes = (tree i).nodes; names = (tree i).names; terms = terms i }
 
 pub invariant_of-result-2 : goal.invariant_of-result-2
 invariant_of-result-2 c = start_kept c.args.launch.now.tree c.args.launch.now.grants c.args.launch.now.stdin (fields c) (the_view c.objects.inside).counts c.requires (made c) (ap (λ (h : Held). h.counts) (held c))
