@@ -76,7 +76,7 @@ static void try_offsets(void)
     tell("ftruncate and fstat", ftruncate(fd, 2) == 0 && fstat(fd, &status) == 0 && status.st_size == 2);
     tell("an offset below 0", refuses((int)lseek(fd, -1, SEEK_SET), EINVAL));
     tell("close twice", close(fd) == 0 && refuses(close(fd), EBADF));
-    tell("isatty", isatty(1) == 1 && isatty(fd) == 0);
+    tell("isatty", isatty(1) == 0 && errno == ENOTTY && isatty(fd) == 0);
 
     FILE *file = fopen("data/seek", "r+");
     tell("fseek, ungetc and ftell", fseek(file, 1, SEEK_SET) == 0 && getc(file) == 'b' && ungetc('B', file) == 'B'

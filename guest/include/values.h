@@ -1,0 +1,2 @@
+#include <float.h>
+#include <limits.h>

@@ -1,0 +1,242 @@
+/* The process: its end, its number, signals, and what it can't do: make others. */
+#define _GNU_SOURCE
+#include "system.h"
+
+#include <errno.h>
+#include <sched.h>
+#include <signal.h>
+#include <spawn.h>
+#include <stdio.h>
+#include <stdlib.h>
+#include <string.h>
+#include <sys/resource.h>
+#include <sys/wait.h>
+#include <unistd.h>
+
+_Noreturn void _exit(int code)
+{
+    cloudabi_sys_proc_exit((uint32_t)code);
+}
+
+/* The functions of at_quick_exit, the last one first. */
+
+static void (*at_quick[32])(void);
+static size_t quick_count;
+
+int at_quick_exit(void (*function)(void))
+{
+    if (quick_count == sizeof at_quick / sizeof *at_quick)
+        return -1;
+    at_quick[quick_count++] = function;
+    return 0;
+}
+
+_Noreturn void quick_exit(int code)
+{
+    while (quick_count > 0)
+        at_quick[--quick_count]();
+    _exit(code);
+}
+
+static int absent(void)
+{
+    errno = ENOSYS;
+    return -1;
+}
+
+pid_t getpid(void)
+{
+    return 1;
+}
+
+pid_t getppid(void)
+{
+    return 0;
+}
+
+pid_t getpgrp(void)
+{
+    return 1;
+}
+
+pid_t getpgid(pid_t process)
+{
+    (void)process;
+    return 1;
+}
+
+pid_t getsid(pid_t process)
+{
+    (void)process;
+    return 1;
+}
+
+pid_t setsid(void)
+{
+    return absent();
+}
+
+int setpgid(pid_t process, pid_t group)
+{
+    (void)process, (void)group;
+    return absent();
+}
+
+pid_t fork(void)
+{
+    return absent();
+}
+
+pid_t vfork(void)
+{
+    return absent();
+}
+
+int execv(const char *path, char *const words[])
+{
+    (void)path, (void)words;
+    return absent();
+}
+
+int execve(const char *path, char *const words[], char *const variables[])
+{
+    (void)path, (void)words, (void)variables;
+    return absent();
+}
+
+int execvp(const char *name, char *const words[])
+{
+    (void)name, (void)words;
+    return absent();
+}
+
+int execl(const char *path, const char *word, ...)
+{
+    (void)path, (void)word;
+    return absent();
+}
+
+int execlp(const char *name, const char *word, ...)
+{
+    (void)name, (void)word;
+    return absent();
+}
+
+int execle(const char *path, const char *word, ...)
+{
+    (void)path, (void)word;
+    return absent();
+}
+
+int posix_spawn(pid_t *restrict process, const char *restrict path, const posix_spawn_file_actions_t *actions,
+                const posix_spawnattr_t *restrict attributes, char *const words[restrict], char *const variables[restrict])
+{
+    (void)process, (void)path, (void)actions, (void)attributes, (void)words, (void)variables;
+    return ENOSYS;
+}
+
+int posix_spawnp(pid_t *restrict process, const char *restrict name, const posix_spawn_file_actions_t *actions,
+                 const posix_spawnattr_t *restrict attributes, char *const words[restrict], char *const variables[restrict])
+{
+    return posix_spawn(process, name, actions, attributes, words, variables);
+}
+
+pid_t waitpid(pid_t process, int *status, int options)
+{
+    (void)process, (void)status, (void)options;
+    errno = ECHILD;
+    return -1;
+}
+
+pid_t wait(int *status)
+{
+    return waitpid(-1, status, 0);
+}
+
+/* There is no shell: that is what a NULL asks. */
+int system(const char *command)
+{
+    return command == NULL ? 0 : absent();
+}
+
+FILE *popen(const char *command, const char *mode)
+{
+    (void)command, (void)mode;
+    absent();
+    return NULL;
+}
+
+int pclose(FILE *file)
+{
+    (void)file;
+    errno = ECHILD;
+    return -1;
+}
+
+int pipe(int fds[2])
+{
+    (void)fds;
+    return absent();
+}
+
+int pipe2(int fds[2], int flags)
+{
+    (void)flags;
+    return pipe(fds);
+}
+
+int daemon(int stays, int keeps)
+{
+    (void)stays, (void)keeps;
+    return absent();
+}
+
+int nice(int change)
+{
+    (void)change;
+    return 0;
+}
+
+int getpriority(int which, id_t who)
+{
+    (void)which, (void)who;
+    return 0;
+}
+
+int setpriority(int which, id_t who, int priority)
+{
+    (void)which, (void)who, (void)priority;
+    return 0;
+}
+
+int sched_yield(void)
+{
+    return 0;
+}
+
+/* Limits and what was used. */
+
+int getrlimit(int resource, struct rlimit *limit)
+{
+    rlim_t most = resource == RLIMIT_STACK ? 1 << 20 : resource == RLIMIT_NOFILE ? MOST_DESCRIPTORS : resource == RLIMIT_FSIZE ? 64 << 20
+                : resource == RLIMIT_AS || resource == RLIMIT_DATA ? 256 << 20 : resource == RLIMIT_CORE ? 0 : RLIM_INFINITY;
+    *limit = (struct rlimit){most, most};
+    return 0;
+}
+
+int setrlimit(int resource, const struct rlimit *limit)
+{
+    struct rlimit now;
+    getrlimit(resource, &now);
+    if (limit->rlim_cur <= limit->rlim_max && limit->rlim_max <= now.rlim_max)
+        return 0;
+    errno = limit->rlim_cur > limit->rlim_max ? EINVAL : EPERM;
+    return -1;
+}
+
+int getrusage(int who, struct rusage *usage)
+{
+    (void)who;
+    memset(usage, 0, sizeof *usage);
+    return 0;
+}
