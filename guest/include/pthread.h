@@ -26,7 +26,13 @@ typedef struct {
 
 typedef struct {
     size_t stack_size;
+    int detach_state;
 } pthread_attr_t;
+
+typedef struct {
+    unsigned count;
+} pthread_barrier_t;
+typedef int pthread_barrierattr_t;
 
 #define PTHREAD_MUTEX_NORMAL 0
 #define PTHREAD_MUTEX_ERRORCHECK 1
@@ -41,7 +47,14 @@ typedef struct {
 #define PTHREAD_CREATE_DETACHED 1
 #define PTHREAD_CANCEL_ENABLE 0
 #define PTHREAD_CANCEL_DISABLE 1
+#define PTHREAD_CANCEL_DEFERRED 0
+#define PTHREAD_CANCEL_ASYNCHRONOUS 1
+#define PTHREAD_CANCELED ((void *)-1)
+#define PTHREAD_PROCESS_PRIVATE 0
+#define PTHREAD_PROCESS_SHARED 1
+#define PTHREAD_BARRIER_SERIAL_THREAD (-1)
 #define PTHREAD_KEYS_MAX 128
+#define PTHREAD_STACK_MIN 16384
 
 int pthread_mutex_init(pthread_mutex_t *mutex, const pthread_mutexattr_t *attributes);
 int pthread_mutex_destroy(pthread_mutex_t *mutex);
@@ -79,11 +92,40 @@ int pthread_equal(pthread_t left, pthread_t right);
 void pthread_exit(void *value) __attribute__((__noreturn__));
 int pthread_atfork(void (*prepare)(void), void (*parent)(void), void (*child)(void));
 int pthread_setcancelstate(int state, int *before);
+int pthread_setcanceltype(int type, int *before);
+int pthread_cancel(pthread_t thread);
+void pthread_testcancel(void);
 int pthread_attr_init(pthread_attr_t *attributes);
 int pthread_attr_destroy(pthread_attr_t *attributes);
 int pthread_attr_setdetachstate(pthread_attr_t *attributes, int state);
+int pthread_attr_getdetachstate(const pthread_attr_t *attributes, int *state);
 int pthread_attr_setstacksize(pthread_attr_t *attributes, size_t size);
 int pthread_attr_getstacksize(const pthread_attr_t *attributes, size_t *size);
+int pthread_condattr_init(pthread_condattr_t *attributes);
+int pthread_condattr_destroy(pthread_condattr_t *attributes);
+int pthread_condattr_setclock(pthread_condattr_t *attributes, clockid_t clock);
+int pthread_condattr_setpshared(pthread_condattr_t *attributes, int shared);
+int pthread_mutexattr_setpshared(pthread_mutexattr_t *attributes, int shared);
+int pthread_rwlockattr_init(pthread_rwlockattr_t *attributes);
+int pthread_rwlockattr_destroy(pthread_rwlockattr_t *attributes);
+int pthread_spin_init(pthread_spinlock_t *lock, int shared);
+int pthread_spin_destroy(pthread_spinlock_t *lock);
+int pthread_spin_lock(pthread_spinlock_t *lock);
+int pthread_spin_trylock(pthread_spinlock_t *lock);
+int pthread_spin_unlock(pthread_spinlock_t *lock);
+int pthread_barrier_init(pthread_barrier_t *barrier, const pthread_barrierattr_t *attributes, unsigned count);
+int pthread_barrier_destroy(pthread_barrier_t *barrier);
+int pthread_barrier_wait(pthread_barrier_t *barrier);
+
+/* What is done where the function between them is left by `pthread_exit`, which ends the process here, or by a word at the end. */
+#define pthread_cleanup_push(function, argument)                                                                                   \
+    do {                                                                                                                           \
+        void (*__cleanup)(void *) = (function);                                                                                    \
+        void *__argument = (argument)
+#define pthread_cleanup_pop(is_done)                                                                                               \
+    if (is_done)                                                                                                                   \
+        __cleanup(__argument);                                                                                                     \
+    } while (0)
 
 #ifdef __cplusplus
 }

@@ -23,6 +23,7 @@ extern int daylight;
 int clock_gettime(clockid_t clock, struct timespec *time);
 int clock_getres(clockid_t clock, struct timespec *time);
 int clock_settime(clockid_t clock, const struct timespec *time);
+int clock_nanosleep(clockid_t clock, int flags, const struct timespec *time, struct timespec *rest);
 int nanosleep(const struct timespec *time, struct timespec *rest);
 #endif
 #if __ISO_C_VISIBLE >= 2011

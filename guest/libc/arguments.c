@@ -87,6 +87,7 @@ void program_main(const argdata_t *arguments)
     take_stream(arguments, "stdout", 1);
     take_stream(arguments, "stderr", 2);
     take_directories(arguments);
+    check_launch(arguments);
     argdata_map_find(arguments, "args", &args);
     int count = count_of(&args);
     char *argv[count + 2], numbers[count + 1][NUMBER_ROOM];

@@ -61,6 +61,13 @@ int settimeofday(const struct timeval *time, const struct timezone *zone)
     return -1;
 }
 
+int adjtime(const struct timeval *change, struct timeval *left)
+{
+    (void)change, (void)left;
+    errno = EPERM;
+    return -1;
+}
+
 time_t time(time_t *to)
 {
     struct timespec found;
@@ -102,6 +109,12 @@ int nanosleep(const struct timespec *time, struct timespec *rest)
     (void)time, (void)rest;
     errno = ENOSYS;
     return -1;
+}
+
+int clock_nanosleep(clockid_t clock, int flags, const struct timespec *time, struct timespec *rest)
+{
+    (void)clock, (void)flags, (void)time, (void)rest;
+    return ENOSYS;
 }
 
 unsigned sleep(unsigned seconds)

@@ -269,7 +269,7 @@ int pthread_setcancelstate(int state, int *before)
 
 int pthread_attr_init(pthread_attr_t *attributes)
 {
-    attributes->stack_size = 1 << 20;
+    *attributes = (pthread_attr_t){.stack_size = 1 << 20, .detach_state = PTHREAD_CREATE_JOINABLE};
     return 0;
 }
 
@@ -281,7 +281,15 @@ int pthread_attr_destroy(pthread_attr_t *attributes)
 
 int pthread_attr_setdetachstate(pthread_attr_t *attributes, int state)
 {
-    (void)attributes, (void)state;
+    if (state != PTHREAD_CREATE_JOINABLE && state != PTHREAD_CREATE_DETACHED)
+        return EINVAL;
+    attributes->detach_state = state;
+    return 0;
+}
+
+int pthread_attr_getdetachstate(const pthread_attr_t *attributes, int *state)
+{
+    *state = attributes->detach_state;
     return 0;
 }
 

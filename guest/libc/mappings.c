@@ -4,6 +4,7 @@
 
 #include <errno.h>
 #include <fcntl.h>
+#include <string.h>
 #include <sys/mman.h>
 #include <unistd.h>
 
@@ -40,6 +41,28 @@ void *mmap(void *address, size_t length, int protection, int flags, int fd, off_
 int munmap(void *address, size_t length)
 {
     return result(cloudabi_sys_mem_unmap(address, length));
+}
+
+/* A mapping that grows gets another place, since what is behind it isn't known. Its pages can be read and written then. */
+void *mremap(void *address, size_t before, size_t length, int flags, ...)
+{
+    size_t kept = (length + PAGE - 1) / PAGE * PAGE, had = (before + PAGE - 1) / PAGE * PAGE;
+    if (length == 0 || (flags & ~MREMAP_MAYMOVE) != 0) {
+        errno = EINVAL;
+        return MAP_FAILED;
+    }
+    if (kept <= had)
+        return kept == had || munmap((char *)address + kept, had - kept) == 0 ? address : MAP_FAILED;
+    if (!(flags & MREMAP_MAYMOVE)) {
+        errno = ENOMEM;
+        return MAP_FAILED;
+    }
+    void *moved = mmap(NULL, length, PROT_READ | PROT_WRITE, MAP_PRIVATE | MAP_ANONYMOUS, -1, 0);
+    if (moved == MAP_FAILED)
+        return MAP_FAILED;
+    memcpy(moved, address, had);
+    munmap(address, had);
+    return moved;
 }
 
 int mprotect(void *address, size_t length, int protection)

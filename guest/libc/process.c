@@ -5,7 +5,6 @@
 #include <errno.h>
 #include <sched.h>
 #include <signal.h>
-#include <spawn.h>
 #include <stdio.h>
 #include <stdlib.h>
 #include <string.h>
@@ -128,19 +127,6 @@ int execle(const char *path, const char *word, ...)
     return absent();
 }
 
-int posix_spawn(pid_t *restrict process, const char *restrict path, const posix_spawn_file_actions_t *actions,
-                const posix_spawnattr_t *restrict attributes, char *const words[restrict], char *const variables[restrict])
-{
-    (void)process, (void)path, (void)actions, (void)attributes, (void)words, (void)variables;
-    return ENOSYS;
-}
-
-int posix_spawnp(pid_t *restrict process, const char *restrict name, const posix_spawn_file_actions_t *actions,
-                 const posix_spawnattr_t *restrict attributes, char *const words[restrict], char *const variables[restrict])
-{
-    return posix_spawn(process, name, actions, attributes, words, variables);
-}
-
 pid_t waitpid(pid_t process, int *status, int options)
 {
     (void)process, (void)status, (void)options;
@@ -207,6 +193,18 @@ int setpriority(int which, id_t who, int priority)
 {
     (void)which, (void)who, (void)priority;
     return 0;
+}
+
+/* All is of one priority. */
+int sched_get_priority_max(int policy)
+{
+    (void)policy;
+    return 0;
+}
+
+int sched_get_priority_min(int policy)
+{
+    return sched_get_priority_max(policy);
 }
 
 int sched_yield(void)

@@ -55,6 +55,9 @@ struct place {
 /* The directories of the launch. */
 void take_directories(const argdata_t *arguments);
 
+/* Says on standard error what of the argument data means nothing here. */
+void check_launch(const argdata_t *arguments);
+
 cloudabi_errno_t find_place(const char *path, struct place *place);
 
 /* The same for a path that begins in a directory's file descriptor, or in the current one by AT_FDCWD. */

@@ -1,5 +1,7 @@
 /* Wide characters: conversions of whole texts, which tell a length where there is no room, and streams. */
 #define _GNU_SOURCE
+#include "wide.h"
+
 #include <errno.h>
 #include <limits.h>
 #include <stdio.h>
@@ -115,13 +117,24 @@ int fwide(FILE *file, int mode)
     return mode;
 }
 
-/* A wide text as bytes, which are freed by the caller. */
-static char *bytes_of(const wchar_t *text)
+char *bytes_of(const wchar_t *text)
 {
     size_t length = wcstombs(NULL, text, 0);
     char *bytes = length == (size_t)-1 ? NULL : malloc(length + 1);
     if (bytes != NULL)
         wcstombs(bytes, text, length + 1);
+    return bytes;
+}
+
+char *first_bytes(const wchar_t *text)
+{
+    char *bytes = malloc(wcslen(text) + 1);
+    size_t length = 0;
+    if (bytes == NULL)
+        return NULL;
+    for (int byte; (byte = wctob((wint_t)text[length])) > 0; ++length)
+        bytes[length] = (char)byte;
+    bytes[length] = '\0';
     return bytes;
 }
 

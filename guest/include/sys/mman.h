@@ -27,6 +27,8 @@ extern "C" {
 #define MS_INVALIDATE 2
 #define MS_SYNC 4
 
+#define MREMAP_MAYMOVE 1
+
 #define MADV_NORMAL 0
 #define MADV_RANDOM 1
 #define MADV_SEQUENTIAL 2
@@ -40,6 +42,9 @@ extern "C" {
 
 void *mmap(void *address, size_t length, int protection, int flags, int fd, off_t offset);
 int munmap(void *address, size_t length);
+#if __GNU_VISIBLE
+void *mremap(void *address, size_t before, size_t length, int flags, ...);
+#endif
 int mprotect(void *address, size_t length, int protection);
 int msync(void *address, size_t length, int flags);
 int madvise(void *address, size_t length, int advice);
