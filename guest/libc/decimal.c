@@ -56,11 +56,20 @@ static int multiplied(uint32_t *words, int count, uint32_t factor)
     return count;
 }
 
+/* Four parts of 32 bits, the highest first: what is there moves up, and the part is added. */
 static int words_of(wide number, uint32_t *words)
 {
     int count = 0;
-    for (; number != 0; number /= BASE)
-        words[count++] = (uint32_t)(number % BASE);
+    for (int part = 3; part >= 0; --part) {
+        uint64_t carry = (uint32_t)(number >> 32 * part);
+        for (int at = 0; at < count; ++at) {
+            carry += (uint64_t)words[at] << 32;
+            words[at] = (uint32_t)(carry % BASE);
+            carry /= BASE;
+        }
+        for (; carry != 0; carry /= BASE)
+            words[count++] = (uint32_t)(carry % BASE);
+    }
     return count;
 }
 

@@ -13,7 +13,12 @@
 #define MOST_LINKS 32 /* that a path may lead through */
 
 static argdata_t directories;
-static char current[PATH_ROOM] = "/"; /* without symbolic links, `..` and slashes at the end */
+static char changed[PATH_ROOM]; /* the current directory since `chdir`: without symbolic links, `..` and slashes at the end */
+
+static const char *current(void)
+{
+    return *changed == '\0' ? "/" : changed;
+}
 
 void take_directories(const argdata_t *arguments)
 {
@@ -87,7 +92,7 @@ static bool append_name(char *path, const char *name, size_t length)
 /* Only the `..` at the front are taken off: the current directory has no symbolic link, and what is behind a name may be one. */
 bool absolute_path(const char *path, char *whole)
 {
-    strcpy(whole, *path == '/' ? "/" : current);
+    strcpy(whole, *path == '/' ? "/" : current());
     path = behind_front(path);
     while (path[0] == '.' && path[1] == '.' && (path[2] == '/' || path[2] == '\0')) {
         drop_name(whole);
@@ -104,7 +109,7 @@ cloudabi_errno_t find_place(const char *path, struct place *place)
     place->path = NULL;
     if (*path == '\0')
         return CLOUDABI_ENOENT;
-    if (*path != '/' && current[1] != '\0') {
+    if (*path != '/' && current()[1] != '\0') {
         if (!absolute_path(path, place->room))
             return CLOUDABI_ENAMETOOLONG;
         path = place->room;
@@ -232,7 +237,7 @@ char *realpath(const char *restrict path, char *restrict resolved)
         return NULL;
     }
     strcpy(left, path);
-    strcpy(whole, *path == '/' ? "/" : current);
+    strcpy(whole, *path == '/' ? "/" : current());
     if (!resolve(whole, left))
         return NULL;
     return resolved == NULL ? strdup(whole) : strcpy(resolved, whole);
@@ -249,7 +254,7 @@ int chdir(const char *path)
             return -1;
         close(fd);
     }
-    strcpy(current, whole);
+    strcpy(changed, whole);
     return 0;
 }
 
@@ -264,9 +269,9 @@ int fchdir(int fd)
 
 char *getcwd(char *room, size_t size)
 {
-    size_t needed = strlen(current) + 1;
+    size_t needed = strlen(current()) + 1;
     if (room == NULL)
-        return strdup(current);
+        return strdup(current());
     if (size == 0) {
         errno = EINVAL;
         return NULL;
@@ -275,7 +280,7 @@ char *getcwd(char *room, size_t size)
         errno = ERANGE;
         return NULL;
     }
-    return memcpy(room, current, needed);
+    return memcpy(room, current(), needed);
 }
 
 char *getwd(char *room)
@@ -285,5 +290,5 @@ char *getwd(char *room)
 
 char *get_current_dir_name(void)
 {
-    return strdup(current);
+    return strdup(current());
 }
