@@ -52,6 +52,7 @@ struct sigaction {
 
 int sigaction(int signal, const struct sigaction *__restrict action, struct sigaction *__restrict before);
 int siginterrupt(int signal, int flag);
+int pthread_kill(unsigned long thread, int signal);
 #endif
 
 #ifdef __cplusplus

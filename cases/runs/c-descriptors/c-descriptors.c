@@ -87,6 +87,12 @@ static void mappings(int fd)
     bytes = mmap(NULL, 10000, PROT_READ | PROT_WRITE, MAP_PRIVATE | MAP_ANONYMOUS, -1, 0);
     CHECK(bytes != MAP_FAILED && bytes[9999] == 0 && (bytes[9999] = 1) == 1);
     CHECK(mprotect(bytes, 4096, PROT_READ) == 0 && munmap(bytes, 10000) == 0);
+    bytes = mmap(NULL, 8192, PROT_READ | PROT_WRITE, MAP_PRIVATE | MAP_ANONYMOUS, -1, 0);
+    bytes[0] = bytes[8191] = 'x';
+    bytes = mremap(bytes, 8192, 40000, MREMAP_MAYMOVE);
+    CHECK(bytes != MAP_FAILED && bytes[0] == 'x' && bytes[8191] == 'x' && bytes[8192] == 0 && bytes[39999] == 0);
+    CHECK(mremap(bytes, 40000, 4096, 0) == bytes && bytes[0] == 'x' && mremap(bytes, 4096, 0, 0) == MAP_FAILED && errno == EINVAL);
+    CHECK(munmap(bytes, 4096) == 0);
     CHECK(mmap(NULL, 0, PROT_READ, MAP_PRIVATE | MAP_ANONYMOUS, -1, 0) == MAP_FAILED && errno == EINVAL);
     CHECK(mmap(NULL, 4096, PROT_READ, MAP_PRIVATE, fd, 1) == MAP_FAILED && errno == EINVAL);
     CHECK(mmap(NULL, 4096, PROT_READ, MAP_PRIVATE, 999, 0) == MAP_FAILED && errno == EBADF);

@@ -7,9 +7,11 @@
 #include <pthread.h>
 #include <pwd.h>
 #include <search.h>
+#include <sched.h>
 #include <semaphore.h>
 #include <setjmp.h>
 #include <signal.h>
+#include <spawn.h>
 #include <stdlib.h>
 #include <sys/resource.h>
 #include <sys/stat.h>
@@ -160,6 +162,46 @@ static void locks(void)
     CHECK(pthread_rwlock_wrlock(&both) == 0 && pthread_rwlock_tryrdlock(&both) == EBUSY && pthread_rwlock_unlock(&both) == 0);
 }
 
+static int cleaned;
+
+static void clean(void *argument)
+{
+    cleaned += *(int *)argument;
+}
+
+static void kinds_of_locks(void)
+{
+    pthread_spinlock_t spinning;
+    pthread_barrier_t barrier;
+    pthread_condattr_t of_condition;
+    pthread_rwlockattr_t of_lock;
+    pthread_attr_t of_thread;
+    int state, two = 2;
+    CHECK(pthread_spin_init(&spinning, PTHREAD_PROCESS_PRIVATE) == 0 && pthread_spin_lock(&spinning) == 0);
+    CHECK(pthread_spin_trylock(&spinning) == EBUSY && pthread_spin_unlock(&spinning) == 0 && pthread_spin_destroy(&spinning) == 0);
+    CHECK(pthread_barrier_init(&barrier, NULL, 0) == EINVAL && pthread_barrier_init(&barrier, NULL, 1) == 0);
+    CHECK(pthread_barrier_wait(&barrier) == PTHREAD_BARRIER_SERIAL_THREAD && pthread_barrier_destroy(&barrier) == 0);
+    CHECK(pthread_condattr_init(&of_condition) == 0 && pthread_condattr_setclock(&of_condition, CLOCK_MONOTONIC) == 0);
+    CHECK(pthread_condattr_destroy(&of_condition) == 0 && pthread_rwlockattr_init(&of_lock) == 0 && pthread_rwlockattr_destroy(&of_lock) == 0);
+    CHECK(pthread_attr_init(&of_thread) == 0 && pthread_attr_setdetachstate(&of_thread, PTHREAD_CREATE_DETACHED) == 0);
+    CHECK(pthread_attr_getdetachstate(&of_thread, &state) == 0 && state == PTHREAD_CREATE_DETACHED && pthread_attr_destroy(&of_thread) == 0);
+    pthread_cleanup_push(clean, &two);
+    CHECK(cleaned == 0 && pthread_setcanceltype(PTHREAD_CANCEL_DEFERRED, &state) == 0 && state == PTHREAD_CANCEL_DEFERRED);
+    pthread_cleanup_pop(1);
+    pthread_testcancel();
+    CHECK(cleaned == 2 && pthread_kill(pthread_self(), 0) == 0);
+}
+
+static void spawning(void)
+{
+    posix_spawn_file_actions_t actions;
+    posix_spawnattr_t attributes;
+    CHECK(posix_spawn_file_actions_init(&actions) == 0 && posix_spawn_file_actions_addclose(&actions, 0) == 0);
+    CHECK(posix_spawn_file_actions_adddup2(&actions, 1, 2) == 0 && posix_spawn_file_actions_adddup2(&actions, -1, 2) == EBADF);
+    CHECK(posix_spawn_file_actions_destroy(&actions) == 0 && posix_spawnattr_init(&attributes) == 0 && posix_spawnattr_destroy(&attributes) == 0);
+    CHECK(sched_yield() == 0 && sched_get_priority_max(SCHED_OTHER) >= sched_get_priority_min(SCHED_OTHER));
+}
+
 static void dates(void)
 {
     time_t moment = 1000000000;
@@ -186,6 +228,8 @@ int main(int argc, char **argv)
     options();
     machine();
     locks();
+    kinds_of_locks();
+    spawning();
     dates();
     warnx("a %s", "warning");
     errno = ENOENT;

@@ -195,6 +195,8 @@ static int adds(int count, ...)
     return sum;
 }
 
+static unsigned short own_count = 1;
+
 static void language(void)
 {
     volatile int come = 0;
@@ -208,6 +210,15 @@ static void language(void)
     int wanted = 7;
     CHECK(atomic_fetch_add(&number, 2) == 5 && atomic_compare_exchange_strong(&number, &wanted, 9) && atomic_load(&number) == 9);
     CHECK(!atomic_flag_test_and_set(&flag) && atomic_flag_test_and_set(&flag) && atomic_exchange(&number, 1) == 9);
+    struct {
+        atomic_uchar low, high;
+        atomic_ushort half;
+    } parts = {250, 1, 0xfff0};
+    unsigned char low = 4;
+    CHECK(atomic_fetch_add(&parts.low, 10) == 250 && parts.low == 4 && parts.high == 1 && atomic_fetch_or(&parts.high, 6) == 1 && parts.high == 7);
+    CHECK(atomic_fetch_sub(&parts.half, 0xfff1) == 0xfff0 && parts.half == 0xffff && parts.low == 4 && atomic_exchange(&parts.high, 9) == 7);
+    CHECK(atomic_compare_exchange_strong(&parts.low, &low, 5) && !atomic_compare_exchange_strong(&parts.low, &low, 6) && low == 5);
+    CHECK(__sync_fetch_and_add(&own_count, 2) == 1 && __sync_bool_compare_and_swap(&own_count, 3, 4) && __sync_lock_test_and_set(&own_count, 8) == 4);
     alignas(64) char bytes[64];
     CHECK((uintptr_t)bytes % 64 == 0);
     assert(come == 2);
