@@ -5,7 +5,7 @@ ghost use Rattle.abi_types.specs.Families.{IsOf, fd_of_file, fd_of_offset, fds_o
 use crate::call::{Call, Lookup};
 use crate::place::Place;
 use abi_base::Errno;
-use abi_structures::{FdStat, FileStat};
+use abi_structures::{FdStat, FileStat, Subscription};
 
 /// What a call does to its process's descriptors.
 #[derive(Clone, Copy)]
@@ -145,6 +145,8 @@ pub enum Family<'a> {
     Exit { code: u32 },
     /// mem_map of zeros, which go there.
     Zeros(Place),
+    /// poll: waits for one of these.
+    Poll(&'a [Subscription]),
     /// Answers this, and changes nothing.
     Answered(Errno),
     /// One of the calls that aren't built yet.
@@ -350,6 +352,7 @@ impl Call {
                 stat: *stat,
             }),
             Call::ProcExit { code } => Family::Exit { code: *code },
+            Call::Poll { subscriptions } => Family::Poll(subscriptions.as_slice()),
             Call::FdDatasync { .. } | Call::FdSync { .. } | Call::FileAdvise { .. } => {
                 Family::Answered(Errno::Success)
             }
@@ -361,7 +364,6 @@ impl Call {
             | Call::FdCreate1 { .. }
             | Call::FdCreate2 { .. }
             | Call::LockUnlock { .. }
-            | Call::Poll { .. }
             | Call::ProcExec { .. }
             | Call::ProcFork { .. }
             | Call::ProcRaise { .. }

@@ -62,6 +62,8 @@ pub struct Reply {
 /// What the kernel answers to a call at once.
 #[derive(Drop)]
 pub enum Answer {
+    /// The thread waits in the call; these words are written as it begins to.
+    Parked(WordWrites),
     /// The call is done, with this reply.
     Reply(Reply),
 }
@@ -105,6 +107,7 @@ impl TryClone for Reply {
 impl TryClone for Answer {
     fn copy(&self) -> Result<Self, AllocError> {
         match self {
+            Answer::Parked(writes) => Ok(Answer::Parked(*writes)),
             Answer::Reply(reply) => Ok(Answer::Reply(reply.copy()?)),
         }
     }

@@ -1,9 +1,11 @@
 //! Who makes a call.
 use abi_base::{Pid, Tid};
 
-/// Who makes a call: a process and one of its threads.
+/// Who makes a call, and when: a process, one of its threads, and the moment at which the call was made. A call that waited is done
+/// later than it was made.
 #[derive(Clone, Copy)]
 pub struct Who {
     pub pid: Pid,
     pub tid: Tid,
+    pub since: u64,
 }

@@ -35,6 +35,7 @@ use Rattle.kernel_model.proofs.FilePaths.{walked_plainly}
 use Rattle.kernel_model.proofs.DescriptorCalls.{free_is_absent}
 use Rattle.kernel_model.proofs.HeldOpens.{open_holds, spares_all}
 use Rattle.kernel_model.proofs.Outcomes.{outcome_holds}
+use Rattle.kernel_model.proofs.Parking.{replied_leaves}
 use Rattle.kernel_model.proofs.Refusals.{on_reply, refusal_is_other}
 use Rattle.kernel_model.proofs.Tests.{not_true, same_some}
 use Rattle.run_model.specs.Legal.{Legal}
@@ -43,8 +44,8 @@ use Rattle.run_model.proofs.Histories.{legal_front}
 use Rattle.run_model.proofs.Worlds.{world_is_valid}
 use Rattle.authority_laws.specs.Laws.{OpensAt}
 use Rattle.authority_laws.specs.Ledger.{Row, Made, with_held, opened_held}
-use Rattle.authority_laws.specs.Recorded.{Succeeds, after_at, held_after, held_before}
-use Rattle.authority_laws.proofs.Copies.{before_is, called_is, opened_after, rows_after, stepped}
+use Rattle.authority_laws.specs.Recorded.{after_at, held_after, held_before}
+use Rattle.authority_laws.proofs.Copies.{IsCalled, at_once, before_is, called_is, opened_after, rows_after, stepped}
 use Rattle.authority_laws.proofs.Leads.{Leads, step_leads}
 use Rattle.authority_laws.proofs.Openings.{RefusesByError, row_has, walk_by_error}
 use Rattle.authority_laws.proofs.Rows.{row_in, row_of, held_here, held_elsewhere, again_is_error, mfile_is_error, notcapable_is_error}
@@ -109,9 +110,12 @@ step_opens : (constants : Constants) (S : State) (who : Who) (lookup : Lookup) (
 step_opens constants S who lookup path oflags stat reply T (inl done) success valid =
     let call = FileOpen lookup path oflags stat in
     let U = unreleased constants S who call in
-    let both : (row_of S who.pid reply.r1 ≡ None) × IsSome (row_of U who.pid reply.r1) =
-    on_reply (λ (r : Reply). r.errno ≡ Success → (row_of S who.pid r.r1 ≡ None) × IsSome (row_of U who.pid r.r1)) (step_answer constants S who call) reply
+    let V : State = put_all (outcome constants S who call).updates (tick S) in
+    let set : (row_of S who.pid reply.r1 ≡ None) × IsSome (row_of V who.pid reply.r1) =
+    on_reply (λ (r : Reply). r.errno ≡ Success → (row_of S who.pid r.r1 ≡ None) × IsSome (row_of V who.pid r.r1)) (step_answer constants S who call) reply
     (outcome_opens constants S who lookup path oflags stat) (sym done.0) success in
+    let both : (row_of S who.pid reply.r1 ≡ None) × IsSome (row_of U who.pid reply.r1) =
+    (set.0, subst (λ (X : State). IsSome (row_of X who.pid reply.r1)) (sym (replied_leaves constants S who call reply (sym done.0))) set.1) in
     let row : row_of (release U) who.pid ≡ row_of U who.pid =
     row_spared U who.pid (spares_all constants S who call valid (open_holds constants S who lookup path oflags stat) who.pid) in
     (both.0, subst (λ (V : State). IsSome (row_of V who.pid reply.r1)) (sym done.1) (subst (λ r. IsSome (r reply.r1)) (sym row) both.1))
@@ -130,30 +134,31 @@ made_is_there made before after n stat (Some kind) some is there = (kind, some)
 
 -- where it leads
 leads_after : (launch : Launch) (front : List Entry) (e : Entry) (rest : List Entry) (lookup : Lookup) (path : List ℕ) (oflags : ℕ) (stat : FdStat)
-    (reply : Reply) → MayBegin launch.tree launch.grants → Legal launch (front ++ e ∷ rest) → Succeeds e (FileOpen lookup path oflags stat) reply
+    (reply : Reply) → MayBegin launch.tree launch.grants → Legal launch (front ++ e ∷ rest) → IsCalled e (FileOpen lookup path oflags stat) reply
     → Leads (world launch front).state (world launch (front ++ e ∷ [])).state e.pid lookup.fd
 leads_after launch front e rest lookup path oflags stat reply begins legal done =
     let w = world launch front in
     let call = FileOpen lookup path oflags stat in
     subst (λ (U : State). Leads w.state U e.pid lookup.fd) (sym (called_is launch front e call reply done))
-    (step_leads w.constants w.state (who_of e) lookup path oflags stat reply (called_state w.constants w.state (who_of e) call (answer.Reply reply))
+    (step_leads w.constants w.state (who_of w.state e) lookup path oflags stat reply (called_state w.constants w.state (who_of w.state e) call (answer.Reply reply))
     (stepped launch front e rest call reply legal done) done.success (world_is_valid launch front begins (legal_front launch front (e ∷ rest) legal)).nearly)
 
 pub opens_are_bounded : (launch : Launch) (front : List Entry) (e : Entry) (rest : List Entry) → MayBegin launch.tree launch.grants
     → Legal launch (front ++ e ∷ rest) → OpensAt launch front e
-opens_are_bounded launch front e rest begins legal lookup path oflags stat reply done =
+opens_are_bounded launch front e rest begins legal lookup path oflags stat reply succeeds =
     let w = world launch front in
     let call = FileOpen lookup path oflags stat in
+    let done = at_once launch front e rest call reply begins legal refl succeeds in
     let made : Made = (after_at launch front e).made 0 in
     let before : Row = held_before launch front e in
     let after : Row = held_after launch front e in
-    let T : State = called_state w.constants w.state (who_of e) call (answer.Reply reply) in
+    let T : State = called_state w.constants w.state (who_of w.state e) call (answer.Reply reply) in
     let step = stepped launch front e rest call reply legal done in
     let valid = world_is_valid launch front begins (legal_front launch front (e ∷ rest) legal) in
-    let by = opener_is w.constants w.state (who_of e) lookup path oflags stat reply T step done.success valid in
+    let by = opener_is w.constants w.state (who_of w.state e) lookup path oflags stat reply T step done.success valid in
     let leads = leads_after launch front e rest lookup path oflags stat reply begins legal done in
     let held : row_of w.state e.pid ≡ before = before_is launch front e rest begins legal in
-    let gives = step_opens w.constants w.state (who_of e) lookup path oflags stat reply T step done.success valid in
+    let gives = step_opens w.constants w.state (who_of w.state e) lookup path oflags stat reply T step done.success valid in
     let is : after ≡ with_held before reply.r1 (opened_held made stat) = opened_after launch front e rest begins legal lookup path oflags stat reply done in
     let now : row_of T e.pid ≡ after = rows_after launch front e rest begins legal call reply done in
     let opened = made_is_there made before after reply.r1 stat made.kind refl is (subst IsSome (λ i. now i reply.r1) gives.1) in

@@ -31,9 +31,13 @@ use Rattle.kernel_model.specs.Families.NameMaking.{making, making_unless, text_e
 use Rattle.kernel_model.specs.Families.NameMeaning.{NameOutcome, outcome_of}
 use Rattle.kernel_model.specs.Families.Numbers.{next_object}
 use Rattle.kernel_model.specs.Families.Opening.{open_mode, open_walked}
-use Rattle.kernel_model.specs.Outcome.{Outcome, replies}
+use Rattle.kernel_model.specs.Outcome.{Outcome, parks, replies}
 use Rattle.kernel_model.specs.Reply.{refused, success}
 use Rattle.kernel_model.specs.State.{State, ProcessState, Table, put_all, put_one, set_open, set_table}
+use Rattle.abi_structures.specs.declared.events.Subscription.{Subscription}
+use Rattle.abi_types.specs.declared.reply.WordWrites.TheVariants.{Zero}
+use Rattle.kernel_model.specs.Families.WaitCalls.{clock_event, events_reply}
+use Rattle.kernel_model.proofs.WaitCalls.{poll_holds}
 use Rattle.kernel_model.specs.Families.StreamCalls.{reading, seeking, writing}
 use Rattle.abi_types.specs.Families.{is_anonymous}
 use Rattle.kernel_model.specs.Families.MemoryCalls.{map_row, map_zeros, mapping}
@@ -65,6 +69,7 @@ abbrev GrantsNothing : Call → Type 0
 GrantsNothing call = (after : After) (row : Row) (reply : Reply) → granted_row after row call reply ≡ row
 
 same_answered : (after : After) (row : Row) (call : Call) (given : Answer) → GrantsNothing call → row ≡ answered_row after row call given
+same_answered after row call (answer.Parked writes) nothing = refl
 same_answered after row call (answer.Reply reply) nothing =
     sym (ap (λ granted. by_success reply.errno granted row) (nothing after row reply) ∙ by_either reply.errno row)
 
@@ -152,6 +157,13 @@ unbuilt_reported : (call : Call)
     → ((constants : Constants) (v : View) (who : Who) (table : Table) → (meaning_of call).effect constants v who table ≡ replies (refused Nosys)) → IsReported call
 unbuilt_reported call is constants S v who table there =
     subst (LeavesRow S who.pid call) (sym (is constants v who table)) (refused_reported S who.pid call Nosys nosys_is_error)
+
+-- a poll has its events, or its thread waits
+poll_reported : (subscriptions : List Subscription) → IsReported (call.Poll subscriptions)
+poll_reported subscriptions constants S v who table there =
+    poll_holds (LeavesRow S who.pid (call.Poll subscriptions)) (refused_reported S who.pid (call.Poll subscriptions) Nosys nosys_is_error)
+    (λ userdata. kept S who.pid (call.Poll subscriptions) (replies (events_reply (clock_event userdata ∷ []))) (λ after row reply. refl) refl)
+    (kept S who.pid (call.Poll subscriptions) (parks Zero) (λ after row reply. refl) refl) subscriptions constants v who table
 
 -- ---- calls that change their process's table
 
@@ -269,7 +281,7 @@ reported (call.FileUnlink fd path flags) =
 reported (call.LockUnlock lock word scope) = unbuilt_reported (call.LockUnlock lock word scope) (λ constants v who table. refl)
 reported (call.MemMap place length prot flags fd offset) = mem_map_reported place length prot flags fd offset
 reported (call.Memory number errno) = λ constants S v who table there. decided_reported (call.Memory number errno) errno S who.pid (λ after row reply. refl)
-reported (call.Poll subscriptions) = unbuilt_reported (call.Poll subscriptions) (λ constants v who table. refl)
+reported (call.Poll subscriptions) = poll_reported subscriptions
 reported (call.ProcExec fd bytes fds) = unbuilt_reported (call.ProcExec fd bytes fds) (λ constants v who table. refl)
 reported (call.ProcExit code) = proc_exit_reported code
 reported (call.ProcFork left) = unbuilt_reported (call.ProcFork left) (λ constants v who table. refl)

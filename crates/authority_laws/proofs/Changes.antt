@@ -65,6 +65,7 @@ either_change after Success granted row done = done
 either_change after _ granted row done = stays refl
 
 answered_change : (after : After) (row : Row) (call : Call) (given : Answer) → Change after row (answered_row after row call given)
+answered_change after row call (answer.Parked writes) = stays refl
 answered_change after row call (answer.Reply reply) =
     either_change after reply.errno (granted_row after row call reply) row (granted_change after row call reply)
 

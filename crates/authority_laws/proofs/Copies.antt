@@ -1,11 +1,12 @@
 -- What a call that succeeded leaves of its process's descriptors, against what they were at that entry.
-use Rattle.std.proofs.Common.{◌≡◌, ◌≢◌, inl, inr, ℕ, ◌==◌, cond, List, [], ◌∷◌, ◌++◌, Option, Some, None, is_some, refl, sym, ap, subst, ◌∙◌}
+use Rattle.std.proofs.Common.{◌≡◌, ◌≢◌, inl, inr, ℕ, ◌==◌, true, false, cond, List, [], ◌∷◌, ◌++◌, Option, Some, None, is_some, refl, sym, ap, subst, ◌∙◌}
 use Rattle.std.proofs.lemmas.Bool.Decides.{eqb_tells}
 use Rattle.std.specs.Prelude.{bit_and, option_map}
 use Rattle.std.specs.FinMap.{get}
 use Rattle.abi_base.proofs.Bits.{has-meet}
 use Rattle.abi_base.specs.declared.errno.Errno.TheVariants.{Success, Badf}
 use Rattle.abi_structures.specs.declared.structures.FdStat.{FdStat}
+use Rattle.abi_types.specs.declared.reply.Answer.{Answer}
 use Rattle.abi_types.specs.declared.reply.Answer.TheVariants as answer
 use Rattle.abi_types.specs.declared.call.Call.{Call}
 use Rattle.abi_types.specs.declared.call.Call.TheVariants.{FdDup, FdReplace, FdStatPut, FileOpen}
@@ -13,7 +14,9 @@ use Rattle.abi_types.specs.declared.call.Lookup.{Lookup}
 use Rattle.abi_types.specs.declared.constants.Constants.{Constants}
 use Rattle.abi_types.specs.declared.descriptor.Descriptor.{Descriptor}
 use Rattle.abi_types.specs.declared.reply.Reply.{Reply}
+use Rattle.abi_types.specs.declared.wake.WakeIn.{WakeIn}
 use Rattle.abi_types.specs.declared.who.Who.{Who}
+use Rattle.run_types.specs.declared.history.Act.TheVariants as act
 use Rattle.run_types.specs.declared.history.Entry.{Entry}
 use Rattle.run_types.specs.declared.launch.Launch.{Launch}
 use Rattle.tree_model.specs.Grants.{MayBegin}
@@ -23,10 +26,12 @@ use Rattle.kernel_model.specs.Outcome.{Outcome, OnReply}
 use Rattle.kernel_model.specs.Proper.{IsIn}
 use Rattle.kernel_model.specs.State.{State, Table}
 use Rattle.kernel_model.specs.Step.{tick, outcome, step_answer, unreleased, IsStep}
+use Rattle.kernel_model.specs.Waits.{may_wait, MayWait}
 use Rattle.kernel_model.proofs.DescriptorCalls.{free_is_absent}
 use Rattle.kernel_model.proofs.HeldOpens.{HoldsAsMuch, dup_holds, open_holds, spares_all, stat_put_holds}
 use Rattle.kernel_model.proofs.Outcomes.{outcome_holds}
 use Rattle.kernel_model.proofs.Refusals.{on_reply, absent_is_badf, refusal_is_other}
+use Rattle.kernel_model.proofs.Tests.{none_is_no, not_true, same_some}
 use Rattle.run_model.specs.Legal.{FitsAct, Legal}
 use Rattle.run_model.specs.World.{World, guest_of, acted, called_state, turned, who_of, world}
 use Rattle.run_model.proofs.Histories.{apply_is, legal_front, legal_next, world_more}
@@ -86,22 +91,45 @@ result_free constants S who fd reply T (inr lacking) success = no_memory reply l
 
 -- ---- entries of a legal history
 
+-- the entry is this call, which succeeded at once
+pub record IsCalled (e : Entry) (call : Call) (reply : Reply) : Type 0 where
+  pub is : e.act ≡ act.Call call (answer.Reply reply)
+  pub success : reply.errno ≡ Success
+
+-- a thread waits only in a call in which it may
+woken_may_wait : (launch : Launch) (front : List Entry) (e : Entry) (rest : List Entry) (call : Call) (given : WakeIn) (answered : Answer)
+    → MayBegin launch.tree launch.grants → Legal launch (front ++ e ∷ rest) → e.act ≡ act.Wake call given answered → may_wait call ≡ true
+woken_may_wait launch front e rest call given answered begins legal is =
+    let w = world launch front in
+    let fits : FitsAct w.constants w.state (who_of w.state e) (guest_of w e.pid) e.turns e.act = (legal_next launch front e rest legal).act in
+    let woken = subst (FitsAct w.constants w.state (who_of w.state e) (guest_of w e.pid) e.turns) is fits in
+    subst MayWait woken.0.1.1 ((world_is_valid launch front begins (legal_front launch front (e ∷ rest) legal)).nearly.waits e.pid e.tid)
+
+-- so a call in which none may succeeds at once
+pub at_once : (launch : Launch) (front : List Entry) (e : Entry) (rest : List Entry) (call : Call) (reply : Reply) → MayBegin launch.tree launch.grants
+    → Legal launch (front ++ e ∷ rest) → may_wait call ≡ false → Succeeds e call reply → IsCalled e call reply
+at_once launch front e rest call reply begins legal never done =
+    elim done.is [
+      | inl is ↦ record { is = is; success = done.success }
+      | inr woken ↦ absurd (not_true (sym never ∙ woken_may_wait launch front e rest call woken.0 (answer.Reply reply) begins legal woken.1))
+    ]
+
 -- the kernel's step
-pub stepped : (launch : Launch) (front : List Entry) (e : Entry) (rest : List Entry) (call : Call) (reply : Reply) → Legal launch (front ++ e ∷ rest) → Succeeds e call reply
-    → IsStep (world launch front).constants (world launch front).state (who_of e) call (answer.Reply reply)
-    (called_state (world launch front).constants (world launch front).state (who_of e) call (answer.Reply reply))
+pub stepped : (launch : Launch) (front : List Entry) (e : Entry) (rest : List Entry) (call : Call) (reply : Reply) → Legal launch (front ++ e ∷ rest) → IsCalled e call reply
+    → IsStep (world launch front).constants (world launch front).state (who_of (world launch front).state e) call (answer.Reply reply)
+    (called_state (world launch front).constants (world launch front).state (who_of (world launch front).state e) call (answer.Reply reply))
 stepped launch front e rest call reply legal done =
     let w = world launch front in
-    let fits : FitsAct w.constants w.state (who_of e) (guest_of w e.pid) e.turns e.act = (legal_next launch front e rest legal).act in
-    (subst (FitsAct w.constants w.state (who_of e) (guest_of w e.pid) e.turns) done.is fits).1
+    let fits : FitsAct w.constants w.state (who_of w.state e) (guest_of w e.pid) e.turns e.act = (legal_next launch front e rest legal).act in
+    (subst (FitsAct w.constants w.state (who_of w.state e) (guest_of w e.pid) e.turns) done.is fits).1
 
 -- the kernel's state after an entry that is a call
-pub called_is : (launch : Launch) (front : List Entry) (e : Entry) (call : Call) (reply : Reply) → Succeeds e call reply
+pub called_is : (launch : Launch) (front : List Entry) (e : Entry) (call : Call) (reply : Reply) → IsCalled e call reply
     → (world launch (front ++ e ∷ [])).state
-    ≡ called_state (world launch front).constants (world launch front).state (who_of e) call (answer.Reply reply)
+    ≡ called_state (world launch front).constants (world launch front).state (who_of (world launch front).state e) call (answer.Reply reply)
 called_is launch front e call reply done =
     ap (λ (w : World). w.state) (world_more launch front e ∙ apply_is (world launch front) e)
-    ∙ ap (λ a. (acted (turned (world launch front) e.pid e.turns) (who_of e) a).state) done.is
+    ∙ ap (λ a. (acted (turned (world launch front) e.pid e.turns) (who_of (world launch front).state e) a).state) done.is
 
 module _ (launch : Launch) (front : List Entry) (e : Entry) (rest : List Entry) (begins : MayBegin launch.tree launch.grants)
     (legal : Legal launch (front ++ e ∷ rest)) where
@@ -110,17 +138,17 @@ module _ (launch : Launch) (front : List Entry) (e : Entry) (rest : List Entry) 
   before_is = world_rows launch front begins (legal_front launch front (e ∷ rest) legal) e.pid
 
   -- a descriptor that a call names which succeeds was held before it
-  named_held : (call : Call) (reply : Reply) (fd : ℕ) → Succeeds e call reply → IsIn fd (named call)
+  named_held : (call : Call) (reply : Reply) (fd : ℕ) → IsCalled e call reply → IsIn fd (named call)
       → (d : Descriptor) × (held_before launch front e fd ≡ Some d)
   named_held call reply fd done asked =
       let w = world launch front in
-      let found = named_by w.constants w.state (who_of e) call reply (called_state w.constants w.state (who_of e) call (answer.Reply reply)) fd
+      let found = named_by w.constants w.state (who_of w.state e) call reply (called_state w.constants w.state (who_of w.state e) call (answer.Reply reply)) fd
       (get w.state.tables e.pid) (stepped launch front e rest call reply legal done) done.success asked refl in
       (found.0, (λ i. sym before_is i fd) ∙ found.1)
 
   -- what the process has in the kernel's tables after a call
-  pub rows_after : (call : Call) (reply : Reply) → Succeeds e call reply
-      → row_of (called_state (world launch front).constants (world launch front).state (who_of e) call (answer.Reply reply)) e.pid
+  pub rows_after : (call : Call) (reply : Reply) → IsCalled e call reply
+      → row_of (called_state (world launch front).constants (world launch front).state (who_of (world launch front).state e) call (answer.Reply reply)) e.pid
       ≡ held_after launch front e
   rows_after call reply done =
       ap (λ (S : State). row_of S e.pid) (sym (called_is launch front e call reply done))
@@ -128,46 +156,46 @@ module _ (launch : Launch) (front : List Entry) (e : Entry) (rest : List Entry) 
 
   -- the release after a call that lets go of nothing kills nobody
   kills_none : (call : Call)
-      → HoldsAsMuch (tick (world launch front).state) (unreleased (world launch front).constants (world launch front).state (who_of e) call)
+      → HoldsAsMuch (tick (world launch front).state) (unreleased (world launch front).constants (world launch front).state (who_of (world launch front).state e) call)
       → ReleaseKeeps launch front e call
   kills_none call as_much =
       let w = world launch front in
-      spares_all w.constants w.state (who_of e) call (world_is_valid launch front begins (legal_front launch front (e ∷ rest) legal)) as_much e.pid
+      spares_all w.constants w.state (who_of w.state e) call (world_is_valid launch front begins (legal_front launch front (e ∷ rest) legal)) as_much e.pid
 
   -- What it holds after a call that succeeded is what the call's line says, unless what it lets go ends the process. Of each call it
   -- is said apart that this does not.
-  granted_after : (call : Call) (reply : Reply) → Succeeds e call reply → ReleaseKeeps launch front e call
+  granted_after : (call : Call) (reply : Reply) → IsCalled e call reply → ReleaseKeeps launch front e call
       → held_after launch front e ≡ granted_row (after_at launch front e) (held_before launch front e) call reply
   granted_after call reply done keeps =
       let w = world launch front in
-      let T : State = called_state w.constants w.state (who_of e) call (answer.Reply reply) in
+      let T : State = called_state w.constants w.state (who_of w.state e) call (answer.Reply reply) in
       let called : T ≡ (world launch (front ++ e ∷ [])).state = sym (called_is launch front e call reply done) in
-      sym (rows_after call reply done) ∙ step_row w.constants w.state (who_of e) call (answer.Reply reply) T (stepped launch front e rest call reply legal done)
+      sym (rows_after call reply done) ∙ step_row w.constants w.state (who_of w.state e) call (answer.Reply reply) T (stepped launch front e rest call reply legal done)
       (λ _. keeps)
       ∙ (λ i. by_success (done.success i) (granted_row (after_of (called i) e.pid) (before_is i) call reply) (before_is i))
 
-  pub duplicated_after : (fd : ℕ) (reply : Reply) → Succeeds e (FdDup fd) reply
+  pub duplicated_after : (fd : ℕ) (reply : Reply) → IsCalled e (FdDup fd) reply
       → held_after launch front e ≡ with_held (held_before launch front e) reply.r1 (held_before launch front e fd)
   duplicated_after fd reply done =
       let w = world launch front in
-      granted_after (FdDup fd) reply done (kills_none (FdDup fd) (dup_holds w.constants w.state (who_of e) fd))
+      granted_after (FdDup fd) reply done (kills_none (FdDup fd) (dup_holds w.constants w.state (who_of w.state e) fd))
 
-  pub replaced_after : (from to : ℕ) (reply : Reply) → Succeeds e (FdReplace from to) reply → ReleaseKeeps launch front e (FdReplace from to)
+  pub replaced_after : (from to : ℕ) (reply : Reply) → IsCalled e (FdReplace from to) reply → ReleaseKeeps launch front e (FdReplace from to)
       → held_after launch front e ≡ with_held (held_before launch front e) to (held_before launch front e from)
   replaced_after from to reply done keeps = granted_after (FdReplace from to) reply done keeps
 
-  pub put_after : (fd : ℕ) (stat : FdStat) (flags : ℕ) (reply : Reply) → Succeeds e (FdStatPut fd stat flags) reply
+  pub put_after : (fd : ℕ) (stat : FdStat) (flags : ℕ) (reply : Reply) → IsCalled e (FdStatPut fd stat flags) reply
       → held_after launch front e ≡ cond (bit_and flags 2 == 0) (held_before launch front e) (lowered_row (held_before launch front e) fd stat)
   put_after fd stat flags reply done =
       let w = world launch front in
-      granted_after (FdStatPut fd stat flags) reply done (kills_none (FdStatPut fd stat flags) (stat_put_holds w.constants w.state (who_of e) fd stat flags))
+      granted_after (FdStatPut fd stat flags) reply done (kills_none (FdStatPut fd stat flags) (stat_put_holds w.constants w.state (who_of w.state e) fd stat flags))
 
-  pub opened_after : (lookup : Lookup) (path : List ℕ) (oflags : ℕ) (stat : FdStat) (reply : Reply) → Succeeds e (FileOpen lookup path oflags stat) reply
+  pub opened_after : (lookup : Lookup) (path : List ℕ) (oflags : ℕ) (stat : FdStat) (reply : Reply) → IsCalled e (FileOpen lookup path oflags stat) reply
       → held_after launch front e ≡ with_held (held_before launch front e) reply.r1 (opened_held ((after_at launch front e).made 0) stat)
   opened_after lookup path oflags stat reply done =
       let w = world launch front in
       granted_after (FileOpen lookup path oflags stat) reply done
-      (kills_none (FileOpen lookup path oflags stat) (open_holds w.constants w.state (who_of e) lookup path oflags stat))
+      (kills_none (FileOpen lookup path oflags stat) (open_holds w.constants w.state (who_of w.state e) lookup path oflags stat))
 
 -- ---- copies
 
@@ -180,17 +208,19 @@ copied before after from to d there is = record {
 }
 
 pub duplicates_are_equal : DuplicatesAreEqual
-duplicates_are_equal launch front e rest begins legal fd reply done =
+duplicates_are_equal launch front e rest begins legal fd reply succeeds =
     let w = world launch front in
+    let done = at_once launch front e rest (FdDup fd) reply begins legal refl succeeds in
     let found = named_held launch front e rest begins legal (FdDup fd) reply fd done ([], [], refl) in
-    let free = result_free w.constants w.state (who_of e) fd reply (called_state w.constants w.state (who_of e) (FdDup fd) (answer.Reply reply))
+    let free = result_free w.constants w.state (who_of w.state e) fd reply (called_state w.constants w.state (who_of w.state e) (FdDup fd) (answer.Reply reply))
     (stepped launch front e rest (FdDup fd) reply legal done) done.success in (
       (λ i. sym (before_is launch front e rest begins legal) i reply.r1) ∙ free,
       copied (held_before launch front e) (held_after launch front e) fd reply.r1 found.0 found.1 (duplicated_after launch front e rest begins legal fd reply done),
     )
 
 pub replacements_are_equal : ReplacementsAreEqual
-replacements_are_equal launch front e rest begins legal from to reply done =
+replacements_are_equal launch front e rest begins legal from to reply succeeds =
+    let done = at_once launch front e rest (FdReplace from to) reply begins legal refl succeeds in
     let found = named_held launch front e rest begins legal (FdReplace from to) reply from done ([], to ∷ [], refl) in
     let old = named_held launch front e rest begins legal (FdReplace from to) reply to done (from ∷ [], [], refl) in (
       ap is_some old.1,
@@ -221,8 +251,9 @@ lowered before after n stat x there is = record {
 }
 
 pub rights_are_lowered : RightsAreLowered
-rights_are_lowered launch front e rest begins legal fd stat flags reply done set =
+rights_are_lowered launch front e rest begins legal fd stat flags reply succeeds set =
     let before = held_before launch front e in
+    let done = at_once launch front e rest (FdStatPut fd stat flags) reply begins legal refl succeeds in
     let found = named_held launch front e rest begins legal (FdStatPut fd stat flags) reply fd done ([], [], refl) in
     lowered before (held_after launch front e) fd stat found.0 found.1
     (put_after launch front e rest begins legal fd stat flags reply done ∙ where_set flags before (lowered_row before fd stat) set)

@@ -13,7 +13,7 @@ use Rattle.run_types.specs.declared.launch.Launch.{Launch}
 use Rattle.kernel_model.specs.State.{State}
 use Rattle.kernel_model.specs.Valid.{IsValid}
 use Rattle.run_model.specs.Legal.{FitsAct, Fits, FollowsFrom, Legal}
-use Rattle.run_model.specs.World.{World, Guest, start_world, guest_of, called_state, turned, acted, who_of, apply, apply_all, world}
+use Rattle.run_model.specs.World.{World, Guest, start_world, guest_of, called_state, woken_state, turned, acted, who_of, apply, apply_all, world}
 use Rattle.run_model.proofs.Ends.{killed_is_not_live}
 use Rattle.run_model.proofs.Histories.{legal_front, legal_more, legal_next, apply_is, first_state, world_more}
 use Rattle.kernel_model.proofs.Starts.{start_valid}
@@ -25,7 +25,7 @@ use Rattle.authority_laws.specs.Recorded.{acted_child, acted_row, ledger, after_
 use Rattle.authority_laws.proofs.Changes.{acted_change}
 use Rattle.authority_laws.proofs.Origins.{ActIsWithin, acted_sent, noted_from}
 use Rattle.authority_laws.proofs.Rows.{row_in}
-use Rattle.authority_laws.proofs.States.{HasRows, step_rows, end_rows, start_rows, ended_row, row_is_held}
+use Rattle.authority_laws.proofs.States.{HasRows, idle_rows, step_rows, wake_rows, end_rows, start_rows, ended_row, row_is_held}
 use Rattle.authority_laws.proofs.Successes.{act_is_within}
 
 -- ---- the ledger of one more entry
@@ -57,16 +57,17 @@ acted_rows : (w : World) (who : Who) (guest : Guest) (ts : List ℕ) (a : Act) (
     → IsValid (acted w who a).state → HasRows w.state l → HasRows (acted w who a).state (left (after_of (acted w who a).state who.pid) l who.pid a)
 acted_rows w who guest ts (act.Call call given) l fits valid before =
     step_rows w.constants w.state who call given (called_state w.constants w.state who call given) l fits.1 valid before
-acted_rows w who guest ts (act.Wake call given answered) l fits valid before = absurd fits.0
+acted_rows w who guest ts (act.Wake call given answered) l fits valid before =
+    wake_rows w.constants w.state who call given answered (woken_state w.constants w.state who call given answered) l fits.1.1 valid before
 acted_rows w who guest ts (act.Trap signal) l fits valid before = end_rows w.state who.pid (Killed signal) l (killed_is_not_live signal) valid before
 acted_rows w who guest ts act.Expire l fits valid before = end_rows w.state who.pid (Killed Xcpu) l (killed_is_not_live Xcpu) valid before
-acted_rows w who guest ts act.Idle l fits valid before = absurd fits.0
+acted_rows w who guest ts act.Idle l fits valid before = idle_rows w.state who.pid l valid before
 
 apply_rows : (w : World) (e : Entry) (l : Ledger) → Fits w e → IsValid (apply w e).state → HasRows w.state l
     → HasRows (apply w e).state (noted (after_in (apply w e) e) l e)
 apply_rows w e l fits valid before =
     subst (λ (v : World). HasRows v.state (noted (after_in v e) l e)) (sym (apply_is w e))
-    (acted_rows (turned w e.pid e.turns) (who_of e) (guest_of w e.pid) e.turns e.act l fits.act
+    (acted_rows (turned w e.pid e.turns) (who_of w.state e) (guest_of w e.pid) e.turns e.act l fits.act
     (subst (λ (v : World). IsValid v.state) (apply_is w e) valid) before)
 
 follows_rows : (w : World) (history : List Entry) (l : Ledger) → FollowsFrom w history → IsValid w.state → HasRows w.state l

@@ -30,7 +30,7 @@ use Rattle.kernel_model.specs.Outcome.{Outcome, OnReply, replies}
 use Rattle.kernel_model.specs.Release.{is_ending, is_node_kept, release, without_ended}
 use Rattle.kernel_model.specs.Reply.{refused, success}
 use Rattle.kernel_model.specs.State.{State, ProcessState, Table, Tree, put_all, set_open, set_table, tree_of}
-use Rattle.kernel_model.specs.Step.{IsStep, outcome, step_answer, tick, unreleased}
+use Rattle.kernel_model.specs.Step.{IsStep, outcome, step_answer, tick}
 use Rattle.kernel_model.specs.Valid.{IsNearlyValid}
 use Rattle.kernel_model.specs.View.{whole}
 use Rattle.kernel_model.proofs.Calls.{proper}
@@ -39,6 +39,7 @@ use Rattle.kernel_model.proofs.ObjectNumbers.{fewer_fit, next_is_absent}
 use Rattle.kernel_model.proofs.OpenLaws.{opens_lead_below}
 use Rattle.kernel_model.proofs.Opened.{IsThere, OpensWell, opens_well}
 use Rattle.kernel_model.proofs.Outcomes.{outcome_holds}
+use Rattle.kernel_model.proofs.Parking.{replied_leaves}
 use Rattle.kernel_model.proofs.Refusals.{on_reply, refusal_is_other}
 use Rattle.kernel_model.proofs.Tests.{none_is_no, same_some}
 use Rattle.kernel_model.proofs.Valids.{get_released, left_counts, named_is_kept, root_is_kept, tick_nearly_valid}
@@ -200,7 +201,7 @@ module _ (constants : Constants) (S : State) (who : Who) (lookup : Lookup) (path
       held_leads (tick S) who.pid table lookup path oflags stat own (tick_nearly_valid S v) (real_time constants (tick S).clock)
       (get table lookup.fd) refl)
 
-  left_is_tree : IsTree (tree_of (unreleased constants S who (FileOpen lookup path oflags stat)))
+  left_is_tree : IsTree (tree_of (put_all (outcome constants S who (FileOpen lookup path oflags stat)).updates (tick S)))
   left_is_tree =
       (outcome_holds (λ (o : Outcome). IsNearlyValid (put_all o.updates (tick S))) constants S who (FileOpen lookup path oflags stat)
       (λ reply _. tick_nearly_valid S v)
@@ -258,10 +259,10 @@ pub step_leads : (constants : Constants) (S : State) (who : Who) (lookup : Looku
     → Leads S T who.pid lookup.fd
 step_leads constants S who lookup path oflags stat reply T (inl done) success v =
     let call = FileOpen lookup path oflags stat in
-    let U : State = unreleased constants S who call in
+    let U : State = put_all (outcome constants S who call).updates (tick S) in
     let leads : Leads (tick S) U who.pid lookup.fd =
     on_reply (λ (r : Reply). r.errno ≡ Success → Leads (tick S) U who.pid lookup.fd) (step_answer constants S who call) reply
     (outcome_leads constants S who lookup path oflags stat v) (sym done.0) success in
-    subst (λ (V : State). Leads S V who.pid lookup.fd) (sym done.1)
+    subst (λ (V : State). Leads S V who.pid lookup.fd) (sym (done.1 ∙ ap release (replied_leaves constants S who call reply (sym done.0))))
     (release_leads S U who.pid lookup.fd (left_is_tree constants S who lookup path oflags stat v) leads)
 step_leads constants S who lookup path oflags stat reply T (inr lacking) success v = no_memory reply lacking.1 success

@@ -129,9 +129,11 @@ module _ (after : After) (l : Ledger) (e : Entry) where
 
   -- so it is where the call succeeded
   abbrev pub AnswerIsWithin : Call → Answer → Type 0
+  AnswerIsWithin call (answer.Parked writes) = ⊤
   AnswerIsWithin call (answer.Reply reply) = reply.errno ≡ Success → OpensWithin call
 
   answered_from : (call : Call) (given : Answer) → AnswerIsWithin call given → RowComesFrom (answered_row after (l.held e.pid) call given)
+  answered_from call (answer.Parked writes) within = own_from
   answered_from call (answer.Reply reply) within =
       success_from reply.errno (granted_row after (l.held e.pid) call reply) (λ success. granted_from call reply (within success))
 
@@ -217,6 +219,7 @@ module _ (after : After) (row : Row) (sent : Sends) where
   success_sent _ then from = λ c j d is. inl is
 
   answered_sent : (call : Call) (given : Answer) → SentFrom (answered_sends after row sent call given)
+  answered_sent call (answer.Parked writes) = λ c j d is. inl is
   answered_sent call (answer.Reply reply) = success_sent reply.errno (granted_sends after row sent call) (granted_sent call)
 
   pub acted_sent : (a : Act) → SentFrom (acted_sends after row sent a)

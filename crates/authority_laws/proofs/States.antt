@@ -20,6 +20,9 @@ use Rattle.abi_types.specs.declared.reply.Answer.TheVariants as answer
 use Rattle.abi_types.specs.declared.reply.Reply.{Reply}
 use Rattle.abi_types.specs.declared.status.Status.{Status}
 use Rattle.abi_types.specs.declared.status.Status.TheVariants.{Live, Exit, Killed}
+use Rattle.abi_types.specs.declared.thread.Thread.{Thread}
+use Rattle.abi_types.specs.declared.wake.WakeIn.{WakeIn}
+use Rattle.abi_types.specs.declared.wake.WakeIn.TheVariants as wake
 use Rattle.abi_types.specs.declared.who.Who.{Who}
 use Rattle.abi_types.specs.declared.counts.Counts.{Counts}
 use Rattle.maps.specs.Maps.{get-insert-same, get-insert-other}
@@ -27,10 +30,13 @@ use Rattle.kernel_model.specs.Families.Numbers.{object_of}
 use Rattle.kernel_model.specs.Families.Opening.{opened_descriptor}
 use Rattle.kernel_model.specs.Release.{ends, is_ending, is_killed, is_released, release, table_left}
 use Rattle.kernel_model.specs.Start.{granted_descriptor, granted_table}
-use Rattle.kernel_model.specs.State.{State, Table, Tree, at_status, counts_in}
+use Rattle.kernel_model.specs.State.{State, Table, Tree, at_status, counts_in, put_all}
 use Rattle.kernel_model.specs.Step.{tick, outcome, step_answer, step_state, unreleased, IsStep, end_unreleased, end_state}
 use Rattle.kernel_model.specs.Valid.{IsValid}
 use Rattle.kernel_model.specs.View.{whole}
+use Rattle.kernel_model.specs.Deadlines.{idle_state}
+use Rattle.kernel_model.specs.Waits.{resumed, waiting, waits_if}
+use Rattle.kernel_model.specs.Wakes.{IsWake}
 use Rattle.kernel_model.proofs.Ends.{table_after, table_spared}
 use Rattle.kernel_model.proofs.Outcomes.{outcome_holds}
 use Rattle.kernel_model.proofs.Starts.{find_numbered}
@@ -191,7 +197,15 @@ errno_stays U p row call reply _ spared is = refl
 
 answered_stays : (U : State) (p : ℕ) (row : Row) (call : Call) (given : Answer) → IsSpared U p → row_of U p ≡ answered_row (after_of U p) row call given
     → answered_row (after_of U p) row call given ≡ answered_row (after_of (seen U) p) row call given
+answered_stays U p row call (answer.Parked writes) spared is = refl
 answered_stays U p row call (answer.Reply reply) spared is = errno_stays U p row call reply reply.errno spared is
+
+-- a thread that waits leaves its process's descriptors
+waits_reported : (a : Answer) (who : Who) (thread : Thread) (V : State) (row : Row) (call : Call)
+    → row_of V who.pid ≡ answered_row (after_of V who.pid) row call a
+    → row_of (waits_if a who thread V) who.pid ≡ answered_row (after_of (waits_if a who thread V) who.pid) row call a
+waits_reported (answer.Parked writes) who thread V row call is = is
+waits_reported (answer.Reply reply) who thread V row call is = is
 
 pub step_row : (constants : Constants) (S : State) (who : Who) (call : Call) (given : Answer) (T : State) → IsStep constants S who call given T
     → (T ≡ step_state constants S who call → IsSpared (unreleased constants S who call) who.pid)
@@ -199,7 +213,8 @@ pub step_row : (constants : Constants) (S : State) (who : Who) (call : Call) (gi
 step_row constants S who call given T (inl done) unkilled =
     let U = unreleased constants S who call in
     let reported : row_of U who.pid ≡ answered_row (after_of U who.pid) (row_of S who.pid) call (step_answer constants S who call) =
-    outcome_reported constants S who call in
+    waits_reported (step_answer constants S who call) who (waiting constants call who.since) (put_all (outcome constants S who call).updates (tick S))
+    (row_of S who.pid) call (outcome_reported constants S who call) in
     let spared : IsSpared U who.pid = unkilled done.1 in
     subst (λ (V : State). row_of V who.pid ≡ answered_row (after_of V who.pid) (row_of S who.pid) call given) (sym done.1)
     (row_spared U who.pid spared ∙ reported
@@ -300,6 +315,26 @@ step_rows constants S who call given T l step valid before =
     (λ q apart live.
     ap row_in (unless_killed S T q live ((step_moves_only constants S who call given T step).others q apart)).0 ∙ before q
     ∙ ap (λ child. (with_child child (l.held who.pid) l).held q) (sym (makes_no_child constants S who call given T (after_of T who.pid) step)))
+
+-- a wake leaves what its call does from the state in which the thread runs
+pub wake_rows : (constants : Constants) (S : State) (who : Who) (call : Call) (given : WakeIn) (answered : Answer) (T : State) (l : Ledger)
+    → IsWake constants S who call given answered T → IsValid T → HasRows S l
+    → HasRows T (of_live (after_of T who.pid).live
+    (with_row (with_child (answered_child (after_of T who.pid) call answered) (l.held who.pid) l) who.pid
+    (answered_row (after_of T who.pid) (l.held who.pid) call answered)))
+wake_rows constants S who call (wake.Plain word) answered T l is valid before =
+    step_rows constants (resumed S who) who call answered T l is.0 valid before
+wake_rows constants S who call wake.Fault answered T l is valid before =
+    let row : (q : ℕ) → row_of T q ≡ l.held q = λ q. ap (λ (U : State). row_of U q) is.1 ∙ before q in
+    subst (λ a. HasRows T (of_live (after_of T who.pid).live
+    (with_row (with_child (answered_child (after_of T who.pid) call a) (l.held who.pid) l) who.pid
+    (answered_row (after_of T who.pid) (l.held who.pid) call a)))) (sym is.0)
+    (changed T l who.pid None (l.held who.pid) valid (λ _. row who.pid) (λ q _ _. row q))
+
+-- an idle jump leaves them
+pub idle_rows : (S : State) (p : ℕ) (l : Ledger) → IsValid (idle_state S) → HasRows S l
+    → HasRows (idle_state S) (of_live (after_of (idle_state S) p).live (with_row l p (l.held p)))
+idle_rows S p l valid before = changed (idle_state S) l p None (l.held p) valid (λ _. before p) (λ q _ _. before q)
 
 pub end_rows : (S : State) (p : ℕ) (status : Status) (l : Ledger) → status ≢ Live → IsValid (end_state S p status) → HasRows S l
     → HasRows (end_state S p status) (of_live (after_of (end_state S p status) p).live (with_row l p no_row))

@@ -2,7 +2,7 @@
 --     has_table, met_of_success      its process has a table, in which its needs are met
 --     opened_inherits      what is opened through a descriptor that has the rights needed has no right but those which that passes on
 --     act_is_within      so it is of each entry that fits
-use Rattle.std.proofs.Common.{◌≡◌, ◌≢◌, inl, inr, ℕ, ◌-◌, ◌^◌, ◌<◌, ◌&&◌, ◌==◌, Bool, true, false, max, List, Option, Some, None, refl, sym, ap, ◌∙◌, arith}
+use Rattle.std.proofs.Common.{◌≡◌, ◌≢◌, inl, inr, ℕ, ◌-◌, ◌^◌, ◌<◌, ◌&&◌, ◌==◌, Bool, true, false, max, List, Option, Some, None, refl, sym, ap, subst, ◌∙◌, arith}
 use Rattle.std.proofs.lemmas.Bool.{eqb-true}
 use Rattle.std.proofs.lemmas.Bool.Decides.{eqb_tells}
 use Rattle.std.proofs.lemmas.Nat.{and_le_l}
@@ -14,7 +14,7 @@ use Rattle.std.specs.List.{AllByRecursion}
 use Rattle.abi_base.proofs.Bits.{has-meet}
 use Rattle.abi_base.specs.Rights.{Has, minus_of}
 use Rattle.abi_base.specs.declared.errno.Errno.{Errno}
-use Rattle.abi_base.specs.declared.errno.Errno.TheVariants.{Badf, Nomem, Success}
+use Rattle.abi_base.specs.declared.errno.Errno.TheVariants.{Badf, Fault, Nomem, Success}
 use Rattle.abi_structures.specs.declared.structures.FdStat.{FdStat}
 use Rattle.abi_types.specs.declared.call.Call.{Call}
 use Rattle.abi_types.specs.declared.call.Call.TheVariants.{FileOpen}
@@ -26,6 +26,8 @@ use Rattle.abi_types.specs.declared.open_kind.OpenKind.TheVariants.{File, Direct
 use Rattle.abi_types.specs.declared.reply.Answer.{Answer}
 use Rattle.abi_types.specs.declared.reply.Answer.TheVariants as answer
 use Rattle.abi_types.specs.declared.reply.Reply.{Reply}
+use Rattle.abi_types.specs.declared.wake.WakeIn.{WakeIn}
+use Rattle.abi_types.specs.declared.wake.WakeIn.TheVariants as wake
 use Rattle.abi_types.specs.declared.who.Who.{Who}
 use Rattle.run_types.specs.declared.history.Act.{Act}
 use Rattle.run_types.specs.declared.history.Act.TheVariants as act
@@ -41,13 +43,16 @@ use Rattle.kernel_model.specs.Step.{tick, outcome_on, step_answer, IsStep}
 use Rattle.kernel_model.specs.Fits.{fits, fits_inheriting}
 use Rattle.kernel_model.specs.Valid.{IsNamed, IsValid}
 use Rattle.kernel_model.specs.View.{whole}
+use Rattle.kernel_model.specs.Waits.{resumed}
+use Rattle.kernel_model.specs.Wakes.{IsWake}
+use Rattle.kernel_model.proofs.Waking.{resumed_valid}
 use Rattle.kernel_model.proofs.FoundOpens.{fits_small, lacks_none}
 use Rattle.kernel_model.proofs.Outcomes.{outcome_reads}
 use Rattle.kernel_model.proofs.Reaches.{all_met}
 use Rattle.kernel_model.proofs.Refusals.{refused_answer, refusal_is_other, same_reply}
 use Rattle.kernel_model.proofs.Tests.{not_true}
 use Rattle.run_model.specs.Legal.{FitsAct}
-use Rattle.run_model.specs.World.{Guest, called_state, who_of}
+use Rattle.run_model.specs.World.{Guest, called_state, woken_state, who_of}
 use Rattle.authority_laws.specs.Ledger.{After, Ledger}
 use Rattle.authority_laws.specs.Origins.{InheritsFrom, was_opened}
 use Rattle.authority_laws.proofs.Origins.{ActIsWithin, AnswerIsWithin, OpensWithin}
@@ -58,6 +63,9 @@ use Rattle.authority_laws.proofs.States.{HasRows}
 
 nomem_is_error : Nomem ≢ Success
 nomem_is_error e = cc
+
+fault_is_error : Fault ≢ Success
+fault_is_error e = cc
 
 pub no_success : {X : Type 0} (reply : Reply) (errno : Errno) → answer.Reply reply ≡ answer.Reply (refused errno) → errno ≢ Success → reply.errno ≡ Success → X
 no_success reply errno is other success = absurd (other (sym (ap (λ (r : Reply). r.errno) (same_reply reply (refused errno) is)) ∙ success))
@@ -184,24 +192,38 @@ opener_is constants S who lookup path oflags stat reply T step success valid =
 
 -- ---- entries that fit
 
-opens_within : (constants : Constants) (S : State) (after : After) (l : Ledger) (e : Entry) (call : Call) (reply : Reply) (T : State)
-    → IsStep constants S (who_of e) call (answer.Reply reply) T → reply.errno ≡ Success → IsValid S → HasRows S l → OpensWithin after l e call
-opens_within constants S after l e (FileOpen lookup path oflags stat) reply T step success valid rows =
-    let by = opener_is constants S (who_of e) lookup path oflags stat reply T step success valid in
+opens_within : (constants : Constants) (S : State) (who : Who) (after : After) (l : Ledger) (e : Entry) (call : Call) (reply : Reply) (T : State)
+    → who.pid ≡ e.pid → IsStep constants S who call (answer.Reply reply) T → reply.errno ≡ Success → IsValid S → HasRows S l → OpensWithin after l e call
+opens_within constants S who after l e (FileOpen lookup path oflags stat) reply T own step success valid rows =
+    let by = opener_is constants S who lookup path oflags stat reply T step success valid in
+    let held : row_in (get S.tables e.pid) lookup.fd ≡ Some by.x = subst (λ p. row_in (get S.tables p) lookup.fd ≡ Some by.x) own by.held in
     λ kind.
-    was_opened lookup.fd by.x refl ((λ i. sym (rows e.pid) i lookup.fd) ∙ by.held) refl (by.inherits (after.made 0).number kind)
-opens_within constants S after l e call reply T step success valid rows = tt
+    was_opened lookup.fd by.x refl ((λ i. sym (rows e.pid) i lookup.fd) ∙ held) refl (by.inherits (after.made 0).number kind)
+opens_within constants S who after l e call reply T own step success valid rows = tt
 
-answer_is_within : (constants : Constants) (S : State) (after : After) (l : Ledger) (e : Entry) (call : Call) (given : Answer) (T : State)
-    → IsStep constants S (who_of e) call given T → IsValid S → HasRows S l → AnswerIsWithin after l e call given
-answer_is_within constants S after l e call (answer.Reply reply) T step valid rows =
-    λ success. opens_within constants S after l e call reply T step success valid rows
+answer_is_within : (constants : Constants) (S : State) (who : Who) (after : After) (l : Ledger) (e : Entry) (call : Call) (given : Answer) (T : State)
+    → who.pid ≡ e.pid → IsStep constants S who call given T → IsValid S → HasRows S l → AnswerIsWithin after l e call given
+answer_is_within constants S who after l e call (answer.Parked writes) T own step valid rows = tt
+answer_is_within constants S who after l e call (answer.Reply reply) T own step valid rows =
+    λ success. opens_within constants S who after l e call reply T own step success valid rows
+
+-- a refusal is no success
+refused_within : (after : After) (l : Ledger) (e : Entry) (call : Call) (answered : Answer) → answered ≡ answer.Reply (refused Fault)
+    → AnswerIsWithin after l e call answered
+refused_within after l e call answered is = subst (AnswerIsWithin after l e call) (sym is) (λ success. absurd (fault_is_error success))
+
+wake_is_within : (constants : Constants) (S : State) (who : Who) (after : After) (l : Ledger) (e : Entry) (call : Call) (given : WakeIn) (answered : Answer)
+    (T : State) → who.pid ≡ e.pid → IsWake constants S who call given answered T → IsValid S → HasRows S l → AnswerIsWithin after l e call answered
+wake_is_within constants S who after l e call (wake.Plain word) answered T own is valid rows =
+    answer_is_within constants (resumed S who) who after l e call answered T own is.0 (resumed_valid S who valid) rows
+wake_is_within constants S who after l e call wake.Fault answered T own is valid rows = refused_within after l e call answered is.0
 
 pub act_is_within : (constants : Constants) (S : State) (guest : Guest) (ts : List ℕ) (after : After) (l : Ledger) (e : Entry) (a : Act)
-    → FitsAct constants S (who_of e) guest ts a → IsValid S → HasRows S l → ActIsWithin after l e a
+    → FitsAct constants S (who_of S e) guest ts a → IsValid S → HasRows S l → ActIsWithin after l e a
 act_is_within constants S guest ts after l e (act.Call call given) fits valid rows =
-    answer_is_within constants S after l e call given (called_state constants S (who_of e) call given) fits.1 valid rows
-act_is_within constants S guest ts after l e (act.Wake call given answered) fits valid rows = absurd fits.0
+    answer_is_within constants S (who_of S e) after l e call given (called_state constants S (who_of S e) call given) refl fits.1 valid rows
+act_is_within constants S guest ts after l e (act.Wake call given answered) fits valid rows =
+    wake_is_within constants S (who_of S e) after l e call given answered (woken_state constants S (who_of S e) call given answered) refl fits.1.1 valid rows
 act_is_within constants S guest ts after l e (act.Trap signal) fits valid rows = tt
 act_is_within constants S guest ts after l e act.Expire fits valid rows = tt
-act_is_within constants S guest ts after l e act.Idle fits valid rows = absurd fits.0
+act_is_within constants S guest ts after l e act.Idle fits valid rows = tt

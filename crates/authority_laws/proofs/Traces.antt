@@ -23,19 +23,20 @@ use Rattle.run_types.specs.declared.history.Entry.{Entry}
 use Rattle.run_types.specs.declared.launch.Launch.{Launch}
 use Rattle.kernel_model.specs.Start.{granted_descriptor, start_state}
 use Rattle.kernel_model.specs.State.{State}
+use Rattle.kernel_model.specs.Waits.{may_wait}
 use Rattle.kernel_model.proofs.OpenLaws.{grants_are_held}
 use Rattle.kernel_model.proofs.Tests.{none_is_no, same_some}
 use Rattle.run_model.specs.Legal.{FitsAct, Legal}
 use Rattle.run_model.specs.World.{World, called_state, guest_of, who_of, world}
 use Rattle.run_model.proofs.Histories.{first_state, legal_next, world_none}
-use Rattle.authority_laws.specs.Ledger.{After, Ledger, Row, no_row, with_child, with_held, launch_ledger, launch_row, lowered_row, granted_row, by_success}
+use Rattle.authority_laws.specs.Ledger.{After, Ledger, Row, answered_row, no_row, with_child, with_held, launch_ledger, launch_row, lowered_row, granted_row, by_success}
 use Rattle.authority_laws.specs.Laws.{TracedIsWithinRoot}
 use Rattle.authority_laws.specs.Origins.{InheritsFrom, IsCopied, IsNoMoreThan}
-use Rattle.authority_laws.specs.Recorded.{Succeeds, acted_row, after_at, child_at, held_after, held_before, ledger}
+use Rattle.authority_laws.specs.Recorded.{Replies, Succeeds, acted_row, after_at, child_at, held_after, held_before, ledger}
 use Rattle.authority_laws.specs.Traces.{AllTraced, IsGranted, IsWithin, Lowers, OpensFrom, Root, Traced, first_open, of_entry, of_grant, root}
 use Rattle.authority_laws.specs.Traces as way
 use Rattle.authority_laws.proofs.Bounds.{opens_are_bounded}
-use Rattle.authority_laws.proofs.Copies.{copied, duplicates_are_equal, rights_are_lowered, stepped}
+use Rattle.authority_laws.proofs.Copies.{at_once, copied, duplicates_are_equal, rights_are_lowered, stepped}
 use Rattle.authority_laws.proofs.Histories.{ledger_none, other_after, own_after, up_to}
 use Rattle.authority_laws.proofs.Origins.{inherits_of_granted, itself, no_more_than_granted}
 use Rattle.authority_laws.proofs.Rows.{held_elsewhere, held_here, row_in, row_of}
@@ -141,17 +142,18 @@ module _ (launch : Launch) (front : List Entry) (e : Entry) (begins : MayBegin l
       let c : IsCopied row after from to = copied row after from to x there (left ∙ ap (with_held row to) (sym there)) in
       changed_at to c.d c.copy (way.copied front e from to (inr (reply, done)) c (before e.pid from c.d c.source)) c.others
 
-  -- a call that isn't built yet does not succeed
-  never_done : {X : Type 0} (call : Call) (reply : Reply) → IsUnbuilt call → Succeeds e call reply → X
-  never_done call reply unbuilt done =
+  -- a call that isn't built yet, and in which no thread waits, does not succeed
+  never_done : {X : Type 0} (call : Call) (reply : Reply) → may_wait call ≡ false → IsUnbuilt call → Succeeds e call reply → X
+  never_done call reply never unbuilt succeeds =
       let w = world launch front in
-      absurd (unbuilt_fails w.constants w.state (who_of e) call reply (called_state w.constants w.state (who_of e) call (answer.Reply reply)) unbuilt
+      let done = at_once launch front e [] call reply begins legal never succeeds in
+      absurd (unbuilt_fails w.constants w.state (who_of w.state e) call reply (called_state w.constants w.state (who_of w.state e) call (answer.Reply reply)) unbuilt
       (stepped launch front e [] call reply legal done) done.success)
 
   call_traced : (call : Call) (reply : Reply) → Succeeds e call reply → after ≡ granted_row shown row call reply → (n : ℕ) (d : Descriptor)
       → after n ≡ Some d → Is e.pid n d
   call_traced (FdClose fd) reply done left = closed_traced fd left
-  call_traced (FdCreate2 kind) reply done left = never_done (FdCreate2 kind) reply (λ constants v who table. refl) done
+  call_traced (FdCreate2 kind) reply done left = never_done (FdCreate2 kind) reply refl (λ constants v who table. refl) done
   call_traced (FdDup fd) reply done left =
       let c = (duplicates_are_equal launch front e [] begins legal fd reply done).1 in
       changed_at reply.r1 c.d c.copy (way.copied front e fd reply.r1 (inl (reply, done, refl)) c (before e.pid fd c.d c.source)) c.others
@@ -162,25 +164,27 @@ module _ (launch : Launch) (front : List Entry) (e : Entry) (begins : MayBegin l
       let from : OpensFrom e lookup.fd reply.r1 stat = record { lookup = lookup; path = path; oflags = oflags; reply = reply; succeeds = done; from = refl; result = refl } in
       changed_at reply.r1 o.d o.stands (way.opened front e lookup.fd reply.r1 stat from o (before e.pid lookup.fd o.x o.source)) o.others
   call_traced (ProcExit code) reply done left = none_traced left
-  call_traced (ProcFork count) reply done left = never_done (ProcFork count) reply (λ constants v who table. refl) done
+  call_traced (ProcFork count) reply done left = never_done (ProcFork count) reply refl (λ constants v who table. refl) done
   call_traced call reply done left = same_traced left
 
-  errno_traced : (call : Call) (reply : Reply) (errno : Errno) → e.act ≡ act.Call call (answer.Reply reply) → reply.errno ≡ errno
+  errno_traced : (call : Call) (reply : Reply) (errno : Errno) → Replies e call reply → reply.errno ≡ errno
       → after ≡ by_success errno (granted_row shown row call reply) row → (n : ℕ) (d : Descriptor) → after n ≡ Some d → Is e.pid n d
   errno_traced call reply Success is success left = call_traced call reply (record { is = is; success = success }) left
   errno_traced call reply _ is error left = same_traced left
 
-  answer_traced : (call : Call) (given : Answer) → e.act ≡ act.Call call given → after ≡ acted_row shown row (act.Call call given)
-      → (n : ℕ) (d : Descriptor) → after n ≡ Some d → Is e.pid n d
-  answer_traced call (answer.Reply reply) is left = errno_traced call reply reply.errno is refl left
+  answer_traced : (call : Call) (given : Answer) → ((reply : Reply) → given ≡ answer.Reply reply → Replies e call reply)
+      → after ≡ answered_row shown row call given → (n : ℕ) (d : Descriptor) → after n ≡ Some d → Is e.pid n d
+  answer_traced call (answer.Parked writes) is left = same_traced left
+  answer_traced call (answer.Reply reply) is left = errno_traced call reply reply.errno (is reply refl) refl left
 
-  act_traced : (a : Act) → e.act ≡ a → FitsAct (world launch front).constants (world launch front).state (who_of e) (guest_of (world launch front) e.pid) e.turns a
+  act_traced : (a : Act) → e.act ≡ a → FitsAct (world launch front).constants (world launch front).state (who_of (world launch front).state e) (guest_of (world launch front) e.pid) e.turns a
       → after ≡ acted_row shown row a → (n : ℕ) (d : Descriptor) → after n ≡ Some d → Is e.pid n d
-  act_traced (act.Call call given) is fits left = answer_traced call given is left
-  act_traced (act.Wake call given answered) is fits left = absurd fits.0
+  act_traced (act.Call call given) is fits left = answer_traced call given (λ reply replies. inl (is ∙ ap (act.Call call) replies)) left
+  act_traced (act.Wake call given answered) is fits left =
+      answer_traced call answered (λ reply replies. inr (given, is ∙ ap (act.Wake call given) replies)) left
   act_traced (act.Trap signal) is fits left = none_traced left
   act_traced act.Expire is fits left = none_traced left
-  act_traced act.Idle is fits left = absurd fits.0
+  act_traced act.Idle is fits left = same_traced left
 
   -- what the entry's process holds, whether it is live or not
   own_traced : (live : Bool) → after ≡ cond live (acted_row shown row e.act) no_row → (n : ℕ) (d : Descriptor) → after n ≡ Some d → Is e.pid n d

@@ -48,6 +48,7 @@ unbuilt_fails constants S who call reply T unbuilt (inr lacking) success =
 -- no call makes a process
 pub makes_no_child : (constants : Constants) (S : State) (who : Who) (call : Call) (given : Answer) (T : State) (after : After)
     → IsStep constants S who call given T → answered_child after call given ≡ None
+makes_no_child constants S who call (answer.Parked writes) T after step = refl
 makes_no_child constants S who (ProcFork left) (answer.Reply reply) T after step =
     by_error reply.errno after.child None (unbuilt_fails constants S who (ProcFork left) reply T (λ constants v who table. refl) step)
 makes_no_child constants S who call (answer.Reply reply) T after step = by_either reply.errno None

@@ -100,7 +100,7 @@ DuplicatesAreEqual =
 -- what the entry lets go by this call does not end its own process
 abbrev pub ReleaseKeeps : Launch → List Entry → Entry → Call → Type 0
 ReleaseKeeps launch front e call =
-    is_released (unreleased (world launch front).constants (world launch front).state (who_of e) call) (at_status e.pid) ≡ false
+    is_released (unreleased (world launch front).constants (world launch front).state (who_of (world launch front).state e) call) (at_status e.pid) ≡ false
 
 -- After an fd_replace that succeeded there stands under `to`, under which something stood, what stood under `from` before it, unless
 -- what it lets go ends its own process.

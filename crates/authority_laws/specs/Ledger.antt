@@ -208,16 +208,19 @@ abbrev pub by_success : {X : Type 0} → Errno → X → X → X
 by_success Success done otherwise = done
 by_success _ done otherwise = otherwise
 
--- what a process holds after its call that was answered so
+-- what a process holds after its call that was answered so: the same where its thread waits
 abbrev pub answered_row : After → Row → Call → Answer → Row
+answered_row after row call (answer.Parked writes) = row
 answered_row after row call (answer.Reply reply) = by_success reply.errno (granted_row after row call reply) row
 
 -- what the sends carried after its call that was answered so
 abbrev pub answered_sends : After → Row → Sends → Call → Answer → Sends
+answered_sends after row sent call (answer.Parked writes) = sent
 answered_sends after row sent call (answer.Reply reply) = by_success reply.errno (granted_sends after row sent call) sent
 
 -- the process that a call made which was answered so
 abbrev pub answered_child : After → Call → Answer → Option ℕ
+answered_child after call (answer.Parked writes) = None
 answered_child after call (answer.Reply reply) = by_success reply.errno (made_child after call) None
 
 -- ---- processes

@@ -1,10 +1,11 @@
 -- The ledger of a launch and a history, carried forward from entry to entry. It is read from the launch and the recorded
 -- entries, and of the state after an entry only which opens its process made last and who is live: no table comes in.
-use Rattle.std.specs.Prelude.{◌≡◌, ℕ, List, [], ◌∷◌, ◌++◌, Option, None}
+use Rattle.std.specs.Prelude.{◌≡◌, ◌⊎◌, ℕ, List, [], ◌∷◌, ◌++◌, Option, None}
 use Rattle.abi_base.specs.declared.errno.Errno.TheVariants.{Success}
 use Rattle.abi_types.specs.declared.call.Call.{Call}
 use Rattle.abi_types.specs.declared.reply.Answer.TheVariants as answer
 use Rattle.abi_types.specs.declared.reply.Reply.{Reply}
+use Rattle.abi_types.specs.declared.wake.WakeIn.{WakeIn}
 use Rattle.run_types.specs.declared.history.Act.{Act}
 use Rattle.run_types.specs.declared.history.Act.TheVariants as act
 use Rattle.run_types.specs.declared.history.Entry.{Entry}
@@ -21,9 +22,10 @@ acted_row after row (act.Trap signal) = no_row
 acted_row after row act.Expire = no_row
 acted_row after row act.Idle = row
 
--- the process that an act made: a wake makes none
+-- the process that an act made: a wake is answered as its call is
 abbrev pub acted_child : After → Act → Option ℕ
 acted_child after (act.Call call given) = answered_child after call given
+acted_child after (act.Wake call given answered) = answered_child after call answered
 acted_child after _ = None
 
 -- what the sends carried after an act of a process that held this before: a wake is answered as its call is
@@ -71,7 +73,12 @@ held_before launch front e = (ledger launch front).held e.pid
 abbrev pub held_after : Launch → List Entry → Entry → Row
 held_after launch front e = (ledger launch (front ++ e ∷ [])).held e.pid
 
--- the entry is this call, which succeeded with this reply
+-- the entry is this call, which has this reply, or the wake of a thread that waited in it
+abbrev pub Replies : Entry → Call → Reply → Type 0
+Replies e call reply =
+    (e.act ≡ act.Call call (answer.Reply reply)) ⊎ ((given : WakeIn) × (e.act ≡ act.Wake call given (answer.Reply reply)))
+
+-- the entry is this call, at once or after its thread waited in it, which succeeded with this reply
 pub record Succeeds (e : Entry) (call : Call) (reply : Reply) : Type 0 where
-  pub is : e.act ≡ act.Call call (answer.Reply reply)
+  pub is : Replies e call reply
   pub success : reply.errno ≡ Success

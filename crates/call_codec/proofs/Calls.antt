@@ -12,6 +12,7 @@ use Rattle.abi_types.specs.declared.call_number.CallNumber.{CallNumber}
 use Rattle.abi_types.specs.declared.call_number.CallNumber.TheVariants as number
 use Rattle.guest_memory.specs.Page.{Pages}
 use Rattle.call_codec.specs.Arguments.{args_of, asked, built_reading, or_refused, or_unknown, read_of}
+use Rattle.call_codec.proofs.PollRefusals.{poll_gives}
 use Rattle.call_codec.proofs.Readings.{IsListedRefusal, Gives, readings}
 
 -- the number under which the call is read, if it is no refusal
@@ -28,6 +29,7 @@ read_under call = result_ok (number_of_call call)
 reading_gives : (m : Pages) (r : Registers) (it : CallNumber) → Gives (λ call. read_under call ≡ Some it) (built_reading m r it)
 unfolding read_of
 reading_gives m r number.FdClose = search readings depth 12
+reading_gives m r number.Poll = poll_gives (λ call. read_under call ≡ Some number.Poll) (λ subscriptions. refl) m r
 reading_gives m r _ = search readings depth 12
 
 abbrev IsReadUnder : Pages → Registers → Call → Option CallNumber → Type 0

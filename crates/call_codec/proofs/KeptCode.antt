@@ -1,14 +1,16 @@
 -- What an answer leaves of a guest's pages that can't be written, and of those that can be executed and not written.
 --     code_is_kept      an answer leaves the latter where none of the pages that it changes can be executed
+--     words_keep_code, woken_code      words and the output of a call in which a thread waited leave them
 --     answer_keeps_code      the same of a memory with the room for the answer
 use Rattle.std.proofs.Common.{◌≡◌, ℕ, true, false, List, [], ◌∷◌, ◌/◌, take, drop, length, Some, None, option_map, Result, Ok, Err, IsOk, refl, sym, ap, subst, ◌∙◌}
 use Rattle.std.specs.FinMap.{get}
+use Rattle.std.specs.Int.{w32, to_le_bytes}
 use Rattle.abi_base.specs.declared.errno.Errno.{Errno}
 use Rattle.abi_base.specs.declared.errno.Errno.TheVariants.{Success}
 use Rattle.abi_base.specs.Registers.{Registers}
 use Rattle.abi_structures.specs.declared.structures.Iovec.{Iovec}
 use Rattle.abi_types.specs.declared.call.Call.{Call}
-use Rattle.abi_types.specs.declared.call.Call.TheVariants.{FdPread, FdRead, FdStatGet, FileReaddir, FileReadlink, FileStatFget, FileStatGet, MemMap, Memory}
+use Rattle.abi_types.specs.declared.call.Call.TheVariants.{FdPread, FdRead, FdStatGet, FileReaddir, FileReadlink, FileStatFget, FileStatGet, FdWrite, MemMap, Memory, Poll}
 use Rattle.abi_types.specs.declared.call_number.CallNumber.{CallNumber}
 use Rattle.abi_types.specs.declared.call_number.CallNumber.TheVariants.{MemProtect, MemUnmap}
 use Rattle.abi_types.specs.declared.place.Place.TheVariants as place
@@ -16,13 +18,16 @@ use Rattle.abi_types.specs.declared.place.Place.TheVariants.{At}
 use Rattle.abi_types.specs.declared.reply.Answer.{Answer}
 use Rattle.abi_types.specs.declared.reply.Answer.TheVariants as answer
 use Rattle.abi_types.specs.declared.reply.Payload.{Payload}
+use Rattle.abi_types.specs.declared.reply.WordWrites.{WordWrites}
+use Rattle.abi_types.specs.declared.reply.WordWrites.TheVariants as words
 use Rattle.abi_types.specs.declared.reply.Payload.TheVariants as payload
 use Rattle.codec_arguments.specs.Arguments.{argument, low}
 use Rattle.codec_arguments.specs.Ranges.{ranges_at}
 use Rattle.call_codec.specs.Arguments.{args_of}
+use Rattle.call_codec.specs.Given.{CanWait}
 use Rattle.call_codec.specs.MemoryCalls.{changed_by, changed_pages, on_success, pages_in, prot_of, with_change}
-use Rattle.call_codec.specs.Output.{into_ranges, or_unwritten, scattered, with_bytes, with_content, with_payload, fdstat_bytes, filestat_bytes}
-use Rattle.call_codec.specs.Put.{answered_memory, memory_after, AnswerKeepsCode, IsRoomFor}
+use Rattle.call_codec.specs.Output.{into_ranges, or_unwritten, scattered, with_bytes, with_content, with_payload, with_word, with_words, event_bytes, events_bytes, fdstat_bytes, filestat_bytes}
+use Rattle.call_codec.specs.Put.{answered_memory, memory_after, worded_memory, AnswerKeepsCode, IsRoomFor}
 use Rattle.call_codec.proofs.Mappings.{mapping_filled}
 use Rattle.guest_memory.specs.declared.access.Access.TheVariants.{Write}
 use Rattle.guest_memory.specs.declared.fault.MemFault.{MemFault}
@@ -54,6 +59,13 @@ keeps_over m a bytes (Err fault) e = same_keeps m
 keeps_bytes : (m : Pages) (a : ℕ) (bytes : List ℕ) → KeepsUnwritable m (with_bytes m a bytes)
 keeps_bytes m a bytes = keeps_over m a bytes (bytes_from Write m a (length bytes)) refl
 
+keeps_words : (m : Pages) (writes : WordWrites) → KeepsUnwritable m (with_words m writes)
+keeps_words m words.Zero = same_keeps m
+keeps_words m (words.One write) = keeps_bytes m write.address (to_le_bytes w32 write.word)
+keeps_words m (words.Two first second) =
+    keeps_both m (with_word m first) (with_word (with_word m first) second) (keeps_bytes m first.address (to_le_bytes w32 first.word))
+    (keeps_bytes (with_word m first) second.address (to_le_bytes w32 second.word))
+
 keeps_scattered : (m : Pages) (ranges : List Iovec) (bytes : List ℕ) → KeepsUnwritable m (scattered m ranges bytes)
 keeps_scattered m [] bytes = same_keeps m
 keeps_scattered m (range ∷ ranges) bytes =
@@ -72,15 +84,26 @@ keeps_payload : (m : Pages) (a : ℕ) (given : Payload) → KeepsUnwritable m (w
 keeps_payload m a (payload.Content bytes) = keeps_bytes m a bytes
 keeps_payload m a (payload.FdStat stat) = keeps_bytes m a (fdstat_bytes stat)
 keeps_payload m a (payload.FileStat stat) = keeps_bytes m a (filestat_bytes stat)
+keeps_payload m a (payload.Event event) = keeps_bytes m a (event_bytes event)
+keeps_payload m a (payload.Events events) = keeps_bytes m a (events_bytes events)
 keeps_payload m a _ = same_keeps m
+
+keeps_events : (m : Pages) (r : Registers) (writes : WordWrites) (given : Payload)
+    → KeepsUnwritable m (with_payload (with_words m writes) (argument r 1) given)
+keeps_events m r writes given =
+    keeps_both m (with_words m writes) (with_payload (with_words m writes) (argument r 1) given) (keeps_words m writes)
+    (keeps_payload (with_words m writes) (argument r 1) given)
 
 -- ---- pages that can be executed and not written
 
 as_code : (m n : Pages) → KeepsUnwritable m n → KeepsCode m n
 as_code m n keeps q p there locked exec = keeps q p there locked
 
-same_code : (m : Pages) → KeepsCode m m
+pub same_code : (m : Pages) → KeepsCode m m
 same_code m q p there locked exec = there
+
+pub words_keep_code : (m : Pages) (writes : WordWrites) → KeepsCode m (with_words m writes)
+words_keep_code m writes = as_code m (with_words m writes) (keeps_words m writes)
 
 -- they stay where none of the pages that change can be executed
 outside_code : (m n : Pages) (first k : ℕ) → NoneExecutable m first k → AreSameOutside m first k n → KeepsCode m n
@@ -106,31 +129,44 @@ succeeded_code : (m n : Pages) (errno : Errno) → (errno ≡ Success → KeepsC
 succeeded_code m n Success h = h refl
 succeeded_code m n other h = same_code m
 
-code_after : (m : Pages) (r : Registers) (call : Call) (given : Payload) → call ≡ args_of m r
-    → NoneExecutable m ((changed_pages r call).0 / 4096) (changed_pages r call).1 → KeepsCode m (memory_after m r call given)
-code_after m r (FdPread fd size offset) given encoded none = as_code m _ (keeps_content m r given)
-code_after m r (FdRead fd size) given encoded none = as_code m _ (keeps_content m r given)
-code_after m r (FdStatGet fd) given encoded none = as_code m _ (keeps_payload m (argument r 1) given)
-code_after m r (FileReaddir fd size cookie) given encoded none = as_code m _ (keeps_payload m (argument r 1) given)
-code_after m r (FileReadlink fd path size) given encoded none = as_code m _ (keeps_payload m (argument r 3) given)
-code_after m r (FileStatFget fd) given encoded none = as_code m _ (keeps_payload m (argument r 1) given)
-code_after m r (FileStatGet lookup path) given encoded none = as_code m _ (keeps_payload m (argument r 3) given)
-code_after m r (MemMap (At a) size prot flags fd offset) given encoded none =
+code_after : (m : Pages) (r : Registers) (call : Call) (writes : WordWrites) (given : Payload) → call ≡ args_of m r
+    → NoneExecutable m ((changed_pages r call).0 / 4096) (changed_pages r call).1 → KeepsCode m (memory_after (worded_memory m call writes) r call given)
+code_after m r (FdPread fd size offset) writes given encoded none = as_code m _ (keeps_content m r given)
+code_after m r (FdRead fd size) writes given encoded none = as_code m _ (keeps_content m r given)
+code_after m r (FdStatGet fd) writes given encoded none = as_code m _ (keeps_payload m (argument r 1) given)
+code_after m r (FileReaddir fd size cookie) writes given encoded none = as_code m _ (keeps_payload m (argument r 1) given)
+code_after m r (FileReadlink fd path size) writes given encoded none = as_code m _ (keeps_payload m (argument r 3) given)
+code_after m r (FileStatFget fd) writes given encoded none = as_code m _ (keeps_payload m (argument r 1) given)
+code_after m r (FileStatGet lookup path) writes given encoded none = as_code m _ (keeps_payload m (argument r 3) given)
+code_after m r (MemMap (At a) size prot flags fd offset) writes given encoded none =
     let filled = mapping_filled m r a size prot flags fd offset given (sym encoded) in
     outside_code m _ (a / 4096) (pages_in size) none filled.others
-code_after m r (MemMap (place.Refused errno) size prot flags fd offset) given encoded none = same_code m
-code_after m r (Memory number errno) given encoded none =
+code_after m r (MemMap (place.Refused errno) size prot flags fd offset) writes given encoded none = same_code m
+code_after m r (Memory number errno) writes given encoded none =
     succeeded_code m (with_change m r number) errno (λ done. changed_code m r number none)
-code_after m r _ given encoded none = same_code m
+code_after m r (Poll subscriptions) writes given encoded none = as_code m _ (keeps_events m r writes given)
+code_after m r _ writes given encoded none = same_code m
 
--- the errors of an answer that leaves nothing
-abbrev pub errno_of : Answer → Errno
-errno_of (answer.Reply reply) = reply.errno
+-- the answer is a reply that the call succeeded
+abbrev pub Succeeds : Answer → Type 0
+Succeeds (answer.Parked writes) = ⊥
+Succeeds (answer.Reply reply) = reply.errno ≡ Success
 
 pub code_is_kept : (m : Pages) (r : Registers) (call : Call) (given : Answer) → call ≡ args_of m r
-    → (errno_of given ≡ Success → NoneExecutable m ((changed_pages r call).0 / 4096) (changed_pages r call).1) → KeepsCode m (answered_memory m r call given)
+    → (Succeeds given → NoneExecutable m ((changed_pages r call).0 / 4096) (changed_pages r call).1) → KeepsCode m (answered_memory m r call given)
+code_is_kept m r call (answer.Parked writes) encoded none = words_keep_code m writes
 code_is_kept m r call (answer.Reply reply) encoded none =
-    succeeded_code m (memory_after m r call reply.payload) reply.errno (λ done. code_after m r call reply.payload encoded (none done))
+    succeeded_code m (memory_after (worded_memory m call reply.writes) r call reply.payload) reply.errno
+    (λ done. code_after m r call reply.writes reply.payload encoded (none done))
+
+-- ---- a call in which a thread waited
+
+pub woken_code : (m : Pages) (r : Registers) (call : Call) (writes : WordWrites) (given : Payload) → CanWait call
+    → KeepsCode m (memory_after (worded_memory m call writes) r call given)
+woken_code m r (FdRead fd size) writes given can = as_code m _ (keeps_content m r given)
+woken_code m r (FdWrite fd bytes) writes given can = same_code m
+woken_code m r (Poll subscriptions) writes given can = as_code m _ (keeps_events m r writes given)
+woken_code m r _ writes given can = absurd can
 
 -- ---- the room for an answer
 
@@ -143,7 +179,7 @@ room_code (MemMap (place.Refused errno) size prot flags fd offset) numbers m non
 room_code other numbers m none = none_keeps_code numbers m none
 
 pub answer_keeps_code : (m : Pages) (r : Registers) (call : Call) (given : Answer)
-    → (errno_of given ≡ Success → NoneExecutable m ((changed_pages r call).0 / 4096) (changed_pages r call).1) → AnswerKeepsCode m r call given
+    → (Succeeds given → NoneExecutable m ((changed_pages r call).0 / 4096) (changed_pages r call).1) → AnswerKeepsCode m r call given
 answer_keeps_code m r call given none numbers room encoded q p there locked exec =
     code_is_kept (without_each numbers m) r call given encoded
     (λ done i page within has. none done i page within (same_without numbers m i page has)) q p

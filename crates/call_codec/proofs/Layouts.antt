@@ -1,19 +1,22 @@
 -- Bytes that are laid out are the layout's fields written into zeros.
 --     laid_is_written      for bytes, each of them below 256
---     fdstat_is, filestat_is      the same for the state of a descriptor or of a file
---     fdstat_length, filestat_length      how many bytes these have
+--     fdstat_is, filestat_is, event_is      the same for the state of a descriptor or of a file, and for an event
+--     fdstat_length, filestat_length, event_length      how many bytes these have
 use Rattle.std.proofs.Common.{◌≡◌, ℕ, zero, suc, ◌+◌, ◌^◌, ◌<◌, ◌≤◌, List, [], ◌∷◌, ◌++◌, length, take, drop, get_or-drop, replicate, refl, sym, subst, ◌∙◌, arith, rules}
 use Rattle.std.proofs.Math.ListN.{length-replicate}
 use Rattle.std.specs.Int.{byte_at, bytes_low_first}
 use Rattle.abi_layout.specs.Layout.{Field, Fit, FollowFrom, IsLaidOut, IsProper, Layout, number_from, numbers, with_number, written}
+use Rattle.abi_layout.specs.Events.{event_layout, event_values}
 use Rattle.abi_layout.specs.Laws.{AreBytes}
 use Rattle.abi_layout.specs.Structures.{fdstat_layout, fdstat_values, filestat_layout, filestat_values}
 use Rattle.abi_layout.proofs.Bytes.{laid_out}
+use Rattle.abi_layout.proofs.Proper.{event_proper}
 use Rattle.abi_layout.proofs.Unique.{bytes_are_unique}
 use Rattle.abi_layout.proofs.Written.{length-written}
+use Rattle.abi_structures.specs.declared.events.Event.{Event}
 use Rattle.abi_structures.specs.declared.structures.FdStat.{FdStat}
 use Rattle.abi_structures.specs.declared.structures.FileStat.{FileStat}
-use Rattle.call_codec.specs.Output.{fdstat_bytes, filestat_bytes}
+use Rattle.call_codec.specs.Output.{event_bytes, fdstat_bytes, filestat_bytes}
 
 -- ---- bytes stay bytes
 
@@ -84,6 +87,9 @@ fdstat_is stat bytes small laid = laid_is_written fdstat_layout (fdstat_values s
 pub filestat_is : (stat : FileStat) (bytes : List ℕ) → AreBytes bytes → IsLaidOut filestat_layout (filestat_values stat) bytes → bytes ≡ filestat_bytes stat
 filestat_is stat bytes small laid = laid_is_written filestat_layout (filestat_values stat) bytes (search rules) small laid
 
+pub event_is : (event : Event) (bytes : List ℕ) → AreBytes bytes → IsLaidOut (event_layout event.kind) (event_values event) bytes → bytes ≡ event_bytes event
+event_is event bytes small laid = laid_is_written (event_layout event.kind) (event_values event) bytes (event_proper event.kind) small laid
+
 -- ---- how many bytes there are
 
 follow_ends : (fields : List Field) (place size : ℕ) → FollowFrom place fields size → place ≤ size
@@ -109,3 +115,6 @@ fdstat_length stat = layout_length fdstat_layout (fdstat_values stat) (search ru
 
 pub filestat_length : (stat : FileStat) → length (filestat_bytes stat) ≡ 56
 filestat_length stat = layout_length filestat_layout (filestat_values stat) (search rules)
+
+pub event_length : (event : Event) → length (event_bytes event) ≡ 32
+event_length event = layout_length (event_layout event.kind) (event_values event) (event_proper event.kind)

@@ -1,10 +1,15 @@
 pub mod Readings
+pub mod PollRefusals
 pub mod Layouts
+pub mod Events
 pub mod Calls
+pub mod Encoded
+pub mod Polls
 pub mod Images
 pub mod MemoryCalls
 pub mod Puts
 pub mod Outputs
+pub mod WokenOutputs
 pub mod Mappings
 pub mod KeptCode
 pub mod Rooms

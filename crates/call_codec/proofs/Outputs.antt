@@ -1,4 +1,6 @@
 -- The output of a call that registers and memory encode is written whole.
+--     write_made, same_after      one write is made, and leaves each page's rights
+--     takes_bytes      ranges that have room take as many bytes
 --     read_written, pread_written      the bytes of a read
 --     state_written      a descriptor's state
 --     entries_written, link_written      a directory's entries, the text of a symlink
@@ -56,7 +58,7 @@ made m a bytes (Ok before) h = refl
 made m a bytes (Err fault) h = absurd (cc)
 
 -- bytes in the place of ones that may be written are written
-write_made : (m : Pages) (a n : ℕ) (bytes : List ℕ) → length bytes ≤ n → IsOk (bytes_from Write m a n) → IsOk (write_of m a bytes)
+pub write_made : (m : Pages) (a n : ℕ) (bytes : List ℕ) → length bytes ≤ n → IsOk (bytes_from Write m a n) → IsOk (write_of m a bytes)
 write_made m a n bytes less h = made m a bytes (bytes_from Write m a (length bytes)) (fewer m a n (length bytes) less h)
 
 same_over : (m : Pages) (a : ℕ) (bytes : List ℕ) (before : Result (List ℕ) MemFault) → SameRights m (or_unwritten m (written_over m a bytes before))
@@ -64,7 +66,7 @@ same_over m a bytes (Ok before) = rights_kept bytes m a
 same_over m a bytes (Err fault) = λ q. refl
 
 -- a write leaves each page's rights
-same_after : (m : Pages) (a : ℕ) (bytes : List ℕ) → SameRights m (with_bytes m a bytes)
+pub same_after : (m : Pages) (a : ℕ) (bytes : List ℕ) → SameRights m (with_bytes m a bytes)
 same_after m a bytes = same_over m a bytes (bytes_from Write m a (length bytes))
 
 -- ---- writes into ranges
@@ -113,12 +115,12 @@ among_ok m (Ok ranges) most e = (ranges, refl, counted_ok (room_of m MOST_TRANSF
     counted_ok (Err fault) h = absurd (cc)
 among_ok m (Err fault) most e = absurd (cc)
 
-takes_bytes : (m : Pages) (r : Registers) (most : ℕ) → room_in m (argument r 1) (argument r 2) ≡ Ok most → TakesBytes m r most
+pub takes_bytes : (m : Pages) (r : Registers) (most : ℕ) → room_in m (argument r 1) (argument r 2) ≡ Ok most → TakesBytes m r most
 takes_bytes m r most e =
     let found = among_ok m (ranges_at m (argument r 1) (argument r 2)) most e in
     (found.0, found.1, λ bytes less. written_into found.0 m m MOST_TRANSFERRED most bytes (λ q. refl) found.2 less)
 
-read_room : (m : Pages) (r : Registers) (fd most : ℕ) → fd_read_of m r ≡ Ok (FdRead fd most) → room_in m (argument r 1) (argument r 2) ≡ Ok most
+pub read_room : (m : Pages) (r : Registers) (fd most : ℕ) → fd_read_of m r ≡ Ok (FdRead fd most) → room_in m (argument r 1) (argument r 2) ≡ Ok most
 read_room m r fd most is =
     let few = not_refused (has_many (argument r 2)) Inval _ (FdRead fd most) is in
     let room = passed (room_in m (argument r 1) (argument r 2)) _ (FdRead fd most) few.1 in
@@ -141,7 +143,7 @@ pread_written m r fd most offset encoded = takes_bytes m r most (pread_room m r 
 
 -- ---- a descriptor's state
 
-had_ok : (found : Result (List ℕ) MemFault) (x : Unit {0}) → (or_fault found >>= λ before. Ok tt) ≡ Ok x → IsOk found
+pub had_ok : (found : Result (List ℕ) MemFault) (x : Unit {0}) → (or_fault found >>= λ before. Ok tt) ≡ Ok x → IsOk found
 had_ok (Ok bytes) x e = refl
 had_ok (Err fault) x e = absurd (cc)
 

@@ -3,10 +3,11 @@
 --                     a page's address, and mem_protect's pages are there
 --     may_map_for      a mapping that is asked for may be made
 --     memory_listed      what the calls about pages that are there may answer
---     few_of_pread, few_of_read      an iovec array to read into has at most 1024 iovecs
+--     few_ranges      an iovec array to read into has at most 1024 iovecs
+--     keeps_pages      which calls aren't about memory
 --     guests_pages      pages that are there lie in the guest's part of the address space
 --     unmapped_within      pages past that part need not be taken away
-use Rattle.std.proofs.Common.{◌≡◌, ℕ, zero, suc, ◌+◌, ◌-◌, ◌*◌, ◌/◌, ◌%◌, ◌<◌, ◌≤◌, ◌==◌, ◌&&◌, ◌||◌, not, inl, inr, ◌⊎◌, Bool, true, false, cond, min, nat_le, nat_lt, Option, Some, None, IsSome, Result, Ok, Err, OnOk, IfErr, refl, sym, ap, subst, ◌∙◌, arith}
+use Rattle.std.proofs.Common.{◌≡◌, ◌≢◌, ℕ, zero, suc, ◌+◌, ◌-◌, ◌*◌, ◌/◌, ◌%◌, ◌<◌, ◌≤◌, ◌==◌, ◌&&◌, ◌||◌, not, inl, inr, ◌⊎◌, Bool, true, false, cond, min, nat_le, nat_lt, Option, Some, None, IsSome, Result, Ok, Err, OnOk, IfErr, refl, sym, ap, subst, ◌∙◌, arith}
 use Rattle.std.proofs.lemmas.Bool.{leb-true, ltb-false}
 use Rattle.std.proofs.lemmas.Bool.Decides.{eqb_tells}
 use Rattle.std.specs.FinMap.{get, len}
@@ -36,7 +37,8 @@ use Rattle.call_codec.proofs.Readings.{not_refused, passed, test_false}
 use Rattle.codec_calls.specs.DescriptorCalls.{has_many}
 use Rattle.codec_arguments.specs.Arguments.{argument, low}
 use Rattle.call_codec.specs.Arguments.{args_of, read_of}
-use Rattle.call_codec.specs.Put.{MayMapFor}
+use Rattle.call_codec.specs.GivenLaws.{EncodedHasFewRanges}
+use Rattle.call_codec.specs.Put.{HasFewRanges, KeepsPages, MayMapFor}
 use Rattle.call_codec.specs.MemoryCalls.{advise_errno, has_bits, is_aligned, is_guests, is_range, is_sync, pages_in, if_mapped, mem_map_of, protect_errno, sync_errno, unmap_errno, may_map, placed_map, place_at, place_in, place_in_gap, place_of, writes_and_executes, has_one, MayMapAt, MayMapThere}
 
 -- what these registers and this memory are like where they encode the call
@@ -246,13 +248,29 @@ may_map_for m r call encoded = may_map_suits m r call (call_suits m r call encod
 few_iovecs : (count : ℕ) (rest : Unit {0} → Result Call Errno) (call : Call) → (refuse_when (has_many count) Inval >>= rest) ≡ Ok call → count ≤ 1024
 few_iovecs count rest call is = let few = not_refused (has_many count) Inval rest call is in ltb-false 1024 count few.0
 
-pub few_of_pread : (m : Pages) (r : Registers) (fd length offset : ℕ) → IsEncodedBy m r (FdPread fd length offset) → argument r 2 ≤ 1024
+few_of_pread : (m : Pages) (r : Registers) (fd length offset : ℕ) → IsEncodedBy m r (FdPread fd length offset) → argument r 2 ≤ 1024
 unfolding read_of
 few_of_pread m r fd length offset is = few_iovecs (argument r 2) _ (FdPread fd length offset) is
 
-pub few_of_read : (m : Pages) (r : Registers) (fd length : ℕ) → IsEncodedBy m r (FdRead fd length) → argument r 2 ≤ 1024
+few_of_read : (m : Pages) (r : Registers) (fd length : ℕ) → IsEncodedBy m r (FdRead fd length) → argument r 2 ≤ 1024
 unfolding read_of
 few_of_read m r fd length is = few_iovecs (argument r 2) _ (FdRead fd length) is
+
+suits_few : (m : Pages) (r : Registers) (call : Call) → Suits m r call → HasFewRanges r call
+suits_few m r (FdPread fd length offset) is = few_of_pread m r fd length offset is
+suits_few m r (FdRead fd length) is = few_of_read m r fd length is
+suits_few m r call is = tt
+
+pub few_ranges : EncodedHasFewRanges
+few_ranges m r call encoded = suits_few m r call (call_suits m r call encoded)
+
+-- ---- calls that aren't about memory
+
+pub keeps_pages : (call : Call) → ((place : Place) (length prot flags fd offset : ℕ) → call ≢ MemMap place length prot flags fd offset)
+    → ((it : CallNumber) (errno : Errno) → call ≢ Memory it errno) → KeepsPages call
+keeps_pages (MemMap place length prot flags fd offset) no_map no_change = absurd (no_map place length prot flags fd offset refl)
+keeps_pages (Memory it errno) no_map no_change = absurd (no_change it errno refl)
+keeps_pages call no_map no_change = tt
 
 -- ---- the guest's part of the address space
 

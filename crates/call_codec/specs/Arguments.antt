@@ -73,12 +73,9 @@ read_of m r left number.ThreadCreate = thread_create_of m r
 read_of m r left number.ThreadExit = thread_exit_of m r
 read_of m r left number.ThreadYield = Ok thread_yield_of
 
--- a call whose bytes, paths, descriptors, iovecs or subscriptions are copied from the caller's memory, for which the host needs
--- memory
+-- a call whose bytes, paths, descriptors or subscriptions are copied from the caller's memory, for which the host needs memory
 abbrev pub is_copied : CallNumber → Bool
-is_copied number.FdPread = true
 is_copied number.FdPwrite = true
-is_copied number.FdRead = true
 is_copied number.FdWrite = true
 is_copied number.FileCreate = true
 is_copied number.FileLink = true
@@ -91,7 +88,6 @@ is_copied number.FileSymlink = true
 is_copied number.FileUnlink = true
 is_copied number.Poll = true
 is_copied number.ProcExec = true
-is_copied number.SockRecv = true
 is_copied number.SockSend = true
 is_copied _ = false
 
@@ -102,7 +98,6 @@ is_built number.ClockTimeGet = false
 is_built number.CondvarSignal = false
 is_built number.FdCreate2 = false
 is_built number.LockUnlock = false
-is_built number.Poll = false
 is_built number.ProcExec = false
 is_built number.ProcFork = false
 is_built number.ProcRaise = false

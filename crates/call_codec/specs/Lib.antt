@@ -3,6 +3,8 @@ pub mod Arguments
 pub mod Output
 pub mod Put
 pub mod OutputLaws
+pub mod Given
+pub mod GivenLaws
 pub mod Image
 pub mod Start
 pub mod Bounded

@@ -1,25 +1,32 @@
--- What registers and memory that encode a call say of its output: each byte of it is written.
-use Rattle.std.specs.Prelude.{◌≡◌, ◌≤◌, ◌<◌, ◌+◌, ◌*◌, ◌/◌, ◌%◌, ℕ, true, false, List, [], ◌∷◌, take, drop, length, min, slice_index, Ok, IsOk, Option, Some, option_map}
+-- What registers and memory that encode a call say of its output: each byte of it is written, and so are the words of a poll.
+use Rattle.std.specs.Prelude.{◌≡◌, ◌⊎◌, ◌≤◌, ◌<◌, ◌+◌, ◌*◌, ◌/◌, ◌%◌, ℕ, true, false, List, [], ◌∷◌, take, drop, length, min, slice_index, Ok, IsOk, Option, Some, option_map}
 use Rattle.std.specs.FinMap.{get}
+use Rattle.std.specs.Int.{w32, to_le_bytes}
 use Rattle.abi_base.specs.declared.address_space.TheConstants.{PAGE_SIZE}
 use Rattle.abi_base.specs.declared.prot.Prot.{Prot}
 use Rattle.abi_base.specs.Registers.{Registers}
+use Rattle.abi_structures.specs.declared.events.Event.{Event}
+use Rattle.abi_structures.specs.declared.events.Subscription.{Subscription}
+use Rattle.abi_structures.specs.declared.events.What.{What}
+use Rattle.abi_structures.specs.declared.events.What.TheVariants as what
 use Rattle.abi_structures.specs.declared.structures.FdStat.{FdStat}
 use Rattle.abi_structures.specs.declared.structures.FileStat.{FileStat}
 use Rattle.abi_structures.specs.declared.structures.Iovec.{Iovec}
-use Rattle.abi_types.specs.declared.call.Call.TheVariants.{FdPread, FdRead, FdStatGet, FileReaddir, FileReadlink, FileStatFget, FileStatGet, MemMap}
+use Rattle.abi_types.specs.declared.call.Call.TheVariants.{FdPread, FdRead, FdStatGet, FileReaddir, FileReadlink, FileStatFget, FileStatGet, MemMap, Poll}
 use Rattle.abi_types.specs.declared.call.Lookup.{Lookup}
 use Rattle.abi_types.specs.declared.place.Place.TheVariants.{At}
 use Rattle.abi_types.specs.declared.reply.Payload.{Payload}
+use Rattle.abi_types.specs.declared.reply.WordWrites.{WordWrites}
+use Rattle.abi_types.specs.declared.reply.WordWrites.TheVariants as words
 use Rattle.guest_memory.specs.Page.{Pages}
 use Rattle.guest_memory.specs.Ranges.{in_range}
 use Rattle.guest_memory.specs.Written.{write_of}
 use Rattle.codec_arguments.specs.Arguments.{argument}
 use Rattle.codec_arguments.specs.Ranges.{ranges_at}
 use Rattle.codec_arguments.specs.declared.ranges.TheConstants.{MOST_TRANSFERRED}
-use Rattle.call_codec.specs.Arguments.{args_of}
+use Rattle.call_codec.specs.Arguments.{args_of, encoded_call}
 use Rattle.call_codec.specs.MemoryCalls.{pages_in, prot_of}
-use Rattle.call_codec.specs.Output.{content_of, fdstat_bytes, filestat_bytes, with_bytes}
+use Rattle.call_codec.specs.Output.{content_of, event_bytes, events_bytes, fdstat_bytes, filestat_bytes, with_bytes, with_word, with_words}
 use Rattle.call_codec.specs.Put.{memory_after}
 
 -- bytes go into ranges, one after another: each write is made, and no byte is left over
@@ -74,6 +81,47 @@ abbrev pub FoundStateIsWritten : Type 0
 FoundStateIsWritten =
     (m : Pages) (r : Registers) (lookup : Lookup) (path : List ℕ) → args_of m r ≡ FileStatGet lookup path
     → TakesFileState m (argument r 3)
+
+-- From an address on an event is written, of 32 bytes, and as many events as there are places for, one directly behind the other, also
+-- after words were written.
+pub record TakesEvents (m : Pages) (a places : ℕ) : Type 0 where
+  pub one : (writes : WordWrites) (event : Event) → 0 < places
+      → (length (event_bytes event) ≡ 32) × IsOk (write_of (with_words m writes) a (event_bytes event))
+  pub all : (writes : WordWrites) (events : List Event) → length events ≤ places
+      → (length (events_bytes events) ≡ 32 * length events) × IsOk (write_of (with_words m writes) a (events_bytes events))
+
+-- Where poll is encoded, as many events as it has subscriptions are written.
+abbrev pub EventsAreWritten : Type 0
+EventsAreWritten =
+    (m : Pages) (r : Registers) (left : ℕ) (subscriptions : List Subscription) → encoded_call m r left ≡ Poll subscriptions
+    → TakesEvents m (argument r 1) (length subscriptions)
+
+-- a lock or a condition variable that is waited for has this address
+abbrev pub HasWord : What → ℕ → Type 0
+HasWord (what.Condvar condvar condvar_word lock lock_word condvar_scope lock_scope) a = (a ≡ condvar) ⊎ (a ≡ lock)
+HasWord (what.LockRdlock lock word scope) a = a ≡ lock
+HasWord (what.LockWrlock lock word scope) a = a ≡ lock
+HasWord other a = ⊥
+
+-- the words are of those
+abbrev pub AreWordsOf : What → WordWrites → Type 0
+AreWordsOf waited words.Zero = Unit {0}
+AreWordsOf waited (words.One write) = HasWord waited write.address
+AreWordsOf waited (words.Two first second) = HasWord waited first.address × HasWord waited second.address
+
+-- each word is written
+abbrev pub AreWordsWritten : Pages → WordWrites → Type 0
+AreWordsWritten m words.Zero = Unit {0}
+AreWordsWritten m (words.One write) = IsOk (write_of m write.address (to_le_bytes w32 write.word))
+AreWordsWritten m (words.Two first second) =
+    IsOk (write_of m first.address (to_le_bytes w32 first.word))
+    × IsOk (write_of (with_word m first) second.address (to_le_bytes w32 second.word))
+
+-- Where poll is encoded, the words of the lock and the condition variable of its first subscription are written.
+abbrev pub WordsAreWritten : Type 0
+WordsAreWritten =
+    (m : Pages) (r : Registers) (left : ℕ) (first : Subscription) (others : List Subscription) (writes : WordWrites)
+    → encoded_call m r left ≡ Poll (first ∷ others) → AreWordsOf first.what writes → AreWordsWritten m writes
 
 -- the byte that stands at an address, if its page is there
 abbrev pub standing : Pages → ℕ → Option ℕ

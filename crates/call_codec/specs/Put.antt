@@ -1,29 +1,32 @@
--- What a call's reply leaves of the caller's registers and memory. a0 has the error, on SUCCESS a1 and a2 have the call's
--- results, and the pc goes on after the ECALL; every other register stays. On SUCCESS the calls about memory change it, and what a
--- call gives beside its results is written into it.
-use Rattle.std.specs.Prelude.{◌≡◌, ℕ, ◌+◌, ◌/◌, ◌%◌, ◌^◌, List, []}
+-- What a call's answer leaves of the caller's registers and memory. After a reply a0 has the error, on SUCCESS a1 and a2 have the
+-- call's results, and the pc goes on after the ECALL; every other register stays. On SUCCESS the calls about memory change it, and what
+-- a call gives beside its results is written into it. Where the thread waits in the call, words are written, and its registers stay.
+use Rattle.std.specs.Prelude.{◌≡◌, ◌≤◌, ℕ, ◌+◌, ◌/◌, ◌%◌, ◌^◌, List, []}
 use Rattle.abi_base.specs.declared.address_space.TheConstants.{PAGE_SIZE}
 use Rattle.abi_types.specs.declared.reply.Answer.{Answer}
 use Rattle.abi_types.specs.declared.reply.Answer.TheVariants as answer
 use Rattle.abi_types.specs.declared.call.Call.{Call}
-use Rattle.abi_types.specs.declared.call.Call.TheVariants.{FdDup, FdPread, FdPwrite, FdRead, FdSeek, FdStatGet, FdWrite, FileOpen, FileReaddir, FileReadlink, FileStatFget, FileStatGet, MemMap}
+use Rattle.abi_types.specs.declared.call.Call.TheVariants.{FdDup, FdPread, FdPwrite, FdRead, FdSeek, FdStatGet, FdWrite, FileOpen, FileReaddir, FileReadlink, FileStatFget, FileStatGet, MemMap, Memory, Poll}
 use Rattle.abi_types.specs.declared.place.Place.{Place}
 use Rattle.abi_types.specs.declared.place.Place.TheVariants as place
 use Rattle.abi_types.specs.declared.place.Place.TheVariants.{At}
 use Rattle.abi_types.specs.declared.reply.Payload.{Payload}
 use Rattle.abi_types.specs.declared.reply.Reply.{Reply}
+use Rattle.abi_types.specs.declared.reply.WordWrites.{WordWrites}
 use Rattle.abi_base.specs.Errno.{number_of}
 use Rattle.abi_base.specs.Registers.{Registers, with_pc, with_x}
 use Rattle.guest_memory.specs.Page.{Pages}
 use Rattle.guest_memory.specs.Room.{without_each, AreRoom}
 use Rattle.guest_memory.specs.Written.{KeepsCode}
 use Rattle.codec_arguments.specs.Arguments.{argument}
+use Rattle.codec_arguments.specs.declared.ranges.TheConstants.{MOST_IOVECS}
 use Rattle.call_codec.specs.Arguments.{args_of}
 use Rattle.call_codec.specs.MemoryCalls.{memory_with, on_success, pages_in, prot_of, with_mapping, IsSomewhere, MayMapThere}
-use Rattle.call_codec.specs.Output.{content_of, with_content, with_payload}
+use Rattle.call_codec.specs.Output.{content_of, with_content, with_payload, with_words}
 
 -- the results of a call that succeeded: fd_dup and file_open have the new number; fd_pread, fd_pwrite, fd_read and fd_write have how
--- many bytes went, and file_readdir and file_readlink how many came; fd_seek has the new offset; mem_map has an address
+-- many bytes went, and file_readdir and file_readlink how many came; fd_seek has the new offset; mem_map has an address; poll has how
+-- many events came
 abbrev pub with_results : Registers → Call → Reply → Registers
 with_results r (FdDup fd) reply = with_x r 11 reply.r1
 with_results r (FdPread fd length offset) reply = with_x r 11 reply.r1
@@ -35,14 +38,16 @@ with_results r (FileOpen lookup path oflags stat) reply = with_x r 11 reply.r1
 with_results r (FileReaddir fd length cookie) reply = with_x r 11 reply.r1
 with_results r (FileReadlink fd path length) reply = with_x r 11 reply.r1
 with_results r (MemMap place length prot flags fd offset) reply = with_x r 11 reply.r1
+with_results r (Poll subscriptions) reply = with_x r 11 reply.r1
 with_results r other reply = r
 
 abbrev pub put_of : Registers → Call → Reply → Registers
 put_of r call reply =
     with_pc (on_success reply.errno (with_results (with_x r 10 (number_of reply.errno)) call reply) (with_x r 10 (number_of reply.errno))) ((r.pc + 4) % 2 ^ 64)
 
--- the registers after an answer
+-- the registers after an answer; a thread that waits in the call stands at its ECALL
 abbrev pub answered_of : Registers → Call → Answer → Registers
+answered_of r call (answer.Parked writes) = r
 answered_of r call (answer.Reply reply) = put_of r call reply
 
 -- the memory after a call of these registers that succeeded and gave this beside its results: that goes to an iovec array, or to the
@@ -56,11 +61,20 @@ memory_after m r (FileReadlink fd path length) payload = with_payload m (argumen
 memory_after m r (FileStatFget fd) payload = with_payload m (argument r 1) payload
 memory_after m r (FileStatGet lookup path) payload = with_payload m (argument r 3) payload
 memory_after m r (MemMap place length prot flags fd offset) payload = with_mapping m place (pages_in length) (prot_of prot) (content_of payload)
+memory_after m r (Poll subscriptions) payload = with_payload m (argument r 1) payload
 memory_after m r other payload = memory_with m r other
+
+-- the memory with the words that a call gave which succeeded: poll's are written before its events. The calls that aren't named here
+-- write no word
+abbrev pub worded_memory : Pages → Call → WordWrites → Pages
+worded_memory m (Poll subscriptions) writes = with_words m writes
+worded_memory m other writes = m
 
 -- the memory after an answer to a call of these registers
 abbrev pub answered_memory : Pages → Registers → Call → Answer → Pages
-answered_memory m r call (answer.Reply reply) = on_success reply.errno (memory_after m r call reply.payload) m
+answered_memory m r call (answer.Parked writes) = with_words m writes
+answered_memory m r call (answer.Reply reply) =
+    on_success reply.errno (memory_after (worded_memory m call reply.writes) r call reply.payload) m
 
 -- ---- the room for an answer
 
@@ -69,10 +83,17 @@ abbrev pub TakesRoom : Call → Type 0
 TakesRoom (MemMap place length prot flags fd offset) = IsSomewhere place
 TakesRoom other = ⊥
 
--- it is no mem_map
-abbrev pub MapsNothing : Call → Type 0
-MapsNothing (MemMap place length prot flags fd offset) = ⊥
-MapsNothing other = Unit {0}
+-- it is no call about memory
+abbrev pub KeepsPages : Call → Type 0
+KeepsPages (MemMap place length prot flags fd offset) = ⊥
+KeepsPages (Memory number errno) = ⊥
+KeepsPages other = Unit {0}
+
+-- the registers of fd_pread or fd_read name an iovec array of at most 1024, and those of any other call none to read into
+abbrev pub HasFewRanges : Registers → Call → Type 0
+HasFewRanges r (FdPread fd length offset) = argument r 2 ≤ MOST_IOVECS
+HasFewRanges r (FdRead fd length) = argument r 2 ≤ MOST_IOVECS
+HasFewRanges r other = Unit {0}
 
 -- the mapping that the call asks for, if it asks for one, may be made at its place
 abbrev pub MayMapFor : Pages → Call → Type 0

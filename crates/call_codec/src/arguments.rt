@@ -113,13 +113,13 @@ fn is_built(number: CallNumber) -> bool
         | CallNumber::MemProtect
         | CallNumber::MemSync
         | CallNumber::MemUnmap
+        | CallNumber::Poll
         | CallNumber::ProcExit => true,
         CallNumber::ClockResGet
         | CallNumber::ClockTimeGet
         | CallNumber::CondvarSignal
         | CallNumber::FdCreate2
         | CallNumber::LockUnlock
-        | CallNumber::Poll
         | CallNumber::ProcExec
         | CallNumber::ProcFork
         | CallNumber::ProcRaise
@@ -162,9 +162,9 @@ fn read(
         CallNumber::FdCreate2 => without_memory(fd_create2(regs)),
         CallNumber::FdDatasync => Ok(fd_datasync(regs)),
         CallNumber::FdDup => Ok(fd_dup(regs)),
-        CallNumber::FdPread => fd_pread(alloc, regs, memory),
+        CallNumber::FdPread => without_memory(fd_pread(regs, memory)),
         CallNumber::FdPwrite => fd_pwrite(alloc, regs, memory),
-        CallNumber::FdRead => fd_read(alloc, regs, memory),
+        CallNumber::FdRead => without_memory(fd_read(regs, memory)),
         CallNumber::FdReplace => Ok(fd_replace(regs)),
         CallNumber::FdSeek => without_memory(fd_seek(regs)),
         CallNumber::FdStatGet => without_memory(fd_stat_get(regs, memory)),
@@ -197,7 +197,7 @@ fn read(
         CallNumber::ProcFork => Ok(proc_fork(left)),
         CallNumber::ProcRaise => without_memory(proc_raise(regs)),
         CallNumber::RandomGet => without_memory(random_get(regs, memory)),
-        CallNumber::SockRecv => sock_recv(alloc, regs, memory),
+        CallNumber::SockRecv => without_memory(sock_recv(regs, memory)),
         CallNumber::SockSend => sock_send(alloc, regs, memory),
         CallNumber::SockShutdown => without_memory(sock_shutdown(regs)),
         CallNumber::ThreadCreate => without_memory(thread_create(regs, memory)),

@@ -13,6 +13,7 @@ pub fn may_change_code(regs: &Regs, memory: &GuestMemory, call: &Call, answer: &
     ensures { IsFalse result → AnswerKeepsCode memory.now regs.now call.now answer.now }
 {
     match answer {
+        Answer::Parked(_) => false,
         Answer::Reply(reply) => {
             let (at, pages) = changed_pages(regs, call);
             reply.errno == Errno::Success && memory.has_executable(at, pages)

@@ -1,5 +1,7 @@
 //! Laws of the definitions. The functions do nothing.
-ghost use Rattle.call_codec.specs.OutputLaws.{EntriesAreWritten, FoundStateIsWritten, LinkIsWritten, MappingIsFilled, OpenStateIsWritten, PreadIsWritten, ReadIsWritten, StateIsWritten};
+ghost use Rattle.call_codec.specs.GivenLaws.{BuiltIsEncoded, EncodedHasFewRanges, GivenAtCall, WokenEventsAreWritten, WokenReadIsWritten, WokenWordIsWritten};
+ghost use Rattle.call_codec.specs.OutputLaws.{EntriesAreWritten, EventsAreWritten, FoundStateIsWritten, LinkIsWritten, MappingIsFilled};
+ghost use Rattle.call_codec.specs.OutputLaws.{OpenStateIsWritten, PreadIsWritten, ReadIsWritten, StateIsWritten, WordsAreWritten};
 ghost use Rattle.call_codec.specs.Refusals.{AdviseIsListed, MapIsListed, ProtectIsListed, SyncIsListed, UnmapIsListed};
 ghost use Rattle.call_codec.specs.StartBlock.{ArgdataStands, CanaryStands, VectorStands};
 
@@ -22,7 +24,8 @@ pub fn start_block_stands()
 
 /// The output of a call that registers and memory encode is written whole: no write of bytes that were read, as many as the call
 /// asks for or has room for at most, and none of the state of a descriptor or of a file is refused. The pages that mem_map makes
-/// have the bytes that it gives, and zeros behind them.
+/// have the bytes that it gives, and zeros behind them. As many events as poll has subscriptions are written, and so are the words of the
+/// lock and the condition variable that it waits for.
 pub fn output_is_written()
     ensures pread { PreadIsWritten }
     ensures read { ReadIsWritten }
@@ -32,4 +35,19 @@ pub fn output_is_written()
     ensures open_state { OpenStateIsWritten }
     ensures found_state { FoundStateIsWritten }
     ensures mapping { MappingIsFilled }
+    ensures events { EventsAreWritten }
+    ensures words { WordsAreWritten }
+{}
+
+/// What a thread that waited in a call is given when it goes on. Where its registers and memory encode the call as they did, it is the
+/// word that the call has; and where it is given a word, the output of the call is written whole, though its memory may have changed.
+/// Registers that encoded a call name few ranges. A call of a program that runs, if it isn't refused, is encoded as if all calls were
+/// built.
+pub fn wakes_are_given()
+    ensures at_call { GivenAtCall }
+    ensures read { WokenReadIsWritten }
+    ensures events { WokenEventsAreWritten }
+    ensures word { WokenWordIsWritten }
+    ensures few { EncodedHasFewRanges }
+    ensures built { BuiltIsEncoded }
 {}

@@ -5,10 +5,12 @@
 pub use arguments::{args, read_call};
 pub use code::may_change_code;
 pub use image::load;
-pub use laws::{output_is_written, refusals_are_listed, start_block_stands};
-pub use replies::put_answer;
+pub use laws::{output_is_written, refusals_are_listed, start_block_stands, wakes_are_given};
+pub use output::put_words;
+pub use replies::{put_answer, put_woken};
 pub use room::make_room;
 pub use start::start_memory;
+pub use wakes::given;
 
 mod arguments;
 mod code;
@@ -19,3 +21,4 @@ mod output;
 mod replies;
 mod room;
 mod start;
+mod wakes;

@@ -1,13 +1,17 @@
-//! What a call that succeeded writes into the caller's memory.
-ghost use Rattle.std.specs.Prelude.{◌≡◌, ◌≤◌};
+//! What an answer writes into the caller's memory.
+ghost use Rattle.std.specs.Prelude.{◌≡◌, ◌≤◌, ◌*◌, length, IsOk};
 ghost use Rattle.codec_arguments.specs.Arguments.{argument};
 ghost use Rattle.codec_arguments.specs.Ranges.{ranges_at};
-ghost use Rattle.call_codec.specs.Output.{content_of, fdstat_bytes, filestat_bytes, into_ranges, scattered, with_bytes, with_content, with_payload};
+ghost use Rattle.call_codec.specs.Output.{content_of, event_bytes, events_bytes, fdstat_bytes, filestat_bytes, into_ranges, scattered};
+ghost use Rattle.call_codec.specs.Output.{with_bytes, with_content, with_payload, with_word, with_words};
+ghost use Rattle.guest_memory.specs.declared.access.Access.TheVariants as access;
+ghost use Rattle.guest_memory.specs.Bytes.{bytes_from};
+ghost use Rattle.guest_memory.specs.Written.{set_bytes};
 
-use abi_layout::{write_fdstat, write_filestat};
-use abi_structures::Iovec;
-use abi_types::{Payload, Regs};
-use codec_arguments::{MOST_IOVECS, NO_RANGE, fill_ranges};
+use abi_layout::{write_event, write_fdstat, write_filestat};
+use abi_structures::{Event, Iovec};
+use abi_types::{Payload, Regs, WordWrite, WordWrites};
+use codec_arguments::{MOST_IOVECS, NO_RANGE, check_writable, fill_ranges};
 use guest_memory::GuestMemory;
 
 // How many iovecs most calls have at most. Room for so few is made at once.
@@ -16,11 +20,64 @@ const FEW: usize = 8;
 // How many iovecs a call has at most. Room for so many is 16 KiB, which are written first.
 const MANY: usize = MOST_IOVECS as usize;
 
+// How many bytes an event has.
+pub(crate) const EVENT_SIZE: u64 = 32;
+
 // Writes bytes from an address on; where one of them can't be written, none is.
 fn put_bytes(memory: &mut GuestMemory, at: u64, bytes: &[u8])
     ensures { memory.new ≡ with_bytes memory.old at bytes.now }
 {
     let _ = memory.write_bytes(at, bytes);
+}
+
+// Writes a word at its address.
+fn put_word(memory: &mut GuestMemory, write: WordWrite)
+    ensures { memory.new ≡ with_word memory.old write }
+{
+    put_bytes(memory, write.address, &write.word.to_le_bytes());
+}
+
+/// Writes words, each at its address, the lowest byte first. It takes no memory.
+pub fn put_words(memory: &mut GuestMemory, writes: &WordWrites)
+    ensures { memory.new ≡ with_words memory.old writes.now }
+{
+    match writes {
+        WordWrites::Zero => {}
+        WordWrites::One(write) => put_word(memory, *write),
+        WordWrites::Two(first, second) => {
+            put_word(memory, *first);
+            put_word(memory, *second);
+        }
+    }
+}
+
+// An event as bytes.
+fn event_bytes(event: &Event) -> [u8; 32]
+    ensures { result ≡ event_bytes event.now }
+{
+    write_event(event)
+}
+
+// Writes events one behind the other from an address on, where all of their bytes can be written.
+fn put_each_event(memory: &mut GuestMemory, at: u64, events: &[Event])
+    requires { IsOk (bytes_from access.Write memory.old at (32 * length events.now)) }
+    ensures { memory.new ≡ set_bytes memory.old at (events_bytes events.now) }
+{
+    let mut next = at;
+    for event in events {
+        put_bytes(memory, next, &event_bytes(event));
+        next = next.wrapping_add(EVENT_SIZE);
+    }
+}
+
+// Writes events one behind the other from an address on; where one of their bytes can't be written, none is.
+fn put_events(memory: &mut GuestMemory, at: u64, events: &[Event])
+    ensures { memory.new ≡ with_bytes memory.old at (events_bytes events.now) }
+{
+    let count = events.len() as u64;
+    if check_writable(memory, at, EVENT_SIZE * count).is_ok() {
+        put_each_event(memory, at, events);
+    }
 }
 
 // Writes bytes into the ranges, one after another, into each as many as it has room for.
@@ -78,7 +135,7 @@ pub fn content(payload: &Payload) -> &[u8]
     }
 }
 
-/// Writes the payload from an address on, if it is bytes or the state of a descriptor or of a file.
+/// Writes the payload from an address on, if it is bytes, the state of a descriptor or of a file, or events.
 pub fn put_payload(memory: &mut GuestMemory, at: u64, payload: &Payload)
     ensures { memory.new ≡ with_payload memory.old at payload.now }
 {
@@ -86,6 +143,8 @@ pub fn put_payload(memory: &mut GuestMemory, at: u64, payload: &Payload)
         Payload::Content(bytes) => put_bytes(memory, at, bytes.as_slice()),
         Payload::FdStat(stat) => put_bytes(memory, at, &write_fdstat(stat)),
         Payload::FileStat(stat) => put_bytes(memory, at, &write_filestat(stat)),
+        Payload::Event(event) => put_bytes(memory, at, &event_bytes(event)),
+        Payload::Events(events) => put_events(memory, at, events.as_slice()),
         _ => {}
     }
 }

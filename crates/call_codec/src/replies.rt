@@ -5,17 +5,20 @@ ghost use Rattle.abi_types.specs.declared.place.Place.TheVariants as place;
 ghost use Rattle.codec_arguments.specs.Arguments.{argument};
 ghost use Rattle.call_codec.specs.Arguments.{args_of};
 ghost use Rattle.call_codec.specs.MemoryCalls.{MayMapAt, MayMapThere, with_change, with_mapping, pages_in, prot_of};
-ghost use Rattle.call_codec.specs.Put.{answered_memory, answered_of, memory_after, put_of, with_results, IsRoomAt, IsRoomFor, MapsNothing};
+ghost use Rattle.call_codec.specs.Given.{CanWait};
+ghost use Rattle.call_codec.specs.Put.{answered_memory, answered_of, memory_after, put_of, with_results, worded_memory};
+ghost use Rattle.call_codec.specs.Put.{HasFewRanges, IsRoomAt, IsRoomFor, KeepsPages};
 ghost use Rattle.guest_memory.specs.Changes.{protected, without_pages};
 ghost use Rattle.guest_memory.specs.Mapping.{AreThere};
 ghost use Rattle.guest_memory.specs.Ranges.{IsPageAddress};
 ghost use Rattle.guest_memory.specs.Room.{without_each, AreRoom};
+ghost use Rattle.guest_memory.specs.Written.{KeepsCode};
 
 use crate::image::READ_WRITE;
 use crate::memory_calls::{has_bits, pages_in};
-use crate::output::{content, put_content, put_payload};
+use crate::output::{content, put_content, put_payload, put_words};
 use abi_base::{GUEST_END, PAGE_SIZE};
-use abi_types::{Answer, Call, CallNumber, Errno, Payload, Place, Prot, Regs, Reply};
+use abi_types::{Answer, Call, CallNumber, Errno, Place, Prot, Regs, Reply};
 use codec_arguments::low;
 use guest_memory::{GuestMemory, Room};
 
@@ -34,11 +37,35 @@ pub fn put_answer(
     ensures memory { memory.new ≡ answered_memory (without_each room memory.old) regs.old call.now answer.now }
 {
     match answer {
+        Answer::Parked(writes) => {
+            memory.remove_room(room);
+            put_words(memory, writes);
+        }
         Answer::Reply(reply) => {
             if let Errno::Success = reply.errno {
-                put_memory(regs, memory, room, call, &reply.payload);
+                put_memory(regs, memory, room, call, reply);
             } else {
                 memory.remove_room(room);
+            }
+            put_registers(regs, call, reply);
+        }
+    }
+}
+
+/// The same of a call in which the thread waited, whose memory may have changed since the registers encoded it. It needs no room, and
+/// no page changes that may be executed, but not written.
+pub fn put_woken(regs: &mut Regs, memory: &mut GuestMemory, call: &Call, answer: &Answer)
+    requires waits { CanWait call.now }
+    requires few { HasFewRanges regs.old call.now }
+    ensures regs { regs.new ≡ answered_of regs.old call.now answer.now }
+    ensures memory { memory.new ≡ answered_memory memory.old regs.old call.now answer.now }
+    ensures code { KeepsCode memory.old memory.new }
+{
+    match answer {
+        Answer::Parked(writes) => put_words(memory, writes),
+        Answer::Reply(reply) => {
+            if let Errno::Success = reply.errno {
+                put_output(regs, memory, call, reply);
             }
             put_registers(regs, call, reply);
         }
@@ -71,7 +98,8 @@ fn put_results(regs: &mut Regs, call: &Call, reply: &Reply)
         | Call::FileOpen { .. }
         | Call::FileReaddir { .. }
         | Call::FileReadlink { .. }
-        | Call::MemMap { .. } => regs.set(11, reply.r1),
+        | Call::MemMap { .. }
+        | Call::Poll { .. } => regs.set(11, reply.r1),
         _ => {}
     }
 }
@@ -87,11 +115,11 @@ fn prot_of(bits: u32) -> Prot
     }
 }
 
-// The memory after a call that succeeded and gave this beside its results.
-fn put_memory(regs: &Regs, memory: &mut GuestMemory, room: Room, call: &Call, payload: &Payload)
+// The memory after a call that succeeded with this reply.
+fn put_memory(regs: &Regs, memory: &mut GuestMemory, room: Room, call: &Call, reply: &Reply)
     requires encoded { call.now ≡ args_of (without_each room memory.old) regs.now }
     requires room { IsRoomFor call.now room memory.old }
-    ensures { memory.new ≡ memory_after (without_each room memory.old) regs.now call.now payload.now }
+    ensures { memory.new ≡ memory_after (worded_memory (without_each room memory.old) call.now reply.now.writes) regs.now call.now reply.now.payload }
 {
     match call {
         Call::MemMap {
@@ -107,22 +135,29 @@ fn put_memory(regs: &Regs, memory: &mut GuestMemory, room: Room, call: &Call, pa
                 *place,
                 pages,
                 prot_of(*prot),
-                content(payload),
+                content(&reply.payload),
             );
+        }
+        Call::Memory { number, errno } => {
+            memory.remove_room(room);
+            if let Errno::Success = *errno {
+                change(regs, memory, *number);
+            }
         }
         _ => {
             memory.remove_room(room);
-            put_output(regs, memory, call, payload);
+            put_output(regs, memory, call, reply);
         }
     }
 }
 
-// The same of a call that maps nothing.
-fn put_output(regs: &Regs, memory: &mut GuestMemory, call: &Call, payload: &Payload)
-    requires encoded { call.now ≡ args_of memory.old regs.now }
-    requires other { MapsNothing call.now }
-    ensures { memory.new ≡ memory_after memory.old regs.now call.now payload.now }
+// The same of a call that isn't about memory. What it gave goes where the registers name.
+fn put_output(regs: &Regs, memory: &mut GuestMemory, call: &Call, reply: &Reply)
+    requires other { KeepsPages call.now }
+    requires few { HasFewRanges regs.now call.now }
+    ensures { memory.new ≡ memory_after (worded_memory memory.old call.now reply.now.writes) regs.now call.now reply.now.payload }
 {
+    let payload = &reply.payload;
     match call {
         Call::FdPread { .. } | Call::FdRead { .. } => put_content(regs, memory, payload),
         Call::FdStatGet { .. } | Call::FileReaddir { .. } | Call::FileStatFget { .. } => {
@@ -131,10 +166,9 @@ fn put_output(regs: &Regs, memory: &mut GuestMemory, call: &Call, payload: &Payl
         Call::FileReadlink { .. } | Call::FileStatGet { .. } => {
             put_payload(memory, regs.get(13), payload);
         }
-        Call::Memory { number, errno } => {
-            if let Errno::Success = *errno {
-                change(regs, memory, *number);
-            }
+        Call::Poll { .. } => {
+            put_words(memory, &reply.writes);
+            put_payload(memory, regs.get(11), payload);
         }
         _ => {}
     }

@@ -1,9 +1,5 @@
 -- What is read so far, and what is left to read.
-use Rattle.std.proofs.Common.{◌≡◌, ℕ, zero, suc, ◌+◌, ◌-◌, ◌%◌, ◌^◌, ◌<◌, List, [], ◌∷◌, ◌++◌, Option, None, Some, option_map, Result, Ok, Err, refl, sym, ap, ◌∙◌, append_assoc, append-nil, arith}
-use Rattle.std.specs.Result.{result_ok}
-use Rattle.std.specs.Prelude.{IsOk}
-use Rattle.guest_memory.specs.declared.fault.MemFault.{MemFault}
-use Rattle.codec_arguments.specs.Ranges.{counted}
+use Rattle.std.proofs.Common.{◌≡◌, ℕ, zero, suc, ◌+◌, ◌-◌, ◌%◌, ◌^◌, ◌<◌, List, [], ◌∷◌, ◌++◌, Option, option_map, Result, Ok, Err, refl, sym, ap, ◌∙◌, append_assoc, append-nil, arith}
 use Rattle.codec_arguments.specs.Arrays.{array_at, in_front}
 
 -- the values that were read, before those that are left, if they can be read
@@ -48,21 +44,3 @@ one_left element width front x a (suc n) k same h =
 pub next_left : {X E : Type 0} (element : ℕ → Result X E) (width : ℕ) (front : List X) (x : X) (a count i : ℕ) → i < count → element a ≡ Ok x
     → after_read front (array_at element width a (count - i)) ≡ after_read (front ++ x ∷ []) (array_at element width ((a + width) % 2 ^ 64) (count - (i + 1)))
 next_left element width front x a count i below h = one_left element width front x a (count - i) (count - (i + 1)) (omega arith) h
-
--- so many bytes and those that are left, if they may be written
-abbrev pub after_count : ℕ → Option ℕ → Option ℕ
-after_count done rest = option_map (λ n. done + n) rest
-
--- the bytes of one range more may be written
-pub count_next : (done n all : ℕ) (before : Result (List ℕ) MemFault) (rest : Result ℕ MemFault) → IsOk before → done + n ≡ all
-    → after_count done (result_ok (counted n before rest)) ≡ after_count all (result_ok rest)
-count_next done n all (Ok bytes) (Ok others) h e =
-    let same : done + (n + others) ≡ all + others = omega arith in
-    ap Some same
-count_next done n all (Ok bytes) (Err fault) h e = refl
-count_next done n all (Err fault) rest h e = absurd cc
-
--- none may be counted behind what can't be written
-pub count_fault : (n : ℕ) (before : Result (List ℕ) MemFault) (rest : Result ℕ MemFault) (fault : MemFault) → before ≡ Err fault → result_ok (counted n before rest) ≡ None
-count_fault n (Ok bytes) rest fault e = absurd cc
-count_fault n (Err other) rest fault e = refl

@@ -1,6 +1,7 @@
 -- Arrays of iovecs, and the bytes of the ranges that they name, of which 65,536 count.
 use Rattle.std.specs.Prelude.{ℕ, ◌+◌, ◌-◌, min, List, [], ◌∷◌, ◌++◌, Result, Ok, Err}
 use Rattle.abi_base.specs.declared.errno.Errno.{Errno}
+use Rattle.abi_base.specs.declared.errno.Errno.TheVariants.{Fault}
 use Rattle.abi_layout.specs.Layout.{number_from}
 use Rattle.abi_structures.specs.declared.structures.Iovec.{Iovec}
 use Rattle.guest_memory.specs.declared.access.Access.TheVariants.{Write}
@@ -8,7 +9,8 @@ use Rattle.guest_memory.specs.declared.fault.MemFault.{MemFault}
 use Rattle.guest_memory.specs.Bytes.{bytes_at, bytes_from}
 use Rattle.guest_memory.specs.Page.{Pages}
 use Rattle.codec_arguments.specs.Arrays.{array_at}
-use Rattle.codec_arguments.specs.Reading.{or_fault}
+use Rattle.codec_arguments.specs.Bytes.{writable}
+use Rattle.codec_arguments.specs.Reading.{◌>>=◌, or_fault}
 use Rattle.codec_arguments.specs.declared.ranges.TheConstants.{MOST_TRANSFERRED}
 
 -- an iovec: the address and the length of a range of bytes
@@ -58,6 +60,11 @@ abbrev pub room_of : Pages → ℕ → List Iovec → Result ℕ MemFault
 room_of m room [] = Ok 0
 room_of m room (range ∷ ranges) =
     counted (min range.length room) (bytes_from Write m range.address (min range.length room)) (room_of m (room - min range.length room) ranges)
+
+-- how many bytes of a range count, where there is room for so many, and each of these bytes may be written
+abbrev pub part_of : Pages → ℕ → Result Iovec MemFault → Result ℕ Errno
+part_of m room (Ok range) = writable m range.address (min range.length room) >>= λ _. Ok (min range.length room)
+part_of m room (Err fault) = Err Fault
 
 abbrev pub room_among : Pages → Result (List Iovec) MemFault → Result ℕ MemFault
 room_among m (Ok ranges) = room_of m MOST_TRANSFERRED ranges

@@ -1,15 +1,16 @@
 //! Arrays of iovecs, and the bytes of the ranges that they name, of which [`MOST_TRANSFERRED`] count.
 ghost use Rattle.std.specs.Prelude.{◌≡◌, ◌≤◌, ◌+◌, IfErr, IfOk, OnOk, Err, Ok, length, option_map};
 ghost use Rattle.std.specs.Result.{result_ok};
-ghost use Rattle.codec_arguments.specs.Ranges.{gathered, range_in, ranges_at, room_in, room_of, written_in};
+ghost use Rattle.codec_arguments.specs.Ranges.{gathered, part_of, range_in, ranges_at, room_in, written_in};
 ghost use Rattle.codec_arguments.specs.Reading.{Reads};
 ghost use Rattle.guest_memory.specs.Bytes.{bytes_at};
 
+use crate::bytes::check_writable;
 use crate::fault::ArgumentFault;
 use abi_base::Errno;
 use abi_layout::read_iovec;
 use abi_structures::Iovec;
-use guest_memory::{Access, GuestMemory, MemFault};
+use guest_memory::{GuestMemory, MemFault};
 use lists::Bytes;
 use std::alloc::{AllocError, Global};
 
@@ -87,19 +88,20 @@ fn gather(
     Ok(Some(bytes))
 }
 
-// How many bytes the ranges have, of which `MOST_TRANSFERRED` count. `None` exactly where some may not be written.
-fn count_room(memory: &GuestMemory, ranges: &[Iovec]) -> Option<u64>
-    ensures { result ≡ result_ok (room_of memory.now MOST_TRANSFERRED ranges.now) }
+// How many bytes of the range that an iovec names count, where there is room for so many. FAULT exactly where the iovec can't
+// be read, or one of these bytes may not be written.
+fn read_part(memory: &GuestMemory, at: u64, room: u64) -> Result<u64, Errno>
+    ensures part { result ≡ part_of memory.now room (range_in (bytes_at memory.now at 16)) }
+    ensures less { IfOk result (λ length. length ≤ room) }
 {
-    let mut room = MOST_TRANSFERRED;
-    for range in ranges {
-        let length = range.length.min(room);
-        memory
-            .check(Access::Write, range.address, length as usize)
-            .ok()?;
-        room -= length;
+    match read_range(memory, at) {
+        Ok(range) => {
+            let length = range.length.min(room);
+            check_writable(memory, range.address, length)?;
+            Ok(length)
+        }
+        Err(_) => Err(Errno::Fault),
     }
-    Some(MOST_TRANSFERRED - room)
 }
 
 /// The bytes that an array of iovecs names, of which `MOST_TRANSFERRED` count. FAULT exactly where some of the array or of
@@ -123,21 +125,15 @@ pub fn read_written(
 }
 
 /// How many bytes the ranges have that an array of iovecs names, of which `MOST_TRANSFERRED` count. FAULT exactly where some
-/// of the array can't be read, or some of these bytes may not be written.
-pub fn read_room(
-    alloc: Global,
-    memory: &GuestMemory,
-    at: u64,
-    count: u64,
-) -> Result<u64, ArgumentFault>
-    requires { count ≤ MOST_IOVECS }
-    ensures { Reads result (room_in memory.now at count) }
+/// of the array can't be read, or some of these bytes may not be written. It takes no memory.
+pub fn read_room(memory: &GuestMemory, at: u64, count: u64) -> Result<u64, Errno>
+    ensures { result ≡ room_in memory.now at count }
 {
-    let Some(ranges) = read_ranges(alloc, memory, at, count)? else {
-        return Err(ArgumentFault::Errno(Errno::Fault));
-    };
-    match count_room(memory, ranges.as_slice()) {
-        Some(room) => Ok(room),
-        None => Err(ArgumentFault::Errno(Errno::Fault)),
+    let mut room = MOST_TRANSFERRED;
+    let mut next = at;
+    for _ in 0..count {
+        room -= read_part(memory, next, room)?;
+        next = next.wrapping_add(16);
     }
+    Ok(MOST_TRANSFERRED - room)
 }

@@ -132,14 +132,14 @@ fn is_beyond(offset: u64) -> bool
 
 /// fd_pread: a descriptor, the address of an iovec array, its count and an offset. INVAL for over 1024 iovecs or an offset of
 /// 2^63 or more; FAULT for an array that can't be read or a place of the room that can't be written.
-pub fn fd_pread(alloc: Global, regs: &Regs, memory: &GuestMemory) -> Result<Call, ArgumentFault>
-    ensures { Reads result (fd_pread_of memory.now regs.now) }
+pub fn fd_pread(regs: &Regs, memory: &GuestMemory) -> Result<Call, Errno>
+    ensures { result ≡ fd_pread_of memory.now regs.now }
 {
     let count = regs.get(12);
     let offset = regs.get(13);
     refuse_when(has_many(count), Errno::Inval)?;
     refuse_when(is_beyond(offset), Errno::Inval)?;
-    let length = read_room(alloc, memory, regs.get(11), count)?;
+    let length = read_room(memory, regs.get(11), count)?;
     Ok(Call::FdPread {
         fd: low(regs.get(10)),
         length,
@@ -166,12 +166,12 @@ pub fn fd_pwrite(alloc: Global, regs: &Regs, memory: &GuestMemory) -> Result<Cal
 
 /// fd_read: a descriptor, the address of an iovec array and its count. INVAL for over 1024 iovecs; FAULT for an array that
 /// can't be read or a place of the room that can't be written.
-pub fn fd_read(alloc: Global, regs: &Regs, memory: &GuestMemory) -> Result<Call, ArgumentFault>
-    ensures { Reads result (fd_read_of memory.now regs.now) }
+pub fn fd_read(regs: &Regs, memory: &GuestMemory) -> Result<Call, Errno>
+    ensures { result ≡ fd_read_of memory.now regs.now }
 {
     let count = regs.get(12);
     refuse_when(has_many(count), Errno::Inval)?;
-    let length = read_room(alloc, memory, regs.get(11), count)?;
+    let length = read_room(memory, regs.get(11), count)?;
     Ok(Call::FdRead {
         fd: low(regs.get(10)),
         length,

@@ -19,15 +19,11 @@ pub const MOST_SENT_DESCRIPTORS: u64 = 16;
 pub const RECEIVE_FLAGS: u32 = 20;
 
 // The room of an iovec array in memory; 0 for an array of over 1024, which isn't read.
-fn read_received_room(
-    alloc: Global,
-    memory: &GuestMemory,
-    given: &RecvIn,
-) -> Result<u64, ArgumentFault>
-    ensures { Reads result (received_room memory.now given.now) }
+fn read_received_room(memory: &GuestMemory, given: &RecvIn) -> Result<u64, Errno>
+    ensures { result ≡ received_room memory.now given.now }
 {
     if given.iovs_count <= MOST_IOVECS {
-        read_room(alloc, memory, given.iovs, given.iovs_count)
+        read_room(memory, given.iovs, given.iovs_count)
     } else {
         Ok(0)
     }
@@ -35,12 +31,12 @@ fn read_received_room(
 
 /// sock_recv: a descriptor, the address of where the message goes, and the address for what was received. FAULT for memory
 /// that can't be read or written; INVAL for over 1024 iovecs, and for a flag but PEEK and WAITALL.
-pub fn sock_recv(alloc: Global, regs: &Regs, memory: &GuestMemory) -> Result<Call, ArgumentFault>
-    ensures { Reads result (sock_recv_of memory.now regs.now) }
+pub fn sock_recv(regs: &Regs, memory: &GuestMemory) -> Result<Call, Errno>
+    ensures { result ≡ sock_recv_of memory.now regs.now }
 {
     let given = read_recv_in(memory, regs.get(11))?;
     check_writable(memory, regs.get(12), 24)?;
-    let length = read_received_room(alloc, memory, &given)?;
+    let length = read_received_room(memory, &given)?;
     check_writable(
         memory,
         given.fds,

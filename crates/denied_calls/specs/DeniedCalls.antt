@@ -4,15 +4,16 @@ use Rattle.std.specs.List.{filter_map}
 use Rattle.abi_types.specs.Numbers.{number_of_call}
 use Rattle.abi_types.specs.declared.call.Call.{Call}
 use Rattle.abi_types.specs.declared.reply.Answer.{Answer}
-use Rattle.abi_types.specs.declared.reply.Answer.TheVariants.{Reply}
+use Rattle.abi_types.specs.declared.reply.Answer.TheVariants as answer
 use Rattle.run_types.specs.declared.history.Act.{Act}
 use Rattle.run_types.specs.declared.history.Act.TheVariants as act
 use Rattle.run_types.specs.declared.history.Entry.{Entry}
 use Rattle.denied_calls.specs.declared.denied_call.DeniedCall.{DeniedCall}
 
--- the call that the answer denies to a process's thread, if it is a denial
+-- the call that the answer denies to a process's thread, if it is a denial; where the thread waits nothing is denied
 abbrev pub denied_by : ℕ → ℕ → Call → Answer → Option DeniedCall
-denied_by pid tid call (Reply reply) = option_map (λ denial. record { pid = pid; tid = tid; number = number_of_call call; denial = denial }) reply.denial
+denied_by pid tid call (answer.Parked writes) = None
+denied_by pid tid call (answer.Reply reply) = option_map (λ denial. record { pid = pid; tid = tid; number = number_of_call call; denial = denial }) reply.denial
 
 -- the call that an act's answer denies
 abbrev pub denied_act : ℕ → ℕ → Act → Option DeniedCall

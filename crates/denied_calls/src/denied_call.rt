@@ -2,7 +2,7 @@
 ghost use Rattle.std.specs.Prelude.{◌≡◌};
 ghost use Rattle.denied_calls.specs.DeniedCalls.{denied_by, denied_entry};
 
-use abi_types::{Answer, Call, CallNumber, Denial, Pid, Tid, Who};
+use abi_types::{Answer, Call, CallNumber, Denial, Pid, Reply, Tid};
 use run_types::{Act, Entry};
 
 /// A denied call: its process and thread, which of the 49 calls it was, or the number that none of them has, and why it was denied.
@@ -15,19 +15,23 @@ pub struct DeniedCall {
 }
 
 impl DeniedCall {
-    /// What is said of a thread's call, if its answer is a denial.
-    pub fn of_call(who: Who, call: &Call, answer: &Answer) -> Option<DeniedCall>
-        ensures { result ≡ denied_by who.pid who.tid call.now answer.now }
+    /// What is said of a thread's call, if its answer is a denial. Where the thread waits nothing is denied.
+    pub fn of_call(pid: Pid, tid: Tid, call: &Call, answer: &Answer) -> Option<DeniedCall>
+        ensures { result ≡ denied_by pid tid call.now answer.now }
     {
-        let Answer::Reply(reply) = answer;
-        match reply.denial {
-            None => None,
-            Some(denial) => Some(DeniedCall {
-                pid: who.pid,
-                tid: who.tid,
+        match answer {
+            Answer::Reply(
+                Reply {
+                    denial: Some(denial),
+                    ..
+                },
+            ) => Some(DeniedCall {
+                pid,
+                tid,
                 number: call.number(),
-                denial,
+                denial: *denial,
             }),
+            _ => None,
         }
     }
 
@@ -35,13 +39,9 @@ impl DeniedCall {
     pub fn of_entry(entry: &Entry) -> Option<DeniedCall>
         ensures { result ≡ denied_entry entry.now }
     {
-        let who = Who {
-            pid: entry.pid,
-            tid: entry.tid,
-        };
         match &entry.act {
             Act::Call { call, answer } | Act::Wake { call, answer, .. } => {
-                DeniedCall::of_call(who, call, answer)
+                DeniedCall::of_call(entry.pid, entry.tid, call, answer)
             }
             Act::Trap(_) | Act::Expire | Act::Idle => None,
         }

@@ -1,11 +1,14 @@
 -- The answer of a run, from the book that was closed.
 use Rattle.std.proofs.Common.{◌≡◌, ◌≢◌, ◌<◌, Bool, List, [], sym, ap, subst, ◌∙◌, arith}
+use Rattle.abi_types.specs.declared.constants.Constants.{Constants}
 use Rattle.run_types.specs.declared.history.Entry.{Entry}
 use Rattle.run_types.specs.declared.launch.Launch.{Launch}
-use Rattle.kernel_model.specs.Ends.{NoneLive}
+use Rattle.kernel_model.specs.Ends.{NoneLive, SomeLive}
 use Rattle.kernel_model.specs.State.{State}
+use Rattle.kernel_model.specs.Wakes.{IsStalled}
+use Rattle.run_model.specs.Ends.{Stalled}
 use Rattle.run_model.specs.World.{World, world}
-use Rattle.run_model.proofs.Histories.{world_none}
+use Rattle.run_model.proofs.Histories.{world_constants, world_none}
 use Rattle.run_model.proofs.Worlds.{first_clock}
 use Rattle.kernel_cell.specs.Cell.{IsBookOf}
 use Rattle.kernel_cell.specs.declared.cell.Book.{Book}
@@ -23,13 +26,37 @@ some_entry launch all book is moved none =
     ∙ first_clock launch in
     omega arith
 
+-- a book's constants and kernel are those of its history's world
+same_world : (launch : Launch) (all : Bool) (book : Book) → IsBookOf launch all book
+    → ◌≡◌ {A = Constants × State} (book.launch.constants, book.kernel) ((world launch book.history).constants, (world launch book.history).state)
+same_world launch all book is =
+    let constants : book.launch.constants ≡ (world launch book.history).constants =
+    ap (λ (l : Launch). l.constants) is.launch_is ∙ sym (world_constants launch book.history) in
+    λ i. (constants i, is.state i)
+
+-- the kernel of a book is stalled where its history is
+stalled_there : (launch : Launch) (all : Bool) (book : Book) → IsBookOf launch all book → IsStalled book.launch.constants book.kernel
+    → Stalled launch book.history
+stalled_there launch all book is stalled = subst (λ (x : Constants × State). IsStalled x.0 x.1) (same_world launch all book is) stalled
+
+stalled_here : (launch : Launch) (all : Bool) (book : Book) → IsBookOf launch all book → Stalled launch book.history
+    → IsStalled book.launch.constants book.kernel
+stalled_here launch all book is stalled = subst (λ (x : Constants × State). IsStalled x.0 x.1) (sym (same_world launch all book is)) stalled
+
 pub driven_is : (launch : Launch) (all : Bool) (book : Book) (answer : Driven) → IsBookOf launch all book → ComesOut book answer → IsDriven launch all answer
 driven_is launch all book (driven.Ended b) is out = (
   subst (IsBookOf launch all) (sym out.0) is,
   subst (λ (x : Book). NoneLive x.kernel) (sym out.0) out.1,
 )
+driven_is launch all book (driven.Stalled b) is out = (
+  subst (IsBookOf launch all) (sym out.0) is,
+  subst (λ (x : Book). Stalled launch x.history) (sym out.0) (stalled_there launch all book is out.1),
+)
 driven_is launch all book (driven.Lacking b) is out = (
   subst (IsBookOf launch all) (sym out.0) is,
-  subst (λ (x : Book). x.history ≢ []) (sym out.0) (some_entry launch all book is out.1),
+  subst (λ (x : Book). x.history ≢ []) (sym out.0) (some_entry launch all book is out.3),
+  subst (λ (x : Book). SomeLive x.kernel) (sym out.0) out.1,
+  subst (λ (x : Book). ¬ Stalled launch x.history) (sym out.0)
+      (λ stalled. out.2 (stalled_here launch all book is stalled)),
 )
 driven_is launch all book driven.NotBegun is out = tt

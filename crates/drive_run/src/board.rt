@@ -2,7 +2,7 @@
 ghost use Rattle.std.specs.Prelude.{◌≡◌};
 
 use abi_types::{Pid, Tid};
-use kernel_cell::Naming;
+use kernel_cell::{Idled, Naming};
 use process_cell::{Did, Process};
 use std::alloc::{AllocError, Global};
 use std::sync::{Arc, Mutex};
@@ -40,8 +40,28 @@ impl<J: Naming> ThreadTicket<J> {
     }
 }
 
-/// The tickets of a run, how many of them workers have, how many workers wait for one, and whether all are to stop because memory
-/// ran out.
+/// What a worker is to do next.
+#[derive(Drop)]
+pub enum Task<J: Naming> {
+    /// Steps of a thread.
+    Run(ThreadTicket<J>),
+    /// To ask the kernel to let time go on, because all threads wait.
+    Idle,
+    /// Nothing more.
+    Leave,
+}
+
+/// What a worker did.
+#[derive(Drop)]
+pub enum Done<J: Naming> {
+    /// Steps of a thread, which came to this.
+    Ran(ThreadTicket<J>, Did),
+    /// It asked the kernel to let time go on, which came to this.
+    Idled(Idled),
+}
+
+/// The tickets of a run, how many workers are at work, how many wait for something to do, and whether all are to stop, because memory
+/// ran out or because nothing can happen any more.
 #[derive(Drop)]
 pub struct Board<J: Naming> {
     queue: Queue<ThreadTicket<J>>,
@@ -68,27 +88,65 @@ impl<J: Naming> Board<J> {
         }
     }
 
-    /// Takes a ticket back from the worker that had it and came to this with it.
-    pub fn take_back(&mut self, ticket: ThreadTicket<J>, did: Did) {
-        self.at_work = self.at_work.saturating_sub(1);
+    // Parks the ticket of a thread that waits in a call. Where memory runs out, all workers are to stop.
+    fn park(&mut self, ticket: ThreadTicket<J>) {
+        if self.queue.park(ticket).is_err() {
+            self.stops = true;
+        }
+    }
+
+    // Takes a ticket back from the worker that had it and came to this with it.
+    fn take_back(&mut self, ticket: ThreadTicket<J>, did: Did) {
         match did {
             Did::Runs => self.put(ticket),
+            Did::Parks | Did::NotReady => self.park(ticket),
             Did::ProcessGone => {}
             Did::NoMemory => self.stops = true,
         }
     }
 
-    /// The ticket that has been ready longest, for a worker. `None` where none is ready, or all are to stop.
-    pub fn hand_out(&mut self) -> Option<ThreadTicket<J>> {
-        if self.stops {
-            return None;
+    // What came of time: where it went on, or some thread is ready, all threads that wait are looked at again.
+    fn take_idled(&mut self, idled: Idled) {
+        match idled {
+            Idled::Jumped | Idled::Busy => self.queue.revive_all(),
+            Idled::Stalled | Idled::NoMemory => self.stops = true,
         }
-        let ticket = self.queue.take()?;
-        self.at_work = self.at_work.saturating_add(1);
-        Some(ticket)
     }
 
-    /// Whether a worker is to wait: no ticket is ready, but some worker has one, which may come back or make others ready.
+    /// Takes what a worker did that was at work.
+    pub fn take_done(&mut self, done: Done<J>) {
+        self.at_work = self.at_work.saturating_sub(1);
+        match done {
+            Done::Ran(ticket, did) => self.take_back(ticket, did),
+            Done::Idled(idled) => self.take_idled(idled),
+        }
+    }
+
+    // What a worker is to do: the ticket that has been ready longest is run; where none is ready, none is at work and some are parked,
+    // time is to go on.
+    fn task(&mut self) -> Task<J> {
+        if let Some(ticket) = self.queue.take() {
+            return Task::Run(ticket);
+        }
+        if self.at_work == 0 && self.queue.parked_count() > 0 {
+            return Task::Idle;
+        }
+        Task::Leave
+    }
+
+    /// What a worker is to do that waits no more. It is at work until it is done with it.
+    pub fn hand_out(&mut self) -> Task<J> {
+        if self.stops {
+            return Task::Leave;
+        }
+        let task = self.task();
+        if !matches!(task, Task::Leave) {
+            self.at_work = self.at_work.saturating_add(1);
+        }
+        task
+    }
+
+    /// Whether a worker is to wait: no ticket is ready, but some worker is at work, by which one may come back or be made ready.
     pub fn waits(&self) -> bool {
         !self.stops && self.at_work > 0 && self.queue.ready_count() == 0
     }

@@ -18,6 +18,8 @@ use std::thread::Threads;
 pub enum Driven {
     /// It ended: no process is live.
     Ended(Book),
+    /// It stalled: all threads wait, and nothing can happen any more.
+    Stalled(Book),
     /// Memory ran out before it ended. The book has what came until then, which is at least one entry.
     Lacking(Book),
     /// Memory ran out before its first entry.
@@ -52,6 +54,8 @@ fn outcome(book: Book) -> Driven
 {
     if !book.kernel.any_live() {
         Driven::Ended(book)
+    } else if book.kernel.stalled(&book.launch.constants) {
+        Driven::Stalled(book)
     } else if book.kernel.moment() > 0 {
         Driven::Lacking(book)
     } else {

@@ -1,5 +1,6 @@
-//! The workers of a run. Each takes a ticket, takes turns of its thread, and gives it back.
-use crate::board::{Board, ThreadTicket};
+//! The workers of a run. Each takes a ticket, takes turns of its thread, and gives it back. Where all threads wait, one worker lets time
+//! go on.
+use crate::board::{Board, Done, Task, ThreadTicket};
 use kernel_cell::{Cell, Naming};
 use process_cell::{Did, Gate, Process};
 use std::alloc::Global;
@@ -18,29 +19,24 @@ struct Workplace<J: Naming> {
 }
 
 impl<J: Naming> Workplace<J> {
-    // The next ticket for a worker, who gives back the one that it had. `None` where there is nothing more to do. Another worker
-    // is woken only where one waits and there is a ticket for it, or nothing more to do.
-    fn next<R: Wait>(
-        &self,
-        rt: &R,
-        had: Option<(ThreadTicket<J>, Did)>,
-    ) -> Option<ThreadTicket<J>> {
+    // The next task for a worker, who says what it did. Another worker is woken only where one waits that need wait no more.
+    fn next<R: Wait>(&self, rt: &R, done: Option<Done<J>>) -> Task<J> {
         let mut board = self.board.lock(rt);
-        if let Some((ticket, did)) = had {
-            board.take_back(ticket, did);
+        if let Some(done) = done {
+            board.take_done(done);
         }
         if board.waits() {
             board.begin_waiting();
             board = self.bell.wait_while(rt, board, |board| board.waits());
             board.end_waiting();
         }
-        let ticket = board.hand_out();
+        let task = board.hand_out();
         let rings = board.rings();
         drop(board);
         if rings {
             self.bell.notify_one();
         }
-        ticket
+        task
     }
 }
 
@@ -72,13 +68,16 @@ fn work<J: Naming, R: Wait, G: Gate>(
     gate: &G,
     worker: u32,
 ) {
-    let mut had = None;
+    let mut done = None;
     for _ in rt.forever() {
-        let Some(ticket) = workplace.next(rt, had) else {
-            return;
+        done = match workplace.next(rt, done) {
+            Task::Run(ticket) => {
+                let did = run_ticket(rt, alloc, cell, &ticket, gate, worker);
+                Some(Done::Ran(ticket, did))
+            }
+            Task::Idle => Some(Done::Idled(cell.idle(rt, alloc))),
+            Task::Leave => return,
         };
-        let did = run_ticket(rt, alloc, cell, &ticket, gate, worker);
-        had = Some((ticket, did));
     }
 }
 

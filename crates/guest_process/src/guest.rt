@@ -2,7 +2,8 @@
 ghost use Rattle.std.specs.Prelude.{◌≡◌, ◌&&◌, ◌<◌, IsFalse, IsSome, IfOk, OnErr};
 ghost use Rattle.std.specs.FinMap as map;
 ghost use Rattle.call_codec.specs.Arguments.{args_of, is_built, is_copied, AsksFor};
-ghost use Rattle.call_codec.specs.Put.{IsRoomFor, MayMapFor, TakesRoom};
+ghost use Rattle.call_codec.specs.Given.{given_of, CanWait};
+ghost use Rattle.call_codec.specs.Put.{HasFewRanges, IsRoomFor, MayMapFor, TakesRoom};
 ghost use Rattle.call_codec.specs.Start.{MayStart, canary};
 ghost use Rattle.guest_memory.specs.Page.{Pages};
 ghost use Rattle.guest_memory.specs.Room.{without_each};
@@ -11,8 +12,8 @@ ghost use Rattle.guest_process.specs.Room.{without_room};
 ghost use Rattle.rv_interp.specs.Cache.{AreTrue};
 ghost use Rattle.run_model.specs.World.{first_guest, registers_of, turned_guest, turn_end, called_guest};
 
-use abi_types::{Answer, Call, Pid, Regs, Tid};
-use call_codec::{args, make_room, may_change_code, put_answer, start_memory};
+use abi_types::{Answer, Call, Pid, Regs, Tid, WakeIn};
+use call_codec::{args, given, make_room, may_change_code, put_answer, put_woken, start_memory};
 use guest_memory::{GuestMemory, Room};
 use maps::NumMap;
 use run_types::Launch;
@@ -137,5 +138,27 @@ impl Guest {
         let may_change = may_change_code(regs, &self.memory, call, answer);
         forget_where(&mut self.code, may_change);
         put_answer(regs, &mut self.memory, room, call, answer);
+    }
+
+    /// What a thread that waits in a call is given where it goes on.
+    pub fn given(&self, tid: Tid, call: &Call) -> WakeIn
+        requires thread { IsSome (map.get self.now.regs tid) }
+        ensures { result ≡ given_of self.now.memory (registers_of self.now tid) call.now }
+    {
+        let regs = self.regs.get(u64::from(tid.0)).unwrap();
+        given(regs, &self.memory, call)
+    }
+
+    /// Gives a thread that waited in a call the answer to it. It takes no memory, and no page changes that can be executed and not
+    /// written, so that each instruction that was decoded stays.
+    #[tactic(auto, using(maps::specs::Maps::number_laws))]
+    pub fn answer_woken(&mut self, tid: Tid, call: &Call, answer: &Answer)
+        requires thread { IsSome (map.get self.old.regs tid) }
+        requires waits { CanWait call.now }
+        requires few { HasFewRanges (registers_of self.old tid) call.now }
+        ensures { self.new ≡ called_guest self.old tid call.now answer.now }
+    {
+        let regs = self.regs.get_mut(u64::from(tid.0));
+        put_woken(regs, &mut self.memory, call, answer);
     }
 }

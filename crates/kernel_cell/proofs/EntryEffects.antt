@@ -1,33 +1,52 @@
--- What an entry leaves that the kernel makes: its world's state is the kernel's, and a call's guest has the answer.
---     call_fits, call_state, call_guest, call_goes      a call
---     end_fits, end_state_is, end_is_dead      an end from outside
+-- What an entry leaves that the kernel makes: its world's state is the kernel's, and a call's or a wake's guest has the answer.
+--     entry_state, entry_fits, entry_dead, entry_guest      an entry of any act
+--     call_leaves, call_answered, call_runs, call_waits      a call
+--     wake_leaves, wake_answered, wake_runs      a wake
+--     end_leaves      an end from outside
 --     recorded_next      what stands behind the lock after an entry
-use Rattle.std.proofs.Common.{◌≡◌, ℕ, Bool, List, [], ◌∷◌, ◌++◌, Some, refl, sym, ap, subst, ◌∙◌}
-use Rattle.std.specs.FinMap.{get}
+use Rattle.std.proofs.Common.{◌≡◌, ℕ, ◌+◌, Bool, true, false, List, [], ◌∷◌, ◌++◌, Option, None, Some, IsSome, refl, sym, ap, subst, ◌∙◌}
+use Rattle.std.specs.Option.{option_map}
+use Rattle.std.specs.Ordering.{nat_cmp}
+use Rattle.std.specs.FinMap.{FinMap, get, insert}
 use Rattle.abi_base.specs.declared.errno.Errno.TheVariants.{Nosys}
 use Rattle.abi_types.specs.declared.reply.Answer.{Answer}
 use Rattle.abi_types.specs.declared.reply.Answer.TheVariants as answer
 use Rattle.abi_types.specs.declared.call.Call.{Call}
 use Rattle.abi_types.specs.declared.constants.Constants.{Constants}
 use Rattle.abi_types.specs.declared.status.Status.TheVariants.{Live}
+use Rattle.abi_types.specs.declared.thread.Thread.{Thread}
+use Rattle.abi_types.specs.declared.thread.Thread.TheVariants.{Runnable, Waits}
+use Rattle.abi_types.specs.declared.wake.WakeIn.{WakeIn}
 use Rattle.abi_types.specs.declared.who.Who.{Who}
+use Rattle.run_types.specs.declared.history.Act.{Act}
 use Rattle.run_types.specs.declared.history.Act.TheVariants as act
 use Rattle.run_types.specs.declared.history.Entry.{Entry}
 use Rattle.run_types.specs.declared.launch.Launch.{Launch}
+use Rattle.kernel_core.specs.Waiting.{caller, kept_call}
+use Rattle.kernel_model.specs.Outcome.{is_parked}
 use Rattle.kernel_model.specs.Reply.{refused}
-use Rattle.kernel_model.specs.State.{State}
+use Rattle.kernel_model.specs.State.{State, thread_of}
 use Rattle.kernel_model.specs.Step.{IsStep, end_state}
+use Rattle.kernel_model.specs.Valid.{IsValid}
+use Rattle.kernel_model.specs.Threads.{IsCallerAfter}
+use Rattle.kernel_model.specs.Waits.{may_wait, waiting, IsParked, MayWait, WaitsIn}
+use Rattle.kernel_model.specs.Wakes.{is_ready, HasThread, IsWake}
+use Rattle.kernel_model.proofs.Steps.{step_moves_only}
+use Rattle.kernel_model.proofs.Tests.{not_true}
+use Rattle.kernel_model.proofs.Threads.{keeps_caller}
+use Rattle.kernel_model.proofs.Waking.{wake_makes_none, wake_moves_only}
 use Rattle.maps.specs.Maps.{get-insert-same}
 use Rattle.call_codec.specs.Arguments.{args_of}
+use Rattle.call_codec.specs.Given.{given_of}
 use Rattle.run_model.specs.Ends.{EndsBy}
-use Rattle.run_model.specs.Legal.{Asks, Fits, IsRunnable}
-use Rattle.run_model.specs.Own.{IsLiveIn}
-use Rattle.run_model.specs.World.{World, Guest, world, apply, acted, turned, or_no_guest, guest_of, registers_of, called_state, called_guest}
-use Rattle.run_model.proofs.Calls.{called_is, runs_on, ended_by}
-use Rattle.run_model.proofs.Ends.{apply_end, asks_runnable, end_is_answered, ends_not_live}
+use Rattle.run_model.specs.Legal.{Asks, FitsAct, Fits, IsRunnable}
+use Rattle.run_model.specs.Own.{is_idle, IsLiveIn}
+use Rattle.run_model.specs.World.{World, Guest, world, apply, acted, made_since, thread_at, turned, turned_guest_by, or_no_guest, guest_of, registers_of, called_state, called_guest, woken_state}
+use Rattle.run_model.proofs.Calls.{called_is, woken_is, runs_on, ended_by}
+use Rattle.run_model.proofs.Ends.{acted_end, end_is_answered, ends_not_live}
 use Rattle.run_model.proofs.Histories.{world_more, world_constants, legal_more, apply_is, guest_turned}
-use Rattle.kernel_cell.specs.Acting.{AsksCall, GoesOn, IsDead, act_of, status_of}
-use Rattle.shared_history.specs.Entries.{entry_of, called}
+use Rattle.kernel_cell.specs.Acting.{AsksCall, AsksWake, GoesOn, IsDead, WaitsOn, act_of, status_of}
+use Rattle.shared_history.specs.Entries.{head_of, entry_of}
 use Rattle.shared_history.specs.Kept.{Takes}
 use Rattle.kernel_cell.specs.Recorded.{IsRecorded}
 use Rattle.shared_history.specs.declared.kept.Kept.{Kept}
@@ -53,77 +72,173 @@ recorded_next launch all log kernel constants kept e after kept' r fits state to
   kept_is = kept_more all log e kept kept' r.kept_is took;
 }
 
+module _ (launch : Launch) (log : List Entry) (p t : ℕ) (turns : List ℕ) (a : Act) (kernel : State) where
+  abbrev w : World
+  w = world launch log
+
+  abbrev e : Entry
+  e = entry_of (head_of kernel.clock p t turns) a
+
+  -- the world after the act
+  abbrev done : World
+  done = acted (turned w p turns) (thread_at w.state p t) a
+
+  module _ (leaves : done.state ≡ kernel) where
+    pub entry_state : (apply w e).state ≡ kernel
+    entry_state = ap (λ (v : World). v.state) (apply_is w e) ∙ leaves
+
+    pub entry_fits : (is_idle a ≡ false → IsLiveIn w p) → FitsAct launch.constants w.state (thread_at w.state p t) (guest_of w p) turns a → Fits w e
+    entry_fits live fits = record {
+      live = live;
+      act = subst (λ (c : Constants). FitsAct c w.state (thread_at w.state p t) (guest_of w p) turns a) (sym (world_constants launch log)) fits;
+      moment = ap (λ (S : State). S.clock) (sym entry_state);
+    }
+
+    -- what holds of the kernel's state holds of the history's
+    pub entry_has : (P : State → Type 0) → P kernel → P (world launch (log ++ e ∷ [])).state
+    entry_has P there = subst P (state_next launch log e kernel entry_state) there
+
+    -- the process has ended, if it isn't live
+    pub entry_dead : ¬ (get kernel.statuses p ≡ Some Live) → IsDead launch (log ++ e ∷ []) p
+    entry_dead dead = entry_has (λ S. ¬ (get S.statuses p ≡ Some Live)) dead
+
+    module _ (call : Call) (answered : Answer) (guest : Guest) (guest_is : guest ≡ turned_guest_by turns (guest_of w p))
+        (set : done.guests ≡ insert (turned w p turns).guests p (called_guest (guest_of (turned w p turns) p) t call answered)) where
+      -- the process's guest has the answer
+      pub entry_guest : guest_of (world launch (log ++ e ∷ [])) p ≡ called_guest guest t call answered
+      entry_guest =
+          ap (λ (v : World). guest_of v p) (world_more launch log e ∙ apply_is w e)
+          ∙ ap (λ (guests : FinMap nat_cmp Guest). or_no_guest (get guests p)) set
+          ∙ ap or_no_guest (get-insert-same (turned w p turns).guests p _)
+          ∙ ap (λ (g : Guest). called_guest g t call answered) (guest_turned w p turns ∙ sym guest_is)
+
+      -- the thread goes on, if it runs and its process is live
+      pub entry_goes : (after : Guest) → after ≡ called_guest guest t call answered → get kernel.statuses p ≡ Some Live → IsRunnable kernel p t
+          → GoesOn launch (log ++ e ∷ []) p t after
+      entry_goes after is live runs = record {
+        live = entry_has (λ S. get S.statuses p ≡ Some Live) live;
+        runnable = entry_has (λ S. IsRunnable S p t) runs;
+        guest_is = is ∙ sym entry_guest;
+      }
+
+      -- it waits, if it does so
+      pub entry_waits : (after : Guest) → after ≡ called_guest guest t call answered → get kernel.statuses p ≡ Some Live → (thread : Thread)
+          → HasThread kernel p t thread → IsParked thread → WaitsOn launch (log ++ e ∷ []) p t after
+      entry_waits after is live thread there waits = record {
+        live = entry_has (λ S. get S.statuses p ≡ Some Live) live;
+        waits = record { thread = thread; there = entry_has (λ S. HasThread S p t thread) there; waits = waits };
+        guest_is = is ∙ sym entry_guest;
+      }
+
 -- ---- a call
 
 -- some answer, by which what is asked whatever the answer is can be read
 some_answer : Answer
 some_answer = answer.Reply (refused Nosys)
 
--- the thread that makes the call is runnable
-pub call_runnable : (w : World) (who : Who) (turns : List ℕ) (guest : Guest) (call : Call) → AsksCall w who turns guest call → IsRunnable w.state who.pid who.tid
-call_runnable w who turns guest call a = asks_runnable w.state who (guest_of w who.pid) turns (act.Call call some_answer) (a.asks some_answer)
+-- a thread that runs makes its call at the moment after the entry's time
+runs_at : (S : State) (p t : ℕ) → IsRunnable S p t → thread_at S p t ≡ caller S p t
+runs_at S p t runs = ap (λ (o : Option Thread). record { pid = p; tid = t; since = made_since (S.clock + 1000) o }) runs
 
--- the call is the one that the guest encodes
-pub call_encoded : (w : World) (who : Who) (turns : List ℕ) (guest : Guest) (call : Call) → AsksCall w who turns guest call
-    → call ≡ args_of guest.memory (registers_of guest who.tid)
-call_encoded w who turns guest call a =
-    subst (λ (g : Guest). call ≡ args_of g.memory (registers_of g who.tid)) (sym a.guest_is) (a.asks some_answer).1
+module _ (w : World) (p t : ℕ) (turns : List ℕ) (guest : Guest) (call : Call) (a : AsksCall w p t turns guest call) where
+  -- the thread that makes the call is runnable
+  pub call_runnable : IsRunnable w.state p t
+  call_runnable = (a.asks some_answer).0.3.0
 
-module _ (launch : Launch) (log : List Entry) (who : Who) (turns : List ℕ) (call : Call) (given : Answer) (guest : Guest) (kernel : State)
-    (a : AsksCall (world launch log) who turns guest call) (step : IsStep launch.constants (world launch log).state who call given kernel) where
-  abbrev w : World
-  w = world launch log
+  -- the call is the one that the guest encodes
+  pub call_encoded : call ≡ args_of guest.memory (registers_of guest t)
+  call_encoded = subst (λ (g : Guest). call ≡ args_of g.memory (registers_of g t)) (sym a.guest_is) (a.asks some_answer).1
 
-  abbrev e : Entry
-  e = called kernel.clock who turns call given
+caller_waits : (waits : Thread) (given : Answer) (before after : Option Thread) → is_parked given ≡ true → IsCallerAfter waits given before after
+    → before ≡ Some Runnable → after ≡ Some waits
+caller_waits waits (answer.Parked writes) before after parks is runs = is ∙ ap (option_map (λ (thread : Thread). waits)) runs
+caller_waits waits (answer.Reply reply) before after parks is runs = absurd (not_true parks)
+
+module _ (launch : Launch) (log : List Entry) (p t : ℕ) (turns : List ℕ) (call : Call) (given : Answer) (guest : Guest) (kernel : State)
+    (a : AsksCall (world launch log) p t turns guest call)
+    (step : IsStep launch.constants (world launch log).state (caller (world launch log).state p t) call given kernel) where
+  abbrev before : World
+  before = world launch log
+
+  abbrev who : Who
+  who = thread_at before.state p t
+
+  call_step : IsStep launch.constants before.state who call given kernel
+  call_step =
+      subst (λ (x : Who). IsStep launch.constants before.state x call given kernel) (sym (runs_at before.state p t (call_runnable before p t turns guest call a)))
+      step
 
   -- the state that the answer says is the kernel's
-  answered : kernel ≡ called_state launch.constants w.state who call given
-  answered =
-      subst (λ (x : Call). IsStep launch.constants w.state who x given kernel → kernel ≡ called_state launch.constants w.state who x given)
-      (sym (call_encoded w who turns guest call a))
-      (called_is guest.memory (registers_of guest who.tid) launch.constants w.state who given kernel) step
+  call_is : kernel ≡ called_state launch.constants before.state who call given
+  call_is =
+      subst (λ (x : Call). IsStep launch.constants before.state who x given kernel → kernel ≡ called_state launch.constants before.state who x given)
+      (sym (call_encoded before p t turns guest call a))
+      (called_is guest.memory (registers_of guest t) launch.constants before.state who given kernel) call_step
 
-  applied : apply w e ≡ acted (turned w who.pid turns) who (act.Call call given)
-  applied = apply_is w e
+  pub call_leaves : (acted (turned before p turns) who (act.Call call given)).state ≡ kernel
+  call_leaves = ap (λ (c : Constants). called_state c before.state who call given) (world_constants launch log) ∙ sym call_is
 
-  pub call_state : (apply w e).state ≡ kernel
-  call_state =
-      ap (λ (v : World). v.state) applied
-      ∙ ap (λ (c : Constants). called_state c w.state who call given) (world_constants launch log)
-      ∙ sym answered
+  pub call_answered : FitsAct launch.constants before.state who (guest_of before p) turns (act.Call call given)
+  call_answered = (a.asks given, subst (IsStep launch.constants before.state who call given) call_is call_step)
 
-  pub call_fits : IsLiveIn w who.pid → Fits w e
-  call_fits live = record {
-    live = λ _. live;
-    act = (
-      a.asks given,
-      subst (λ (c : Constants). IsStep c w.state who call given (called_state c w.state who call given)) (sym (world_constants launch log))
-          (subst (IsStep launch.constants w.state who call given) answered step),
-    );
-    moment = ap (λ (S : State). S.clock) (sym call_state);
-  }
+  -- after a reply the thread runs on, if its process is live
+  pub call_runs : is_parked given ≡ false → get kernel.statuses p ≡ Some Live → IsRunnable kernel p t
+  call_runs replies live = runs_on launch.constants before.state who call given kernel t call_step replies live (call_runnable before p t turns guest call a)
 
-  -- the process's guest has the answer
-  pub call_guest : guest_of (world launch (log ++ e ∷ [])) who.pid ≡ called_guest guest who.tid call given
-  call_guest =
-      ap (λ (v : World). guest_of v who.pid) (world_more launch log e ∙ applied)
-      ∙ ap or_no_guest (get-insert-same (turned w who.pid turns).guests who.pid _)
-      ∙ ap (λ (g : Guest). called_guest g who.tid call given) (guest_turned w who.pid turns ∙ sym a.guest_is)
+  -- where it is to wait, it does so
+  pub call_waits : is_parked given ≡ true → get kernel.statuses p ≡ Some Live → (thread : Thread) × HasThread kernel p t thread × IsParked thread
+  call_waits parks live = (
+    waiting launch.constants call who.since,
+    caller_waits (waiting launch.constants call who.since) given (thread_of before.state p t) (thread_of kernel p t) parks
+        (((step_moves_only launch.constants before.state who call given kernel call_step).threads live).caller
+        (keeps_caller launch.constants before.state who call given kernel call_step))
+        (call_runnable before p t turns guest call a),
+    tt,
+  )
 
-  -- the thread goes on, if its process is live
-  pub call_goes : (after : Guest) → after ≡ called_guest guest who.tid call given → get kernel.statuses who.pid ≡ Some Live
-      → GoesOn launch (log ++ e ∷ []) who after
-  call_goes after is live = record {
-    live = subst (λ (S : State). get S.statuses who.pid ≡ Some Live) (state_next launch log e kernel call_state) live;
-    runnable = subst (λ (S : State). IsRunnable S who.pid who.tid) (state_next launch log e kernel call_state)
-        (runs_on launch.constants w.state who call given kernel who.tid step live (call_runnable w who turns guest call a));
-    guest_is = is ∙ sym call_guest;
-  }
+-- ---- a wake
 
-  -- the process has ended, if it isn't live
-  pub call_is_dead : ¬ (get kernel.statuses who.pid ≡ Some Live) → IsDead launch (log ++ e ∷ []) who.pid
-  call_is_dead dead = λ live. dead (subst (λ (S : State). get S.statuses who.pid ≡ Some Live) (sym (state_next launch log e kernel call_state)) live)
+-- a thread whose call is kept waits in it
+pub kept_waits : (S : State) (p t : ℕ) (call : Call) (o : Option Thread) → thread_of S p t ≡ o → Some call ≡ kept_call o → WaitsIn S (thread_at S p t) call
+kept_waits S p t call None is kept = absurd (cc)
+kept_waits S p t call (Some Runnable) is kept = absurd (cc)
+kept_waits S p t call (Some (Waits other since until)) is kept =
+    let same : other ≡ call = cc in
+    (until, is ∙ (λ i. Some (Waits (same i) (sym (ap (made_since (S.clock + 1000)) is) i) until)))
+
+-- a valid state's thread waits only in a call in which it may
+pub waits_may : (S : State) (one : Who) (call : Call) → IsValid S → WaitsIn S one call → may_wait call ≡ true
+waits_may S one call valid waits = subst MayWait waits.1 (valid.nearly.waits one.pid one.tid)
+
+module _ (launch : Launch) (log : List Entry) (p t : ℕ) (turns : List ℕ) (call : Call) (given : WakeIn) (answered : Answer) (guest : Guest) (kernel : State)
+    (a : AsksWake (world launch log) p t turns guest) (valid : IsValid (world launch log).state)
+    (waits : WaitsIn (world launch log).state (thread_at (world launch log).state p t) call)
+    (given_is : given ≡ given_of guest.memory (registers_of guest t) call)
+    (ready : is_ready launch.constants (world launch log).state p t ≡ true)
+    (woken : IsWake launch.constants (world launch log).state (thread_at (world launch log).state p t) call given answered kernel) where
+  abbrev start : World
+  start = world launch log
+
+  abbrev sleeper : Who
+  sleeper = thread_at start.state p t
+
+  wake_is : kernel ≡ woken_state launch.constants start.state sleeper call given answered
+  wake_is = woken_is launch.constants start.state sleeper call given answered kernel (waits_may start.state sleeper call valid waits) woken
+
+  pub wake_leaves : (acted (turned start p turns) sleeper (act.Wake call given answered)).state ≡ kernel
+  wake_leaves = ap (λ (c : Constants). woken_state c start.state sleeper call given answered) (world_constants launch log) ∙ sym wake_is
+
+  pub wake_answered : FitsAct launch.constants start.state sleeper (guest_of start p) turns (act.Wake call given answered)
+  wake_answered = (
+    (a.whole, waits, subst (λ (g : Guest). given ≡ given_of g.memory (registers_of g t) call) a.guest_is given_is),
+    (ready, subst (IsWake launch.constants start.state sleeper call given answered) wake_is woken),
+  )
+
+  -- the thread runs then, if its process is live
+  pub wake_runs : get kernel.statuses p ≡ Some Live → IsRunnable kernel p t
+  wake_runs live =
+      (wake_moves_only launch.constants start.state sleeper call given answered kernel woken).runs live (subst IsSome (sym waits.1) refl)
+      (wake_makes_none launch.constants start.state sleeper call given answered kernel woken).0
 
 -- ---- an end from outside
 
@@ -131,23 +246,19 @@ ended_so : (how : EndBy) → EndsBy (act_of how) (status_of how)
 ended_so (end_by.Trap signal) = refl
 ended_so end_by.Expire = refl
 
-module _ (launch : Launch) (log : List Entry) (who : Who) (turns : List ℕ) (how : EndBy) (kernel : State)
-    (ended : kernel ≡ end_state (world launch log).state who.pid (status_of how)) where
-  abbrev ending : Entry
-  ending = entry_of kernel.clock who turns (act_of how)
+module _ (launch : Launch) (log : List Entry) (p t : ℕ) (turns : List ℕ) (how : EndBy) (kernel : State)
+    (ended : kernel ≡ end_state (world launch log).state p (status_of how)) where
+  abbrev last : World
+  last = world launch log
 
-  pub end_state_is : (apply (world launch log) ending).state ≡ kernel
-  end_state_is = ap (λ (v : World). v.state) (apply_end (world launch log) ending (status_of how) (ended_so how)) ∙ sym ended
+  pub end_leaves : (acted (turned last p turns) (thread_at last.state p t) (act_of how)).state ≡ kernel
+  end_leaves = ap (λ (v : World). v.state) (acted_end (turned last p turns) (thread_at last.state p t) (act_of how) (status_of how) (ended_so how)) ∙ sym ended
 
-  pub end_fits : IsLiveIn (world launch log) who.pid
-      → Asks (world launch log).state who (guest_of (world launch log) who.pid) turns (act_of how) → Fits (world launch log) ending
-  end_fits live asks = record {
-    live = λ _. live;
-    act = (asks, end_is_answered (world launch log).constants (world launch log).state who (act_of how) (status_of how) (ended_so how));
-    moment = ap (λ (S : State). S.clock) (sym end_state_is);
-  }
+  pub end_answered : Asks last.state (thread_at last.state p t) (guest_of last p) turns (act_of how)
+      → FitsAct launch.constants last.state (thread_at last.state p t) (guest_of last p) turns (act_of how)
+  end_answered asks = (asks, end_is_answered launch.constants last.state (thread_at last.state p t) (act_of how) (status_of how) (ended_so how))
 
-  pub end_is_dead : IsDead launch (log ++ ending ∷ []) who.pid
-  end_is_dead live =
-      ended_by (world launch log).state who.pid (status_of how) (ends_not_live (act_of how) (status_of how) (ended_so how))
-      (subst (λ (S : State). get S.statuses who.pid ≡ Some Live) (sym (state_next launch log ending kernel end_state_is) ∙ ended) live)
+  pub end_dead : ¬ (get kernel.statuses p ≡ Some Live)
+  end_dead live =
+      ended_by last.state p (status_of how) (ends_not_live (act_of how) (status_of how) (ended_so how))
+      (subst (λ (S : State). get S.statuses p ≡ Some Live) ended live)

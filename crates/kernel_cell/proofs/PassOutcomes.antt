@@ -1,24 +1,24 @@
 -- What a pass tells after a call on the locked kernel.
---     made_since, asks_since, asks_call_since      what was so when the pass was last here is so still
---     acted_tells, stopped_tells      what the call did to the history is what the pass tells
-use Rattle.std.proofs.Common.{◌≡◌, ℕ, Bool, true, false, not, ◌&&◌, List, [], ◌∷◌, ◌++◌, Contains, Some, IsTrue, ◌↔◌, refl, sym, ap, subst, ◌∙◌, eqb, eq-eqb}
+--     made_since, asks_since, asks_call_since, asks_wake_since      what was so when the pass was last here is so still
+--     acted_tells, woken_tells, stopped_tells      what the call did to the history is what the pass tells
+use Rattle.std.proofs.Common.{◌≡◌, ℕ, ◌+◌, Bool, true, false, not, ◌&&◌, List, [], ◌∷◌, ◌++◌, Contains, Some, IsTrue, ◌↔◌, refl, sym, ap, subst, ◌∙◌, eqb, eq-eqb}
 use Rattle.std.specs.FinMap.{get}
 use Rattle.abi_types.specs.declared.status.Status.TheVariants.{Live}
 use Rattle.abi_types.specs.declared.call.Call.{Call}
-use Rattle.abi_types.specs.declared.who.Who.{Who}
+use Rattle.abi_types.specs.declared.thread.Thread.TheVariants.{Waits}
 use Rattle.run_types.specs.declared.history.Act.{Act}
 use Rattle.run_types.specs.declared.history.Act.TheVariants as act
 use Rattle.run_types.specs.declared.history.Entry.{Entry}
 use Rattle.run_types.specs.declared.launch.Launch.{Launch}
-use Rattle.kernel_model.specs.State.{State}
-use Rattle.run_model.specs.Legal.{Asks, Fits, Legal}
-use Rattle.run_model.specs.Own.{is_idle, is_own, own, Made, IsLiveIn, Same}
-use Rattle.run_model.specs.World.{Guest, world, guest_of, turned_guest_by}
+use Rattle.kernel_model.specs.State.{State, thread_in}
+use Rattle.run_model.specs.Legal.{AreWhole, Asks, Legal}
+use Rattle.run_model.specs.Own.{is_idle, own, Made, IsLiveIn, Same}
+use Rattle.run_model.specs.World.{Guest, made_since as since_made, thread_at, world, guest_of, turned_guest_by}
 use Rattle.run_model.proofs.Histories.{legal_more}
-use Rattle.run_model.proofs.Asks.{asks_stay}
+use Rattle.run_model.proofs.Asks.{asks_stay, whole_there}
 use Rattle.run_model.proofs.Own.{made_later, same_threads, left_alone}
-use Rattle.kernel_cell.specs.Acting.{AsksCall, Added, AddedCall, AddedEnd, Looked, AppendsCall, AppendsEnd, IsActed, IsActedOn, IsStopped, IsStoppedOn, act_of, thread_of_pass}
-use Rattle.shared_history.specs.Entries.{entry_of}
+use Rattle.kernel_cell.specs.Acting.{AsksCall, AsksEnd, AsksFor, AsksWake, Added, AddedCall, AddedEnd, AddedWake, Looked, Appends, AppendsCall, AppendsEnd, AppendsWake, IsActed, IsActedOn, IsNotReady, IsStopped, IsStoppedOn, IsWoken, IsWokenOn, act_of}
+use Rattle.shared_history.specs.Entries.{head_of, entry_of}
 use Rattle.shared_history.specs.Passes.{Passing, IsSeen, Later}
 use Rattle.shared_history.specs.Rule.{tail_of}
 use Rattle.kernel_cell.specs.declared.results.Acted.{Acted}
@@ -27,6 +27,8 @@ use Rattle.kernel_cell.specs.declared.results.EndBy.{EndBy}
 use Rattle.kernel_cell.specs.declared.results.EndBy.TheVariants as end_by
 use Rattle.kernel_cell.specs.declared.results.Stopped.{Stopped}
 use Rattle.kernel_cell.specs.declared.results.Stopped.TheVariants as stopped
+use Rattle.kernel_cell.specs.declared.results.Woken.{Woken}
+use Rattle.kernel_cell.specs.declared.results.Woken.TheVariants as woken
 use Rattle.shared_history.proofs.Histories.{own_more}
 use Rattle.shared_history.proofs.Owners.{contains_none}
 
@@ -47,23 +49,48 @@ module _ (launch : Launch) (p : ℕ) (seen log : List Entry) (legal : Legal laun
 pub seen_since : (launch : Launch) (p : ℕ) (seen log : List Entry) → Legal launch log → IsSeen launch p seen → Later p seen log → IsSeen launch p log
 seen_since launch p seen log legal was later = record { legal = legal; made = made_since launch p seen log legal later was.made }
 
--- what a thread of it asks for it asks for still
-pub asks_since : (launch : Launch) (who : Who) (seen log : List Entry) (turns : List ℕ) (a : Act) → Legal launch log → Later who.pid seen log
-    → Made (world launch seen) who.pid → Asks (world launch seen).state who (guest_of (world launch seen) who.pid) turns a
-    → IsLiveIn (world launch log) who.pid → Asks (world launch log).state who (guest_of (world launch log) who.pid) turns a
-asks_since launch who seen log turns a legal later made asks live =
-    let same = same_since launch who.pid seen log legal later made live in
-    asks_stay (world launch seen) (world launch log) who turns a same.guest
-    (same_threads (world launch log) (world launch seen) who.pid same) asks
+-- the moment since which a thread does an act matters where it waits, and there the call that it waits in says it
+asks_at : (S T : State) (p t : ℕ) (guest : Guest) (turns : List ℕ) (a : Act) → Asks T (thread_at S p t) guest turns a → Asks T (thread_at T p t) guest turns a
+asks_at S T p t guest turns (act.Call call given) asks = asks
+asks_at S T p t guest turns (act.Wake call given answered) asks = (
+  asks.0,
+  (asks.1.0, asks.1.1 ∙ ap (λ (x : ℕ). Some (Waits call x asks.1.0)) (sym (ap (since_made (T.clock + 1000)) asks.1.1))),
+  asks.2,
+)
+asks_at S T p t guest turns (act.Trap signal) asks = asks
+asks_at S T p t guest turns act.Expire asks = asks
+asks_at S T p t guest turns act.Idle asks = asks
 
-pub asks_call_since : (launch : Launch) (who : Who) (seen log : List Entry) (turns : List ℕ) (guest : Guest) (call : Call) → Legal launch log
-    → Later who.pid seen log → Made (world launch seen) who.pid → AsksCall (world launch seen) who turns guest call → IsLiveIn (world launch log) who.pid
-    → AsksCall (world launch log) who turns guest call
-asks_call_since launch who seen log turns guest call legal later made a live = record {
-  guest_is = a.guest_is ∙ ap (turned_guest_by turns) (sym (same_since launch who.pid seen log legal later made live).guest);
+-- what a thread of it asks for it asks for still
+pub asks_since : (launch : Launch) (p t : ℕ) (seen log : List Entry) (turns : List ℕ) (a : Act) → Legal launch log → Later p seen log
+    → Made (world launch seen) p → AsksFor (world launch seen) p t turns a → IsLiveIn (world launch log) p → AsksFor (world launch log) p t turns a
+asks_since launch p t seen log turns a legal later made asks live =
+    let same = same_since launch p seen log legal later made live in
+    let threads = same_threads (world launch log) (world launch seen) p same in
+    asks_at (world launch seen).state (world launch log).state p t (guest_of (world launch log) p) turns a
+    (asks_stay (world launch seen) (world launch log) (thread_at (world launch seen).state p t) turns a same.guest threads asks)
+
+pub asks_call_since : (launch : Launch) (p t : ℕ) (seen log : List Entry) (turns : List ℕ) (guest : Guest) (call : Call) → Legal launch log
+    → Later p seen log → Made (world launch seen) p → AsksCall (world launch seen) p t turns guest call → IsLiveIn (world launch log) p
+    → AsksCall (world launch log) p t turns guest call
+asks_call_since launch p t seen log turns guest call legal later made a live = record {
+  guest_is = a.guest_is ∙ ap (turned_guest_by turns) (sym (same_since launch p seen log legal later made live).guest);
   registers = a.registers;
-  asks = λ given. asks_since launch who seen log turns (act.Call call given) legal later made (a.asks given) live;
+  asks = λ given. asks_since launch p t seen log turns (act.Call call given) legal later made (a.asks given) live;
 }
+
+pub asks_wake_since : (launch : Launch) (p t : ℕ) (seen log : List Entry) (turns : List ℕ) (guest : Guest) → Legal launch log → Later p seen log
+    → Made (world launch seen) p → AsksWake (world launch seen) p t turns guest → IsLiveIn (world launch log) p → AsksWake (world launch log) p t turns guest
+asks_wake_since launch p t seen log turns guest legal later made a live =
+    let same = same_since launch p seen log legal later made live in
+    let threads = same_threads (world launch log) (world launch seen) p same in
+    record {
+      guest_is = a.guest_is ∙ ap (turned_guest_by turns) (sym same.guest);
+      registers = a.registers;
+      whole = subst (λ (g : Guest). AreWhole (world launch log).state p g turns) (sym same.guest)
+          (whole_there (world launch seen).state (world launch log).state p threads (guest_of (world launch seen) p) turns a.whole);
+      waits = record { thread = a.waits.thread; there = ap (λ o. thread_in o t) threads ∙ a.waits.there; waits = a.waits.waits };
+    }
 
 -- ---- the processes that the keeper holds
 
@@ -76,8 +103,8 @@ none_behind held p one there = contains_none p (subst (λ ps. Contains (tail_of 
 -- ---- what a pass tells
 
 -- an entry of the thread, which is no idle jump, is its process's own
-own_act : (moment : ℕ) (who : Who) (turns : List ℕ) (a : Act) → is_idle a ≡ false → is_own who.pid (entry_of moment who turns a) ≡ true
-own_act moment who turns a busy = ap (λ b. not b && eqb who.pid who.pid) busy ∙ eq-eqb who.pid who.pid refl
+own_act : (p : ℕ) (a : Act) → is_idle a ≡ false → (not (is_idle a) && eqb p p) ≡ true
+own_act p a busy = ap (λ b. not b && eqb p p) busy ∙ eq-eqb p p refl
 
 end_is_busy : (how : EndBy) → is_idle (act_of how) ≡ false
 end_is_busy (end_by.Trap signal) = refl
@@ -97,54 +124,81 @@ module _ (launch : Launch) (v : Passing) (t : ℕ) (turns : List ℕ) (log : Lis
   }
 
   -- it has seen the entry that was added
-  added : (moment : ℕ) (a : Act) (after : List Entry) → is_idle a ≡ false → Fits (world launch log) (entry_of moment (thread_of_pass v t) turns a)
-      → after ≡ log ++ entry_of moment (thread_of_pass v t) turns a ∷ [] → Added launch v (entry_of moment (thread_of_pass v t) turns a) (now after)
-  added moment a after busy fits last =
-      let e = entry_of moment (thread_of_pass v t) turns a in
-      let more = legal_more launch log e legal fits in
+  added : (moment : ℕ) (a : Act) (after : List Entry) → is_idle a ≡ false → Appends launch log (entry_of (head_of moment v.pid t turns) a) after
+      → Added launch v (entry_of (head_of moment v.pid t turns) a) (now after)
+  added moment a after busy came =
+      let e = entry_of (head_of moment v.pid t turns) a in
+      let last = came.last in
+      let more = legal_more launch log e legal came.fits in
       record {
         pid = refl;
         seen = subst (IsSeen launch v.pid) (sym last) (record {
           legal = more;
           made = made_later launch log (e ∷ []) v.pid more (made_since launch v.pid v.seen log legal later seen.made);
         });
-        same_own = ap (own v.pid) last ∙ own_more v.pid log e (own_act moment (thread_of_pass v t) turns a busy)
+        same_own = ap (own v.pid) last ∙ own_more v.pid log e (own_act v.pid a busy)
             ∙ ap (λ (mine : List Entry). mine ++ e ∷ []) (sym later.same);
         before = log;
         later = later;
         last = last;
       }
 
-  added_call : (call : Call) (after : List Entry) → AppendsCall launch log (thread_of_pass v t) turns call after → AddedCall launch v t turns call (now after)
-  added_call call after c = record {
+  added_call : (call : Call) (after : List Entry) → AppendsCall launch log v.pid t turns call after → AddedCall launch v t turns call (now after)
+  added_call call after c = record { moment = c.moment; given = c.given; added = added c.moment (act.Call call c.given) after refl c.came }
+
+  added_wake : (after : List Entry) → AppendsWake launch log v.pid t turns after → AddedWake launch v t turns (now after)
+  added_wake after c = record {
     moment = c.moment;
+    call = c.call;
     given = c.given;
-    added = added c.moment (act.Call call c.given) after refl c.fits c.last;
+    answered = c.answered;
+    added = added c.moment (act.Wake c.call c.given c.answered) after refl c.came;
   }
 
-  added_end : (how : EndBy) (after : List Entry) → AppendsEnd launch log (thread_of_pass v t) turns how after → AddedEnd launch v t turns how (now after)
-  added_end how after c = record { moment = c.moment; added = added c.moment (act_of how) after (end_is_busy how) c.fits c.last }
+  added_end : (how : EndBy) (after : List Entry) → AppendsEnd launch log v.pid t turns how after → AddedEnd launch v t turns how (now after)
+  added_end how after c = record { moment = c.moment; added = added c.moment (act_of how) after (end_is_busy how) c.came }
 
-  pub acted_tells : (call : Call) (guest : Guest) (after : List Entry) (result : Acted)
-      → IsActedOn launch log (thread_of_pass v t) turns call guest after result → IsActed launch v t turns call guest (now after) result
+  -- what holds of the history as it was holds of the one that is the same
+  still : (after : List Entry) (P : List Entry → Type 0) → after ≡ log → P log → P after
+  still after P same here = subst P (sym same) here
+
+  pub acted_tells : (call : Call) (guest : Guest) (after : List Entry) (result : Acted) → IsActedOn launch log v.pid t turns call guest after result
+      → IsActed launch v t turns call guest (now after) result
   acted_tells call guest after acted.Runs on = (added_call call after on.0, on.1)
+  acted_tells call guest after acted.Parks on = (added_call call after on.0, on.1)
   acted_tells call guest after acted.Ends on = (added_call call after on.0, on.1)
-  acted_tells call guest after acted.Gone on = (looked after on.0, subst (λ (h : List Entry). ¬ IsLiveIn (world launch h) v.pid) (sym on.0) on.1)
-  acted_tells call guest after acted.NoMemory on = (looked after on.0, subst (λ (h : List Entry). IsLiveIn (world launch h) v.pid) (sym on.0) on.1)
+  acted_tells call guest after acted.Gone on = (looked after on.0, still after (λ h. ¬ IsLiveIn (world launch h) v.pid) on.0 on.1)
+  acted_tells call guest after acted.NoMemory on = (looked after on.0, still after (λ h. IsLiveIn (world launch h) v.pid) on.0 on.1)
 
-  pub stopped_tells : (how : EndBy) (after : List Entry) (result : Stopped) → IsStoppedOn launch log (thread_of_pass v t) turns how after result
+  pub woken_tells : (guest : Guest) (after : List Entry) (result : Woken) → IsWokenOn launch log v.pid t turns guest after result
+      → IsWoken launch v t turns guest (now after) result
+  woken_tells guest after woken.Runs on = (added_wake after on.0, on.1)
+  woken_tells guest after woken.Ends on = (added_wake after on.0, on.1)
+  woken_tells guest after woken.NotReady on = (looked after on.0, still after (λ h. IsNotReady launch h v.pid t) on.0 on.1)
+  woken_tells guest after woken.Gone on = (looked after on.0, still after (λ h. ¬ IsLiveIn (world launch h) v.pid) on.0 on.1)
+  woken_tells guest after woken.NoMemory on = (looked after on.0, still after (λ h. IsLiveIn (world launch h) v.pid) on.0 on.1)
+
+  pub stopped_tells : (how : EndBy) (after : List Entry) (result : Stopped) → IsStoppedOn launch log v.pid t turns how after result
       → IsStopped launch v t turns how (now after) result
   stopped_tells how after stopped.Done on = (added_end how after on.0, on.1)
-  stopped_tells how after stopped.Gone on = (looked after on.0, subst (λ (h : List Entry). ¬ IsLiveIn (world launch h) v.pid) (sym on.0) on.1)
-  stopped_tells how after stopped.NoMemory on = (looked after on.0, subst (λ (h : List Entry). IsLiveIn (world launch h) v.pid) (sym on.0) on.1)
+  stopped_tells how after stopped.Gone on = (looked after on.0, still after (λ h. ¬ IsLiveIn (world launch h) v.pid) on.0 on.1)
+  stopped_tells how after stopped.NoMemory on = (looked after on.0, still after (λ h. IsLiveIn (world launch h) v.pid) on.0 on.1)
 
   -- in either case the process was made and the history is legal
   pub acted_seen : (call : Call) (guest : Guest) (after : List Entry) (result : Acted)
       → IsActed launch v t turns call guest (now after) result → IsSeen launch v.pid after
   acted_seen call guest after acted.Runs tells = tells.0.added.seen
+  acted_seen call guest after acted.Parks tells = tells.0.added.seen
   acted_seen call guest after acted.Ends tells = tells.0.added.seen
   acted_seen call guest after acted.Gone tells = tells.0.seen
   acted_seen call guest after acted.NoMemory tells = tells.0.seen
+
+  pub woken_seen : (guest : Guest) (after : List Entry) (result : Woken) → IsWoken launch v t turns guest (now after) result → IsSeen launch v.pid after
+  woken_seen guest after woken.Runs tells = tells.0.added.seen
+  woken_seen guest after woken.Ends tells = tells.0.added.seen
+  woken_seen guest after woken.NotReady tells = tells.0.seen
+  woken_seen guest after woken.Gone tells = tells.0.seen
+  woken_seen guest after woken.NoMemory tells = tells.0.seen
 
   pub stopped_seen : (how : EndBy) (after : List Entry) (result : Stopped) → IsStopped launch v t turns how (now after) result → IsSeen launch v.pid after
   stopped_seen how after stopped.Done tells = tells.0.added.seen
@@ -159,31 +213,34 @@ later_of v p seen log is later = subst (λ (u : Passing). Later u.pid u.seen log
 
 module _ (launch : Launch) (p t : ℕ) (seen : List Entry) (turns : List ℕ) (log current : List Entry) (same : current ≡ log) (was : IsSeen launch p seen)
     (legal : Legal launch log) (later : Later p seen log) where
-  abbrev who : Who
-  who = record { pid = p; tid = t }
-
   abbrev passing : List Entry → Passing
   passing h = record { pid = p; seen = h }
 
   -- what the thread asked for where its pass was last here, it asks for here
-  pub asks_call_now : (v : Passing) (guest : Guest) (call : Call) → passing seen ≡ v → AsksCall (world launch v.seen) (thread_of_pass v t) turns guest call
-      → IsLiveIn (world launch current) p → AsksCall (world launch current) who turns guest call
+  now_here : (P : Passing → List Entry → Type 0) (v : Passing) → passing seen ≡ v → (P (passing seen) seen → IsLiveIn (world launch log) p → P (passing seen) log)
+      → P v v.seen → IsLiveIn (world launch current) p → P (passing seen) current
+  now_here P v is since asks =
+      subst (λ (h : List Entry). IsLiveIn (world launch h) p → P (passing seen) h) (sym same) (since (subst (λ (u : Passing). P u u.seen) (sym is) asks))
+
+  pub asks_call_now : (v : Passing) (guest : Guest) (call : Call) → passing seen ≡ v → AsksCall (world launch v.seen) v.pid t turns guest call
+      → IsLiveIn (world launch current) p → AsksCall (world launch current) p t turns guest call
   asks_call_now v guest call is asks =
-      subst (λ (h : List Entry). IsLiveIn (world launch h) p → AsksCall (world launch h) who turns guest call) (sym same)
-      (asks_call_since launch who seen log turns guest call legal later was.made
-      (subst (λ (u : Passing). AsksCall (world launch u.seen) (thread_of_pass u t) turns guest call) (sym is) asks))
+      now_here (λ u h. AsksCall (world launch h) u.pid t turns guest call) v is
+      (asks_call_since launch p t seen log turns guest call legal later was.made) asks
 
-  pub asks_end_now : (v : Passing) (how : EndBy) → passing seen ≡ v
-      → Asks (world launch v.seen).state (thread_of_pass v t) (guest_of (world launch v.seen) v.pid) turns (act_of how)
-      → IsLiveIn (world launch current) p → Asks (world launch current).state who (guest_of (world launch current) p) turns (act_of how)
+  pub asks_wake_now : (v : Passing) (guest : Guest) → passing seen ≡ v → AsksWake (world launch v.seen) v.pid t turns guest
+      → IsLiveIn (world launch current) p → AsksWake (world launch current) p t turns guest
+  asks_wake_now v guest is asks =
+      now_here (λ u h. AsksWake (world launch h) u.pid t turns guest) v is (asks_wake_since launch p t seen log turns guest legal later was.made) asks
+
+  pub asks_end_now : (v : Passing) (how : EndBy) → passing seen ≡ v → AsksEnd (world launch v.seen) v.pid t turns how
+      → IsLiveIn (world launch current) p → AsksEnd (world launch current) p t turns how
   asks_end_now v how is asks =
-      subst (λ (h : List Entry). IsLiveIn (world launch h) p → Asks (world launch h).state who (guest_of (world launch h) p) turns (act_of how)) (sym same)
-      (asks_since launch who seen log turns (act_of how) legal later was.made
-      (subst (λ (u : Passing). Asks (world launch u.seen).state (thread_of_pass u t) (guest_of (world launch u.seen) u.pid) turns (act_of how)) (sym is) asks))
+      now_here (λ u h. AsksEnd (world launch h) u.pid t turns how) v is (asks_since launch p t seen log turns (act_of how) legal later was.made) asks
 
-  module _ (call : Call) (guest : Guest) (after : List Entry) (result : Acted) (on : IsActedOn launch current who turns call guest after result) where
-    on_log : IsActedOn launch log who turns call guest after result
-    on_log = subst (λ (h : List Entry). IsActedOn launch h who turns call guest after result) same on
+  module _ (call : Call) (guest : Guest) (after : List Entry) (result : Acted) (on : IsActedOn launch current p t turns call guest after result) where
+    on_log : IsActedOn launch log p t turns call guest after result
+    on_log = subst (λ (h : List Entry). IsActedOn launch h p t turns call guest after result) same on
 
     told : IsActed launch (passing seen) t turns call guest (passing after) result
     told = acted_tells launch (passing seen) t turns log was legal later call guest after result on_log
@@ -195,9 +252,23 @@ module _ (launch : Launch) (p t : ℕ) (seen : List Entry) (turns : List ℕ) (l
     pass_after_call v w is handed =
         subst (λ (x : Passing × Passing). IsActed launch x.0 t turns call guest x.1 result) (λ i. (is i, sym handed i)) told
 
-  module _ (how : EndBy) (after : List Entry) (result : Stopped) (on : IsStoppedOn launch current who turns how after result) where
-    on_end : IsStoppedOn launch log who turns how after result
-    on_end = subst (λ (h : List Entry). IsStoppedOn launch h who turns how after result) same on
+  module _ (guest : Guest) (after : List Entry) (result : Woken) (on : IsWokenOn launch current p t turns guest after result) where
+    on_wake : IsWokenOn launch log p t turns guest after result
+    on_wake = subst (λ (h : List Entry). IsWokenOn launch h p t turns guest after result) same on
+
+    told_wake : IsWoken launch (passing seen) t turns guest (passing after) result
+    told_wake = woken_tells launch (passing seen) t turns log was legal later guest after result on_wake
+
+    pub woken_is_seen : IsSeen launch p after
+    woken_is_seen = woken_seen launch (passing seen) t turns log was legal later guest after result told_wake
+
+    pub pass_after_wake : (v w : Passing) → passing seen ≡ v → w ≡ passing after → IsWoken launch v t turns guest w result
+    pass_after_wake v w is handed =
+        subst (λ (x : Passing × Passing). IsWoken launch x.0 t turns guest x.1 result) (λ i. (is i, sym handed i)) told_wake
+
+  module _ (how : EndBy) (after : List Entry) (result : Stopped) (on : IsStoppedOn launch current p t turns how after result) where
+    on_end : IsStoppedOn launch log p t turns how after result
+    on_end = subst (λ (h : List Entry). IsStoppedOn launch h p t turns how after result) same on
 
     told_end : IsStopped launch (passing seen) t turns how (passing after) result
     told_end = stopped_tells launch (passing seen) t turns log was legal later how after result on_end
@@ -211,19 +282,10 @@ module _ (launch : Launch) (p t : ℕ) (seen : List Entry) (turns : List ℕ) (l
 
 -- ---- equal histories and processes
 
-pub acted_on_same : (launch : Launch) (t : ℕ) (turns : List ℕ) (call : Call) (guest : Guest) (result : Acted) (log old after new : List Entry) (p q : ℕ)
-    → log ≡ old → p ≡ q → after ≡ new → IsActedOn launch log (record { pid = p; tid = t }) turns call guest after result
-    → IsActedOn launch old (record { pid = q; tid = t }) turns call guest new result
-acted_on_same launch t turns call guest result log old after new p q before same behind on =
-    subst (λ (x : List Entry × ℕ × List Entry). IsActedOn launch x.0 (record { pid = x.1; tid = t }) turns call guest x.2 result)
-    (λ i. (before i, same i, behind i)) on
-
-pub stopped_on_same : (launch : Launch) (t : ℕ) (turns : List ℕ) (how : EndBy) (result : Stopped) (log old after new : List Entry) (p q : ℕ)
-    → log ≡ old → p ≡ q → after ≡ new → IsStoppedOn launch log (record { pid = p; tid = t }) turns how after result
-    → IsStoppedOn launch old (record { pid = q; tid = t }) turns how new result
-stopped_on_same launch t turns how result log old after new p q before same behind on =
-    subst (λ (x : List Entry × ℕ × List Entry). IsStoppedOn launch x.0 (record { pid = x.1; tid = t }) turns how x.2 result)
-    (λ i. (before i, same i, behind i)) on
+pub on_same : (P : List Entry → ℕ → List Entry → Type 0) (log old after new : List Entry) (p q : ℕ) → log ≡ old → p ≡ q → after ≡ new → P log p after
+    → P old q new
+on_same P log old after new p q before same behind on =
+    subst (λ (x : List Entry × ℕ × List Entry). P x.0 x.1 x.2) (λ i. (before i, same i, behind i)) on
 
 -- ---- a look
 

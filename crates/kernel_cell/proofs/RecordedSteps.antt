@@ -1,36 +1,76 @@
 -- What stands behind the lock as an entry is added, read off the kernel, the keeper and what is kept.
---     kernel_early, log_short, live_there      the bounds, and who is live
---     call_runs, fits_call, recorded_call, acted_runs, ..      a call
+--     kernel_early, log_short, live_there, valid_there      the bounds, who is live, and that the state is valid
+--     recorded_same      what stands there where no entry came
+--     call_runs_there, fits_call, recorded_call, acted_there      a call
+--     waits_there, wake_can, wake_few, same_given, fits_wake, recorded_wake, woken_runs, woken_ends, woken_not, woken_none      a wake
 --     fits_end, recorded_end, stopped_done      an end from outside
-use Rattle.std.proofs.Common.{◌≡◌, ◌^◌, ◌<◌, ◌≤◌, ℕ, Bool, List, [], ◌∷◌, ◌++◌, length, Some, sym, ap, subst, ◌∙◌}
+--     fits_jump, recorded_jump, appends_jump, busy_there, stalled_there      an idle jump
+use Rattle.std.proofs.Common.{◌≡◌, ◌^◌, ◌<◌, ◌≤◌, ℕ, Bool, true, false, List, [], ◌∷◌, ◌++◌, length, Option, None, Some, IsTrue, ◌↔◌, refl, sym, ap, subst, ◌∙◌}
 use Rattle.std.specs.FinMap.{get}
 use Rattle.abi_types.specs.declared.reply.Answer.{Answer}
 use Rattle.abi_types.specs.declared.call.Call.{Call}
 use Rattle.abi_types.specs.declared.constants.Constants.{Constants}
 use Rattle.abi_types.specs.declared.status.Status.{Status}
 use Rattle.abi_types.specs.declared.status.Status.TheVariants.{Live}
+use Rattle.abi_types.specs.declared.thread.Thread.{Thread}
+use Rattle.abi_types.specs.declared.thread.Thread.TheVariants.{Runnable, Waits}
+use Rattle.abi_types.specs.declared.wake.WakeIn.{WakeIn}
 use Rattle.abi_types.specs.declared.who.Who.{Who}
 use Rattle.run_types.specs.declared.history.Act.{Act}
+use Rattle.run_types.specs.declared.history.Act.TheVariants as act
 use Rattle.run_types.specs.declared.history.Entry.{Entry}
 use Rattle.run_types.specs.declared.launch.Launch.{Launch}
-use Rattle.kernel_model.specs.State.{State}
+use Rattle.call_codec.specs.Arguments.{args_of}
+use Rattle.call_codec.specs.Given.{given_of, CanWait}
+use Rattle.call_codec.specs.Put.{HasFewRanges}
+use Rattle.call_codec.proofs.Puts.{few_ranges}
+use Rattle.kernel_core.specs.Waiting.{caller, kept_call, waiter}
+use Rattle.kernel_model.specs.Deadlines.{idle_state}
+use Rattle.kernel_model.specs.Outcome.{is_parked}
+use Rattle.kernel_model.specs.State.{State, thread_of}
 use Rattle.kernel_model.specs.Step.{IsStep, end_state}
-use Rattle.run_model.specs.Legal.{Asks, Fits, IsRunnable}
-use Rattle.run_model.specs.Own.{IsLiveIn}
-use Rattle.run_model.specs.World.{Guest, world, apply, guest_of, called_guest}
+use Rattle.kernel_model.specs.Valid.{IsValid}
+use Rattle.kernel_model.specs.Waits.{WaitsIn}
+use Rattle.kernel_model.specs.Wakes.{is_ready, is_ready_as, IsStalled, IsWake, MayJump}
+use Rattle.kernel_model.proofs.Tests.{not_true}
+use Rattle.run_model.specs.Ends.{Stalled}
+use Rattle.run_model.specs.Legal.{FitsAct, Fits, IsRunnable}
+use Rattle.run_model.specs.Own.{is_idle, IsLiveIn}
+use Rattle.run_model.specs.World.{World, Guest, world, apply, acted, thread_at, turned, guest_of, registers_of, called_guest}
 use Rattle.run_model.proofs.Bounds.{early, short}
-use Rattle.kernel_cell.specs.Acting.{AsksCall, AppendsCall, GoesOn, IsDead, IsActedOn, IsStoppedOn, act_of, status_of}
-use Rattle.shared_history.specs.Entries.{entry_of, called}
+use Rattle.run_model.proofs.Histories.{world_constants}
+use Rattle.run_model.proofs.WaitingRegisters.{may_can, waits_are_encoded, whole_keeps}
+use Rattle.run_model.proofs.Worlds.{world_is_valid}
+use Rattle.kernel_cell.specs.Acting.{AsksCall, AsksEnd, AsksWake, Appends, AppendsWake, GoesOn, IsDead, IsActedOn, IsIdledOn, IsStoppedOn, IsWokenOn, WaitsOn, act_of, acted_so, status_of}
+use Rattle.shared_history.specs.Entries.{head_of, entry_of, answered_call, idled}
 use Rattle.shared_history.specs.Kept.{Takes}
 use Rattle.kernel_cell.specs.Recorded.{IsRecorded}
 use Rattle.shared_history.specs.declared.kept.Kept.{Kept}
-use Rattle.kernel_cell.specs.declared.results.Acted.TheVariants as acted
+use Rattle.kernel_cell.specs.declared.results.Acted.{Acted}
 use Rattle.kernel_cell.specs.declared.results.EndBy.{EndBy}
+use Rattle.kernel_cell.specs.declared.results.Idled.TheVariants as idle
 use Rattle.kernel_cell.specs.declared.results.Stopped.TheVariants as stopped
-use Rattle.kernel_cell.proofs.EntryEffects.{recorded_next, call_runnable, call_state, call_fits, call_goes, call_is_dead, end_state_is, end_fits, end_is_dead}
+use Rattle.kernel_cell.specs.declared.results.Woken.TheVariants as woken
+use Rattle.kernel_cell.proofs.EntryEffects.{recorded_next, entry_state, entry_fits, entry_dead, entry_goes, entry_waits, call_runnable, call_leaves, call_answered, call_runs, call_waits, kept_waits, waits_may, wake_leaves, wake_answered, wake_runs, end_leaves, end_answered, end_dead}
+
+-- a thread of which no call is kept isn't ready
+none_ready : (constants : Constants) (S : State) (p t : ℕ) (o : Option Thread) → None ≡ kept_call o → is_ready_as constants S p t o ≡ false
+none_ready constants S p t None none = refl
+none_ready constants S p t (Some Runnable) none = refl
+none_ready constants S p t (Some (Waits call since until)) none = absurd (cc)
+
+-- what a thread is given is given for the call that is kept of it
+pub same_given : (guest : Guest) (t : ℕ) (seen call : Call) (o : Option Call) (given : WakeIn) → Some seen ≡ o → Some call ≡ o
+    → given ≡ given_of guest.memory (registers_of guest t) seen → given ≡ given_of guest.memory (registers_of guest t) call
+same_given guest t seen call o given here there is =
+    let same : seen ≡ call = cc in
+    is ∙ ap (given_of guest.memory (registers_of guest t)) same
 
 module _ (launch : Launch) (all : Bool) (log : List Entry) (before : State) (constants : Constants) (kept : Kept)
     (r : IsRecorded launch all log before constants kept) where
+  abbrev w : World
+  w = world launch log
+
   pub kernel_early : before.clock < 2 ^ 63
   kernel_early = subst (λ (S : State). S.clock < 2 ^ 63) (sym r.state) (early launch log r.bounded r.legal)
 
@@ -40,83 +80,270 @@ module _ (launch : Launch) (all : Bool) (log : List Entry) (before : State) (con
   pub constants_early : constants.epoch ≤ 2 ^ 62
   constants_early = subst (λ (c : Constants). c.epoch ≤ 2 ^ 62) (sym r.constants_are) r.bounded.epoch
 
-  pub live_there : (p : ℕ) → get before.statuses p ≡ Some Live → IsLiveIn (world launch log) p
-  live_there p live = subst (λ (S : State). get S.statuses p ≡ Some Live) r.state live
+  -- what holds of the kernel's constants and state holds of the history's
+  there : (P : Constants → State → Type 0) → P constants before → P launch.constants w.state
+  there P here = subst (λ (x : Constants × State). P x.0 x.1) (λ i. (r.constants_are i, r.state i)) here
+
+  pub live_there : (p : ℕ) → get before.statuses p ≡ Some Live → IsLiveIn w p
+  live_there p live = there (λ c S. get S.statuses p ≡ Some Live) live
 
   pub dead_there : (p : ℕ) → ¬ (get before.statuses p ≡ Some Live) → IsDead launch log p
-  dead_there p dead = λ live. dead (subst (λ (S : State). get S.statuses p ≡ Some Live) (sym r.state) live)
+  dead_there p dead = there (λ c S. ¬ (get S.statuses p ≡ Some Live)) dead
+
+  valid_there : IsValid w.state
+  valid_there = world_is_valid launch log r.bounded.begins r.legal
+
+  -- nothing changed but that room was made
+  pub recorded_same : (kernel : State) (kept' : Kept) → kernel ≡ before → kept'.all ≡ kept.all → kept'.entries.items ≡ kept.entries.items
+      → kept'.denied.items ≡ kept.denied.items → IsRecorded launch all log kernel constants kept'
+  recorded_same kernel kept' same all_is entries denied = record {
+    bounded = r.bounded;
+    legal = r.legal;
+    state = same ∙ r.state;
+    constants_are = r.constants_are;
+    kept_is = record {
+      all_is = all_is ∙ r.kept_is.all_is;
+      entries_are = entries ∙ r.kept_is.entries_are;
+      denied_are = denied ∙ r.kept_is.denied_are;
+    };
+  }
+
+  -- ---- an entry of any act
+
+  module _ (p t : ℕ) (turns : List ℕ) (a : Act) (kernel : State) (moment : ℕ) (moment_is : moment ≡ kernel.clock)
+      (leaves : (acted (turned w p turns) (thread_at w.state p t) a).state ≡ kernel) (live : is_idle a ≡ false → IsLiveIn w p)
+      (fits : FitsAct launch.constants w.state (thread_at w.state p t) (guest_of w p) turns a) where
+    abbrev entry : Entry
+    entry = entry_of (head_of moment p t turns) a
+
+    same_entry : entry_of (head_of kernel.clock p t turns) a ≡ entry
+    same_entry = ap (λ m. entry_of (head_of m p t turns) a) (sym moment_is)
+
+    fits_entry : Fits w entry
+    fits_entry = subst (Fits w) same_entry (entry_fits launch log p t turns a kernel leaves live fits)
+
+    module _ (after : List Entry) (last : after ≡ log ++ entry ∷ []) where
+      appends_entry : Appends launch log entry after
+      appends_entry = record { fits = fits_entry; last = last }
+
+      recorded_entry : (kept' : Kept) → Takes entry kept kept' → IsRecorded launch all after kernel constants kept'
+      recorded_entry kept' took =
+          subst (λ (h : List Entry). IsRecorded launch all h kernel constants kept') (sym last)
+          (recorded_next launch all log before constants kept entry kernel kept' r fits_entry
+          (subst (λ (e : Entry). (apply w e).state ≡ kernel) same_entry (entry_state launch log p t turns a kernel leaves)) took)
+
+      -- what holds of the history with the entry
+      entry_there : (P : List Entry → Type 0) → P (log ++ entry_of (head_of kernel.clock p t turns) a ∷ []) → P after
+      entry_there P here = subst P (sym (last ∙ ap (λ (e : Entry). log ++ e ∷ []) (sym same_entry))) here
 
   -- ---- a call
 
-  module _ (who : Who) (turns : List ℕ) (call : Call) (guest : Guest) (a : AsksCall (world launch log) who turns guest call) where
-    pub call_runs : IsRunnable before who.pid who.tid
-    call_runs = subst (λ (S : State). IsRunnable S who.pid who.tid) (sym r.state) (call_runnable (world launch log) who turns guest call a)
+  module _ (p t : ℕ) (turns : List ℕ) (call : Call) (guest : Guest) (a : AsksCall w p t turns guest call) where
+    pub call_runs_there : IsRunnable before p t
+    call_runs_there = subst (λ (S : State). IsRunnable S p t) (sym r.state) (call_runnable w p t turns guest call a)
 
-    module _ (given : Answer) (kernel : State) (moment : ℕ) (moment_is : moment ≡ kernel.clock) (step : IsStep constants before who call given kernel)
-        (live : IsLiveIn (world launch log) who.pid) where
-      step_there : IsStep launch.constants (world launch log).state who call given kernel
-      step_there = subst (λ (x : Constants × State). IsStep x.0 x.1 who call given kernel) (λ i. (r.constants_are i, r.state i)) step
+    module _ (given : Answer) (kernel : State) (moment : ℕ) (moment_is : moment ≡ kernel.clock)
+        (step : IsStep constants before (caller before p t) call given kernel) (live : IsLiveIn w p) where
+      step_there : IsStep launch.constants w.state (caller w.state p t) call given kernel
+      step_there = there (λ c S. IsStep c S (caller S p t) call given kernel) step
 
-      same_call : called kernel.clock who turns call given ≡ called moment who turns call given
-      same_call = ap (λ m. called m who turns call given) (sym moment_is)
+      abbrev call_act : Act
+      call_act = act.Call call given
 
-      pub fits_call : Fits (world launch log) (called moment who turns call given)
-      fits_call = subst (Fits (world launch log)) same_call (call_fits launch log who turns call given guest kernel a step_there live)
+      leaves_call : (acted (turned w p turns) (thread_at w.state p t) call_act).state ≡ kernel
+      leaves_call = call_leaves launch log p t turns call given guest kernel a step_there
 
-      module _ (after : List Entry) (last : after ≡ log ++ called moment who turns call given ∷ []) where
-        last_call : after ≡ log ++ called kernel.clock who turns call given ∷ []
-        last_call = last ∙ ap (λ (e : Entry). log ++ e ∷ []) (sym same_call)
+      answered_there : FitsAct launch.constants w.state (thread_at w.state p t) (guest_of w p) turns call_act
+      answered_there = call_answered launch log p t turns call given guest kernel a step_there
 
-        pub appends_call : AppendsCall launch log who turns call after
-        appends_call = record { moment = moment; given = given; fits = fits_call; last = last }
+      pub fits_call : Fits w (answered_call (head_of moment p t turns) call None given)
+      fits_call = fits_entry p t turns call_act kernel moment moment_is leaves_call (λ _. live) answered_there
 
-        pub recorded_call : (kept' : Kept) → Takes (called moment who turns call given) kept kept'
+      module _ (after : List Entry) (last : after ≡ log ++ answered_call (head_of moment p t turns) call None given ∷ []) where
+        pub recorded_call : (kept' : Kept) → Takes (answered_call (head_of moment p t turns) call None given) kept kept'
             → IsRecorded launch all after kernel constants kept'
-        recorded_call kept' took =
-            subst (λ (h : List Entry). IsRecorded launch all h kernel constants kept') (sym last)
-            (recorded_next launch all log before constants kept (called moment who turns call given) kernel kept' r fits_call
-            (subst (λ (e : Entry). (apply (world launch log) e).state ≡ kernel) same_call (call_state launch log who turns call given guest kernel a step_there)) took)
+        recorded_call kept' took = recorded_entry p t turns call_act kernel moment moment_is leaves_call (λ _. live) answered_there after last kept' took
 
-        pub acted_runs : (guest' : Guest) → guest' ≡ called_guest guest who.tid call given → get kernel.statuses who.pid ≡ Some Live
-            → IsActedOn launch log who turns call guest' after acted.Runs
-        acted_runs guest' is on = (
-          appends_call,
-          subst (λ (h : List Entry). GoesOn launch h who guest') (sym last_call) (call_goes launch log who turns call given guest kernel a step_there guest' is on),
+        module _ (guest' : Guest) (is : guest' ≡ called_guest guest t call given) where
+          acted_by : (lives parks : Bool) → parks ≡ is_parked given → (IsTrue lives ↔ (get kernel.statuses p ≡ Some Live))
+              → IsActedOn launch log p t turns call guest' after (acted_so lives parks)
+          acted_by true false replies on = (
+            record { moment = moment; given = given; came = appends_entry p t turns call_act kernel moment moment_is leaves_call (λ _. live) answered_there after last },
+            entry_there p t turns call_act kernel moment moment_is leaves_call (λ _. live) answered_there after last (λ h. GoesOn launch h p t guest')
+                (entry_goes launch log p t turns call_act kernel leaves_call call given guest a.guest_is refl guest' is (on.0 refl)
+                (call_runs launch log p t turns call given guest kernel a step_there (sym replies) (on.0 refl))),
+          )
+          acted_by true true parks on =
+              let thread = call_waits launch log p t turns call given guest kernel a step_there (sym parks) (on.0 refl) in (
+                record { moment = moment; given = given; came = appends_entry p t turns call_act kernel moment moment_is leaves_call (λ _. live) answered_there after last },
+                entry_there p t turns call_act kernel moment moment_is leaves_call (λ _. live) answered_there after last (λ h. WaitsOn launch h p t guest')
+                    (entry_waits launch log p t turns call_act kernel leaves_call call given guest a.guest_is refl guest' is (on.0 refl) thread.0 thread.1 thread.2),
+              )
+          acted_by false parks same on = (
+            record { moment = moment; given = given; came = appends_entry p t turns call_act kernel moment moment_is leaves_call (λ _. live) answered_there after last },
+            entry_there p t turns call_act kernel moment moment_is leaves_call (λ _. live) answered_there after last (λ h. IsDead launch h p)
+                (entry_dead launch log p t turns call_act kernel leaves_call (λ alive. not_true (on.1 alive))),
+          )
+
+          pub acted_there : (result : Acted) (lives parks : Bool) → result ≡ acted_so lives parks → parks ≡ is_parked given
+              → (IsTrue lives ↔ (get kernel.statuses p ≡ Some Live)) → IsActedOn launch log p t turns call guest' after result
+          acted_there result lives parks so same on =
+              subst (IsActedOn launch log p t turns call guest' after) (sym so) (acted_by lives parks same on)
+
+  -- ---- a wake
+
+  module _ (p t : ℕ) (turns : List ℕ) (guest : Guest) (a : AsksWake w p t turns guest) (call : Call)
+      (kept_is : Some call ≡ kept_call (thread_of before p t)) where
+    abbrev sleeper : Who
+    sleeper = thread_at w.state p t
+
+    pub waits_there : WaitsIn w.state sleeper call
+    waits_there = kept_waits w.state p t call (thread_of w.state p t) refl (there (λ c S. Some call ≡ kept_call (thread_of S p t)) kept_is)
+
+    -- in the kernel's own state too
+    pub waits_here : WaitsIn before (waiter p t sleeper.since) call
+    waits_here = subst (λ (S : State). WaitsIn S (waiter p t sleeper.since) call) (sym r.state) waits_there
+
+    pub wake_can : CanWait call
+    wake_can = may_can call (waits_may w.state sleeper call valid_there waits_there)
+
+    pub wake_few : HasFewRanges (registers_of guest t) call
+    wake_few =
+        let encoded = waits_are_encoded launch log p t call sleeper.since waits_there.0 r.bounded.begins r.legal waits_there.1 in
+        few_ranges encoded.0 (registers_of guest t) call
+        (encoded.1 ∙ ap (args_of encoded.0) (sym (ap (λ (g : Guest). registers_of g t) a.guest_is
+        ∙ whole_keeps w.state p (guest_of w p) turns t a.waits.thread a.whole a.waits.there a.waits.waits)))
+
+    module _ (given : WakeIn) (given_is : given ≡ given_of guest.memory (registers_of guest t) call) (answered : Answer) (kernel : State) (moment : ℕ)
+        (moment_is : moment ≡ kernel.clock) (ready : is_ready constants before p t ≡ true)
+        (is_wake : IsWake constants before (waiter p t sleeper.since) call given answered kernel) (live : IsLiveIn w p) where
+      ready_there : is_ready launch.constants w.state p t ≡ true
+      ready_there = there (λ c S. is_ready c S p t ≡ true) ready
+
+      wake_there : IsWake launch.constants w.state sleeper call given answered kernel
+      wake_there = there (λ c S. IsWake c S sleeper call given answered kernel) is_wake
+
+      abbrev wake_act : Act
+      wake_act = act.Wake call given answered
+
+      leaves_wake : (acted (turned w p turns) sleeper wake_act).state ≡ kernel
+      leaves_wake = wake_leaves launch log p t turns call given answered guest kernel a valid_there waits_there given_is ready_there wake_there
+
+      answered_wake : FitsAct launch.constants w.state sleeper (guest_of w p) turns wake_act
+      answered_wake = wake_answered launch log p t turns call given answered guest kernel a valid_there waits_there given_is ready_there wake_there
+
+      pub fits_wake : Fits w (answered_call (head_of moment p t turns) call (Some given) answered)
+      fits_wake = fits_entry p t turns wake_act kernel moment moment_is leaves_wake (λ _. live) answered_wake
+
+      module _ (after : List Entry) (last : after ≡ log ++ answered_call (head_of moment p t turns) call (Some given) answered ∷ []) where
+        pub recorded_wake : (kept' : Kept) → Takes (answered_call (head_of moment p t turns) call (Some given) answered) kept kept'
+            → IsRecorded launch all after kernel constants kept'
+        recorded_wake kept' took = recorded_entry p t turns wake_act kernel moment moment_is leaves_wake (λ _. live) answered_wake after last kept' took
+
+        appends_wake : AppendsWake launch log p t turns after
+        appends_wake = record {
+          moment = moment;
+          call = call;
+          given = given;
+          answered = answered;
+          came = appends_entry p t turns wake_act kernel moment moment_is leaves_wake (λ _. live) answered_wake after last;
+        }
+
+        pub woken_runs : (guest' : Guest) → guest' ≡ called_guest guest t call answered → get kernel.statuses p ≡ Some Live
+            → IsWokenOn launch log p t turns guest' after woken.Runs
+        woken_runs guest' is on = (
+          appends_wake,
+          entry_there p t turns wake_act kernel moment moment_is leaves_wake (λ _. live) answered_wake after last (λ h. GoesOn launch h p t guest')
+              (entry_goes launch log p t turns wake_act kernel leaves_wake call answered guest a.guest_is refl guest' is on
+              (wake_runs launch log p t turns call given answered guest kernel a valid_there waits_there given_is ready_there wake_there on)),
         )
 
-        pub acted_ends : (guest' : Guest) → ¬ (get kernel.statuses who.pid ≡ Some Live) → IsActedOn launch log who turns call guest' after acted.Ends
-        acted_ends guest' dead = (
-          appends_call,
-          subst (λ (h : List Entry). IsDead launch h who.pid) (sym last_call) (call_is_dead launch log who turns call given guest kernel a step_there dead),
+        pub woken_ends : (guest' : Guest) → ¬ (get kernel.statuses p ≡ Some Live) → IsWokenOn launch log p t turns guest' after woken.Ends
+        woken_ends guest' dead = (
+          appends_wake,
+          entry_there p t turns wake_act kernel moment moment_is leaves_wake (λ _. live) answered_wake after last (λ h. IsDead launch h p)
+              (entry_dead launch log p t turns wake_act kernel leaves_wake dead),
         )
+
+  -- the thread waits on
+  pub woken_not : (p t : ℕ) (turns : List ℕ) (guest : Guest) (after : List Entry) → after ≡ log → IsLiveIn w p → is_ready constants before p t ≡ false
+      → IsWokenOn launch log p t turns guest after woken.NotReady
+  woken_not p t turns guest after same live not = (same, (live, there (λ c S. is_ready c S p t ≡ false) not))
+
+  -- it waits in no call
+  pub woken_none : (p t : ℕ) (turns : List ℕ) (guest : Guest) (after : List Entry) → after ≡ log → IsLiveIn w p → None ≡ kept_call (thread_of before p t)
+      → IsWokenOn launch log p t turns guest after woken.NotReady
+  woken_none p t turns guest after same live none =
+      woken_not p t turns guest after same live (none_ready constants before p t (thread_of before p t) none)
 
   -- ---- an end from outside
 
-  module _ (who : Who) (turns : List ℕ) (how : EndBy) (status : Status) (status_is : status ≡ status_of how) (a : Act) (act_is : a ≡ act_of how)
-      (kernel : State) (ended : kernel ≡ end_state before who.pid status) (moment : ℕ) (moment_is : moment ≡ kernel.clock)
-      (live : IsLiveIn (world launch log) who.pid)
-      (asks : Asks (world launch log).state who (guest_of (world launch log) who.pid) turns (act_of how)) where
-    ended_there : kernel ≡ end_state (world launch log).state who.pid (status_of how)
-    ended_there = ended ∙ (λ i. end_state (r.state i) who.pid (status_is i))
+  module _ (p t : ℕ) (turns : List ℕ) (how : EndBy) (status : Status) (status_is : status ≡ status_of how) (a : Act) (act_is : a ≡ act_of how)
+      (kernel : State) (ended : kernel ≡ end_state before p status) (moment : ℕ) (moment_is : moment ≡ kernel.clock) (live : IsLiveIn w p)
+      (asks : AsksEnd w p t turns how) where
+    ended_there : kernel ≡ end_state w.state p (status_of how)
+    ended_there = ended ∙ (λ i. end_state (r.state i) p (status_is i))
 
-    same_end : entry_of kernel.clock who turns (act_of how) ≡ entry_of moment who turns a
-    same_end = λ i. entry_of (sym moment_is i) who turns (sym act_is i)
+    leaves_end : (acted (turned w p turns) (thread_at w.state p t) (act_of how)).state ≡ kernel
+    leaves_end = end_leaves launch log p t turns how kernel ended_there
 
-    pub fits_end : Fits (world launch log) (entry_of moment who turns a)
-    fits_end = subst (Fits (world launch log)) same_end (end_fits launch log who turns how kernel ended_there live asks)
+    answered_end : FitsAct launch.constants w.state (thread_at w.state p t) (guest_of w p) turns (act_of how)
+    answered_end = end_answered launch log p t turns how kernel ended_there asks
 
-    module _ (after : List Entry) (last : after ≡ log ++ entry_of moment who turns a ∷ []) where
-      last_end : after ≡ log ++ entry_of kernel.clock who turns (act_of how) ∷ []
+    same_end : entry_of (head_of moment p t turns) (act_of how) ≡ entry_of (head_of moment p t turns) a
+    same_end = ap (entry_of (head_of moment p t turns)) (sym act_is)
+
+    pub fits_end : Fits w (entry_of (head_of moment p t turns) a)
+    fits_end = subst (Fits w) same_end (fits_entry p t turns (act_of how) kernel moment moment_is leaves_end (λ _. live) answered_end)
+
+    module _ (after : List Entry) (last : after ≡ log ++ entry_of (head_of moment p t turns) a ∷ []) where
+      last_end : after ≡ log ++ entry_of (head_of moment p t turns) (act_of how) ∷ []
       last_end = last ∙ ap (λ (e : Entry). log ++ e ∷ []) (sym same_end)
 
-      pub recorded_end : (kept' : Kept) → Takes (entry_of moment who turns a) kept kept' → IsRecorded launch all after kernel constants kept'
+      pub recorded_end : (kept' : Kept) → Takes (entry_of (head_of moment p t turns) a) kept kept' → IsRecorded launch all after kernel constants kept'
       recorded_end kept' took =
-          subst (λ (h : List Entry). IsRecorded launch all h kernel constants kept') (sym last)
-          (recorded_next launch all log before constants kept (entry_of moment who turns a) kernel kept' r fits_end
-          (subst (λ (e : Entry). (apply (world launch log) e).state ≡ kernel) same_end (end_state_is launch log who turns how kernel ended_there)) took)
+          recorded_entry p t turns (act_of how) kernel moment moment_is leaves_end (λ _. live) answered_end after last_end kept'
+          (subst (λ (e : Entry). Takes e kept kept') (sym same_end) took)
 
-      pub stopped_done : IsStoppedOn launch log who turns how after stopped.Done
+      pub stopped_done : IsStoppedOn launch log p t turns how after stopped.Done
       stopped_done = (
-        record { moment = kernel.clock; fits = end_fits launch log who turns how kernel ended_there live asks; last = last_end },
-        subst (λ (h : List Entry). IsDead launch h who.pid) (sym last_end) (end_is_dead launch log who turns how kernel ended_there),
+        record {
+          moment = moment;
+          came = appends_entry p t turns (act_of how) kernel moment moment_is leaves_end (λ _. live) answered_end after last_end;
+        },
+        entry_there p t turns (act_of how) kernel moment moment_is leaves_end (λ _. live) answered_end after last_end (λ h. IsDead launch h p)
+            (entry_dead launch log p t turns (act_of how) kernel leaves_end (end_dead launch log p t turns how kernel ended_there)),
       )
+
+  -- ---- an idle jump
+
+  module _ (kernel : State) (jumped : kernel ≡ idle_state before) (may : MayJump constants before) (moment : ℕ) (moment_is : moment ≡ kernel.clock) where
+    leaves_jump : (acted (turned w 0 []) (thread_at w.state 0 0) act.Idle).state ≡ kernel
+    leaves_jump = sym (jumped ∙ ap idle_state r.state)
+
+    answered_jump : FitsAct launch.constants w.state (thread_at w.state 0 0) (guest_of w 0) [] act.Idle
+    answered_jump = ((refl, refl, refl), there MayJump may)
+
+    pub fits_jump : Fits w (idled moment)
+    fits_jump = fits_entry 0 0 [] act.Idle kernel moment moment_is leaves_jump (λ busy. absurd (not_true (sym busy))) answered_jump
+
+    module _ (after : List Entry) (last : after ≡ log ++ idled moment ∷ []) where
+      pub recorded_jump : (kept' : Kept) → Takes (idled moment) kept kept' → IsRecorded launch all after kernel constants kept'
+      recorded_jump kept' took =
+          recorded_entry 0 0 [] act.Idle kernel moment moment_is leaves_jump (λ busy. absurd (not_true (sym busy))) answered_jump after last kept' took
+
+      pub appends_jump : IsIdledOn launch log after idle.Jumped
+      appends_jump = record { moment = moment; came = record { fits = fits_jump; last = last } }
+
+  pub stalled_there : (after : List Entry) → after ≡ log → IsStalled constants before → IsIdledOn launch log after idle.Stalled
+  stalled_there after same stalled = (same, stalled_world (there IsStalled stalled))
+    where
+      stalled_world : IsStalled launch.constants w.state → Stalled launch log
+      stalled_world here = subst (λ (c : Constants). IsStalled c w.state) (sym (world_constants launch log)) here
+
+  pub busy_there : (after : List Entry) → after ≡ log → ¬ MayJump constants before → ¬ IsStalled constants before → IsIdledOn launch log after idle.Busy
+  busy_there after same still goes = (
+    same,
+    there (λ c S. ¬ MayJump c S) still,
+    subst (λ (c : Constants). ¬ IsStalled c w.state) (sym (world_constants launch log)) (there (λ c S. ¬ IsStalled c S) goes),
+  )

@@ -1,45 +1,68 @@
 -- What the calls on the locked kernel ask of a process, and what they tell it.
+--     AsksCall, AsksWake, AsksEnd      what a thread's call asks, its wake, and an end from outside
 --     Added, Looked      what a pass tells after a call that added an entry, and after one that didn't
---     AsksCall      what a thread's call asks
---     IsActed, IsStopped, ..      what the calls tell by a pass
---     IsActedOn, IsStoppedOn, ..      the same of the whole history, which is behind the lock
---     KeepsGuest      what is left of the guest where no entry came
-use Rattle.std.specs.Prelude.{◌≡◌, ℕ, List, [], ◌∷◌, ◌++◌, IsSome}
+--     GoesOn, WaitsOn, IsDead      what became of a thread
+--     IsActed, IsWoken, IsStopped, ..      what the calls tell by a pass
+--     IsActedOn, IsWokenOn, IsStoppedOn, IsIdledOn, ..      the same of the whole history, which is behind the lock
+--     KeepsGuest, KeepsTurns      what is left of the guest and of its turns where no entry came
+use Rattle.std.specs.Prelude.{◌≡◌, ℕ, Bool, true, false, List, [], ◌∷◌, ◌++◌, None, Some, IsSome}
 use Rattle.std.specs.FinMap.{get}
 use Rattle.abi_base.specs.declared.signal.Signal.TheVariants.{Xcpu}
 use Rattle.abi_types.specs.declared.reply.Answer.{Answer}
 use Rattle.abi_types.specs.declared.call.Call.{Call}
 use Rattle.abi_types.specs.declared.status.Status.{Status}
 use Rattle.abi_types.specs.declared.status.Status.TheVariants.{Killed}
-use Rattle.abi_types.specs.declared.who.Who.{Who}
+use Rattle.abi_types.specs.declared.thread.Thread.{Thread}
+use Rattle.abi_types.specs.declared.wake.WakeIn.{WakeIn}
 use Rattle.run_types.specs.declared.history.Act.{Act}
 use Rattle.run_types.specs.declared.history.Act.TheVariants as act
 use Rattle.run_types.specs.declared.history.Entry.{Entry}
 use Rattle.run_types.specs.declared.launch.Launch.{Launch}
-use Rattle.run_model.specs.Legal.{Asks, Fits, IsRunnable}
+use Rattle.kernel_model.specs.Waits.{IsParked}
+use Rattle.kernel_model.specs.Wakes.{is_ready, HasThread, MayJump}
+use Rattle.run_model.specs.Ends.{Stalled}
+use Rattle.run_model.specs.Legal.{AreWhole, Asks, Fits, IsRunnable}
 use Rattle.run_model.specs.Own.{own, IsLiveIn}
-use Rattle.run_model.specs.World.{World, Guest, world, guest_of, turned_guest_by}
-use Rattle.shared_history.specs.Entries.{entry_of, called}
+use Rattle.run_model.specs.World.{World, Guest, world, guest_of, thread_at, turned_guest_by}
+use Rattle.shared_history.specs.Entries.{head_of, entry_of, answered_call, idled}
 use Rattle.shared_history.specs.Passes.{Passing, IsSeen, Later}
 use Rattle.kernel_cell.specs.declared.results.Acted.{Acted}
 use Rattle.kernel_cell.specs.declared.results.Acted.TheVariants as acted
 use Rattle.kernel_cell.specs.declared.results.EndBy.{EndBy}
 use Rattle.kernel_cell.specs.declared.results.EndBy.TheVariants as end_by
+use Rattle.kernel_cell.specs.declared.results.Idled.{Idled}
+use Rattle.kernel_cell.specs.declared.results.Idled.TheVariants as idle
 use Rattle.kernel_cell.specs.declared.results.Stopped.{Stopped}
 use Rattle.kernel_cell.specs.declared.results.Stopped.TheVariants as stopped
-
--- a thread of the pass's process
-abbrev pub thread_of_pass : Passing → ℕ → Who
-thread_of_pass v t = record { pid = v.pid; tid = t }
+use Rattle.kernel_cell.specs.declared.results.Woken.{Woken}
+use Rattle.kernel_cell.specs.declared.results.Woken.TheVariants as woken
 
 -- ---- what is asked
 
+-- what thread t of process p asks for by an act, after these turns of the process
+abbrev pub AsksFor : World → ℕ → ℕ → List ℕ → Act → Type 0
+AsksFor w p t turns a = Asks w.state (thread_at w.state p t) (guest_of w p) turns a
+
 -- The guest is the process's as the world has it after these turns, the thread's registers are there, and the call is the one that
 -- the thread asks for by them.
-pub record AsksCall (w : World) (who : Who) (turns : List ℕ) (guest : Guest) (call : Call) : Type 0 where
-  pub guest_is : guest ≡ turned_guest_by turns (guest_of w who.pid)
-  pub registers : IsSome (get guest.regs who.tid)
-  pub asks : (given : Answer) → Asks w.state who (guest_of w who.pid) turns (act.Call call given)
+pub record AsksCall (w : World) (p t : ℕ) (turns : List ℕ) (guest : Guest) (call : Call) : Type 0 where
+  pub guest_is : guest ≡ turned_guest_by turns (guest_of w p)
+  pub registers : IsSome (get guest.regs t)
+  pub asks : (given : Answer) → AsksFor w p t turns (act.Call call given)
+
+-- the process has this thread, and it waits in a call
+pub record Waiting (w : World) (p t : ℕ) : Type 0 where
+  pub thread : Thread
+  pub there : HasThread w.state p t thread
+  pub waits : IsParked thread
+
+-- The guest is the process's as the world has it after these turns, which are whole, the thread's registers are there, and the thread
+-- waits in a call.
+pub record AsksWake (w : World) (p t : ℕ) (turns : List ℕ) (guest : Guest) : Type 0 where
+  pub guest_is : guest ≡ turned_guest_by turns (guest_of w p)
+  pub registers : IsSome (get guest.regs t)
+  pub whole : AreWhole w.state p (guest_of w p) turns
+  pub waits : Waiting w p t
 
 -- the act by which a process is ended from outside, and the status that it has then
 abbrev pub act_of : EndBy → Act
@@ -49,6 +72,9 @@ act_of end_by.Expire = act.Expire
 abbrev pub status_of : EndBy → Status
 status_of (end_by.Trap signal) = Killed signal
 status_of end_by.Expire = Killed Xcpu
+
+abbrev pub AsksEnd : World → ℕ → ℕ → List ℕ → EndBy → Type 0
+AsksEnd w p t turns how = AsksFor w p t turns (act_of how)
 
 -- ---- what a pass tells
 
@@ -72,27 +98,60 @@ pub record Looked (launch : Launch) (v w : Passing) : Type 0 where
 pub record AddedCall (launch : Launch) (v : Passing) (t : ℕ) (turns : List ℕ) (call : Call) (w : Passing) : Type 0 where
   pub moment : ℕ
   pub given : Answer
-  pub added : Added launch v (called moment (thread_of_pass v t) turns call given) w
+  pub added : Added launch v (answered_call (head_of moment v.pid t turns) call None given) w
+
+-- the entry of the thread's wake was added, with the call that it waited in, what it was given and some answer
+pub record AddedWake (launch : Launch) (v : Passing) (t : ℕ) (turns : List ℕ) (w : Passing) : Type 0 where
+  pub moment : ℕ
+  pub call : Call
+  pub given : WakeIn
+  pub answered : Answer
+  pub added : Added launch v (answered_call (head_of moment v.pid t turns) call (Some given) answered) w
 
 -- the thread takes its turns, and this is its process's guest
-pub record GoesOn (launch : Launch) (history : List Entry) (who : Who) (guest : Guest) : Type 0 where
-  pub live : IsLiveIn (world launch history) who.pid
-  pub runnable : IsRunnable (world launch history).state who.pid who.tid
-  pub guest_is : guest ≡ guest_of (world launch history) who.pid
+pub record GoesOn (launch : Launch) (history : List Entry) (p t : ℕ) (guest : Guest) : Type 0 where
+  pub live : IsLiveIn (world launch history) p
+  pub runnable : IsRunnable (world launch history).state p t
+  pub guest_is : guest ≡ guest_of (world launch history) p
+
+-- the thread waits in a call, and this is its process's guest
+pub record WaitsOn (launch : Launch) (history : List Entry) (p t : ℕ) (guest : Guest) : Type 0 where
+  pub live : IsLiveIn (world launch history) p
+  pub waits : Waiting (world launch history) p t
+  pub guest_is : guest ≡ guest_of (world launch history) p
 
 abbrev pub IsDead : Launch → List Entry → ℕ → Type 0
 IsDead launch history p = ¬ IsLiveIn (world launch history) p
 
+-- the process is live, and its thread isn't ready to go on
+abbrev pub IsNotReady : Launch → List Entry → ℕ → ℕ → Type 0
+IsNotReady launch history p t =
+    IsLiveIn (world launch history) p × (is_ready launch.constants (world launch history).state p t ≡ false)
+
+-- what a call came to, by whether its process is live afterwards and whether its thread waits in it
+abbrev pub acted_so : Bool → Bool → Acted
+acted_so true false = acted.Runs
+acted_so true true = acted.Parks
+acted_so false parks = acted.Ends
+
 abbrev pub IsActed : Launch → Passing → ℕ → List ℕ → Call → Guest → Passing → Acted → Type 0
-IsActed launch v t turns call guest w acted.Runs = AddedCall launch v t turns call w × GoesOn launch w.seen (thread_of_pass v t) guest
+IsActed launch v t turns call guest w acted.Runs = AddedCall launch v t turns call w × GoesOn launch w.seen v.pid t guest
+IsActed launch v t turns call guest w acted.Parks = AddedCall launch v t turns call w × WaitsOn launch w.seen v.pid t guest
 IsActed launch v t turns call guest w acted.Ends = AddedCall launch v t turns call w × IsDead launch w.seen v.pid
 IsActed launch v t turns call guest w acted.Gone = Looked launch v w × IsDead launch w.seen v.pid
 IsActed launch v t turns call guest w acted.NoMemory = Looked launch v w × IsLiveIn (world launch w.seen) v.pid
 
+abbrev pub IsWoken : Launch → Passing → ℕ → List ℕ → Guest → Passing → Woken → Type 0
+IsWoken launch v t turns guest w woken.Runs = AddedWake launch v t turns w × GoesOn launch w.seen v.pid t guest
+IsWoken launch v t turns guest w woken.Ends = AddedWake launch v t turns w × IsDead launch w.seen v.pid
+IsWoken launch v t turns guest w woken.NotReady = Looked launch v w × IsNotReady launch w.seen v.pid t
+IsWoken launch v t turns guest w woken.Gone = Looked launch v w × IsDead launch w.seen v.pid
+IsWoken launch v t turns guest w woken.NoMemory = Looked launch v w × IsLiveIn (world launch w.seen) v.pid
+
 -- the entry of the end of the thread's process was added
 pub record AddedEnd (launch : Launch) (v : Passing) (t : ℕ) (turns : List ℕ) (how : EndBy) (w : Passing) : Type 0 where
   pub moment : ℕ
-  pub added : Added launch v (entry_of moment (thread_of_pass v t) turns (act_of how)) w
+  pub added : Added launch v (entry_of (head_of moment v.pid t turns) (act_of how)) w
 
 abbrev pub IsStopped : Launch → Passing → ℕ → List ℕ → EndBy → Passing → Stopped → Type 0
 IsStopped launch v t turns how w stopped.Done = AddedEnd launch v t turns how w × IsDead launch w.seen v.pid
@@ -101,18 +160,38 @@ IsStopped launch v t turns how w stopped.NoMemory = Looked launch v w × IsLiveI
 
 -- ---- the same of the whole history: after is the history after the call, and log the one before
 
+-- the entry came
+pub record Appends (launch : Launch) (log : List Entry) (e : Entry) (after : List Entry) : Type 0 where
+  pub fits : Fits (world launch log) e
+  pub last : after ≡ log ++ e ∷ []
+
 -- the entry of the thread's call came, with some answer
-pub record AppendsCall (launch : Launch) (log : List Entry) (who : Who) (turns : List ℕ) (call : Call) (after : List Entry) : Type 0 where
+pub record AppendsCall (launch : Launch) (log : List Entry) (p t : ℕ) (turns : List ℕ) (call : Call) (after : List Entry) : Type 0 where
   pub moment : ℕ
   pub given : Answer
-  pub fits : Fits (world launch log) (called moment who turns call given)
-  pub last : after ≡ log ++ called moment who turns call given ∷ []
+  pub came : Appends launch log (answered_call (head_of moment p t turns) call None given) after
 
-abbrev pub IsActedOn : Launch → List Entry → Who → List ℕ → Call → Guest → List Entry → Acted → Type 0
-IsActedOn launch log who turns call guest after acted.Runs = AppendsCall launch log who turns call after × GoesOn launch after who guest
-IsActedOn launch log who turns call guest after acted.Ends = AppendsCall launch log who turns call after × IsDead launch after who.pid
-IsActedOn launch log who turns call guest after acted.Gone = (after ≡ log) × IsDead launch log who.pid
-IsActedOn launch log who turns call guest after acted.NoMemory = (after ≡ log) × IsLiveIn (world launch log) who.pid
+abbrev pub IsActedOn : Launch → List Entry → ℕ → ℕ → List ℕ → Call → Guest → List Entry → Acted → Type 0
+IsActedOn launch log p t turns call guest after acted.Runs = AppendsCall launch log p t turns call after × GoesOn launch after p t guest
+IsActedOn launch log p t turns call guest after acted.Parks = AppendsCall launch log p t turns call after × WaitsOn launch after p t guest
+IsActedOn launch log p t turns call guest after acted.Ends = AppendsCall launch log p t turns call after × IsDead launch after p
+IsActedOn launch log p t turns call guest after acted.Gone = (after ≡ log) × IsDead launch log p
+IsActedOn launch log p t turns call guest after acted.NoMemory = (after ≡ log) × IsLiveIn (world launch log) p
+
+-- the entry of the thread's wake came
+pub record AppendsWake (launch : Launch) (log : List Entry) (p t : ℕ) (turns : List ℕ) (after : List Entry) : Type 0 where
+  pub moment : ℕ
+  pub call : Call
+  pub given : WakeIn
+  pub answered : Answer
+  pub came : Appends launch log (answered_call (head_of moment p t turns) call (Some given) answered) after
+
+abbrev pub IsWokenOn : Launch → List Entry → ℕ → ℕ → List ℕ → Guest → List Entry → Woken → Type 0
+IsWokenOn launch log p t turns guest after woken.Runs = AppendsWake launch log p t turns after × GoesOn launch after p t guest
+IsWokenOn launch log p t turns guest after woken.Ends = AppendsWake launch log p t turns after × IsDead launch after p
+IsWokenOn launch log p t turns guest after woken.NotReady = (after ≡ log) × IsNotReady launch log p t
+IsWokenOn launch log p t turns guest after woken.Gone = (after ≡ log) × IsDead launch log p
+IsWokenOn launch log p t turns guest after woken.NoMemory = (after ≡ log) × IsLiveIn (world launch log) p
 
 -- the guest is as it was where no entry came
 abbrev pub KeepsGuest : Guest → Guest → Acted → Type 0
@@ -120,13 +199,33 @@ KeepsGuest guest after acted.Gone = after ≡ guest
 KeepsGuest guest after acted.NoMemory = after ≡ guest
 KeepsGuest guest after other = Unit {0}
 
--- the entry of the end of the thread's process came
-pub record AppendsEnd (launch : Launch) (log : List Entry) (who : Who) (turns : List ℕ) (how : EndBy) (after : List Entry) : Type 0 where
-  pub moment : ℕ
-  pub fits : Fits (world launch log) (entry_of moment who turns (act_of how))
-  pub last : after ≡ log ++ entry_of moment who turns (act_of how) ∷ []
+-- Where no entry came the guest is as it was, and its turns wait for their entry still; else none waits.
+abbrev pub KeepsTurns : Guest → Guest → List ℕ → List ℕ → Woken → Type 0
+KeepsTurns guest guest' turns turns' woken.Runs = turns' ≡ []
+KeepsTurns guest guest' turns turns' woken.Ends = turns' ≡ []
+KeepsTurns guest guest' turns turns' other = (guest' ≡ guest) × (turns' ≡ turns)
 
-abbrev pub IsStoppedOn : Launch → List Entry → Who → List ℕ → EndBy → List Entry → Stopped → Type 0
-IsStoppedOn launch log who turns how after stopped.Done = AppendsEnd launch log who turns how after × IsDead launch after who.pid
-IsStoppedOn launch log who turns how after stopped.Gone = (after ≡ log) × IsDead launch log who.pid
-IsStoppedOn launch log who turns how after stopped.NoMemory = (after ≡ log) × IsLiveIn (world launch log) who.pid
+-- the entry of the end of the thread's process came
+pub record AppendsEnd (launch : Launch) (log : List Entry) (p t : ℕ) (turns : List ℕ) (how : EndBy) (after : List Entry) : Type 0 where
+  pub moment : ℕ
+  pub came : Appends launch log (entry_of (head_of moment p t turns) (act_of how)) after
+
+abbrev pub IsStoppedOn : Launch → List Entry → ℕ → ℕ → List ℕ → EndBy → List Entry → Stopped → Type 0
+IsStoppedOn launch log p t turns how after stopped.Done = AppendsEnd launch log p t turns how after × IsDead launch after p
+IsStoppedOn launch log p t turns how after stopped.Gone = (after ≡ log) × IsDead launch log p
+IsStoppedOn launch log p t turns how after stopped.NoMemory = (after ≡ log) × IsLiveIn (world launch log) p
+
+-- the entry of an idle jump came
+pub record AppendsJump (launch : Launch) (log after : List Entry) : Type 0 where
+  pub moment : ℕ
+  pub came : Appends launch log (idled moment) after
+
+-- the history lets time jump
+abbrev pub MayJumpAfter : Launch → List Entry → Type 0
+MayJumpAfter launch log = MayJump launch.constants (world launch log).state
+
+abbrev pub IsIdledOn : Launch → List Entry → List Entry → Idled → Type 0
+IsIdledOn launch log after idle.Jumped = AppendsJump launch log after
+IsIdledOn launch log after idle.Busy = (after ≡ log) × ¬ MayJumpAfter launch log × ¬ Stalled launch log
+IsIdledOn launch log after idle.Stalled = (after ≡ log) × Stalled launch log
+IsIdledOn launch log after idle.NoMemory = after ≡ log

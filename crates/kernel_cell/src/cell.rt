@@ -1,14 +1,13 @@
 //! The kernel behind its lock, as threads share it, from the begin of a run to its book.
 ghost use Rattle.std.specs.Prelude.{◌≡◌, ◌↔◌, [], IfOk, IsTrue};
 ghost use Rattle.call_codec.specs.Bounded.{IsBounded};
-ghost use Rattle.run_model.specs.Legal.{Asks};
 ghost use Rattle.run_model.specs.Own.{IsLiveIn};
-ghost use Rattle.run_model.specs.World.{world, guest_of};
-ghost use Rattle.kernel_cell.specs.Acting.{AsksCall, act_of, thread_of_pass, Looked, IsActed, IsStopped};
+ghost use Rattle.run_model.specs.World.{world};
+ghost use Rattle.kernel_cell.specs.Acting.{AsksCall, AsksEnd, AsksWake, Looked, IsActed, IsStopped, IsWoken, KeepsTurns};
 ghost use Rattle.kernel_cell.specs.Cell.{IsBookOf};
 
 use crate::locked::Locked;
-use crate::results::{Acted, EndBy, Stopped};
+use crate::results::{Acted, EndBy, Idled, Stopped, Woken};
 use abi_types::{Call, Tid, TidList};
 use atomic_table::{Seat, Table};
 use guest_process::{FIRST, Guest};
@@ -125,12 +124,37 @@ impl<J: Naming> Cell<J> {
         call: Call,
         guest: &mut Guest,
     ) -> Acted
-        requires { AsksCall (world J.launch pass.old.seen) (thread_of_pass pass.old tid) turns guest.old call }
+        requires { AsksCall (world J.launch pass.old.seen) pass.old.pid tid turns guest.old call }
         ensures { IsActed J.launch pass.old tid turns call guest.new pass.new result }
     {
         self.locked
             .lock(rt)
             .act(&self.passes, pass, alloc, tid, turns, call, guest)
+    }
+
+    /// The wake of a thread that waits, after these turns of its process. The guest is the process's after them, and gets the answer to
+    /// the call that the thread waited in.
+    pub fn wake<R: Wait>(
+        &self,
+        rt: &R,
+        pass: &mut Pass<J>,
+        alloc: Global,
+        tid: Tid,
+        turns: &mut TidList,
+        guest: &mut Guest,
+    ) -> Woken
+        requires { AsksWake (world J.launch pass.old.seen) pass.old.pid tid turns.old guest.old }
+        ensures pass { IsWoken J.launch pass.old tid turns.old guest.new pass.new result }
+        ensures turns { KeepsTurns guest.old guest.new turns.old turns.new result }
+    {
+        self.locked
+            .lock(rt)
+            .wake(&self.passes, pass, alloc, tid, turns, guest)
+    }
+
+    /// Lets time go to the next deadline where no thread takes turns or is ready.
+    pub fn idle<R: Wait>(&self, rt: &R, alloc: Global) -> Idled {
+        self.locked.lock(rt).idle(&self.passes, alloc)
     }
 
     /// The end of a thread's process from outside, after these turns of it.
@@ -142,7 +166,7 @@ impl<J: Naming> Cell<J> {
         turns: TidList,
         how: EndBy,
     ) -> Stopped
-        requires { Asks (world J.launch pass.old.seen).state (thread_of_pass pass.old tid) (guest_of (world J.launch pass.old.seen) pass.old.pid) turns (act_of how) }
+        requires { AsksEnd (world J.launch pass.old.seen) pass.old.pid tid turns how }
         ensures { IsStopped J.launch pass.old tid turns how pass.new result }
     {
         self.locked

@@ -1,15 +1,14 @@
 //! What stands behind the kernel lock. Each call here takes a process's pass in, does what it does, and hands the pass out
 //! again.
 ghost use Rattle.std.specs.Prelude.{◌≡◌, ◌↔◌, IsTrue};
-ghost use Rattle.run_model.specs.Legal.{Asks};
 ghost use Rattle.run_model.specs.Own.{IsLiveIn};
-ghost use Rattle.run_model.specs.World.{world, guest_of};
+ghost use Rattle.run_model.specs.World.{world};
 ghost use Rattle.kernel_cell.specs.Recorded.{IsRecorded};
-ghost use Rattle.kernel_cell.specs.Acting.{AsksCall, act_of, thread_of_pass, Looked, IsActed, IsActedOn, IsStopped, IsStoppedOn, KeepsGuest};
+ghost use Rattle.kernel_cell.specs.Acting.{AsksCall, AsksEnd, AsksWake, Looked, IsActed, IsActedOn, IsIdledOn, IsStopped, IsStoppedOn, IsWoken, IsWokenOn, KeepsGuest, KeepsTurns};
 
 use crate::recorded::Recorded;
-use crate::results::{Acted, EndBy, Stopped};
-use abi_types::{Call, Constants, Pid, Tid, TidList, Who};
+use crate::results::{Acted, EndBy, Idled, Stopped, Woken};
+use abi_types::{Call, Constants, Tid, TidList};
 use guest_process::Guest;
 use kernel_core::Kernel;
 use shared_history::{Keeper, Kept, Naming, Pass, Passes, Past};
@@ -80,19 +79,47 @@ impl<J: Naming> Locked<J> {
         call: Call,
         guest: &mut Guest,
     ) -> Acted
-        requires { AsksCall (world J.launch pass.old.seen) (thread_of_pass pass.old tid) turns guest.old call }
+        requires { AsksCall (world J.launch pass.old.seen) pass.old.pid tid turns guest.old call }
         ensures pass { IsActed J.launch pass.old tid turns call guest.new pass.new result }
-        ensures history { IsActedOn J.launch self.old (thread_of_pass pass.old tid) turns call guest.new self.new result }
+        ensures history { IsActedOn J.launch self.old pass.old.pid tid turns call guest.new self.new result }
         ensures guest { KeepsGuest guest.old guest.new result }
         ensures seen { pass.new.seen ≡ self.new }
     {
-        let who = Who { pid: pass.pid, tid };
+        let pid = pass.pid;
         self.recorded
             .keeper
-            .take_in(passes, Pass::lent(who.pid, &mut pass.badge));
-        let acted = self.recorded.call(passes, alloc, &who, turns, call, guest);
-        *pass = self.recorded.keeper.hand_out(passes, who.pid);
+            .take_in(passes, Pass::lent(pid, &mut pass.badge));
+        let acted = self
+            .recorded
+            .call(passes, alloc, pid, tid, turns, call, guest);
+        *pass = self.recorded.keeper.hand_out(passes, pid);
         acted
+    }
+
+    /// The wake of a thread that waits, after these turns of its process. The guest is the process's after them, and gets the answer to
+    /// the call that the thread waited in.
+    pub fn wake(
+        &mut self,
+        passes: &Passes<J>,
+        pass: &mut Pass<J>,
+        alloc: Global,
+        tid: Tid,
+        turns: &mut TidList,
+        guest: &mut Guest,
+    ) -> Woken
+        requires { AsksWake (world J.launch pass.old.seen) pass.old.pid tid turns.old guest.old }
+        ensures pass { IsWoken J.launch pass.old tid turns.old guest.new pass.new result }
+        ensures history { IsWokenOn J.launch self.old pass.old.pid tid turns.old guest.new self.new result }
+        ensures turns { KeepsTurns guest.old guest.new turns.old turns.new result }
+        ensures seen { pass.new.seen ≡ self.new }
+    {
+        let pid = pass.pid;
+        self.recorded
+            .keeper
+            .take_in(passes, Pass::lent(pid, &mut pass.badge));
+        let woken = self.recorded.wake(passes, alloc, pid, tid, turns, guest);
+        *pass = self.recorded.keeper.hand_out(passes, pid);
+        woken
     }
 
     /// The end of a thread's process from outside, after these turns of it.
@@ -104,18 +131,25 @@ impl<J: Naming> Locked<J> {
         turns: TidList,
         how: EndBy,
     ) -> Stopped
-        requires { Asks (world J.launch pass.old.seen).state (thread_of_pass pass.old tid) (guest_of (world J.launch pass.old.seen) pass.old.pid) turns (act_of how) }
+        requires { AsksEnd (world J.launch pass.old.seen) pass.old.pid tid turns how }
         ensures pass { IsStopped J.launch pass.old tid turns how pass.new result }
-        ensures history { IsStoppedOn J.launch self.old (thread_of_pass pass.old tid) turns how self.new result }
+        ensures history { IsStoppedOn J.launch self.old pass.old.pid tid turns how self.new result }
         ensures seen { pass.new.seen ≡ self.new }
     {
-        let who = Who { pid: pass.pid, tid };
+        let pid = pass.pid;
         self.recorded
             .keeper
-            .take_in(passes, Pass::lent(who.pid, &mut pass.badge));
-        let stopped = self.recorded.end(passes, &who, turns, how);
-        *pass = self.recorded.keeper.hand_out(passes, who.pid);
+            .take_in(passes, Pass::lent(pid, &mut pass.badge));
+        let stopped = self.recorded.end(passes, pid, tid, turns, how);
+        *pass = self.recorded.keeper.hand_out(passes, pid);
         stopped
+    }
+
+    /// Lets time go to the next deadline where no thread takes turns or is ready.
+    pub fn idle(&mut self, passes: &Passes<J>, alloc: Global) -> Idled
+        ensures { IsIdledOn J.launch self.old self.new result }
+    {
+        self.recorded.idle(passes, alloc)
     }
 
     /// Whether the pass's process is live.

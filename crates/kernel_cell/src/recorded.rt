@@ -1,18 +1,19 @@
-//! The kernel with its history: a call and an end from outside are done by the kernel, and are entries.
+//! The kernel with its history: a call, a wake, an end from outside and an idle jump are done by the kernel, and are entries.
 ghost use Rattle.std.specs.Prelude.{◌≡◌, [], ◌∷◌};
-ghost use Rattle.run_model.specs.Legal.{Asks};
 ghost use Rattle.run_model.specs.Own.{IsLiveIn};
-ghost use Rattle.run_model.specs.World.{world, guest_of};
-ghost use Rattle.kernel_cell.specs.Acting.{AsksCall, act_of, status_of, IsActedOn, IsStoppedOn, KeepsGuest};
+ghost use Rattle.run_model.specs.World.{world};
+ghost use Rattle.kernel_model.specs.Outcome.{is_parked};
+ghost use Rattle.kernel_cell.specs.Acting.{AsksCall, AsksEnd, AsksWake, act_of, acted_so, status_of, IsActedOn, IsIdledOn, IsStoppedOn, IsWokenOn, KeepsGuest, KeepsTurns};
 ghost use Rattle.kernel_cell.specs.Recorded.{IsRecorded};
 
-use crate::results::{Acted, EndBy, Stopped};
-use abi_types::{Call, Constants, Signal, Status, TidList, Who};
+use crate::results::{Acted, EndBy, Idled, Stopped, Woken};
+use abi_types::{Answer, Call, Constants, Pid, Signal, Status, Tid, TidList};
 use guest_process::Guest;
 use kernel_core::Kernel;
-use run_types::{Act, Entry};
-use shared_history::{Keeper, Kept, Naming, Passes};
+use run_types::Act;
+use shared_history::{EntryHead, Keeper, Kept, Naming, Passes, idle_entry};
 use std::alloc::Global;
+use std::mem;
 
 /// The kernel, the keeper of its history, and what is kept of the history in memory.
 #[derive(Drop)]
@@ -43,6 +44,24 @@ fn status_of(how: EndBy) -> Status
     }
 }
 
+// Whether the answer is that the thread waits.
+fn is_parked(answer: &Answer) -> bool
+    ensures { result ≡ is_parked answer.now }
+{
+    matches!(answer, Answer::Parked(_))
+}
+
+// What a call came to, by whether its process is live afterwards and whether its thread waits in it.
+fn acted(live: bool, parks: bool) -> Acted
+    ensures { result ≡ acted_so live parks }
+{
+    match (live, parks) {
+        (true, false) => Acted::Runs,
+        (true, true) => Acted::Parks,
+        (false, _) => Acted::Ends,
+    }
+}
+
 impl<J: Naming> Recorded<J> {
     /// A thread's call after these turns, whose answer its guest gets. The room for its entry and its answer is taken before, so no
     /// answer is lost for lack of it.
@@ -50,20 +69,21 @@ impl<J: Naming> Recorded<J> {
         &mut self,
         passes: &Passes<J>,
         alloc: Global,
-        who: &Who,
+        pid: Pid,
+        tid: Tid,
         turns: TidList,
         call: Call,
         guest: &mut Guest,
     ) -> Acted
         requires recorded { IsRecorded J.launch J.keeps_all self.old.keeper.log self.old.kernel self.old.constants self.old.kept }
-        requires held { self.old.keeper.held ≡ who.now.pid ∷ [] }
-        requires asks { IsLiveIn (world J.launch self.old.keeper.log) who.now.pid → AsksCall (world J.launch self.old.keeper.log) who.now turns guest.old call }
+        requires held { self.old.keeper.held ≡ pid ∷ [] }
+        requires asks { IsLiveIn (world J.launch self.old.keeper.log) pid → AsksCall (world J.launch self.old.keeper.log) pid tid turns guest.old call }
         ensures recorded { IsRecorded J.launch J.keeps_all self.new.keeper.log self.new.kernel self.new.constants self.new.kept }
-        ensures held { self.new.keeper.held ≡ who.now.pid ∷ [] }
-        ensures acted { IsActedOn J.launch self.old.keeper.log who.now turns call guest.new self.new.keeper.log result }
+        ensures held { self.new.keeper.held ≡ pid ∷ [] }
+        ensures acted { IsActedOn J.launch self.old.keeper.log pid tid turns call guest.new self.new.keeper.log result }
         ensures guest { KeepsGuest guest.old guest.new result }
     {
-        if !self.kernel.live(who.pid) {
+        if !self.kernel.live(pid) {
             return Acted::Gone;
         }
         let Ok(()) = self.kept.reserve() else {
@@ -72,16 +92,66 @@ impl<J: Naming> Recorded<J> {
         let Ok(room) = guest.make_room(alloc, &call) else {
             return Acted::NoMemory;
         };
-        let answer = self.kernel.step(&self.constants, who, &call);
-        guest.answer(who.tid, &call, &answer, room);
-        let moment = self.kernel.moment();
+        let answer = self.kernel.step(&self.constants, pid, tid, &call);
+        guest.answer(tid, &call, &answer, room);
+        let parks = is_parked(&answer);
+        let head = EntryHead {
+            moment: self.kernel.moment(),
+            pid,
+            tid,
+            turns,
+        };
+        self.keeper.append_call(passes, &head, &call, None, &answer);
+        self.kept.take_call(head, call, None, answer);
+        acted(self.kernel.live(pid), parks)
+    }
+
+    /// The wake of a thread after these turns of its process, whose guest gets the answer to the call that the thread waited in. The
+    /// turns are taken where there is an entry.
+    pub(crate) fn wake(
+        &mut self,
+        passes: &Passes<J>,
+        alloc: Global,
+        pid: Pid,
+        tid: Tid,
+        turns: &mut TidList,
+        guest: &mut Guest,
+    ) -> Woken
+        requires recorded { IsRecorded J.launch J.keeps_all self.old.keeper.log self.old.kernel self.old.constants self.old.kept }
+        requires held { self.old.keeper.held ≡ pid ∷ [] }
+        requires asks { IsLiveIn (world J.launch self.old.keeper.log) pid → AsksWake (world J.launch self.old.keeper.log) pid tid turns.old guest.old }
+        ensures recorded { IsRecorded J.launch J.keeps_all self.new.keeper.log self.new.kernel self.new.constants self.new.kept }
+        ensures held { self.new.keeper.held ≡ pid ∷ [] }
+        ensures woken { IsWokenOn J.launch self.old.keeper.log pid tid turns.old guest.new self.new.keeper.log result }
+        ensures turns { KeepsTurns guest.old guest.new turns.old turns.new result }
+    {
+        if !self.kernel.live(pid) {
+            return Woken::Gone;
+        }
+        let Some(kept) = self.kernel.kept(pid, tid) else {
+            return Woken::NotReady;
+        };
+        let given = guest.given(tid, kept);
+        let Ok(()) = self.kept.reserve() else {
+            return Woken::NoMemory;
+        };
+        let Some((call, answer)) = self.kernel.wake(&self.constants, pid, tid, given) else {
+            return Woken::NotReady;
+        };
+        guest.answer_woken(tid, &call, &answer);
+        let head = EntryHead {
+            moment: self.kernel.moment(),
+            pid,
+            tid,
+            turns: mem::replace(turns, TidList::new(alloc)),
+        };
         self.keeper
-            .append_call(passes, moment, who, &turns, &call, &answer);
-        self.kept.take_call(moment, who, turns, call, answer);
-        if self.kernel.live(who.pid) {
-            Acted::Runs
+            .append_call(passes, &head, &call, Some(given), &answer);
+        self.kept.take_call(head, call, Some(given), answer);
+        if self.kernel.live(pid) {
+            Woken::Runs
         } else {
-            Acted::Ends
+            Woken::Ends
         }
     }
 
@@ -89,34 +159,56 @@ impl<J: Naming> Recorded<J> {
     pub(crate) fn end(
         &mut self,
         passes: &Passes<J>,
-        who: &Who,
+        pid: Pid,
+        tid: Tid,
         turns: TidList,
         how: EndBy,
     ) -> Stopped
         requires recorded { IsRecorded J.launch J.keeps_all self.old.keeper.log self.old.kernel self.old.constants self.old.kept }
-        requires held { self.old.keeper.held ≡ who.now.pid ∷ [] }
-        requires asks { IsLiveIn (world J.launch self.old.keeper.log) who.now.pid
-            → Asks (world J.launch self.old.keeper.log).state who.now (guest_of (world J.launch self.old.keeper.log) who.now.pid) turns (act_of how) }
+        requires held { self.old.keeper.held ≡ pid ∷ [] }
+        requires asks { IsLiveIn (world J.launch self.old.keeper.log) pid → AsksEnd (world J.launch self.old.keeper.log) pid tid turns how }
         ensures recorded { IsRecorded J.launch J.keeps_all self.new.keeper.log self.new.kernel self.new.constants self.new.kept }
-        ensures held { self.new.keeper.held ≡ who.now.pid ∷ [] }
-        ensures stopped { IsStoppedOn J.launch self.old.keeper.log who.now turns how self.new.keeper.log result }
+        ensures held { self.new.keeper.held ≡ pid ∷ [] }
+        ensures stopped { IsStoppedOn J.launch self.old.keeper.log pid tid turns how self.new.keeper.log result }
     {
-        if !self.kernel.live(who.pid) {
+        if !self.kernel.live(pid) {
             return Stopped::Gone;
         }
         let Ok(()) = self.kept.reserve() else {
             return Stopped::NoMemory;
         };
-        self.kernel.end(who.pid, status_of(how));
-        let entry = Entry {
+        self.kernel.end(pid, status_of(how));
+        let head = EntryHead {
             moment: self.kernel.moment(),
-            pid: who.pid,
-            tid: who.tid,
+            pid,
+            tid,
             turns,
-            act: act_of(how),
         };
+        let entry = head.with(act_of(how));
         self.keeper.append(passes, &entry);
         self.kept.take(entry);
         Stopped::Done
+    }
+
+    /// Lets time go to the next deadline where no thread takes turns or is ready.
+    pub(crate) fn idle(&mut self, passes: &Passes<J>, alloc: Global) -> Idled
+        requires recorded { IsRecorded J.launch J.keeps_all self.old.keeper.log self.old.kernel self.old.constants self.old.kept }
+        ensures recorded { IsRecorded J.launch J.keeps_all self.new.keeper.log self.new.kernel self.new.constants self.new.kept }
+        ensures idled { IsIdledOn J.launch self.old.keeper.log self.new.keeper.log result }
+    {
+        let Ok(()) = self.kept.reserve() else {
+            return Idled::NoMemory;
+        };
+        if self.kernel.idle(&self.constants) {
+            let entry = idle_entry(alloc, self.kernel.moment());
+            self.keeper.append(passes, &entry);
+            self.kept.take(entry);
+            return Idled::Jumped;
+        }
+        if self.kernel.stalled(&self.constants) {
+            Idled::Stalled
+        } else {
+            Idled::Busy
+        }
     }
 }

@@ -6,11 +6,41 @@ use abi_types::Signal;
 pub enum Acted {
     /// It is an entry, and the thread goes on, with its answer.
     Runs,
+    /// It is an entry, and the thread waits in it.
+    Parks,
     /// It is an entry, by which the thread's process ended.
     Ends,
     /// The process had ended before, and no entry was added.
     Gone,
     /// Memory ran out before the call was made, and no entry was added.
+    NoMemory,
+}
+
+/// What the wake of a thread that waited came to.
+#[derive(Clone, Copy)]
+pub enum Woken {
+    /// It is an entry, and the thread goes on, with the answer to its call.
+    Runs,
+    /// It is an entry, by which the thread's process ended.
+    Ends,
+    /// The thread waits on, and no entry was added.
+    NotReady,
+    /// The process had ended before, and no entry was added.
+    Gone,
+    /// Memory ran out, and no entry was added.
+    NoMemory,
+}
+
+/// What became of the time where no thread takes turns.
+#[derive(Clone, Copy)]
+pub enum Idled {
+    /// It went to the next deadline, which is an entry.
+    Jumped,
+    /// Some thread takes turns or is ready, or there is none.
+    Busy,
+    /// Each thread waits, none is ready, and none has a deadline: nothing can happen any more.
+    Stalled,
+    /// Memory ran out, and no entry was added.
     NoMemory,
 }
 

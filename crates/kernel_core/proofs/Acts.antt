@@ -1,5 +1,5 @@
 -- What a call does, by the table of its process.
-use Rattle.std.proofs.Common.{◌≡◌, true, [], Option, None, Some, inl, inr, refl, sym, ap, subst, ◌∙◌}
+use Rattle.std.proofs.Common.{◌≡◌, true, false, [], Option, None, Some, inl, inr, refl, sym, ap, subst, ◌∙◌}
 use Rattle.std.specs.FinMap.{get}
 use Rattle.abi_base.specs.declared.errno.Errno.TheVariants.{Nomem}
 use Rattle.abi_types.specs.declared.reply.Answer.{Answer}
@@ -9,16 +9,19 @@ use Rattle.abi_types.specs.declared.reply.Reply.{Reply}
 use Rattle.abi_types.specs.declared.constants.Constants.{Constants}
 use Rattle.abi_types.specs.declared.descriptor.Descriptor.{Descriptor}
 use Rattle.abi_types.specs.declared.open_kind.OpenKind.{OpenKind}
+use Rattle.abi_types.specs.declared.thread.Thread.{Thread}
 use Rattle.abi_types.specs.declared.who.Who.{Who}
 use Rattle.kernel_model.specs.Calls.{meaning_of, refusal, takes_memory}
-use Rattle.kernel_model.specs.Outcome.{Outcome, IsSuccess, replies}
+use Rattle.kernel_model.specs.Outcome.{Outcome, IsSuccess, is_parked, replies}
 use Rattle.kernel_model.specs.Release.{release}
 use Rattle.kernel_model.specs.Reply.{refused}
 use Rattle.kernel_model.specs.State.{State, Table, put_all}
 use Rattle.kernel_model.specs.Step.{failed, IsStep, outcome_by, outcome_on, outcome, tick, unless}
 use Rattle.kernel_model.specs.Families.DescriptorCalls.{stat_get, stat_open}
 use Rattle.kernel_model.specs.View.{View, whole}
+use Rattle.kernel_model.specs.Waits.{waiting, waits_if}
 use Rattle.kernel_model.proofs.Outcomes.{outcome_reads}
+use Rattle.kernel_model.proofs.Tests.{not_true}
 
 -- a refused call answers the refusal alone
 pub act_refused : (constants : Constants) (S : State) (who : Who) (call : Call) (table : Table) (reply : Reply) → get S.tables who.pid ≡ Some table
@@ -48,15 +51,23 @@ pub by_outcome : (constants : Constants) (S T : State) (who : Who) (call : Call)
 by_outcome constants S T who call given o e done =
     (done.0 ∙ sym (ap (λ (x : Outcome). x.answer) e), done.1 ∙ sym (ap (λ (x : Outcome). release (put_all x.updates S)) e))
 
+-- where the answer is a reply its thread doesn't wait
+replies_only : (a : Answer) (who : Who) (thread : Thread) (S : State) → is_parked a ≡ false → waits_if a who thread S ≡ S
+replies_only (answer.Parked writes) who thread S replied = absurd (not_true (sym replied))
+replies_only (answer.Reply reply) who thread S replied = refl
+
 -- a call that was done is a step of the definition
-pub done_is_step : (constants : Constants) (S U : State) (who : Who) (call : Call) (given : Answer)
-    → given ≡ (outcome_by constants (whole (tick S)) who call).answer
-    → U ≡ release (put_all (outcome_by constants (whole (tick S)) who call).updates (tick S)) → IsStep constants S who call given U
-done_is_step constants S U who call given answered left =
+pub done_is_step : (constants : Constants) (S U : State) (who : Who) (call : Call) (reply : Reply)
+    → answer.Reply reply ≡ (outcome_by constants (whole (tick S)) who call).answer
+    → U ≡ release (put_all (outcome_by constants (whole (tick S)) who call).updates (tick S)) → IsStep constants S who call (answer.Reply reply) U
+done_is_step constants S U who call reply answered left =
     let same : outcome constants S who call ≡ outcome_by constants (whole (tick S)) who call = outcome_reads constants S who call in
+    let is : answer.Reply reply ≡ (outcome constants S who call).answer = answered ∙ ap (λ (o : Outcome). o.answer) (sym same) in
     inl (
-      answered ∙ ap (λ (o : Outcome). o.answer) (sym same),
-      left ∙ ap (λ (o : Outcome). release (put_all o.updates (tick S))) (sym same),
+      is,
+      left ∙ ap (λ (o : Outcome). release (put_all o.updates (tick S))) (sym same)
+          ∙ ap release (sym (replies_only (outcome constants S who call).answer who (waiting constants call who.since)
+          (put_all (outcome constants S who call).updates (tick S)) (ap is_parked (sym is)))),
     )
 
 -- a call that takes memory and would else succeed, but answers that memory ran out, is one too

@@ -1,13 +1,16 @@
 -- What a call means, by the part of the kernel that does it.
---     change_is, state_is, file_is, offset_is, entries_is, open_is, exit_is, zeros_is, answered_is, unbuilt_is      the call of a view
+--     change_is, state_is, file_is, offset_is, entries_is, open_is, exit_is, poll_is, zeros_is, answered_is, unbuilt_is      the call of a view
 --     file_on, offset_on, entries_on      the descriptors of a view are those on whose opens its call works
---     change_does, zeros_does, answered_does, unbuilt_does      what such a call does
+--     change_does, poll_does, zeros_does, answered_does, unbuilt_does      what such a call does
 --     change_replaces, change_takes_memory      a number that is replaced is there;  memory may run out for a new number
 --     all_named      where a call isn't refused each descriptor that it names is there
 --     on_err_both, on_err_all      what follows where there is an error
-use Rattle.std.proofs.Common.{◌≡◌, ℕ, Bool, true, false, cond, Option, None, Some, Result, Ok, Err, OnErr, refl, sym, ap, subst}
+use Rattle.std.proofs.Common.{◌≡◌, ℕ, Bool, true, false, cond, List, [], ◌∷◌, Option, None, Some, Result, Ok, Err, OnErr, refl, sym, ap, subst}
 use Rattle.abi_base.specs.declared.errno.Errno.{Errno}
 use Rattle.abi_base.specs.declared.errno.Errno.TheVariants.{Badf, Nosys, Success}
+use Rattle.abi_structures.specs.declared.events.Subscription.{Subscription}
+use Rattle.abi_structures.specs.declared.events.What.{What}
+use Rattle.abi_structures.specs.declared.events.What.TheVariants.{Clock}
 use Rattle.abi_types.specs.Families.{HasFile, IsOf, answer_of, call_of_change, call_of_entry, call_of_file, call_of_offset, call_of_open, fd_of_file, fd_of_offset, fds_of_entry, is_anonymous, is_unbuilt, zeros_of}
 use Rattle.abi_types.specs.declared.call.Call.{Call}
 use Rattle.abi_types.specs.declared.call.Call.TheVariants as call
@@ -31,16 +34,20 @@ use Rattle.kernel_model.specs.Calls.{meaning_of, named, refusal, takes_memory}
 use Rattle.kernel_model.specs.Families.EntryCalls.{entry_fds}
 use Rattle.kernel_model.specs.Families.FileCalls.{file_fd}
 use Rattle.kernel_model.specs.Families.MemoryCalls.{map_zeros, placed}
+use Rattle.kernel_model.specs.Families.WaitCalls.{lone_poll}
 use Rattle.kernel_model.specs.Laws.{HasAll}
 use Rattle.kernel_model.specs.Meaning.{Meaning}
 use Rattle.kernel_model.specs.Need.{some_absent}
-use Rattle.kernel_model.specs.Outcome.{replies}
+use Rattle.kernel_model.specs.Outcome.{IsSuccess, replies}
 use Rattle.kernel_model.specs.Reply.{refused}
 use Rattle.kernel_model.specs.State.{State, Table}
 use Rattle.kernel_model.specs.View.{View, whole}
 use Rattle.kernel_model.proofs.Lacks.{all_present}
 use Rattle.kernel_model.proofs.Tests.{none_is_no, same_some}
+use Rattle.kernel_model.proofs.WaitCalls.{poll_holds}
 use Rattle.kernel_parts.specs.Changes.{HasReplaced, IsDup, change_outcome}
+use Rattle.kernel_parts.specs.Polls.{poll_outcome}
+use Rattle.kernel_parts.proofs.Polling.{poll_reads}
 use Rattle.kernel_core.proofs.Changes.{put_is}
 
 -- ---- the call of a view
@@ -77,6 +84,10 @@ module _ (c : Call) (f : Family) (of : IsOf c f) where
   pub zeros_is : (place : Place) → f ≡ family.Zeros place → zeros_of c ≡ Some place
   unfolding IsOf
   zeros_is place is = subst (IsOf c) is of
+
+  pub poll_is : (subscriptions : _) → f ≡ family.Poll subscriptions → c ≡ call.Poll subscriptions.now
+  unfolding IsOf
+  poll_is subscriptions is = subst (IsOf c) is of
 
   pub answered_is : (errno : Errno) → f ≡ family.Answered errno → answer_of c ≡ Some errno
   unfolding IsOf
@@ -167,7 +178,6 @@ unbuilt_does (call.CondvarSignal condvar word scope n) constants v who table is 
 unbuilt_does (call.FdCreate1 kind) constants v who table is = refl
 unbuilt_does (call.FdCreate2 kind) constants v who table is = refl
 unbuilt_does (call.LockUnlock lock word scope) constants v who table is = refl
-unbuilt_does (call.Poll subscriptions) constants v who table is = refl
 unbuilt_does (call.ProcExec fd bytes fds) constants v who table is = refl
 unbuilt_does (call.ProcFork left) constants v who table is = refl
 unbuilt_does (call.ProcRaise signal) constants v who table is = refl
@@ -179,6 +189,27 @@ unbuilt_does (call.ThreadCreate attributes) constants v who table is = refl
 unbuilt_does (call.ThreadExit lock word scope) constants v who table is = refl
 unbuilt_does call.ThreadYield constants v who table is = refl
 unbuilt_does other constants v who table is = absurd (cc)
+
+-- ---- polls
+
+pub poll_does : (constants : Constants) (S : State) (who : Who) (table : Table) (subscriptions : List Subscription)
+    → (meaning_of (call.Poll subscriptions)).effect constants (whole S) who table ≡ poll_outcome constants who.since S.clock subscriptions
+poll_does constants S who table subscriptions = poll_reads constants (whole S) who table subscriptions
+
+pub poll_sets_nothing : (constants : Constants) (since now : ℕ) (subscriptions : List Subscription) → (poll_outcome constants since now subscriptions).updates ≡ []
+poll_sets_nothing constants since now subscriptions = poll_holds (λ o. o.updates ≡ []) refl (λ userdata. refl) refl subscriptions constants _ _ _
+
+lone_takes : (constants : Constants) (v : View) (who : Who) (table : Table) (userdata : ℕ) (what : What)
+    → IsSuccess ((lone_poll userdata what).effect constants v who table).answer → (lone_poll userdata what).takes_memory ≡ true
+lone_takes constants v who table userdata (Clock clock timeout precision flags) done = refl
+lone_takes constants v who table userdata what done = absurd (cc)
+
+-- one that isn't built yet doesn't succeed
+pub poll_takes_memory : (constants : Constants) (since now : ℕ) (subscriptions : List Subscription) → IsSuccess (poll_outcome constants since now subscriptions).answer
+    → takes_memory (call.Poll subscriptions) ≡ true
+poll_takes_memory constants since now [] done = absurd (cc)
+poll_takes_memory constants since now (subscription ∷ []) done = lone_takes constants _ _ _ subscription.userdata subscription.what done
+poll_takes_memory constants since now (first ∷ second ∷ rest) done = absurd (cc)
 
 -- ---- refusals
 

@@ -13,3 +13,5 @@ pub mod EntryCalls
 pub mod OpenCalls
 pub mod Families
 pub mod Opens
+pub mod Parks
+pub mod Waiters

@@ -3,3 +3,4 @@ pub mod Files
 pub mod OffsetCalls
 pub mod Entries
 pub mod Opening
+pub mod Waiting

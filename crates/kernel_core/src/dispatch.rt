@@ -10,7 +10,7 @@ ghost use Rattle.kernel_model.specs.View.{whole};
 
 use crate::kernel::Kernel;
 use abi_types::{Answer, Call, Constants, Errno, Family, Status, Who};
-use kernel_parts::placed;
+use kernel_parts::{placed, poll};
 use right_rules::{refusal, refused, success};
 use std::alloc::AllocError;
 
@@ -49,6 +49,13 @@ impl Kernel {
                 self.end_process(who.pid, Status::Exit(code));
                 Ok(Answer::Reply(success(0, 0)))
             }
+            Family::Poll(subscriptions) => poll(
+                self.alloc,
+                constants,
+                who.since,
+                self.clock,
+                subscriptions,
+            ),
             Family::Zeros(place) => Ok(Answer::Reply(placed(place))),
             Family::Answered(errno) => Ok(Answer::Reply(refused(errno))),
             Family::NotBuilt => Ok(Answer::Reply(refused(Errno::Nosys))),

@@ -1,8 +1,9 @@
 //! The kernel's state, and its steps.
-ghost use Rattle.std.specs.Prelude.{◌≡◌, ◌≢◌, ◌⊎◌, ◌∷◌, ◌+◌, ◌^◌, ◌<◌, ◌≤◌, ◌↔◌, ℕ, [], Some, None, IsSome, IfOk, OnErr, IsTrue, false, true, length, unwrap_or};
+ghost use Rattle.std.specs.Prelude.{◌≡◌, ◌≢◌, ◌⊎◌, ◌∷◌, ◌+◌, ◌^◌, ◌<◌, ◌≤◌, ◌↔◌, ℕ, [], Some, None, IsSome, IfOk, OnErr, IsTrue, false, true, length, option_copied, unwrap_or};
 ghost use Rattle.std.specs.FinMap as map;
 ghost use Rattle.abi_types.specs.declared.descriptor.Denial.TheVariants as denial;
 ghost use Rattle.kernel_core.specs.Kernel.{is_live, any_live};
+ghost use Rattle.kernel_core.specs.Waiting.{caller};
 ghost use Rattle.kernel_model.specs.Calls.{named, need};
 ghost use Rattle.kernel_model.specs.Laws.{HasAll, IsFirstLack, IsNotDeniedEarly, IsOfFirstLack, IsOfPath};
 ghost use Rattle.kernel_model.specs.Need.{missing};
@@ -31,7 +32,7 @@ use std::alloc::{AllocError, Global};
 use std::marker::Model;
 
 // How long each call takes, and each end from outside, in nanoseconds.
-const STEP_TIME: u64 = 1000;
+pub(crate) const STEP_TIME: u64 = 1000;
 
 /// The state of the kernel, in contracts a `State` (docs/MODEL.md), which is always valid.
 #[derive(Drop)]
@@ -106,9 +107,9 @@ impl Kernel {
         );
     }
 
-    // A call, with the clock.
-    fn run(&mut self, constants: &Constants, who: &Who, call: &Call) -> Answer
-        requires live { map.get self.old.statuses who.now.pid ≡ Some Status.Live }
+    // A call of a thread that runs, with the clock. Where its thread waits in it the call is copied.
+    pub(crate) fn run(&mut self, constants: &Constants, who: &Who, call: &Call) -> Answer
+        requires runnable { thread_of self.old who.now.pid who.now.tid ≡ Some Thread.Runnable }
         requires early { self.old.clock < 2 ^ 63 }
         requires epoch { constants.now.epoch ≤ 2 ^ 62 }
         ensures step { IsStep constants.now self.old who.now call.now result self.new }
@@ -116,36 +117,41 @@ impl Kernel {
     {
         self.clock += STEP_TIME;
         match self.dispatch(constants, who, call) {
-            Ok(answer) => answer,
+            Ok(Answer::Reply(reply)) => Answer::Reply(reply),
+            Ok(Answer::Parked(writes)) => match self.park(constants, who, call) {
+                Ok(()) => Answer::Parked(writes),
+                Err(_) => Answer::Reply(refused(Errno::Nomem)),
+            },
             Err(_) => Answer::Reply(refused(Errno::Nomem)),
         }
     }
 
     /// A call of a live process's runnable thread in a run with these constants: the answer, and the state after it. Each
-    /// call takes 1000 nanoseconds. `Errno::Nomem` comes only where memory runs out in a call that would else succeed, and
-    /// then only the clock has moved. A call that answers any other error moves only the clock too. `Errno::Notcapable` comes
-    /// with exactly the rights that are missing, or with the component at which a path leads outside, whether memory runs out
-    /// or not.
-    pub fn step(&mut self, constants: &Constants, who: &Who, call: &Call) -> Answer
-        requires live { map.get self.old.statuses who.now.pid ≡ Some Status.Live }
-        requires runnable { thread_of self.old who.now.pid who.now.tid ≡ Some Thread.Runnable }
+    /// call takes 1000 nanoseconds, and is made at the moment after these. `Errno::Nomem` comes only where memory runs out in a
+    /// call that would else succeed or wait, and then only the clock has moved. A call that answers any other error moves only the
+    /// clock too, and one that waits moves only the clock and its thread. `Errno::Notcapable` comes with exactly the rights that are
+    /// missing, or with the component at which a path leads outside, whether memory runs out or not.
+    pub fn step(&mut self, constants: &Constants, pid: Pid, tid: Tid, call: &Call) -> Answer
+        requires live { map.get self.old.statuses pid ≡ Some Status.Live }
+        requires runnable { thread_of self.old pid tid ≡ Some Thread.Runnable }
         requires early { self.old.clock < 2 ^ 63 }
         requires epoch { constants.now.epoch ≤ 2 ^ 62 }
-        ensures step { IsStep constants.now self.old who.now call.now result self.new }
+        ensures step { IsStep constants.now self.old (caller self.old pid tid) call.now result self.new }
         ensures valid { IsValid self.new }
-        ensures others { (q : Part) → IsUntouched constants.now self.old who.now call.now q → Agree self.new self.old q }
-        ensures denied { (table : Table) (row : Needed) (d : Descriptor) → map.get self.old.tables who.now.pid ≡ Some table
+        ensures others { (q : Part) → IsUntouched constants.now self.old (caller self.old pid tid) call.now q → Agree self.new self.old q }
+        ensures denied { (table : Table) (row : Needed) (d : Descriptor) → map.get self.old.tables pid ≡ Some table
             → HasAll table (named call.now) → IsFirstLack table (need call.now) row d
             → result ≡ Answer.Reply (denied (missing d row)) }
         ensures only { (reply : Reply) (denial : Denial) → result ≡ Answer.Reply reply → reply.denial ≡ Some denial
-            → IsOfFirstLack self.old who.now call.now denial ⊎ IsOfPath self.old who.now call.now denial }
-        ensures outside { (component : ℕ) → outside self.old who.now call.now ≡ Some component
+            → IsOfFirstLack self.old (caller self.old pid tid) call.now denial ⊎ IsOfPath self.old (caller self.old pid tid) call.now denial }
+        ensures outside { (component : ℕ) → outside self.old (caller self.old pid tid) call.now ≡ Some component
             → result ≡ Answer.Reply (denied (denial.Outside component)) }
         ensures reported { (reply : Reply) → IsNotDeniedEarly call.now → result ≡ Answer.Reply reply → reply.errno ≡ Errno.Notcapable
             → IsSome reply.denial }
-        ensures refused { (reply : Reply) → result ≡ Answer.Reply reply → reply.errno ≢ Errno.Success → self.new ≡ failed self.old who.now }
+        ensures refused { (reply : Reply) → result ≡ Answer.Reply reply → reply.errno ≢ Errno.Success → self.new ≡ failed self.old (caller self.old pid tid) }
     {
-        self.run(constants, who, call)
+        let since = self.clock + STEP_TIME;
+        self.run(constants, &Who { pid, tid, since }, call)
     }
 
     /// Ends a live process from outside, by a trap or at the end of its turns. It takes 1000 nanoseconds.
@@ -193,8 +199,8 @@ impl Kernel {
     }
 
     /// What a thread does. `None` exactly where the process has no such live thread.
-    pub fn thread(&self, pid: Pid, tid: Tid) -> Option<Thread>
-        ensures { result ≡ thread_of self.now pid tid }
+    pub fn thread(&self, pid: Pid, tid: Tid) -> Option<&Thread>
+        ensures { option_copied result ≡ thread_of self.now pid tid }
     {
         self.processes.get(u64::from(pid.0))?.thread(tid)
     }

@@ -2,6 +2,7 @@
 #![tactic(auto)]
 
 pub use kernel::Kernel;
+pub use kernel_parts::Activity;
 pub use run_types::{Act, Entry, Launch};
 
 mod descriptors;
@@ -11,3 +12,4 @@ mod files;
 mod kernel;
 mod offset_calls;
 mod opening;
+mod waiting;

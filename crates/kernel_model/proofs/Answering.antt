@@ -34,6 +34,7 @@ replying_is_proper named need seen errors reply names sees plain listed = record
   sets = λ constants S who table part h. refl;
   touched = λ S table part h. absurd (not_true h);
   plain = λ constants v who table. (plain, elim listed [ inl done ↦ inl done | inr here ↦ inr (refl, here) ]);
+  waits = λ h. absurd (not_true h);
   lacks = λ h. absurd (not_true h);
   others = λ constants v who table q apart. (refl, refl);
   threads = λ constants S who table live. refl;

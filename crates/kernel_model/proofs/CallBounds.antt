@@ -48,6 +48,7 @@ of_number P call number is holds = subst (OfNumber P) (sym is) holds
 
 -- each call of these takes no memory; the first lines are of those that may
 takes_none : (call : Call) → OfNumber never_lacks (number_of_call call) → takes_memory call ≡ false
+takes_none (call.Poll subscriptions) listed = absurd (not_true listed)
 takes_none (call.FdDup fd) listed = absurd (not_true listed)
 takes_none (call.FdPread fd length offset) listed = absurd (not_true listed)
 takes_none (call.FdPwrite fd bytes offset) listed = absurd (not_true listed)

@@ -5,8 +5,7 @@ use Rattle.abi_types.specs.declared.call.Call.{Call}
 use Rattle.abi_types.specs.declared.call.Call.TheVariants as call
 use Rattle.kernel_model.specs.Calls.{meaning_of}
 use Rattle.kernel_model.specs.Proper.{IsProper}
-use Rattle.kernel_model.specs.Families.WaitCalls.{wait_rows}
-use Rattle.kernel_model.proofs.Answering.{each_row_is_proper, listing_is_proper, naming_is_proper, needing_is_proper, row_is_proper}
+use Rattle.kernel_model.proofs.Answering.{listing_is_proper, naming_is_proper, needing_is_proper, row_is_proper}
 use Rattle.kernel_model.proofs.MemoryCalls.{decided_is_proper, mem_map_is_proper}
 use Rattle.kernel_model.proofs.ProcessCalls.{proc_exit_is_proper}
 use Rattle.kernel_model.proofs.DescriptorCalls.{fd_close_is_proper, fd_dup_is_proper, fd_replace_is_proper, fd_stat_get_is_proper, fd_stat_put_is_proper}
@@ -19,6 +18,7 @@ use Rattle.kernel_model.proofs.NameMoving.{file_rename_is_proper}
 use Rattle.kernel_model.proofs.NameRemoving.{file_unlink_is_proper}
 use Rattle.kernel_model.proofs.Opening.{file_open_is_proper}
 use Rattle.kernel_model.proofs.StreamCalls.{fd_read_is_proper, fd_seek_is_proper, fd_write_is_proper}
+use Rattle.kernel_model.proofs.WaitCalls.{poll_is_proper}
 
 pub proper : (call : Call) → IsProper (meaning_of call)
 proper (call.ClockResGet clock) = naming_is_proper []
@@ -55,7 +55,7 @@ proper (call.FileUnlink fd path flags) = file_unlink_is_proper fd path flags
 proper (call.LockUnlock lock word scope) = naming_is_proper []
 proper (call.MemMap place length prot flags fd offset) = mem_map_is_proper place length prot flags fd offset
 proper (call.Memory number errno) = decided_is_proper errno
-proper (call.Poll subscriptions) = each_row_is_proper (wait_rows subscriptions)
+proper (call.Poll subscriptions) = poll_is_proper subscriptions
 proper (call.ProcExec fd bytes fds) = listing_is_proper _ fds
 proper (call.ProcExit code) = proc_exit_is_proper code
 proper (call.ProcFork left) = naming_is_proper []

@@ -15,8 +15,10 @@ use Rattle.kernel_model.specs.Release.{ends, is_node_kept, process_left, release
 use Rattle.kernel_model.specs.State.{State, Part, at_clock, at_proc, at_status, at_open, at_node, at_names, at_term, at_chan, same_part, has_part, Agree, AgreeOn, put_all}
 use Rattle.kernel_model.specs.Step.{tick, sight, outcome_by, outcome, unreleased, step_answer, step_state}
 use Rattle.kernel_model.specs.View.{only, restrict}
+use Rattle.kernel_model.specs.Waits.{waiting, waits_if}
 use Rattle.kernel_model.proofs.Ends.{channel_after, process_after, status_after, table_after}
 use Rattle.kernel_model.proofs.Parts.{agree_at, put_same}
+use Rattle.kernel_model.proofs.Threading.{waits_alike}
 use Rattle.kernel_model.proofs.Valids.{get_released}
 use Rattle.kernel_model.proofs.Tests.{not_true, or_true}
 
@@ -29,11 +31,11 @@ retained_alike : {X : Type 0} (m n : FinMap nat_cmp X) (p : ℕ → Bool) → ((
 retained_alike m n p alike =
     same_numbers _ _ (λ q. get-retain m p q ∙ only_alike (p q) (get m q) (get n q) (alike q) ∙ sym (get-retain n p q))
 
--- what is seen of two states at their next moment is the same where they agree on the parts seen
-restrict_alike : (S T : State) (parts : List Part) → S.clock ≡ T.clock → AgreeOn S T parts → restrict (tick S) parts ≡ restrict (tick T) parts
+-- what is seen of two states is the same where they agree on the parts seen
+pub restrict_alike : (S T : State) (parts : List Part) → S.clock ≡ T.clock → AgreeOn S T parts → restrict S parts ≡ restrict T parts
 restrict_alike S T parts now all =
     λ i. record {
-      clock = now i + 1000;
+      clock = now i;
       table = λ p. only_alike (has_part parts (at_proc p)) (get S.tables p) (get T.tables p) (λ h. (agree_at S T parts (at_proc p) all h).0) i;
       process = λ p. only_alike (has_part parts (at_proc p)) (get S.processes p) (get T.processes p) (λ h. (agree_at S T parts (at_proc p) all h).1) i;
       status = λ p. only_alike (has_part parts (at_status p)) (get S.statuses p) (get T.statuses p) (λ h. agree_at S T parts (at_status p) all h) i;
@@ -46,20 +48,6 @@ restrict_alike S T parts now all =
       channel = λ c. only_alike (has_part parts (at_chan c)) (get S.chans c) (get T.chans c) (λ h. agree_at S T parts (at_chan c) all h) i;
     }
 
--- the clock is the first of the parts that a call sees
-sees_clock : (S T : State) (who : Who) (call : Call) → AgreeOn S T (sight S who call) → S.clock ≡ T.clock
-unfolding sight
-sees_clock S T who call same = same.0
-
-pub sight_decides : (constants : Constants) (S T : State) (who : Who) (call : Call) → HasSameSight S T who call
-    → outcome constants S who call ≡ outcome constants T who call
-unfolding outcome
-sight_decides constants S T who call same =
-    ap (λ v. outcome_by constants v who call) (restrict_alike S T (sight S who call) (sees_clock S T who call same.1) same.1)
-    ∙ ap (λ parts. outcome_by constants (restrict (tick T) parts) who call) same.0
-
--- ---- after the step
-
 tick_alike : (S T : State) (q : Part) → Agree S T q → Agree (tick S) (tick T) q
 tick_alike S T at_clock h = ap (λ n. n + 1000) h
 tick_alike S T q h = h
@@ -68,12 +56,30 @@ pub ticks_alike : (S T : State) (parts : List Part) → AgreeOn S T parts → Ag
 ticks_alike S T [] h = tt
 ticks_alike S T (part ∷ parts) h = (tick_alike S T part h.0, ticks_alike S T parts h.1)
 
+-- the clock is the first of the parts that a call sees
+pub sees_clock : (S T : State) (who : Who) (call : Call) → AgreeOn S T (sight S who call) → S.clock ≡ T.clock
+unfolding sight
+sees_clock S T who call same = same.0
+
+pub sight_decides : (constants : Constants) (S T : State) (who : Who) (call : Call) → HasSameSight S T who call
+    → outcome constants S who call ≡ outcome constants T who call
+unfolding outcome
+sight_decides constants S T who call same =
+    ap (λ v. outcome_by constants v who call)
+    (restrict_alike (tick S) (tick T) (sight S who call) (ap (λ n. n + 1000) (sees_clock S T who call same.1)) (ticks_alike S T (sight S who call) same.1))
+    ∙ ap (λ parts. outcome_by constants (restrict (tick T) parts) who call) same.0
+
+-- ---- after the step
+
 -- two states that agree on a part, where the same updates are put into both
 unreleased_alike : (constants : Constants) (S T : State) (who : Who) (call : Call) (q : Part) → outcome constants S who call ≡ outcome constants T who call
     → Agree S T q → Agree (unreleased constants S who call) (unreleased constants T who call) q
 unreleased_alike constants S T who call q same h =
-    subst (λ (o : Outcome). Agree (unreleased constants S who call) (put_all o.updates (tick T)) q) same
-    (put_same (outcome constants S who call).updates (tick S) (tick T) q (tick_alike S T q h))
+    let thread = waiting constants call who.since in
+    subst (λ (o : Outcome). Agree (unreleased constants S who call) (waits_if o.answer who thread (put_all o.updates (tick T))) q) same
+    (waits_alike (outcome constants S who call).answer who thread (put_all (outcome constants S who call).updates (tick S))
+    (put_all (outcome constants S who call).updates (tick T)) q
+    (put_same (outcome constants S who call).updates (tick S) (tick T) q (tick_alike S T q h)))
 
 same_test : (a b : Bool) → not a ≡ not b → a ≡ b
 same_test true true e = refl

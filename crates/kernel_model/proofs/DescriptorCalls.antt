@@ -104,6 +104,8 @@ setting_is_proper : (named : List ℕ) (errors : List Errno) (takes : Bool) (f :
       numbers = 0;
       errors = errors;
       takes_memory = takes;
+      may_wait = false;
+      deadline = λ constants since. None;
     })
 setting_is_proper named errors takes f is lacks = record {
   names = tt;
@@ -116,6 +118,7 @@ setting_is_proper named errors takes f is lacks = record {
   touched = λ S table part h. absurd (not_true h);
   plain = λ constants v who table.
       of_table (IsPlain errors) errors who.pid table (f who.pid table) (is who.pid table) (λ errno here. (refl, inr (refl, here))) (λ result new _. (refl, inl refl));
+  waits = λ h. absurd (not_true h);
   lacks = lacks;
   others = λ constants v who table q apart.
       of_table (λ o. IsUnset o (at_proc q) × IsUnset o (at_status q)) errors who.pid table (f who.pid table) (is who.pid table) (λ errno _. (refl, refl))
@@ -199,6 +202,7 @@ fd_stat_get_is_proper fd = record {
   sets = λ constants S who table part h. stat_holds (λ o. IsUnset o part) (whole (tick S)) (get table fd) refl (λ d kind. refl);
   touched = λ S table part h. absurd (not_true h);
   plain = λ constants v who table. stat_holds (IsPlain (Badf ∷ [])) v (get table fd) (refl, inr (refl, ([], [], refl))) (λ d kind. (refl, inl refl));
+  waits = λ h. absurd (not_true h);
   lacks = λ h. absurd (not_true h);
   others = λ constants v who table q apart. (
     stat_holds (λ o. IsUnset o (at_proc q)) v (get table fd) refl (λ d kind. refl),
@@ -301,6 +305,7 @@ fd_stat_put_is_proper fd stat flags = record {
   touched = λ S table part h. open_reached S (get table fd) part h;
   plain = λ constants v who table.
       put_holds (IsPlain (Badf ∷ [])) v who.pid table fd stat flags (get table fd) (refl, inr (refl, ([], [], refl))) (λ d kind _ _. (refl, inl refl));
+  waits = λ h. absurd (not_true h);
   lacks = λ h. absurd (not_true h);
   others = λ constants v who table q apart. put_others v who.pid table fd stat flags (get table fd) q apart;
   threads = λ constants S who table. put_threads S (whole S) who.pid table fd stat flags (get table fd);

@@ -23,7 +23,7 @@ use Rattle.kernel_model.specs.View.{restrict, whole}
 use Rattle.kernel_model.proofs.Branches.{IsSeen, behind_is_seen}
 use Rattle.kernel_model.proofs.Parts.{beyond_process, has_of_both}
 use Rattle.kernel_model.proofs.Sights.{open_seen}
-use Rattle.kernel_model.proofs.Tests.{none_is_no, or_false, or_true}
+use Rattle.kernel_model.proofs.Tests.{none_is_no, not_true, or_false, or_true}
 
 -- ---- updates of the file tree
 
@@ -130,6 +130,7 @@ module _ (m : FileMeaning) (well : KeepsWell m) where
         (beyond_process who.pid (m.touched (tree_of S) (open_of (whole S) (get table row.fd))) part h).1;
     touched = λ S table part h. file_seen S (get table row.fd) part h;
     plain = λ constants v who table. well.plain (real_time constants v.clock) v.branch (open_of v (get table row.fd));
+    waits = λ h. absurd (not_true h);
     lacks = well.lacks;
     others = λ constants v who table q apart.
         tree_unset (m.effect (real_time constants v.clock) v.branch (open_of v (get table row.fd))).updates q

@@ -17,21 +17,23 @@ use Rattle.kernel_model.specs.CallBounds.{BadfIsAbsent, IsAbsentIn, IsBadfBefore
 use Rattle.kernel_model.specs.Calls.{meaning_of, named, need, refusal, refusal_of}
 use Rattle.kernel_model.specs.Laws.{HasAll}
 use Rattle.kernel_model.specs.Need.{denied_by, first_lack, some_absent}
-use Rattle.kernel_model.specs.Outcome.{Outcome, OnReply}
+use Rattle.kernel_model.specs.Outcome.{Outcome, WhereReply}
 use Rattle.kernel_model.specs.Proper.{IsIn}
 use Rattle.kernel_model.specs.Reply.{denied, refused}
 use Rattle.kernel_model.specs.State.{State, Table}
-use Rattle.kernel_model.specs.Step.{outcome, step_answer}
+use Rattle.kernel_model.specs.Step.{outcome, step_answer, tick}
+use Rattle.kernel_model.specs.View.{whole}
 use Rattle.kernel_model.specs.Valid.{IsNearlyValid}
 use Rattle.kernel_model.proofs.FoundFiles.{fd_close_found, fd_dup_found, fd_pread_found, fd_pwrite_found, fd_replace_found, fd_stat_get_found, fd_stat_put_found, file_allocate_found, file_readdir_found, file_readlink_found, file_stat_fget_found, file_stat_fput_found, file_stat_get_found, file_stat_put_found}
 use Rattle.kernel_model.proofs.FoundNames.{file_create_found, file_link_found, file_open_found, file_rename_found, file_symlink_found, file_unlink_found}
 use Rattle.kernel_model.proofs.FoundOpens.{NeverBadf, OnlyWhere}
+use Rattle.kernel_model.proofs.WaitCalls.{poll_holds}
 use Rattle.kernel_model.proofs.FoundStreams.{fd_read_found, fd_seek_found, fd_write_found, mem_map_found}
 use Rattle.kernel_model.proofs.Lacks.{all_present}
 use Rattle.kernel_model.proofs.Lists.{in_more}
 use Rattle.kernel_model.proofs.Outcomes.{outcome_by_cases}
 use Rattle.kernel_model.proofs.Reaches.{all_met}
-use Rattle.kernel_model.proofs.Refusals.{on_reply, same_reply}
+use Rattle.kernel_model.proofs.Refusals.{same_reply, where_reply}
 use Rattle.kernel_model.proofs.Tests.{none_is_no, not_true, same_some}
 
 -- ---- each call
@@ -64,6 +66,8 @@ module _ (S : State) (nearly : IsNearlyValid S) where
   found (call.FileUnlink fd path flags) = file_unlink_found S nearly fd path flags
   found (call.MemMap place length prot flags fd offset) = mem_map_found S nearly place length prot flags fd offset
   found (call.Memory number errno) = λ constants who table own all met e. e
+  found (call.Poll subscriptions) = λ constants who table own all met.
+      poll_holds (OnlyWhere (IsBadfBefore (call.Poll subscriptions))) (λ e. cc) (λ userdata e. cc) tt subscriptions constants (whole (tick S)) who table
   found (call.Refused number errno) = λ constants who table own all met e. e
   found _ = λ constants who table own all met e. cc
 
@@ -121,8 +125,9 @@ all_there table call none =
 abbrev Absent : State → Who → Call → Outcome → Type 0
 Absent S who call o = OnlyWhere (IsAbsentIn S who call ⊎ IsBadfBefore call) o
 
-weaker : (Q R : Type 0) (given : Answer) → (Q → R) → OnReply (λ (reply : Reply). reply.errno ≡ Badf → Q) given
-    → OnReply (λ (reply : Reply). reply.errno ≡ Badf → R) given
+weaker : (Q R : Type 0) (given : Answer) → (Q → R) → WhereReply (λ (reply : Reply). reply.errno ≡ Badf → Q) given
+    → WhereReply (λ (reply : Reply). reply.errno ≡ Badf → R) given
+weaker Q R (answer.Parked writes) more holds = tt
 weaker Q R (answer.Reply reply) more holds = λ badf. more (holds badf)
 
 outcome_absent : (constants : Constants) (S : State) (who : Who) (call : Call) → IsNearlyValid S → Absent S who call (outcome constants S who call)
@@ -135,7 +140,7 @@ outcome_absent constants S who call nearly =
 
 pub badf_is_absent : BadfIsAbsent
 badf_is_absent constants S who call reply T valid (inl done) badf =
-    on_reply (λ r. r.errno ≡ Badf → IsAbsentIn S who call ⊎ IsBadfBefore call) (step_answer constants S who call) reply
+    where_reply (λ r. r.errno ≡ Badf → IsAbsentIn S who call ⊎ IsBadfBefore call) (step_answer constants S who call) reply
     (outcome_absent constants S who call valid.nearly) (sym done.0) badf
 badf_is_absent constants S who call reply T valid (inr lacking) badf =
     absurd (nomem_other (sym (ap (λ (r : Reply). r.errno) (same_reply reply (refused Nomem) lacking.1)) ∙ badf))

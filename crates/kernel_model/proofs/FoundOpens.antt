@@ -40,7 +40,7 @@ use Rattle.kernel_model.specs.Families.OpenMeaning.{OpenMeaning, at_descriptor, 
 use Rattle.kernel_model.specs.Laws.{HasAll, IsMet}
 use Rattle.kernel_model.specs.Meaning.{Meaning}
 use Rattle.kernel_model.specs.Need.{has_instead, has_needed, lack_base, lack_inheriting}
-use Rattle.kernel_model.specs.Outcome.{Outcome, OnReply}
+use Rattle.kernel_model.specs.Outcome.{Outcome, WhereReply}
 use Rattle.kernel_model.specs.State.{ProcessState, State, Table, tree_of}
 use Rattle.kernel_model.specs.Step.{tick}
 use Rattle.kernel_model.specs.Fits.{HasRightsOf, fits}
@@ -52,7 +52,7 @@ use Rattle.kernel_model.proofs.Tests.{none_is_no, not_true}
 
 -- where the reply is BADF this holds
 abbrev pub OnlyWhere : Type 0 → Outcome → Type 0
-OnlyWhere Q o = OnReply (λ (reply : Reply). reply.errno ≡ Badf → Q) o.answer
+OnlyWhere Q o = WhereReply (λ (reply : Reply). reply.errno ≡ Badf → Q) o.answer
 
 -- where the descriptors that it names are there with the rights that it needs, what it does is BADF only where this holds
 abbrev pub NeverBadf : Type 0 → State → Meaning → Type 0

@@ -28,7 +28,7 @@ use Rattle.kernel_model.specs.Families.FileMeaning.{on_open}
 use Rattle.kernel_model.specs.Families.FileOffsets.{OffsetOutcome, seek_to, sought, write_from, write_place}
 use Rattle.kernel_model.specs.Families.MemoryCalls.{map_open, map_row, map_zeros, mapping, mem_map, placed, placed_with}
 use Rattle.kernel_model.specs.Families.StreamCalls.{fd_read, fd_seek, fd_write, read_open, read_term, reading, seek_open, seek_row, seeking, write_open, write_term, writing}
-use Rattle.kernel_model.specs.Outcome.{OnReply}
+use Rattle.kernel_model.specs.Outcome.{WhereReply}
 use Rattle.kernel_model.specs.Rows.{base_row, both, either_row}
 use Rattle.kernel_model.specs.State.{State, Tree, tree_of}
 use Rattle.kernel_model.specs.Step.{tick}
@@ -106,11 +106,11 @@ module _ (S : State) (nearly : IsNearlyValid S) where
 
 -- ---- mem_map
 
-placed_found : (place : Place) → OnReply (λ (reply : Reply). reply.errno ≡ Badf → HasBadfPlace place) (answer.Reply (placed place))
+placed_found : (place : Place) → WhereReply (λ (reply : Reply). reply.errno ≡ Badf → HasBadfPlace place) (answer.Reply (placed place))
 placed_found (place.At address) = λ e. cc
 placed_found (place.Refused errno) = λ e. e
 
-placed_with_found : (place : Place) (bytes : List ℕ) → OnReply (λ (reply : Reply). reply.errno ≡ Badf → HasBadfPlace place) (answer.Reply (placed_with place bytes))
+placed_with_found : (place : Place) (bytes : List ℕ) → WhereReply (λ (reply : Reply). reply.errno ≡ Badf → HasBadfPlace place) (answer.Reply (placed_with place bytes))
 placed_with_found (place.At address) bytes = λ e. cc
 placed_with_found (place.Refused errno) bytes = λ e. e
 

@@ -26,14 +26,16 @@ use Rattle.kernel_model.specs.Families.TreeUpdates.{Change, change_updates}
 use Rattle.kernel_model.specs.Outcome.{Outcome}
 use Rattle.kernel_model.specs.Release.{names_open, count_in, holders, carried_in, carriers, is_killed, ends, AllAreHeld}
 use Rattle.kernel_model.specs.State.{State, Table, Update, put_one, put_all, set_names, set_node, set_open, set_process, set_table}
-use Rattle.kernel_model.specs.Step.{tick, unreleased}
+use Rattle.kernel_model.specs.Step.{tick, outcome, unreleased}
 use Rattle.kernel_model.specs.Valid.{IsValid}
 use Rattle.kernel_model.specs.View.{View, whole}
+use Rattle.kernel_model.specs.Waits.{waiting}
 use Rattle.kernel_model.proofs.DescriptorCalls.{either_set, free_is_absent, put_holds}
 use Rattle.kernel_model.proofs.Ends.{ends_none}
 use Rattle.kernel_model.proofs.NewOpens.{IsBeside, put_last}
 use Rattle.kernel_model.proofs.Opening.{opened_by, opening, rest_beside}
 use Rattle.kernel_model.proofs.Outcomes.{outcome_holds}
+use Rattle.kernel_model.proofs.Threading.{waits_if_same}
 use Rattle.kernel_model.proofs.Valids.{named_is_held, some_again}
 
 -- ---- no open loses what holds it
@@ -133,6 +135,13 @@ same_counts n table d e here same o =
 abbrev Holds : State → Outcome → Type 0
 Holds S o = HoldsAsMuch S (put_all o.updates S)
 
+-- so the call takes none away: its thread may wait, and that sets nothing that holds
+held_after : (constants : Constants) (S : State) (who : Who) (call : Call) → Holds (tick S) (outcome constants S who call)
+    → HoldsAsMuch (tick S) (unreleased constants S who call)
+held_after constants S who call holds =
+    waits_if_same (HoldsAsMuch (tick S)) (outcome constants S who call).answer who (waiting constants call who.since)
+    (put_all (outcome constants S who call).updates (tick S)) (λ h. record { opens = h.opens; held = h.held; carried = h.carried }) holds
+
 -- ---- fd_dup
 
 dup_at_holds : (S : State) (p : ℕ) (table : Table) (d : Descriptor) (number : Option ℕ) → get S.tables p ≡ Some table → lowest_free table ≡ number
@@ -147,8 +156,9 @@ dup_of_holds S p table (Some d) own = dup_at_holds S p table d (lowest_free tabl
 
 pub dup_holds : (constants : Constants) (S : State) (who : Who) (fd : ℕ) → HoldsAsMuch (tick S) (unreleased constants S who (FdDup fd))
 dup_holds constants S who fd =
-    outcome_holds (Holds (tick S)) constants S who (FdDup fd) (λ reply _. itself (tick S))
-    (λ table own. dup_of_holds (tick S) who.pid table (get table fd) own)
+    held_after constants S who (FdDup fd)
+    (outcome_holds (Holds (tick S)) constants S who (FdDup fd) (λ reply _. itself (tick S))
+    (λ table own. dup_of_holds (tick S) who.pid table (get table fd) own))
 
 -- ---- fd_stat_put
 
@@ -167,8 +177,9 @@ set_holds S p table fd stat flags own =
 pub stat_put_holds : (constants : Constants) (S : State) (who : Who) (fd : ℕ) (stat : FdStat) (flags : ℕ)
     → HoldsAsMuch (tick S) (unreleased constants S who (FdStatPut fd stat flags))
 stat_put_holds constants S who fd stat flags =
-    outcome_holds (Holds (tick S)) constants S who (FdStatPut fd stat flags) (λ reply _. itself (tick S))
-    (λ table own. set_holds (tick S) who.pid table fd stat flags own)
+    held_after constants S who (FdStatPut fd stat flags)
+    (outcome_holds (Holds (tick S)) constants S who (FdStatPut fd stat flags) (λ reply _. itself (tick S))
+    (λ table own. set_holds (tick S) who.pid table fd stat flags own))
 
 -- ---- file_open
 
@@ -235,8 +246,9 @@ pub open_holds : (constants : Constants) (S : State) (who : Who) (lookup : Looku
     → HoldsAsMuch (tick S) (unreleased constants S who (FileOpen lookup path oflags stat))
 open_holds constants S who lookup path oflags stat =
     let v : View = whole (tick S) in
-    outcome_holds (Holds (tick S)) constants S who (FileOpen lookup path oflags stat) (λ reply _. itself (tick S))
+    held_after constants S who (FileOpen lookup path oflags stat)
+    (outcome_holds (Holds (tick S)) constants S who (FileOpen lookup path oflags stat) (λ reply _. itself (tick S))
     (λ table own.
     open_at_holds (tick S) who.pid table stat
     (open_walked oflags stat.flags path (real_time constants v.clock) (next_object who.pid (v.process who.pid) 1) v.branch
-    (walked v.branch (open_mode oflags lookup.flags) path (open_of v (get table lookup.fd)))) own)
+    (walked v.branch (open_mode oflags lookup.flags) path (open_of v (get table lookup.fd)))) own))

@@ -1,6 +1,7 @@
 pub mod Tests
 pub mod Lists
 pub mod Parts
+pub mod Earliest
 pub mod Ends
 pub mod Ending
 pub mod SoleOpens
@@ -31,6 +32,8 @@ pub mod StreamCalls
 pub mod MemoryCalls
 pub mod FileCalls
 pub mod ProcessCalls
+pub mod Deadlines
+pub mod WaitCalls
 pub mod NewOpens
 pub mod Opened
 pub mod Opening
@@ -41,12 +44,19 @@ pub mod NameMoving
 pub mod Calls
 pub mod Outcomes
 pub mod HeldOpens
+pub mod Threading
+pub mod Parking
 pub mod Touches
 pub mod Threads
 pub mod Steps
 pub mod Decisions
 pub mod Lacks
 pub mod Refusals
+pub mod Readiness
+pub mod PollTimes
+pub mod Waking
+pub mod WaitedCalls
+pub mod WakeSights
 pub mod Reaches
 pub mod Starts
 pub mod ChildLaws

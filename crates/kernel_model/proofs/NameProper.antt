@@ -258,6 +258,7 @@ module _ (m : NameMeaning) (well : NamesWell m) where
         outcome_plain m.errors who.pid m.new_nodes (v.process who.pid) (m.outside v.branch here None)
         (m.effect (real_time constants v.clock) new v.branch here None) well.again
         (well.plain (real_time constants v.clock) new v.branch here None);
+    waits = λ h. absurd (not_true h);
     lacks = λ _. well.lacks;
     others = λ constants v who table q apart. outcome_others who.pid m.new_nodes (v.process who.pid) _ q apart;
     threads = λ constants S who table live. outcome_threads S who.pid m.new_nodes (comes_to (real_time constants S.clock) S who.pid (get table row.fd) None);
@@ -303,6 +304,7 @@ module _ (m : NameMeaning) (well : NamesWell m) where
         outcome_plain m.errors who.pid m.new_nodes (v.process who.pid) (m.outside v.branch here there)
         (m.effect (real_time constants v.clock) new v.branch here there) well.again
         (well.plain (real_time constants v.clock) new v.branch here there);
+    waits = λ h. absurd (not_true h);
     lacks = λ _. well.lacks;
     others = λ constants v who table q apart. outcome_others who.pid m.new_nodes (v.process who.pid) _ q apart;
     threads = λ constants S who table live.

@@ -78,6 +78,7 @@ module _ (S : State) (o : ℕ) (kind : OpenKind) (none : get S.opens o ≡ None)
     made_nodes = v.made_nodes;
     born = v.born;
     tree = v.tree;
+    waits = v.waits;
     silent = v.silent;
   }
 
@@ -131,5 +132,6 @@ module _ (S : State) (p : ℕ) (table : Table) (there : get S.tables p ≡ Some 
     made_nodes = v.made_nodes;
     born = v.born;
     tree = v.tree;
+    waits = v.waits;
     silent = v.silent;
   }

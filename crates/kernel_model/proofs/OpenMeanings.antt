@@ -24,7 +24,7 @@ use Rattle.kernel_model.specs.View.{View, restrict, whole}
 use Rattle.kernel_model.proofs.Branches.{seen_parts}
 use Rattle.kernel_model.proofs.Parts.{beyond_process, has_left}
 use Rattle.kernel_model.proofs.Sights.{open_seen}
-use Rattle.kernel_model.proofs.Tests.{either_true, or_true}
+use Rattle.kernel_model.proofs.Tests.{either_true, not_true, or_true}
 
 -- ---- updates of opens, of the tree and of streams
 
@@ -137,6 +137,7 @@ module _ (m : OpenMeaning) (well : OpensWell m) where
         (beyond_process who.pid (open_part (get table row.fd) ++ m.touched (open_of (whole S) (get table row.fd))) part h).1;
     touched = λ S table part h. seen_descriptor S (get table row.fd) part h;
     plain = λ constants v who table. plain_descriptor (real_time constants v.clock) v (get table row.fd);
+    waits = λ h. absurd (not_true h);
     lacks = well.lacks;
     others = λ constants v who table q other.
         apart_unset (at_descriptor (m.effect (real_time constants v.clock) v) v (get table row.fd)).updates q

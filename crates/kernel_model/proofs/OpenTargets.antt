@@ -49,14 +49,17 @@ use Rattle.kernel_model.specs.Outcome.{Outcome}
 use Rattle.kernel_model.specs.Reply.{refused}
 use Rattle.kernel_model.specs.Release.{is_ending, release}
 use Rattle.kernel_model.specs.State.{State, ProcessState, Table, Tree, Update, put_all, put_one, set_names, set_node, set_open, set_table, tree_of}
-use Rattle.kernel_model.specs.Step.{end_unreleased, outcome, tick, unreleased}
+use Rattle.kernel_model.specs.Step.{end_unreleased, outcome, step_answer, tick, unreleased}
 use Rattle.kernel_model.specs.Valid.{IsNearlyValid}
 use Rattle.kernel_model.specs.View.{View, whole}
+use Rattle.kernel_model.specs.Waits.{waiting}
 use Rattle.kernel_model.proofs.FileCalls.{on_open_of}
 use Rattle.kernel_model.proofs.FileMeanings.{IsOfTree}
 use Rattle.kernel_model.proofs.NameProper.{change_holds}
 use Rattle.kernel_model.proofs.ObjectNumbers.{fewer_fit, next_is_absent}
 use Rattle.kernel_model.proofs.Outcomes.{outcome_holds}
+use Rattle.kernel_model.proofs.Threading.{waits_if_same}
+use Rattle.kernel_model.proofs.WaitCalls.{poll_holds}
 use Rattle.kernel_model.proofs.Tests.{none_is_no}
 use Rattle.kernel_model.proofs.Touches.{end_is}
 use Rattle.kernel_model.proofs.TreeUpdates.{all_of_both, change_of_tree, node_of_tree}
@@ -354,7 +357,8 @@ keeps (call.FileUnlink fd path flags) constants S who table nearly = named_keep 
 keeps (call.LockUnlock lock word scope) constants S who table nearly = tt
 keeps (call.MemMap place length prot flags fd offset) constants S who table nearly = map_keeps place length prot flags fd offset constants S who table nearly
 keeps (call.Memory number errno) constants S who table nearly = tt
-keeps (call.Poll subscriptions) constants S who table nearly = tt
+keeps (call.Poll subscriptions) constants S who table nearly =
+    poll_holds (λ (o : Outcome). AllKeep S o.updates) tt (λ userdata. tt) tt subscriptions constants (whole S) who table
 keeps (call.ProcExec fd bytes fds) constants S who table nearly = tt
 keeps (call.ProcExit code) constants S who table nearly = (tt, (tt, (tt, tt)))
 keeps (call.ProcFork left) constants S who table nearly = tt
@@ -380,7 +384,9 @@ outcome_keeps constants S who call nearly =
 pub opens_stay : OpensStayOfWhatTheyAre
 opens_stay constants S who call given T valid (inl done) =
     let set : OpensStay S (unreleased constants S who call) =
-    all_kept S (outcome constants S who call).updates (tick S) (opens_stay_here S) (outcome_keeps constants S who call valid.nearly) in
+    waits_if_same (OpensStay S) (step_answer constants S who call) who (waiting constants call who.since)
+    (put_all (outcome constants S who call).updates (tick S)) (λ stay. stay)
+    (all_kept S (outcome constants S who call).updates (tick S) (opens_stay_here S) (outcome_keeps constants S who call valid.nearly)) in
     subst (OpensStay S) (sym done.1) (released_stay S (unreleased constants S who call) set)
 opens_stay constants S who call given T valid (inr lacking) = subst (OpensStay S) (sym lacking.2) (opens_stay_here S)
 

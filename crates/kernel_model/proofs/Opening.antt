@@ -427,6 +427,7 @@ file_open_is_proper lookup path oflags stat = record {
       at_plain who.pid (v.process who.pid) table stat oflags stat.flags path (real_time constants v.clock) (next_object who.pid (v.process who.pid) 1) v.branch
       (lowest_free table) (walked v.branch (open_mode oflags lookup.flags) path (open_of v (get table lookup.fd)))
       (walked_plainly v.branch (open_mode oflags lookup.flags) path (open_of v (get table lookup.fd)));
+  waits = λ h. absurd (not_true h);
   lacks = λ _. open_errors_lack;
   others = λ constants v who table q apart.
       open_others who.pid (v.process who.pid) table stat (lowest_free table)

@@ -47,6 +47,7 @@ proc_exit_is_proper code = record {
   sets = λ constants S who table part h. end_unset who.pid (get S.processes who.pid) (Exit code) part (beyond_process who.pid [] part h).0;
   touched = λ S table part h. absurd (not_true h);
   plain = λ constants v who table. (refl, inl refl);
+  waits = λ h. absurd (not_true h);
   lacks = λ h. absurd (not_true h);
   others = λ constants v who table q apart. end_others who.pid (v.process who.pid) (Exit code) q apart;
   threads = λ constants S who table live. absurd (exit_is_not_live code (sym (get-insert-same S.statuses who.pid (Exit code)) ∙ live));

@@ -18,7 +18,7 @@ use Rattle.abi_types.specs.declared.who.Who.{Who}
 use Rattle.kernel_model.specs.Calls.{meaning_of, named, need, errors_of, takes_memory, refusal, refusal_of}
 use Rattle.kernel_model.specs.Laws.{HasAll, IsFirstLack, IsOfFirstLack, IsOfPath, IsNotDeniedEarly, IsListed}
 use Rattle.kernel_model.specs.Need.{missing, some_absent, first_lack, denied_by}
-use Rattle.kernel_model.specs.Outcome.{Outcome, OnReply, IsSuccess, replies}
+use Rattle.kernel_model.specs.Outcome.{Outcome, OnReply, WhereReply, IsSuccess, is_parked, replies}
 use Rattle.kernel_model.specs.Proper.{IsIn, IsDeniedOutside}
 use Rattle.kernel_model.specs.Release.{release}
 use Rattle.kernel_model.specs.Reply.{refused, denied}
@@ -26,12 +26,14 @@ use Rattle.kernel_model.specs.State.{State, Table, put_all}
 use Rattle.kernel_model.specs.Step.{tick, unless, component_unless, outside_on, outside, outcome, step_answer, step_state, failed, MayLackMemory, IsStep}
 use Rattle.kernel_model.specs.Valid.{IsValid}
 use Rattle.kernel_model.specs.View.{whole}
+use Rattle.kernel_model.specs.Waits.{may_wait, waiting, waits_if}
 use Rattle.kernel_model.proofs.Calls.{proper}
 use Rattle.kernel_model.proofs.Lacks.{present_all, all_present, absent_one, rows_there, first_lack_is, lack_is_first}
 use Rattle.kernel_model.proofs.Lists.{in_all}
 use Rattle.kernel_model.proofs.Outcomes.{outcome_of_table, outcome_by_cases, outside_reads, outside_of_table}
+use Rattle.kernel_model.proofs.Parking.{denied_where_outside, parked_is_no_reply, waits_or_replies}
 use Rattle.kernel_model.proofs.Valids.{release_valid, tick_valid}
-use Rattle.kernel_model.proofs.Tests.{none_is_no, same_some}
+use Rattle.kernel_model.proofs.Tests.{none_is_no, not_true, same_some}
 
 -- ---- denied calls
 
@@ -63,7 +65,16 @@ same_reply a b e = cc
 
 -- what holds of a reply in an answer
 pub on_reply : (P : Reply → Type 0) (given : Answer) (reply : Reply) → OnReply P given → given ≡ answer.Reply reply → P reply
+on_reply P (answer.Parked writes) reply h e = absurd h
 on_reply P (answer.Reply r) reply h e = subst P (same_reply r reply e) h
+
+pub where_reply : (P : Reply → Type 0) (given : Answer) (reply : Reply) → WhereReply P given → given ≡ answer.Reply reply → P reply
+where_reply P (answer.Parked writes) reply h e = absurd (parked_is_no_reply (answer.Parked writes) reply refl e)
+where_reply P (answer.Reply r) reply h e = subst P (same_reply r reply e) h
+
+where_parked : (P : Reply → Type 0) (given : Answer) → is_parked given ≡ true → WhereReply P given
+where_parked P (answer.Parked writes) parked = tt
+where_parked P (answer.Reply reply) parked = absurd (not_true parked)
 
 -- the reply is the denial of a path that leads outside
 abbrev IsPathDenial : State → Who → Call → Reply → Type 0
@@ -79,27 +90,31 @@ IsFrom S who call o reply =
     ((refusal_of call (get S.tables who.pid) ≡ Some reply) × (o.updates ≡ []))
     ⊎ (IsPathDenial S who call reply × (o.updates ≡ [])) ⊎ IsPlainReply call o reply
 
-plain_from : (S : State) (who : Who) (call : Call) (o : Outcome) (a : Answer) → OnReply (IsPlainReply call o) a → OnReply (IsFrom S who call o) a
+plain_from : (S : State) (who : Who) (call : Call) (o : Outcome) (a : Answer) → OnReply (IsPlainReply call o) a → WhereReply (IsFrom S who call o) a
+plain_from S who call o (answer.Parked writes) h = tt
 plain_from S who call o (answer.Reply reply) h = inr (inr h)
 
 own_from : (S : State) (who : Who) (call : Call) (o : Outcome) (component : Option ℕ) → outside S who call ≡ component
-    → IsDeniedOutside (errors_of call) component o → OnReply (IsFrom S who call o) o.answer
+    → IsDeniedOutside (errors_of call) component o → WhereReply (IsFrom S who call o) o.answer
 own_from S who call o None leads plain = plain_from S who call o o.answer plain
 own_from S who call o (Some component) leads denies =
-    subst (λ (x : Outcome). OnReply (IsFrom S who call x) x.answer) (sym denies) (inr (inl ((component, leads, refl), refl)))
+    subst (λ (x : Outcome). WhereReply (IsFrom S who call x) x.answer) (sym denies) (inr (inl ((component, leads, refl), refl)))
 
 outcome_from : (constants : Constants) (S : State) (who : Who) (call : Call)
-    → OnReply (IsFrom S who call (outcome constants S who call)) (step_answer constants S who call)
+    → WhereReply (IsFrom S who call (outcome constants S who call)) (step_answer constants S who call)
 outcome_from constants S who call =
-    outcome_by_cases (λ (o : Outcome). OnReply (IsFrom S who call o) o.answer) constants S who call (λ reply refuses. inl (refuses, refl))
+    outcome_by_cases (λ (o : Outcome). WhereReply (IsFrom S who call o) o.answer) constants S who call (λ reply refuses. inl (refuses, refl))
     (λ table own unrefused.
-    own_from S who call ((meaning_of call).effect constants (whole (tick S)) who table) ((meaning_of call).outside (whole (tick S)) table)
-    (outside_of_table S who call table own unrefused) ((proper call).plain constants (whole (tick S)) who table))
+    let o = (meaning_of call).effect constants (whole (tick S)) who table in
+    let leads = (meaning_of call).outside (whole (tick S)) table in
+    waits_or_replies (may_wait call) o (IsDeniedOutside (errors_of call) leads o) (WhereReply (IsFrom S who call o) o.answer)
+    ((proper call).plain constants (whole (tick S)) who table) (where_parked (IsFrom S who call o) o.answer)
+    (own_from S who call o leads (outside_of_table S who call table own unrefused)))
 
 reply_from : (constants : Constants) (S : State) (who : Who) (call : Call) (reply : Reply) → step_answer constants S who call ≡ answer.Reply reply
     → IsFrom S who call (outcome constants S who call) reply
 reply_from constants S who call reply is =
-    on_reply (IsFrom S who call (outcome constants S who call)) (step_answer constants S who call) reply (outcome_from constants S who call) is
+    where_reply (IsFrom S who call (outcome constants S who call)) (step_answer constants S who call) reply (outcome_from constants S who call) is
 
 -- ---- a path that leads outside is denied
 
@@ -121,7 +136,7 @@ path_denied_on constants S who call component (Some table) own leads =
     ap (λ (o : Outcome). o.answer)
     (outcome_of_table constants S who call table own ∙ ap (λ r. unless r (m.effect constants (whole (tick S)) who table)) both.0
     ∙ denied_outside m.errors component (m.outside (whole (tick S)) table) (m.effect constants (whole (tick S)) who table) both.1
-    ((proper call).plain constants (whole (tick S)) who table))
+    (denied_where_outside m (proper call) constants (whole (tick S)) who table component both.1))
 
 pub outside_is_denied : (constants : Constants) (S : State) (who : Who) (call : Call) (component : ℕ) → outside S who call ≡ Some component
     → step_answer constants S who call ≡ answer.Reply (denied (Outside component))
@@ -198,6 +213,7 @@ refusal_is_other errno badf notcapable call t reply is e =
 -- ---- lack of memory
 
 success_reply : (given : Answer) (reply : Reply) → IsSuccess given → given ≡ answer.Reply reply → reply.errno ≡ Success
+success_reply (answer.Parked writes) reply success is = absurd (parked_is_no_reply (answer.Parked writes) reply refl is)
 success_reply (answer.Reply r) reply success is = ap (λ (r : Reply). r.errno) (sym (same_reply r reply is)) ∙ success
 
 -- lack of memory stands in place of no error
@@ -340,7 +356,8 @@ sets_nothing_at_error constants S who call reply is other =
 failed_step : (constants : Constants) (S : State) (who : Who) (call : Call) (reply : Reply) → IsValid S → step_answer constants S who call ≡ answer.Reply reply
     → reply.errno ≢ Success → step_state constants S who call ≡ failed S who
 failed_step constants S who call reply valid is other =
-    ap (λ us. release (put_all us (tick S))) (sets_nothing_at_error constants S who call reply is other) ∙ release_valid (tick S) (tick_valid S valid)
+    ap (λ a. release (waits_if a who (waiting constants call who.since) (put_all (outcome constants S who call).updates (tick S)))) is
+    ∙ ap (λ us. release (put_all us (tick S))) (sets_nothing_at_error constants S who call reply is other) ∙ release_valid (tick S) (tick_valid S valid)
 
 pub error_keeps : (constants : Constants) (S : State) (who : Who) (call : Call) (reply : Reply) (T : State)
     → IsStep constants S who call (answer.Reply reply) T → IsValid S → reply.errno ≢ Success → T ≡ failed S who

@@ -176,5 +176,6 @@ module _ (S : State) (n : ℕ) (node : Node) (u : Tree) (works : Reworks (tree_o
     made_nodes = λ p k small beyond fits. none_comes (object_of p k) (v.made_nodes p k small beyond fits);
     born = v.born;
     tree = subst IsTree (sym put_tree) (works.tree v.tree);
+    waits = v.waits;
     silent = v.silent;
   }

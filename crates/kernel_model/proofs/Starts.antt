@@ -1,5 +1,5 @@
 -- The state that a launch starts from is valid.
-use Rattle.std.proofs.Common.{◌≡◌, ◌≢◌, inl, inr, ℕ, zero, suc, ◌+◌, ◌*◌, ◌^◌, ◌-◌, ◌<◌, ◌≤◌, Bool, true, false, cond, List, [], ◌∷◌, ◌++◌, length, Option, Some, None, IsSome, is_some, refl, sym, ap, subst, ◌∙◌, arith}
+use Rattle.std.proofs.Common.{◌≡◌, ◌≢◌, ◌⊎◌, inl, inr, ℕ, zero, suc, ◌+◌, ◌*◌, ◌^◌, ◌-◌, ◌<◌, ◌≤◌, Bool, true, false, cond, List, [], ◌∷◌, ◌++◌, length, Option, Some, None, IsSome, is_some, refl, sym, ap, subst, ◌∙◌, arith}
 use Rattle.std.proofs.lemmas.Bool.Decides.{eqb_tells}
 use Rattle.std.specs.Prelude.{option_map, slice_get, if◌then◌else◌}
 use Rattle.std.specs.Ordering.{nat_cmp, eq_by_cmp, is_eq}
@@ -13,6 +13,8 @@ use Rattle.abi_base.specs.declared.grant.GrantTarget.TheVariants as target
 use Rattle.abi_types.specs.declared.open_kind.OpenKind.{OpenKind}
 use Rattle.abi_types.specs.declared.status.Status.TheVariants.{Live}
 use Rattle.abi_types.specs.declared.stream.Stream.{Stream}
+use Rattle.abi_types.specs.declared.constants.Constants.{Constants}
+use Rattle.abi_types.specs.declared.thread.Thread.{Thread}
 use Rattle.abi_types.specs.declared.thread.Thread.TheVariants.{Runnable}
 use Rattle.maps.specs.Maps.{get-insert-same, get-insert-other}
 use Rattle.abi_types.specs.declared.node.Node.{Node}
@@ -29,6 +31,7 @@ use Rattle.kernel_model.specs.Families.Children.{IsBorn}
 use Rattle.kernel_model.specs.Families.Numbers.{object_of}
 use Rattle.kernel_model.specs.Fits.{HasRightsOf}
 use Rattle.kernel_model.specs.Valid.{AreSole, AtMostOne, IsNamed, HasBehind, IsValid}
+use Rattle.kernel_model.specs.Waits.{MayWait, HasDeadline, HasDeadlines}
 use Rattle.kernel_model.proofs.Tests.{none_is_no, not_true}
 use Rattle.kernel_model.proofs.Valids.{same_value, held_or_carried, named_is_held, named_is_kept, same_keys_inserted}
 
@@ -274,6 +277,41 @@ start_numbered tree grants stdin p t there =
           (get-insert-other empty 0 first_process p other.1 ∙ get-empty nat_cmp p) there))
     ]
 
+-- ---- what threads do
+
+-- each thread that is there runs
+abbrev IsIdleOrRuns : Option Thread → Type 0
+IsIdleOrRuns o = (o ≡ None) ⊎ (o ≡ Some Runnable)
+
+one_runs : (t : ℕ) → IsIdleOrRuns (get (insert (empty {R = nat_cmp}) 1 Runnable) t)
+one_runs t =
+    elim (eqb_tells t 1) [
+      | inl is ↦ inr (subst (λ k. get (insert (empty {R = nat_cmp}) 1 Runnable) k ≡ Some Runnable) (sym is.1) (get-insert-same empty 1 Runnable))
+      | inr other ↦ inl (get-insert-other empty 1 Runnable t other.1 ∙ get-empty nat_cmp t)
+    ]
+
+pub start_runs : (tree : Tree) (grants : List Grant) (stdin : List ℕ) (p t : ℕ)
+    → (thread_of (start_state tree grants stdin) p t ≡ None) ⊎ (thread_of (start_state tree grants stdin) p t ≡ Some Runnable)
+start_runs tree grants stdin p t =
+    elim (eqb_tells p 0) [
+      | inl is ↦ subst (λ o. IsIdleOrRuns (thread_in (option_map (λ (own : ProcessState). own.threads) o) t))
+          (sym (ap (get (start_state tree grants stdin).processes) is.1 ∙ get-insert-same empty 0 first_process)) (one_runs t)
+      | inr other ↦ inl (ap (λ o. thread_in (option_map (λ (own : ProcessState). own.threads) o) t)
+          (get-insert-other empty 0 first_process p other.1 ∙ get-empty nat_cmp p))
+    ]
+
+start_waits : (tree : Tree) (grants : List Grant) (stdin : List ℕ) (p t : ℕ) → MayWait (thread_of (start_state tree grants stdin) p t)
+start_waits tree grants stdin p t =
+    elim (start_runs tree grants stdin p t) [ inl none ↦ subst MayWait (sym none) tt | inr runs ↦ subst MayWait (sym runs) tt ]
+
+-- so each has the deadline of its call
+pub start_deadlines : (constants : Constants) (tree : Tree) (grants : List Grant) (stdin : List ℕ) → HasDeadlines constants (start_state tree grants stdin)
+start_deadlines constants tree grants stdin p t =
+    elim (start_runs tree grants stdin p t) [
+      | inl none ↦ subst (HasDeadline constants) (sym none) tt
+      | inr runs ↦ subst (HasDeadline constants) (sym runs) tt
+    ]
+
 -- the opens of the launch are of no process's number
 start_made : (tree : Tree) (grants : List Grant) → AreGrants tree grants → (p k : ℕ) → p < 0xffffffff → k < 2 ^ 32 → get (start_state tree grants []).opens (object_of p k) ≡ None
 start_made tree grants all p k small fits =
@@ -315,6 +353,7 @@ start_valid tree grants stdin begins = record {
     owns = same_keys_one _ _;
     ended = λ p status there ends. absurd (ends (sym (only_one Live status p there).1));
     numbered = start_numbered tree grants stdin;
+    waits = start_waits tree grants stdin;
     made = λ p k small beyond fits. start_made tree grants begins.grants p k small fits;
     made_nodes = λ p k small beyond fits. start_nodes tree begins.tree p k small fits;
     born = start_born;

@@ -1,6 +1,6 @@
 -- What each step keeps: a valid state, the clock's pace, other processes, and of a process that lives on the threads that its call
 -- neither makes nor ends.
-use Rattle.std.proofs.Common.{◌≡◌, ◌≢◌, inl, inr, ℕ, false, List, [], ◌∷◌, map, true, Some, IsSome, is_some, ◌⊎◌, refl, sym, ap, subst, ◌∙◌}
+use Rattle.std.proofs.Common.{◌≡◌, ◌≢◌, inl, inr, ℕ, ◌+◌, false, List, [], ◌∷◌, map, true, Some, IsSome, is_some, ◌⊎◌, refl, sym, ap, subst, ◌∙◌}
 use Rattle.std.proofs.lemmas.Bool.Decides.{eqb_tells}
 use Rattle.std.specs.Ordering.{nat_cmp}
 use Rattle.std.specs.Option.{option_map}
@@ -18,16 +18,19 @@ use Rattle.kernel_model.specs.Families.ProcessCalls.{ended_process, end_updates}
 use Rattle.kernel_model.specs.Proper.{IsUnset}
 use Rattle.kernel_model.specs.Release.{ends, is_killed, release, status_left}
 use Rattle.kernel_model.specs.State.{State, Table, ProcessState, Update, set_table, set_status, at_proc, at_status, has_part, part_of, put_one, put_all, threads_of}
-use Rattle.kernel_model.specs.Step.{tick, outcome, unreleased, step_state, IsStep, end_unreleased, end_state}
+use Rattle.kernel_model.specs.Step.{tick, outcome, unreleased, step_answer, step_state, IsStep, end_unreleased, end_state}
 use Rattle.kernel_model.specs.Valid.{IsNearlyValid, IsValid}
 use Rattle.kernel_model.specs.View.{whole}
+use Rattle.kernel_model.specs.Waits.{waiting}
 use Rattle.kernel_model.proofs.Calls.{proper}
 use Rattle.kernel_model.proofs.Ends.{killed_by, process_spared, status_after, status_spared}
 use Rattle.kernel_model.proofs.Outcomes.{outcome_holds}
+use Rattle.kernel_model.proofs.Parking.{parks_only}
 use Rattle.kernel_model.proofs.Parts.{KeepsThreads, put_keeps}
 use Rattle.kernel_model.proofs.ProcessCalls.{end_others}
 use Rattle.kernel_model.proofs.Tests.{same_some}
-use Rattle.kernel_model.proofs.Threads.{leaves_threads}
+use Rattle.kernel_model.proofs.Threading.{waits_apart, waits_if_holds, waits_if_same, with_nearly_valid}
+use Rattle.kernel_model.proofs.Threads.{IsThreadsAfter, leaves_threads, threads_after}
 use Rattle.kernel_model.proofs.Touches.{killed_is_not_live, live_spared, release_ends, release_keeps}
 use Rattle.kernel_model.proofs.Valids.{release_restores, some_mapped, tick_nearly_valid, tick_valid, end_nearly_valid}
 
@@ -39,9 +42,17 @@ outcome_valid constants S who call nearly =
     outcome_holds (λ (o : Outcome). IsNearlyValid (put_all o.updates (tick S))) constants S who call (λ reply _. nearly)
     (λ table there. (proper call).valid constants (tick S) who table there nearly)
 
+-- where its thread waits it does in a call in which it may
+unreleased_valid : (constants : Constants) (S : State) (who : Who) (call : Call) → IsNearlyValid (tick S) → IsNearlyValid (unreleased constants S who call)
+unreleased_valid constants S who call nearly =
+    let after = put_all (outcome constants S who call).updates (tick S) in
+    let set : IsNearlyValid after = outcome_valid constants S who call nearly in
+    waits_if_holds IsNearlyValid (step_answer constants S who call) who (waiting constants call who.since) after
+    (λ parked. with_nearly_valid after who.pid who.tid (waiting constants call who.since) (parks_only constants S who call parked).may set) set
+
 step_valid : (constants : Constants) (S : State) (who : Who) (call : Call) → IsValid S → IsValid (step_state constants S who call)
 step_valid constants S who call v =
-    release_restores (unreleased constants S who call) (outcome_valid constants S who call (tick_nearly_valid S v.nearly))
+    release_restores (unreleased constants S who call) (unreleased_valid constants S who call (tick_nearly_valid S v.nearly))
 
 pub step_keeps_valid : (constants : Constants) (S : State) (who : Who) (call : Call) (given : Answer) (T : State)
     → IsStep constants S who call given T → IsValid S → IsValid T
@@ -61,6 +72,11 @@ put_one_clock u S = refl
 put_clock : (us : List Update) (S : State) → (put_all us S).clock ≡ S.clock
 put_clock [] S = refl
 put_clock (u ∷ us) S = put_clock us (put_one u S) ∙ put_one_clock u S
+
+unreleased_clock : (constants : Constants) (S : State) (who : Who) (call : Call) → (unreleased constants S who call).clock ≡ S.clock + 1000
+unreleased_clock constants S who call =
+    waits_if_same (λ U. U.clock ≡ S.clock + 1000) (step_answer constants S who call) who (waiting constants call who.since)
+    (put_all (outcome constants S who call).updates (tick S)) (λ same. same) (put_clock (outcome constants S who call).updates (tick S))
 
 -- ---- other processes
 
@@ -95,12 +111,23 @@ others_from S U T q same (inr killed) =
       (sym same.2 ∙ killed.1.0, killed.1.1),
     )
 
+unreleased_others : (constants : Constants) (S : State) (who : Who) (call : Call) (q : ℕ) → q ≢ who.pid → HasSameProcess (unreleased constants S who call) S q
+unreleased_others constants S who call q apart =
+    let after = put_all (outcome constants S who call).updates (tick S) in
+    let unset = outcome_others constants S who call q apart in
+    let same = put_others (outcome constants S who call).updates (tick S) q unset.0 unset.1 in
+    let a = step_answer constants S who call in
+    let thread = waiting constants call who.since in (
+      waits_if_same (λ U. get U.tables q ≡ get S.tables q) a who thread after (λ h. h) same.0,
+      waits_apart a who thread after q apart ∙ same.1,
+      waits_if_same (λ U. get U.statuses q ≡ get S.statuses q) a who thread after (λ h. h) same.2,
+    )
+
 step_others : (constants : Constants) (S : State) (who : Who) (call : Call) (q : ℕ) → q ≢ who.pid
     → HasSameProcess (step_state constants S who call) S q ⊎ IsKilled S (step_state constants S who call) q
 step_others constants S who call q apart =
-    let unset = outcome_others constants S who call q apart in
-    others_from S (unreleased constants S who call) (step_state constants S who call) q
-    (put_others (outcome constants S who call).updates (tick S) q unset.0 unset.1) (release_others (unreleased constants S who call) q)
+    others_from S (unreleased constants S who call) (step_state constants S who call) q (unreleased_others constants S who call q apart)
+    (release_others (unreleased constants S who call) q)
 
 -- a process that lives after it was not killed
 pub unless_killed : (S T : State) (q : ℕ) → get T.statuses q ≡ Some Live → HasSameProcess T S q ⊎ IsKilled S T q → HasSameProcess T S q
@@ -136,7 +163,9 @@ pub step_keeps_made : (constants : Constants) (S : State) (who : Who) (call : Ca
     → IsStep constants S who call given T → IsSome (get S.statuses q) → IsSome (get T.statuses q)
 step_keeps_made constants S who call given T q (inl done) made =
     subst (λ U. IsMade U q) (sym done.1)
-    (release_made (unreleased constants S who call) q (put_made (outcome constants S who call).updates (tick S) q made))
+    (release_made (unreleased constants S who call) q (
+    waits_if_same (λ U. IsMade U q) (step_answer constants S who call) who (waiting constants call who.since)
+    (put_all (outcome constants S who call).updates (tick S)) (λ there. there) (put_made (outcome constants S who call).updates (tick S) q made)))
 step_keeps_made constants S who call given T q (inr lacking) made = subst (λ U. IsMade U q) (sym lacking.2) made
 
 pub end_keeps_made : (S : State) (p : ℕ) (status : Status) (q : ℕ) → IsSome (get S.statuses q) → IsSome (get (end_state S p status).statuses q)
@@ -158,26 +187,43 @@ released_threads U p live =
       ap (option_map (λ (own : ProcessState). own.threads)) (process_spared U (ends U) p spared),
     )
 
+-- before the release a process that lives has the threads that it had, but for a caller that waits
+unreleased_threads : (constants : Constants) (S : State) (who : Who) (call : Call) → get (unreleased constants S who call).statuses who.pid ≡ Some Live
+    → IsThreadsAfter constants S who call (step_answer constants S who call) (threads_of (unreleased constants S who call) who.pid)
+unreleased_threads constants S who call live =
+    let after = put_all (outcome constants S who call).updates (tick S) in
+    let a = step_answer constants S who call in
+    let thread = waiting constants call who.since in
+    threads_after constants S who call a after
+    (outcome_threads constants S who call
+    (waits_if_same (λ U. get U.statuses who.pid ≡ Some Live → get after.statuses who.pid ≡ Some Live) a who thread after (λ h. h) (λ h. h) live))
+
 step_threads : (constants : Constants) (S : State) (who : Who) (call : Call) → get (step_state constants S who call).statuses who.pid ≡ Some Live
-    → threads_of (step_state constants S who call) who.pid ≡ threads_of S who.pid
+    → IsThreadsAfter constants S who call (step_answer constants S who call) (threads_of (step_state constants S who call) who.pid)
 step_threads constants S who call live =
-    let both = released_threads (unreleased constants S who call) who.pid live in both.1 ∙ outcome_threads constants S who call both.0
+    let both = released_threads (unreleased constants S who call) who.pid live in
+    subst (IsThreadsAfter constants S who call (step_answer constants S who call)) (sym both.1) (unreleased_threads constants S who call both.0)
 
 -- ---- all of them
 
 pub step_moves_only : (constants : Constants) (S : State) (who : Who) (call : Call) (given : Answer) (T : State)
-    → IsStep constants S who call given T → MovesOnly S who call given T
+    → IsStep constants S who call given T → MovesOnly constants S who call given T
 step_moves_only constants S who call given T (inl done) =
-    subst (MovesOnly S who call given) (sym done.1) (record {
-      clock = put_clock (outcome constants S who call).updates (tick S);
+    subst (MovesOnly constants S who call given) (sym done.1) (record {
+      clock = unreleased_clock constants S who call;
       others = λ q apart. step_others constants S who call q apart;
-      threads = λ live. leaves_threads S who call given (step_state constants S who call) (step_threads constants S who call live);
+      threads = λ live.
+          leaves_threads constants S who call given (step_state constants S who call)
+          (subst (λ a. IsThreadsAfter constants S who call a (threads_of (step_state constants S who call) who.pid)) (sym done.0)
+          (step_threads constants S who call live));
     })
 step_moves_only constants S who call given T (inr lacking) =
-    subst (MovesOnly S who call given) (sym lacking.2) (record {
+    subst (MovesOnly constants S who call given) (sym lacking.2) (record {
       clock = refl;
       others = λ q apart. inl (refl, refl, refl);
-      threads = λ live. leaves_threads S who call given (tick S) refl;
+      threads = λ live.
+          leaves_threads constants S who call given (tick S)
+          (subst (λ a. IsThreadsAfter constants S who call a (threads_of S who.pid)) (sym lacking.1) refl);
     })
 
 end_spared : (S : State) (p : ℕ) (status : Status) → status ≢ Live → is_killed (end_unreleased S p status) (ends (end_unreleased S p status)) p ≡ false

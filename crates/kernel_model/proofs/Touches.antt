@@ -20,15 +20,17 @@ use Rattle.tree_model.specs.Retained.{retained-no_node, retained-no_table, retai
 use Rattle.kernel_model.specs.Release.{ends, loses_reader, loses_writer, is_killed, is_node_kept, is_released, process_left, release, status_left, table_left, without_ended, IsEnded}
 use Rattle.kernel_model.specs.Channels.{Channel, channel_left}
 use Rattle.kernel_model.specs.Sight.{process_parts}
-use Rattle.kernel_model.specs.State.{State, Table, ProcessState, tree_of, Part, at_clock, at_proc, at_status, at_open, at_node, at_names, at_chan, same_part, has_part, Agree, part_of}
-use Rattle.kernel_model.specs.Step.{tick, unless_refused, changed, made_by, made_on, touch, unless, outcome_on, outcome, unreleased, step_state, IsStep, IsUntouched, end_unreleased, end_state}
+use Rattle.kernel_model.specs.State.{State, Table, ProcessState, tree_of, Part, at_clock, at_proc, at_status, at_open, at_node, at_names, at_chan, same_part, has_part, Agree, part_of, put_all}
+use Rattle.kernel_model.specs.Step.{tick, unless_refused, changed, made_by, made_on, touch, unless, outcome_on, outcome, unreleased, step_answer, step_state, IsStep, IsUntouched, end_unreleased, end_state}
 use Rattle.kernel_model.specs.View.{whole}
+use Rattle.kernel_model.specs.Waits.{waiting}
 use Rattle.kernel_model.proofs.Calls.{proper}
 use Rattle.kernel_model.proofs.Ends.{channel_after, channel_spared, killed_by, process_after, process_spared, status_after, status_spared, table_after, table_spared}
 use Rattle.kernel_model.proofs.Outcomes.{outcome_reads}
 use Rattle.kernel_model.proofs.Parts.{outside_cons, agree_through, put_keeps}
 use Rattle.kernel_model.proofs.ProcessCalls.{end_unset}
 use Rattle.kernel_model.proofs.Tests.{not_false, not_true}
+use Rattle.kernel_model.proofs.Threading.{waits_keeps}
 use Rattle.kernel_model.proofs.Valids.{get_released, released_stays}
 
 -- ---- what a call sets
@@ -155,17 +157,27 @@ live_spared S p live =
 
 -- ---- steps
 
-outside_clock : (S : State) (who : Who) (call : Call) (q : Part) → has_part (touch S who call) q ≡ false → same_part at_clock q ≡ false
+pub outside_clock : (S : State) (who : Who) (call : Call) (q : Part) → has_part (touch S who call) q ≡ false → same_part at_clock q ≡ false
 unfolding touch
 outside_clock S who call q h = (outside_cons at_clock (at_proc who.pid ∷ at_status who.pid ∷ (made_by S who call ++ changed S call (get S.tables who.pid))) q h).0
+
+pub outside_own : (S : State) (who : Who) (call : Call) (q : Part) → has_part (touch S who call) q ≡ false → same_part (at_proc who.pid) q ≡ false
+unfolding touch
+outside_own S who call q h =
+    let rest = made_by S who call ++ changed S call (get S.tables who.pid) in
+    let beyond = outside_cons at_clock (at_proc who.pid ∷ at_status who.pid ∷ rest) q h in
+    (outside_cons (at_proc who.pid) (at_status who.pid ∷ rest) q beyond.1).0
 
 step_keeps : (constants : Constants) (S : State) (who : Who) (call : Call) (q : Part) → IsUntouched constants S who call q
     → Agree (step_state constants S who call) S q
 step_keeps constants S who call q h =
     agree_through (step_state constants S who call) (unreleased constants S who call) S q (release_keeps (unreleased constants S who call) q h.1)
-    (agree_through (unreleased constants S who call) (tick S) S q
+    (agree_through (unreleased constants S who call) (put_all (outcome constants S who call).updates (tick S)) S q
+    (waits_keeps (step_answer constants S who call) who (waiting constants call who.since) (put_all (outcome constants S who call).updates (tick S)) q
+    (outside_own S who call q h.0))
+    (agree_through (put_all (outcome constants S who call).updates (tick S)) (tick S) S q
     (put_keeps (outcome constants S who call).updates (tick S) q (sets_touched constants S who call q h.0))
-    (tick_keeps S q (outside_clock S who call q h.0)))
+    (tick_keeps S q (outside_clock S who call q h.0))))
 
 pub others_stay : (constants : Constants) (S : State) (who : Who) (call : Call) (given : Answer) (T : State) (q : Part)
     → IsStep constants S who call given T → IsUntouched constants S who call q → Agree T S q

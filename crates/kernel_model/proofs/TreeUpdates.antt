@@ -25,6 +25,7 @@ use Rattle.kernel_model.specs.State.{State, Names, ProcessState, Tree, tree_of, 
 use Rattle.kernel_model.specs.Families.TreeUpdates.{Change, change_updates, names_update, names_updates, node_update, nodes_updates}
 use Rattle.kernel_model.specs.Valid.{HasBehind, IsNearlyValid}
 use Rattle.kernel_model.proofs.Children.{all_born, one_keeps, KeepsChildren}
+use Rattle.kernel_model.specs.Waits.{MayWait}
 use Rattle.kernel_model.proofs.FileMeanings.{IsOfTree}
 use Rattle.kernel_model.proofs.NameMeanings.{IsChangeOf}
 use Rattle.kernel_model.proofs.ObjectNumbers.{fewer_fit}
@@ -189,6 +190,7 @@ with_tree_nearly_valid S u after v = record {
   made_nodes = after.made;
   born = v.born;
   tree = after.tree;
+  waits = v.waits;
   silent = v.silent;
 }
 
@@ -239,6 +241,7 @@ module _ (S : State) (p : ℕ) (own new : ProcessState) (there : get S.processes
         v.made_nodes q k small (let more = more_made q in omega (arith, more, beyond)) fits;
     born = all_born S.processes (insert S.processes p new) (one_keeps S.processes p own new there grows.children) v.born;
     tree = v.tree;
+    waits = λ q t. subst (λ o. MayWait (thread_in o t)) (sym (same_threads q)) (v.waits q t);
     silent = v.silent;
   } where
     behind_process : (kind : OpenKind) → HasBehind S kind → HasBehind (put_one (set_process p new) S) kind

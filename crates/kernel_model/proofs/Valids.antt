@@ -33,6 +33,7 @@ use Rattle.kernel_model.specs.Step.{tick}
 use Rattle.kernel_model.specs.Families.Numbers.{object_of}
 use Rattle.kernel_model.specs.Fits.{fits, fits_inheriting}
 use Rattle.kernel_model.specs.Valid.{AreSole, AtMostOne, IsNamed, HasBehind, HasReader, HasWriter, IsNearlyValid, IsValid}
+use Rattle.kernel_model.specs.Waits.{MayWait}
 use Rattle.kernel_model.proofs.Children.{all_born, end_keeps, left_keeps, KeepsChildren}
 use Rattle.kernel_model.proofs.Ends.{any_member, channel_after, ends_closed, ends_none, ends_unheld, process_after, same_process, same_status, same_table, status_after, table_after, without_none}
 use Rattle.kernel_model.proofs.SoleOpens.{PassesAsBefore, one_more, one_still}
@@ -183,6 +184,21 @@ left_thread : (S : State) (p t : ℕ) → IsSome (thread_of (release S) p t) →
 left_thread S p t there =
     same_thread (is_killed S (ends S) p) (get S.processes p) t
     (subst (λ (own : Option ProcessState). IsSome (thread_in (threads_in own) t)) (process_after S (ends S) p) there)
+
+-- no thread waits where there is none
+none_waits : (t : ℕ) → MayWait (thread_in (Some empty) t)
+none_waits t = subst MayWait (sym (get-empty nat_cmp t)) tt
+
+kept_waits : (killed : Bool) (own : Option ProcessState) (t : ℕ) → MayWait (thread_in (threads_in own) t)
+    → MayWait (thread_in (threads_in (option_map (process_left killed) own)) t)
+kept_waits killed None t h = h
+kept_waits true (Some own) t h = none_waits t
+kept_waits false (Some own) t h = h
+
+left_waits : (S : State) (p t : ℕ) → MayWait (thread_of S p t) → MayWait (thread_of (release S) p t)
+left_waits S p t h =
+    subst (λ (own : Option ProcessState). MayWait (thread_in (threads_in own) t)) (sym (process_after S (ends S) p))
+    (kept_waits (is_killed S (ends S) p) (get S.processes p) t h)
 
 -- what stands behind an open does not depend on the parts that aren't behind any
 reader_same : (before after : FinMap nat_cmp Channel) → ((c : ℕ) → get after c ≡ get before c) → (reads : Option ℕ) → HasReader before reads → HasReader after reads
@@ -343,6 +359,7 @@ release_restores S v = record {
         (v.made_nodes p k small (subst (λ (c : Counts). c.objects < k) (left_counts S p) beyond) fits);
     born = all_born S.processes (release S).processes (left_born S) v.born;
     tree = retained-tree (tree_of S) (is_node_kept (without_ended S)) v.tree (root_is_kept (without_ended S)) (named_is_kept (without_ended S));
+    waits = λ p t. left_waits S p t (v.waits p t);
     silent = λ c.
         channel_after S (ends S) c ∙ ap (option_map (channel_left (loses_reader S (ends S) c) (loses_writer S (ends S) c))) (v.silent c);
   };
@@ -365,12 +382,12 @@ pub release_valid : (S : State) → IsValid S → release S ≡ S
 release_valid S v =
     ap without_nodes (ended_held S v.held) ∙ nodes_stay S v.nearly.tree v.kept
 
--- ---- one more moment
+-- ---- another moment
 
-pub tick_nearly_valid : (S : State) → IsNearlyValid S → IsNearlyValid (tick S)
-tick_nearly_valid S v = record {
+pub moment_nearly_valid : (S : State) (moment : ℕ) → IsNearlyValid S → IsNearlyValid (record S { clock = moment })
+moment_nearly_valid S moment v = record {
   named = v.named;
-  behind = λ o kind e. behind_same S (tick S) (λ _. refl) (λ _ h. h) (λ _. refl) (λ _ h. h) kind (v.behind o kind e);
+  behind = λ o kind e. behind_same S (record S { clock = moment }) (λ _. refl) (λ _ h. h) (λ _. refl) (λ _ h. h) kind (v.behind o kind e);
   sole = v.sole;
   tables = v.tables;
   owns = v.owns;
@@ -380,11 +397,18 @@ tick_nearly_valid S v = record {
   made_nodes = v.made_nodes;
   born = v.born;
   tree = v.tree;
+  waits = v.waits;
   silent = v.silent;
 }
 
+pub tick_nearly_valid : (S : State) → IsNearlyValid S → IsNearlyValid (tick S)
+tick_nearly_valid S v = moment_nearly_valid S (S.clock + 1000) v
+
+pub moment_valid : (S : State) (moment : ℕ) → IsValid S → IsValid (record S { clock = moment })
+moment_valid S moment v = record { nearly = moment_nearly_valid S moment v.nearly; held = v.held; kept = v.kept }
+
 pub tick_valid : (S : State) → IsValid S → IsValid (tick S)
-tick_valid S v = record { nearly = tick_nearly_valid S v.nearly; held = v.held; kept = v.kept }
+tick_valid S v = moment_valid S (S.clock + 1000) v
 
 -- ---- one part set
 
@@ -421,6 +445,7 @@ streams_nearly_valid S terms more v = record {
   made_nodes = v.made_nodes;
   born = v.born;
   tree = v.tree;
+  waits = v.waits;
   silent = v.silent;
 }
 
@@ -463,7 +488,7 @@ ended_after m statuses p status before q s e ends =
 process_at : (m : FinMap nat_cmp ProcessState) (p : ℕ) → get (insert m p (ended_process (get m p))) p ≡ Some (ended_process (get m p))
 process_at m p = get-insert-same m p (ended_process (get m p))
 
-threads_at : (S : State) (p : ℕ) (status : Status) → threads_of (put_all (end_updates p (get S.processes p) status) S) p ≡ Some empty
+pub threads_at : (S : State) (p : ℕ) (status : Status) → threads_of (put_all (end_updates p (get S.processes p) status) S) p ≡ Some empty
 threads_at S p status = ap (option_map (λ (own : ProcessState). own.threads)) (process_at S.processes p)
 
 process_apart : (S : State) (p : ℕ) (status : Status) (q : ℕ) → q ≢ p → get (put_all (end_updates p (get S.processes p) status) S).processes q ≡ get S.processes q
@@ -495,6 +520,14 @@ ended_numbered S p status v q t there =
       | inr other ↦ v.numbered q t (subst (λ o. IsSome (thread_in (option_map (λ (own : ProcessState). own.threads) o) t)) (process_apart S p status q other.1) there)
     ]
 
+ended_waits : (S : State) (p : ℕ) (status : Status) → IsNearlyValid S → (q t : ℕ) → MayWait (thread_of (put_all (end_updates p (get S.processes p) status) S) q t)
+ended_waits S p status v q t =
+    elim (eqb_tells q p) [
+      | inl is ↦ subst (λ j. MayWait (thread_of (put_all (end_updates p (get S.processes p) status) S) j t)) (sym is.1)
+          (subst (λ o. MayWait (thread_in o t)) (sym (threads_at S p status)) (none_waits t))
+      | inr other ↦ subst (λ o. MayWait (thread_in (option_map (λ (own : ProcessState). own.threads) o) t)) (sym (process_apart S p status q other.1)) (v.waits q t)
+    ]
+
 -- a process that was made may end
 pub end_nearly_valid : (S : State) (p : ℕ) (status : Status) → IsSome (get S.statuses p) → IsNearlyValid S
     → IsNearlyValid (put_all (end_updates p (get S.processes p) status) S)
@@ -509,6 +542,7 @@ end_nearly_valid S p status made v = record {
     threads_ended S p status v q s e ends,
   );
   numbered = λ q t there. subst (λ (c : Counts). t ≤ c.threads) (sym (counts_stay S p status q)) (ended_numbered S p status v q t there);
+  waits = λ q t. ended_waits S p status v q t;
   made = λ q k small beyond fits.
       v.made q k small (subst (λ (c : Counts). c.objects < k) (counts_stay S p status q) beyond) fits;
   made_nodes = λ q k small beyond fits.
@@ -596,6 +630,7 @@ set_table_nearly_valid S p old new there from v = record {
   made_nodes = v.made_nodes;
   born = v.born;
   tree = v.tree;
+  waits = v.waits;
   silent = v.silent;
 }
 
@@ -666,5 +701,6 @@ set_open_nearly_valid S o kind new there same v = record {
   made_nodes = v.made_nodes;
   born = v.born;
   tree = v.tree;
+  waits = v.waits;
   silent = v.silent;
 }

@@ -165,15 +165,15 @@ IsKilled S T q = IsEnded S T (at_proc q) × IsEnded S T (at_status q)
 
 -- A step takes 1000 nanoseconds, changes nothing of other processes but of those that the release after it kills, and changes the
 -- threads of a process that lives on as its call and its answer say.
-pub record MovesOnly (S : State) (who : Who) (call : Call) (given : Answer) (T : State) : Type 0 where
+pub record MovesOnly (constants : Constants) (S : State) (who : Who) (call : Call) (given : Answer) (T : State) : Type 0 where
   pub clock : T.clock ≡ S.clock + 1000
   pub others : (q : ℕ) → q ≢ who.pid → HasSameProcess T S q ⊎ IsKilled S T q
-  pub threads : get T.statuses who.pid ≡ Some Live → LeavesThreads S who call given T
+  pub threads : get T.statuses who.pid ≡ Some Live → LeavesThreads constants S who call given T
 
 abbrev pub StepMovesOnly : Type 0
 StepMovesOnly =
     (constants : Constants) (S : State) (who : Who) (call : Call) (given : Answer) (T : State) → IsStep constants S who call given T
-    → MovesOnly S who call given T
+    → MovesOnly constants S who call given T
 
 -- No call makes or ends a thread yet: none of the three calls that may succeeds.
 abbrev pub NoThreadIsMadeOrEnded : Type 0

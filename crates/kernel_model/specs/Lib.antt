@@ -1,5 +1,7 @@
 pub mod Channels
 pub mod State
+pub mod Earliest
+pub mod Deadlines
 pub mod Release
 pub mod Fits
 pub mod Valid
@@ -14,12 +16,16 @@ pub mod Rows
 pub mod Meaning
 pub mod Families
 pub mod Calls
+pub mod Waits
 pub mod Step
+pub mod Wakes
 pub mod Start
 pub mod Proper
 pub mod Threads
 pub mod Laws
 pub mod ChildLaws
+pub mod WaitLaws
+pub mod PollLaws
 pub mod OpenLaws
 pub mod OpenConditions
 pub mod CallBounds

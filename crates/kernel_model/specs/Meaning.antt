@@ -32,6 +32,10 @@ pub record Meaning : Type 0 where
   pub errors : List Errno
   -- whether memory may run out
   pub takes_memory : Bool
+  -- whether its thread may wait in it
+  pub may_wait : Bool
+  -- the moment by which the wait is over, by the moment at which the call was made: none where it may wait for ever
+  pub deadline : Constants → ℕ → Option ℕ
 
 -- a call that needs nothing, and that answers this
 abbrev pub answering : List Errno → Reply → Meaning
@@ -45,6 +49,8 @@ answering errors reply = record {
   numbers = 0;
   errors = errors;
   takes_memory = false;
+  may_wait = false;
+  deadline = λ constants since. None;
 }
 
 -- ---- calls that aren't built yet: where no descriptor and no right is missing they answer NOSYS, and nothing changes

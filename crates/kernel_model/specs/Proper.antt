@@ -1,6 +1,6 @@
 -- What the meaning of each call keeps to. The laws of all steps follow from it (`Laws.antt`), so a call that is added is
 -- shown to keep to this, and nothing else is shown anew.
-use Rattle.std.specs.Prelude.{◌≡◌, ◌≢◌, ◌⊎◌, ℕ, true, false, List, [], ◌∷◌, ◌++◌, map, Option, None, Some}
+use Rattle.std.specs.Prelude.{◌≡◌, ◌≢◌, ◌⊎◌, ℕ, ◌≤◌, Bool, true, false, List, [], ◌∷◌, ◌++◌, map, Option, None, Some}
 use Rattle.std.specs.List.{AllByRecursion}
 use Rattle.std.specs.FinMap.{get}
 use Rattle.abi_base.specs.declared.errno.Errno.{Errno}
@@ -11,9 +11,10 @@ use Rattle.abi_types.specs.declared.descriptor.Denial.TheVariants.{Outside}
 use Rattle.abi_types.specs.declared.needed.Needed.{Needed}
 use Rattle.abi_types.specs.declared.status.Status.TheVariants.{Live}
 use Rattle.abi_types.specs.declared.who.Who.{Who}
+use Rattle.kernel_model.specs.Deadlines.{is_due, soon}
 use Rattle.kernel_model.specs.Meaning.{Meaning}
 use Rattle.kernel_model.specs.Families.Numbers.{new_parts}
-use Rattle.kernel_model.specs.Outcome.{Outcome, OnReply, replies}
+use Rattle.kernel_model.specs.Outcome.{Outcome, OnReply, is_parked, replies}
 use Rattle.kernel_model.specs.Reply.{denied}
 use Rattle.kernel_model.specs.Sight.{process_parts, reached}
 use Rattle.kernel_model.specs.State.{State, Table, Part, at_proc, at_status, has_part, part_of, put_all, threads_of}
@@ -39,6 +40,25 @@ abbrev pub IsDeniedOutside : List Errno → Option ℕ → Outcome → Type 0
 IsDeniedOutside errors None o = IsPlain errors o
 IsDeniedOutside errors (Some component) o = o ≡ replies (denied (Outside component))
 
+-- This holds of the outcome of a call; or the call is one in which a thread may wait, and it does, with nothing set.
+abbrev pub OrWaits : Bool → Outcome → Type 0 → Type 0
+OrWaits false o P = P
+OrWaits true o P = ((is_parked o.answer ≡ true) × (o.updates ≡ [])) ⊎ P
+
+-- How a thread waits in a call in which it may.
+pub record IsPatient (m : Meaning) : Type 0 where
+  -- where it waits it has waited at each earlier moment: a call that is done at some moment is done at each later one
+  pub patient : (constants : Constants) (v : View) (who : Who) (table : Table) (before : ℕ) → before ≤ v.clock
+      → is_parked (m.effect constants v who table).answer ≡ true
+      → is_parked (m.effect constants (record v { clock = before }) who table).answer ≡ true
+  -- once its deadline has come it doesn't wait
+  pub due : (constants : Constants) (v : View) (who : Who) (table : Table) → is_due v.clock (soon (m.deadline constants who.since)) ≡ true
+      → is_parked (m.effect constants v who table).answer ≡ false
+  -- no path of it leads outside
+  pub inside : (v : View) (table : Table) → m.outside v table ≡ None
+  -- memory may run out, since the call is kept while its thread waits
+  pub keeps : m.takes_memory ≡ true
+
 -- the call needs a right of this descriptor
 abbrev pub NeedsOf : List Needed → ℕ → Type 0
 NeedsOf rows fd = (row : Needed) × IsIn row rows × (row.fd ≡ fd)
@@ -63,10 +83,11 @@ pub record IsProper (m : Meaning) : Type 0 where
       → has_part (process_parts who.pid ++ (new_parts who.pid m.numbers (get S.processes who.pid) ++ m.touched S table)) part ≡ false
       → IsUnset (m.effect constants (whole (tick S)) who table) part
   pub touched : (S : State) (table : Table) (part : Part) → has_part (m.touched S table) part ≡ true → has_part (reached S table m.seen) part ≡ true
-  -- where its path leads outside it is denied for that alone; else its reply is a success, or one of its errors with nothing
-  -- set; and of these none is lack of memory where that may be
+  -- where its path leads outside it is denied for that alone; else its thread waits, where it may, with nothing set, or its reply
+  -- is a success, or one of its errors with nothing set; and of these none is lack of memory where that may be
   pub plain : (constants : Constants) (v : View) (who : Who) (table : Table)
-      → IsDeniedOutside m.errors (m.outside v table) (m.effect constants v who table)
+      → OrWaits m.may_wait (m.effect constants v who table) (IsDeniedOutside m.errors (m.outside v table) (m.effect constants v who table))
+  pub waits : m.may_wait ≡ true → IsPatient m
   pub lacks : m.takes_memory ≡ true → AllByRecursion (λ errno. errno ≢ Nomem) m.errors
   -- it sets nothing that another process has of its own
   pub others : (constants : Constants) (v : View) (who : Who) (table : Table) (q : ℕ) → q ≢ who.pid

@@ -32,7 +32,7 @@ abbrev pub no_locks : Locks
 no_locks = record { waiting = empty; at_conditions = empty; granted = []; signalled = []; late = [] }
 
 -- What a process has of its own beside its descriptors: its threads, what it has made so far, who waits, and how many forks lie
--- between it and process 0. No call makes a thread wait yet.
+-- between it and process 0.
 pub record ProcessState : Type 0 where
   pub threads : Threads
   pub counts : Counts

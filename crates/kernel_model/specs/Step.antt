@@ -18,6 +18,7 @@ use Rattle.kernel_model.specs.Reply.{refused}
 use Rattle.kernel_model.specs.Sight.{process_parts, reached}
 use Rattle.kernel_model.specs.State.{State, Table, Part, has_part, put_all}
 use Rattle.kernel_model.specs.View.{View, restrict}
+use Rattle.kernel_model.specs.Waits.{waits_if, waiting}
 
 -- each entry of the history takes 1000 nanoseconds
 abbrev pub tick : State → State
@@ -97,9 +98,10 @@ outside S who call = outside_by (restrict (tick S) (sight S who call)) who call
 
 -- ---- the step
 
--- the state that a call leaves before anything is released
+-- the state that a call leaves before anything is released: where it doesn't come to a reply, its thread waits in it
 abbrev pub unreleased : Constants → State → Who → Call → State
-unreleased constants S who call = put_all (outcome constants S who call).updates (tick S)
+unreleased constants S who call =
+    waits_if (outcome constants S who call).answer who (waiting constants call who.since) (put_all (outcome constants S who call).updates (tick S))
 
 -- the answer to a call, and the state after it
 abbrev pub step_answer : Constants → State → Who → Call → Answer
@@ -108,7 +110,7 @@ step_answer constants S who call = (outcome constants S who call).answer
 abbrev pub step_state : Constants → State → Who → Call → State
 step_state constants S who call = release (unreleased constants S who call)
 
--- a call may answer that memory ran out: it takes memory, and else it would succeed
+-- a call may answer that memory ran out: it takes memory, and else it would succeed or its thread would wait
 abbrev pub MayLackMemory : Constants → State → Who → Call → Type 0
 MayLackMemory constants S who call = (takes_memory call ≡ true) × IsSuccess (step_answer constants S who call)
 

@@ -15,6 +15,7 @@ use Rattle.kernel_model.specs.Families.Numbers.{object_of}
 use Rattle.kernel_model.specs.Fits.{HasRightsOf}
 use Rattle.kernel_model.specs.Release.{holders, carriers, is_node_kept, is_of_process, is_reader, is_writer}
 use Rattle.kernel_model.specs.State.{State, ProcessState, Table, tree_of, threads_of, thread_of, counts_in}
+use Rattle.kernel_model.specs.Waits.{MayWait}
 
 -- the open is there, and the descriptor's rights are among those of its type
 abbrev pub IsNamed : Option OpenKind → Descriptor → Type 0
@@ -51,8 +52,8 @@ AreSole opens = (k : ℕ) → AtMostOne (is_of_process k) opens × AtMostOne (is
 -- which brings the rest. Each descriptor's open is there with its rights, each open has what stands behind it, and no two opens are of
 -- one process, read one channel or write one. A process has a table, what is its own and a status, or none of these, and an ended
 -- process has no descriptor and no thread. No thread that a process has, and no open and no node that it made, is numbered beyond its
--- count. Each process but process 0 is a child that another one has counted. The file tree is a tree. Channels come with the calls that
--- make them, so none is there yet, and no end of one.
+-- count. Each process but process 0 is a child that another one has counted. The file tree is a tree. A thread waits only in a call in
+-- which it may. Channels come with the calls that make them, so none is there yet, and no end of one.
 pub record IsNearlyValid (S : State) : Type 0 where
   pub named : (p n : ℕ) (table : Table) (d : Descriptor) → get S.tables p ≡ Some table → get table n ≡ Some d → IsNamed (get S.opens d.id) d
   pub behind : (o : ℕ) (kind : OpenKind) → get S.opens o ≡ Some kind → HasBehind S kind
@@ -65,6 +66,7 @@ pub record IsNearlyValid (S : State) : Type 0 where
   pub made_nodes : (p k : ℕ) → p < 0xffffffff → (counts_in (get S.processes p)).objects < k → k < 2 ^ 32 → get S.nodes (object_of p k) ≡ None
   pub born : (p : ℕ) (own : ProcessState) → get S.processes p ≡ Some own → IsBorn S.processes p own.depth
   pub tree : IsTree (tree_of S)
+  pub waits : (p t : ℕ) → MayWait (thread_of S p t)
   pub silent : (c : ℕ) → get S.chans c ≡ None
 
 -- a state is valid where it is nearly so, each open is held, and each node is the root, has a name or is open

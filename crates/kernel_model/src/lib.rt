@@ -5,6 +5,8 @@
 mod call_bounds;
 pub mod laws;
 mod open_laws;
+mod poll_laws;
+mod wait_laws;
 
 pub use call_bounds::calls_keep_bounds;
 pub use laws::{
@@ -15,3 +17,8 @@ pub use laws::{
     step_keeps_valid, steps_move_only,
 };
 pub use open_laws::{open_is_listed, opens_lead_below};
+pub use poll_laws::polls_await_clocks;
+pub use wait_laws::{
+    jumps_reach_deadlines, parking_changes_thread, ready_stays_ready, waits_stay_valid,
+    wakes_end_waits, wakes_move_only,
+};

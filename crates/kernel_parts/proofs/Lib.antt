@@ -6,3 +6,6 @@ pub mod Grants
 pub mod Releases
 pub mod Forgetting
 pub mod Naming
+pub mod Activities
+pub mod Polling
+pub mod Threads

@@ -1,10 +1,13 @@
 //! The parts that the kernel's state is made of, and what calls do to several of them: a process's descriptor table with the opens
-//! that it holds, what a process has of its own, the standard streams, and the nodes of the file tree that nothing holds any more.
+//! that it holds, what a process has of its own, what its threads wait for, the standard streams, and the nodes of the file tree that nothing holds any more.
 #![tactic(auto)]
 
+pub use activity::Activity;
 pub use entries::{Caller, EntryReply, change_entries};
+pub use numbers::next_number;
 pub use opens::{Opening, kind_of, open_of, put_opening};
 pub use places::placed;
+pub use polls::{poll, soon};
 pub use process::ProcessState;
 pub use releasing::{forget_nameless, release};
 pub use start::{granted, single, streams};
@@ -12,10 +15,14 @@ pub use stream_calls::on_stream;
 pub use table::let_go_all;
 pub use table_change::change_table;
 pub use terminal::Terminal;
+pub use waiting::{deadline_of, is_over};
 
+mod activity;
 mod entries;
+mod numbers;
 mod opens;
 mod places;
+mod polls;
 mod process;
 mod releasing;
 mod start;
@@ -23,3 +30,4 @@ mod stream_calls;
 mod table;
 mod table_change;
 mod terminal;
+mod waiting;

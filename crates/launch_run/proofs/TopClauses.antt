@@ -8,6 +8,7 @@ use Rattle.kernel_cell.specs.declared.record.Record.{Record}
 use Rattle.run_types.specs.declared.launch.Launch.{Launch}
 use Rattle.tree_model.specs.Grants.{MayBegin}
 use Rattle.run_model.proofs.Confinements.{legal_is_confined}
+use Rattle.run_model.proofs.Potentials.{history_is_short}
 use Rattle.authority_laws.proofs.Records.{legal_is_recorded}
 use Rattle.command_line.specs.Settings.{Settings}
 use Rattle.launch_reading.specs.Launch.{Described, unknown, refuses, describes, words_describe, inputs_with, history_with, AnswersDescribed, IsKnownAs, IsBuiltBy}
@@ -15,10 +16,10 @@ use Rattle.launch_reading.specs.Refusal.{words_line, memory_line, status_of}
 use Rattle.launch_reading.specs.declared.refusal.LaunchRefusal.{LaunchRefusal}
 use Rattle.launch_reading.specs.declared.refusal.LaunchRefusal.TheVariants.{Words, Input, TooLong, Program, Tree, LaunchText, Memory}
 use Rattle.launch_run.specs.declared.top.RunEnd.{RunEnd}
-use Rattle.launch_run.specs.declared.top.RunEnd.TheVariants.{Reported, Unwritten, NotBegun, Lacking}
+use Rattle.launch_run.specs.declared.top.RunEnd.TheVariants.{Reported, StallReported, Unwritten, NotBegun, Lacking}
 use Rattle.launch_run.specs.declared.top.TopEnd.{TopEnd}
 use Rattle.launch_run.specs.declared.top.TopEnd.TheVariants.{Refused, Ran}
-use Rattle.launch_run.specs.TopCall.{Wrote, IsRecordOf, IsRunOf, IsTopEnd, IsReportedEnd, IsInputRefused, IsKept, Completes, HasFailed, HasReported, status_number, finished_run, finished_of, IsProgramRefused, IsTreeRefused, IsTextRefused}
+use Rattle.launch_run.specs.TopCall.{Wrote, IsRecordOf, IsRunOf, IsTopEnd, IsReportedEnd, IsInputRefused, IsKept, Completes, HasFailed, HasReported, HasStalled, status_number, finished_run, finished_of, IsProgramRefused, IsTreeRefused, IsTextRefused}
 
 -- a record of a run is as every record that is kept
 is_kept : (given : Option Settings) (described : Described) (launch : Launch) (r : Record) → IsRecordOf launch (history_with given) r
@@ -29,6 +30,7 @@ is_kept given described launch r of known built begins =
       legal = of.legal;
       confined = legal_is_confined r.launch r.history of.legal proper;
       recorded = legal_is_recorded r.launch r.history of.legal proper;
+      short = history_is_short r.launch r.history proper of.legal;
       launch_described = subst (λ (l : Launch). IsKnownAs described (describes l)) (sym of.launch_is) known;
       built = subst (IsBuiltBy given) (sym of.launch_is) built;
       kept_is = of.kept_is;
@@ -66,6 +68,7 @@ module _ (given : Option Settings) (content : List ℕ → InputContent) (rose :
   run_kept : (end : RunEnd) → IsRunOf given content rose before after sink_rose end →
       IfSome (finished_run end).kept (IsKept given (words_describe given content))
   run_kept (Reported r status) o = is_kept given _ o.launch r o.end_reported.0 o.described o.built o.begins
+  run_kept (StallReported r) o = is_kept given _ o.launch r o.end_reported.0 o.described o.built o.begins
   run_kept (Unwritten r) o = is_kept given _ o.launch r o.end_reported.0 o.described o.built o.begins
   run_kept NotBegun o = tt
   run_kept (Lacking r) o = is_kept given _ o.launch r o.end_reported.0 o.described o.built o.begins
@@ -85,6 +88,7 @@ module _ (given : Option Settings) (content : List ℕ → InputContent) (rose :
   top_input (Refused (LaunchText fault)) o is = absurd (omega arith)
   top_input (Refused Memory) o is = absurd (omega arith)
   top_input (Ran (Reported r status)) o is = absurd (no_ended 66 (omega arith) status is)
+  top_input (Ran (StallReported r)) o is = absurd (omega arith)
   top_input (Ran (Unwritten r)) o is = absurd (omega arith)
   top_input (Ran NotBegun) o is = absurd (omega arith)
   top_input (Ran (Lacking r)) o is = absurd (omega arith)
@@ -99,6 +103,7 @@ module _ (given : Option Settings) (content : List ℕ → InputContent) (rose :
   top_program (Refused (LaunchText fault)) o is = absurd (omega arith)
   top_program (Refused Memory) o is = absurd (omega arith)
   top_program (Ran (Reported r status)) o is = absurd (no_ended 67 (omega arith) status is)
+  top_program (Ran (StallReported r)) o is = absurd (omega arith)
   top_program (Ran (Unwritten r)) o is = absurd (omega arith)
   top_program (Ran NotBegun) o is = absurd (omega arith)
   top_program (Ran (Lacking r)) o is = absurd (omega arith)
@@ -113,6 +118,7 @@ module _ (given : Option Settings) (content : List ℕ → InputContent) (rose :
   top_text (Refused (LaunchText fault)) o is = (fault, o.0.refused tt, o.1)
   top_text (Refused Memory) o is = absurd (omega arith)
   top_text (Ran (Reported r status)) o is = absurd (no_ended 65 (omega arith) status is)
+  top_text (Ran (StallReported r)) o is = absurd (omega arith)
   top_text (Ran (Unwritten r)) o is = absurd (omega arith)
   top_text (Ran NotBegun) o is = absurd (omega arith)
   top_text (Ran (Lacking r)) o is = absurd (omega arith)
@@ -127,6 +133,7 @@ module _ (given : Option Settings) (content : List ℕ → InputContent) (rose :
   top_tree (Refused (LaunchText fault)) o is = absurd (omega arith)
   top_tree (Refused Memory) o is = absurd (omega arith)
   top_tree (Ran (Reported r status)) o is = absurd (no_ended 68 (omega arith) status is)
+  top_tree (Ran (StallReported r)) o is = absurd (omega arith)
   top_tree (Ran (Unwritten r)) o is = absurd (omega arith)
   top_tree (Ran NotBegun) o is = absurd (omega arith)
   top_tree (Ran (Lacking r)) o is = absurd (omega arith)
@@ -147,6 +154,7 @@ module _ (given : Option Settings) (content : List ℕ → InputContent) (rose :
   top_words (Refused (LaunchText fault)) o is = absurd (omega arith)
   top_words (Refused Memory) o is = absurd (omega arith)
   top_words (Ran (Reported r status)) o is = absurd (no_ended 2 (omega arith) status is)
+  top_words (Ran (StallReported r)) o is = absurd (omega arith)
   top_words (Ran (Unwritten r)) o is = absurd (omega arith)
   top_words (Ran NotBegun) o is = absurd (omega arith)
   top_words (Ran (Lacking r)) o is = absurd (omega arith)
@@ -175,6 +183,7 @@ module _ (given : Option Settings) (content : List ℕ → InputContent) (rose :
   top_memory (Refused (LaunchText fault)) o is = absurd (omega arith)
   top_memory (Refused Memory) o is = (o.1, tt)
   top_memory (Ran (Reported r status)) o is = absurd (no_ended 70 (omega arith) status is)
+  top_memory (Ran (StallReported r)) o is = absurd (omega arith)
   top_memory (Ran (Unwritten r)) o is = absurd (omega arith)
   top_memory (Ran NotBegun) o is = (o.end_reported, tt)
   top_memory (Ran (Lacking r)) o is = (o.end_reported.2, o.end_reported.1)
@@ -192,9 +201,25 @@ module _ (given : Option Settings) (content : List ℕ → InputContent) (rose :
   top_ended (Refused Memory) o is = absurd (not_01 70 (omega arith) is)
   top_ended (Ran (Reported r status)) o is =
       record { ended = o.end_reported.1; status_is = ap status_number o.end_reported.2; written = o.end_reported.3 }
+  top_ended (Ran (StallReported r)) o is = absurd (not_01 71 (omega arith) is)
   top_ended (Ran (Unwritten r)) o is = absurd (not_01 69 (omega arith) is)
   top_ended (Ran NotBegun) o is = absurd (not_01 70 (omega arith) is)
   top_ended (Ran (Lacking r)) o is = absurd (not_01 70 (omega arith) is)
+
+  pub top_stalled : (end : TopEnd) → IsTopEnd given content rose before after sink_rose end → (finished_of end).status ≡ 71 →
+      IsSomeAnd (finished_of end).kept (HasStalled (history_with given) before after)
+  top_stalled (Refused Words) o is = absurd (omega arith)
+  top_stalled (Refused (Input name)) o is = absurd (omega arith)
+  top_stalled (Refused (TooLong name)) o is = absurd (omega arith)
+  top_stalled (Refused (Program found)) o is = absurd (omega arith)
+  top_stalled (Refused (Tree byte)) o is = absurd (omega arith)
+  top_stalled (Refused (LaunchText fault)) o is = absurd (omega arith)
+  top_stalled (Refused Memory) o is = absurd (omega arith)
+  top_stalled (Ran (Reported r status)) o is = absurd (no_ended 71 (omega arith) status is)
+  top_stalled (Ran (StallReported r)) o is = record { stalled = o.end_reported.1; written = o.end_reported.2 }
+  top_stalled (Ran (Unwritten r)) o is = absurd (omega arith)
+  top_stalled (Ran NotBegun) o is = absurd (omega arith)
+  top_stalled (Ran (Lacking r)) o is = absurd (omega arith)
 
   pub top_unwritten : (end : TopEnd) → IsTopEnd given content rose before after sink_rose end → (finished_of end).status ≡ 69 →
       sink_rose × IsSomeAnd (finished_of end).kept (HasFailed (history_with given) before after)
@@ -206,7 +231,8 @@ module _ (given : Option Settings) (content : List ℕ → InputContent) (rose :
   top_unwritten (Refused (LaunchText fault)) o is = absurd (omega arith)
   top_unwritten (Refused Memory) o is = absurd (omega arith)
   top_unwritten (Ran (Reported r status)) o is = absurd (no_ended 69 (omega arith) status is)
-  top_unwritten (Ran (Unwritten r)) o is = (o.end_reported.2, record { ended = o.end_reported.1; prefix = o.end_reported.3 })
+  top_unwritten (Ran (StallReported r)) o is = absurd (omega arith)
+  top_unwritten (Ran (Unwritten r)) o is = (o.end_reported.2, record { over = o.end_reported.1; prefix = o.end_reported.3 })
   top_unwritten (Ran NotBegun) o is = absurd (omega arith)
   top_unwritten (Ran (Lacking r)) o is = absurd (omega arith)
 
@@ -218,15 +244,16 @@ module _ (given : Option Settings) (content : List ℕ → InputContent) (rose :
   completes_refused (refuses status line) refusal (inl memory) = inr (ap status_of memory)
   completes_refused (refuses status line) refusal (inr is) = inl is.0
   completes_refused (describes launch) refusal (inl is) = absurd (cc)
-  completes_refused (describes launch) refusal (inr memory) = λ calm. inr (inr (memory_status refusal memory))
+  completes_refused (describes launch) refusal (inr memory) = λ calm. inr (inr (inl (memory_status refusal memory)))
 
   -- how a run may end where the sink's count did not rise
   calm_end : (launch : Launch) (end : RunEnd) → IsReportedEnd launch (history_with given) before after sink_rose end → ¬ sink_rose
-      → ((finished_run end).status ≡ 0) ⊎ ((finished_run end).status ≡ 1) ⊎ ((finished_run end).status ≡ 70)
+      → ((finished_run end).status ≡ 0) ⊎ ((finished_run end).status ≡ 1) ⊎ ((finished_run end).status ≡ 70) ⊎ ((finished_run end).status ≡ 71)
   calm_end launch (Reported r status) o calm = elim (status_is_small status) [ inl h ↦ inl h | inr h ↦ inr (inl h) ]
+  calm_end launch (StallReported r) o calm = inr (inr (inr refl))
   calm_end launch (Unwritten r) o calm = absurd (calm o.2)
-  calm_end launch NotBegun o calm = inr (inr refl)
-  calm_end launch (Lacking r) o calm = inr (inr refl)
+  calm_end launch NotBegun o calm = inr (inr (inl refl))
+  calm_end launch (Lacking r) o calm = inr (inr (inl refl))
 
   completes_run : (described : Described) (launch : Launch) (end : RunEnd) → AnswersDescribed described (Ok launch) → IsReportedEnd launch (history_with given) before after sink_rose end
       → Completes described sink_rose (finished_run end).status

@@ -1,19 +1,22 @@
 -- What the top call answers and writes. The words are those of its caller; what a source shows of its inputs and what a
 -- sink shows of its bytes are as the traits say (a source or a sink may show nothing). A count of faults rose in a call
 -- where it is greater afterwards, or stands at its last value.
-use Rattle.std.specs.Prelude.{◌≡◌, ◌≢◌, ◌⊎◌, ◌==◌, ⊤, ℕ, Bool, List, [], Option, None, Some, Ok, Err, Contains, if◌then◌else◌}
+use Rattle.std.specs.Prelude.{◌≡◌, ◌≢◌, ◌⊎◌, ◌==◌, ◌≤◌, ◌+◌, ◌*◌, ⊤, ℕ, Bool, List, [], length, Option, None, Some, Ok, Err, Contains, if◌then◌else◌}
 use Rattle.std.specs.FinMap.{get}
 use Rattle.input_output.specs.Sink.{grown, GrewByPrefix}
 use Rattle.input_output.specs.Source.{InputContent}
 use Rattle.abi_types.specs.declared.status.Status.{Status}
 use Rattle.abi_types.specs.declared.status.Status.TheVariants.{Live, Exit, Killed}
+use Rattle.kernel_cell.specs.declared.cell.Book.{Book}
 use Rattle.kernel_cell.specs.declared.record.Record.{Record}
 use Rattle.shared_history.specs.Kept.{IsKeptOf}
+use Rattle.run_types.specs.declared.history.Entry.{Entry}
 use Rattle.run_types.specs.declared.launch.Launch.{Launch}
 use Rattle.tree_model.specs.Grants.{MayBegin}
+use Rattle.kernel_model.specs.Ends.{NoneLive}
 use Rattle.kernel_model.specs.State.{State}
 use Rattle.run_model.specs.Confined.{IsConfined}
-use Rattle.run_model.specs.Ends.{Ended}
+use Rattle.run_model.specs.Ends.{Ended, Stalled}
 use Rattle.run_model.specs.Legal.{Legal}
 use Rattle.run_model.specs.World.{world}
 use Rattle.authority_laws.specs.Laws.{IsRecorded}
@@ -25,9 +28,11 @@ use Rattle.run_report.specs.Report.{report_of}
 use Rattle.launch_reading.specs.declared.launch_text.LaunchFault.{LaunchFault}
 use Rattle.launch_reading.specs.declared.refusal.LaunchRefusal.{LaunchRefusal}
 use Rattle.launch_reading.specs.declared.refusal.LaunchRefusal.TheVariants.{Words, Memory}
+use Rattle.launch_run.specs.declared.top.Ending.{Ending}
+use Rattle.launch_run.specs.declared.top.Ending.TheVariants as ending
 use Rattle.launch_run.specs.declared.top.Finished.{Finished}
 use Rattle.launch_run.specs.declared.top.RunEnd.{RunEnd}
-use Rattle.launch_run.specs.declared.top.RunEnd.TheVariants.{Reported, Unwritten, NotBegun, Lacking}
+use Rattle.launch_run.specs.declared.top.RunEnd.TheVariants.{Reported, StallReported, Unwritten, NotBegun, Lacking}
 use Rattle.launch_run.specs.declared.top.TopEnd.{TopEnd}
 use Rattle.launch_run.specs.declared.top.TopEnd.TheVariants.{Refused, Ran}
 
@@ -41,6 +46,24 @@ status_number None = 1
 status_number (Some Live) = 1
 status_number (Some (Exit code)) = if code == 0 then 0 else 1
 status_number (Some (Killed signal)) = 1
+
+-- the record of a run that is over
+abbrev pub recorded : Book → Record
+recorded book = record { launch = book.launch; history = book.history; kept = book.kept }
+
+-- the run of the book is over so
+abbrev pub IsOverSo : Ending → Book → Type 0
+IsOverSo ending.Ended book = NoneLive book.kernel
+IsOverSo ending.Stalled book = Stalled book.launch book.history
+
+-- the end of a run that is over so, and whose report was written
+abbrev pub reported_end : Ending → Book → RunEnd
+reported_end ending.Ended book = Reported (recorded book) (get book.kernel.statuses 0)
+reported_end ending.Stalled book = StallReported (recorded book)
+
+-- the run is over: it has ended, or it is stalled
+abbrev pub IsOver : Launch → List Entry → Type 0
+IsOver launch history = Ended launch history ⊎ Stalled launch history
 
 -- the kernel's state at the end of the record
 abbrev pub state_of : Record → State
@@ -57,18 +80,21 @@ pub record IsRecordOf (launch : Launch) (all : Bool) (r : Record) : Type 0 where
   pub kept_is : IsKeptOf all r.history r.kept
 
 -- How a run of the launch came to its end, where before and after are what the sink shows of its bytes, and rose says
--- that its count of faults rose. The report is of an ended run, and was written whole, or a prefix of it where the sink
+-- that its count of faults rose. The report is of a run that is over, and was written whole, or a prefix of it where the sink
 -- failed; where memory ran out, nothing was written of it, and a run that began has an entry.
 abbrev pub IsEndOf : Launch → Bool → Option (List ℕ) → Option (List ℕ) → Type 0 → RunEnd → Type 0
 IsEndOf launch lines before after rose (Reported r status) =
     IsRecordOf launch lines r × Ended r.launch r.history × (status ≡ get (state_of r).statuses 0) × (after ≡ grown before (record_report lines r))
-IsEndOf launch lines before after rose (Unwritten r) = IsRecordOf launch lines r × Ended r.launch r.history × rose × GrewByPrefix before after (record_report lines r)
+IsEndOf launch lines before after rose (StallReported r) =
+    IsRecordOf launch lines r × Stalled r.launch r.history × (after ≡ grown before (record_report lines r))
+IsEndOf launch lines before after rose (Unwritten r) = IsRecordOf launch lines r × IsOver r.launch r.history × rose × GrewByPrefix before after (record_report lines r)
 IsEndOf launch lines before after rose NotBegun = after ≡ before
 IsEndOf launch lines before after rose (Lacking r) = IsRecordOf launch lines r × (r.history ≢ []) × (after ≡ before)
 
 -- the same once the line that says so was written where memory ran out
 abbrev pub IsReportedEnd : Launch → Bool → Option (List ℕ) → Option (List ℕ) → Type 0 → RunEnd → Type 0
 IsReportedEnd launch lines before after rose (Reported r status) = IsEndOf launch lines before after rose (Reported r status)
+IsReportedEnd launch lines before after rose (StallReported r) = IsEndOf launch lines before after rose (StallReported r)
 IsReportedEnd launch lines before after rose (Unwritten r) = IsEndOf launch lines before after rose (Unwritten r)
 IsReportedEnd launch lines before after rose NotBegun = Wrote before after rose memory_line
 IsReportedEnd launch lines before after rose (Lacking r) = IsRecordOf launch lines r × (r.history ≢ []) × Wrote before after rose memory_line
@@ -76,6 +102,7 @@ IsReportedEnd launch lines before after rose (Lacking r) = IsRecordOf launch lin
 -- what is written after a run's end: the line that says that memory ran out, and else nothing
 abbrev pub ReportsEnd : Option (List ℕ) → Option (List ℕ) → Type 0 → RunEnd → Type 0
 ReportsEnd before after rose (Reported r status) = after ≡ before
+ReportsEnd before after rose (StallReported r) = after ≡ before
 ReportsEnd before after rose (Unwritten r) = after ≡ before
 ReportsEnd before after rose NotBegun = Wrote before after rose memory_line
 ReportsEnd before after rose (Lacking r) = Wrote before after rose memory_line
@@ -109,6 +136,7 @@ IsTopEnd given content rose before after sink_rose (Ran end) = IsRunOf given con
 -- what the call answers for each end
 abbrev pub finished_run : RunEnd → Finished
 finished_run (Reported r status) = record { status = status_number status; kept = Some r }
+finished_run (StallReported r) = record { status = 71; kept = Some r }
 finished_run (Unwritten r) = record { status = 69; kept = Some r }
 finished_run NotBegun = record { status = 70; kept = None }
 finished_run (Lacking r) = record { status = 70; kept = Some r }
@@ -122,7 +150,7 @@ finished_of (Ran end) = finished_run end
 -- one of the statuses that the call may answer
 abbrev pub IsTopStatus : ℕ → Type 0
 IsTopStatus status =
-    (status ≡ 0) ⊎ (status ≡ 1) ⊎ (status ≡ 2) ⊎ (status ≡ 65) ⊎ (status ≡ 66) ⊎ (status ≡ 67) ⊎ (status ≡ 68) ⊎ (status ≡ 69) ⊎ (status ≡ 70)
+    (status ≡ 0) ⊎ (status ≡ 1) ⊎ (status ≡ 2) ⊎ (status ≡ 65) ⊎ (status ≡ 66) ⊎ (status ≡ 67) ⊎ (status ≡ 68) ⊎ (status ≡ 69) ⊎ (status ≡ 70) ⊎ (status ≡ 71)
 
 -- An input could not be read, and the source's count of faults rose; or an input is too long, as it is described, where
 -- anything is known of it. The line names the input.
@@ -135,6 +163,11 @@ IsInputRefused names described rose wrote =
 pub record HasReported (lines : Bool) (before after : Option (List ℕ)) (status : ℕ) (r : Record) : Type 0 where
   pub ended : Ended r.launch r.history
   pub status_is : status ≡ status_number (get (state_of r).statuses 0)
+  pub written : after ≡ grown before (record_report lines r)
+
+-- the run of the record is stalled, and exactly its report was written
+pub record HasStalled (lines : Bool) (before after : Option (List ℕ)) (r : Record) : Type 0 where
+  pub stalled : Stalled r.launch r.history
   pub written : after ≡ grown before (record_report lines r)
 
 -- the program is refused for a fault of its file, which is the first refusal that is described, where anything is known of it,
@@ -154,20 +187,21 @@ abbrev pub IsTextRefused : Described → (List ℕ → Type 0) → Type 0
 IsTextRefused described wrote =
     (fault : LaunchFault) × IsKnownAs described (refuses 65 (launch_line fault)) × wrote (launch_line fault)
 
--- the run of the record has ended, and a prefix of its report was written
+-- the run of the record is over, and a prefix of its report was written
 pub record HasFailed (lines : Bool) (before after : Option (List ℕ)) (r : Record) : Type 0 where
-  pub ended : Ended r.launch r.history
+  pub over : IsOver r.launch r.history
   pub prefix : GrewByPrefix before after (record_report lines r)
 
 -- What every record that is kept is: its history is legal, each entry is confined to what its process's descriptors
 -- reach with the rights needed, who holds which descriptors is shown by the entries, each descriptor is traced, of a file, a
 -- directory or a standard stream to one of the launch's grants, and at each entry copies are equal, rights are lowered to those
--- asked and what is opened is bounded; and its launch is the one that is described, where anything is known of it, and in any case
+-- asked and what is opened is bounded; it has at most six entries for each turn of the launch, and two more; and its launch is the one that is described, where anything is known of it, and in any case
 -- one of these settings. In memory are its denied calls, and its entries where the settings ask for the history.
 pub record IsKept (given : Option Settings) (described : Described) (r : Record) : Type 0 where
   pub legal : Legal r.launch r.history
   pub confined : IsConfined r.launch r.history
   pub recorded : IsRecorded r.launch r.history
+  pub short : length r.history ≤ 6 * r.launch.turns + 2
   pub launch_described : IsKnownAs described (describes r.launch)
   pub built : IsBuiltBy given r.launch
   pub kept_is : IsKeptOf (history_with given) r.history r.kept
@@ -177,4 +211,4 @@ pub record IsKept (given : Option Settings) (described : Described) (r : Record)
 abbrev pub Completes : Described → Type 0 → ℕ → Type 0
 Completes unknown sink_rose status = ⊤
 Completes (refuses refused line) sink_rose status = (status ≡ refused) ⊎ (status ≡ 70)
-Completes (describes launch) sink_rose status = ¬ sink_rose → (status ≡ 0) ⊎ (status ≡ 1) ⊎ (status ≡ 70)
+Completes (describes launch) sink_rose status = ¬ sink_rose → (status ≡ 0) ⊎ (status ≡ 1) ⊎ (status ≡ 70) ⊎ (status ≡ 71)

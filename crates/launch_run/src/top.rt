@@ -8,8 +8,7 @@ ghost use Rattle.launch_reading.specs.Launch.{launch_of, inputs_of, settings_inp
 ghost use Rattle.launch_reading.specs.Refusal.{line_of, words_line, memory_line};
 ghost use Rattle.call_codec.specs.Bounded.{IsBounded};
 ghost use Rattle.kernel_cell.specs.Cell.{IsBookOf};
-ghost use Rattle.kernel_model.specs.Ends.{NoneLive};
-ghost use Rattle.launch_run.specs.TopCall.{Wrote, IsEndOf, IsReportedEnd, ReportsEnd, IsTopEnd, IsTopStatus, IsInputRefused, IsProgramRefused, IsTreeRefused, IsTextRefused, HasReported, HasFailed, IsKept, Completes, status_number, finished_run, finished_of};
+ghost use Rattle.launch_run.specs.TopCall.{Wrote, IsOverSo, IsEndOf, IsReportedEnd, ReportsEnd, IsTopEnd, IsTopStatus, IsInputRefused, IsProgramRefused, IsTreeRefused, IsTextRefused, HasReported, HasStalled, HasFailed, IsKept, Completes, status_number, recorded, reported_end, finished_run, finished_of};
 ghost use Rattle.launch_run.specs.declared.top.TopEnd.TheVariants.{Refused};
 
 use abi_types::Status;
@@ -38,12 +37,23 @@ pub struct Finished {
 pub enum RunEnd {
     /// It ended and its report was written; process 0 stands so.
     Reported(Record, Option<Status>),
-    /// It ended, and the sink failed while its report was written.
+    /// It stalled and its report was written.
+    StallReported(Record),
+    /// It ended or stalled, and the sink failed while its report was written.
     Unwritten(Record),
     /// Memory ran out before the run began.
     NotBegun,
     /// Memory ran out, and this was recorded until then.
     Lacking(Record),
+}
+
+/// How a run is over.
+#[derive(Clone, Copy)]
+pub enum Ending {
+    /// No process is live.
+    Ended,
+    /// All threads wait, and nothing can happen any more.
+    Stalled,
 }
 
 // The exit status for process 0's status: 0 where it exited with 0, else 1.
@@ -58,7 +68,7 @@ fn status_number(status: Option<Status>) -> u8
 
 // The record of a run that is over.
 fn record_of(book: Book) -> Record
-    ensures { result ≡ record { launch = book.launch; history = book.history; kept = book.kept } }
+    ensures { result ≡ recorded book }
 {
     let Book {
         kernel: _,
@@ -73,10 +83,29 @@ fn record_of(book: Book) -> Record
     }
 }
 
-// Writes the report of a run that has ended.
-fn report_run<K: Sink>(alloc: Global, book: Book, lines: bool, sink: &mut K) -> RunEnd
+// The end of a run whose report was written.
+fn reported_end(book: Book, ending: Ending) -> RunEnd
+    ensures { result ≡ reported_end ending book }
+{
+    match ending {
+        Ending::Ended => {
+            let status = book.kernel.status(FIRST);
+            RunEnd::Reported(record_of(book), status)
+        }
+        Ending::Stalled => RunEnd::StallReported(record_of(book)),
+    }
+}
+
+// Writes the report of a run that is over.
+fn report_run<K: Sink>(
+    alloc: Global,
+    book: Book,
+    ending: Ending,
+    lines: bool,
+    sink: &mut K,
+) -> RunEnd
     requires of { IsBookOf book.launch lines book }
-    requires ended { NoneLive book.kernel }
+    requires over { IsOverSo ending book }
     ensures faults_never_fall { K.faults sink.old ≤ K.faults sink.new }
     ensures end { IsEndOf book.launch lines (K.written sink.old) (K.written sink.new) (Rose (K.faults sink.old) (K.faults sink.new)) result }
 {
@@ -90,10 +119,7 @@ fn report_run<K: Sink>(alloc: Global, book: Book, lines: bool, sink: &mut K) -> 
         return RunEnd::Lacking(record_of(book));
     };
     match write_whole(sink, text.as_slice()) {
-        Ok(()) => {
-            let status = book.kernel.status(FIRST);
-            RunEnd::Reported(record_of(book), status)
-        }
+        Ok(()) => reported_end(book, ending),
         Err(_) => RunEnd::Unwritten(record_of(book)),
     }
 }
@@ -113,7 +139,8 @@ fn run_launched<K: Sink, G: Gate + Sync, R: Threads + Wait + Sync>(
     ensures end { IsEndOf launch lines (K.written sink.old) (K.written sink.new) (Rose (K.faults sink.old) (K.faults sink.new)) result }
 {
     match drive(rt, alloc, launch, workers, gate, lines) {
-        Driven::Ended(book) => report_run(alloc, book, lines, sink),
+        Driven::Ended(book) => report_run(alloc, book, Ending::Ended, lines, sink),
+        Driven::Stalled(book) => report_run(alloc, book, Ending::Stalled, lines, sink),
         Driven::Lacking(book) => RunEnd::Lacking(record_of(book)),
         Driven::NotBegun => RunEnd::NotBegun,
     }
@@ -125,7 +152,7 @@ fn report_end<K: Sink>(end: &RunEnd, sink: &mut K)
     ensures content { ReportsEnd (K.written sink.old) (K.written sink.new) (Rose (K.faults sink.old) (K.faults sink.new)) end.now }
 {
     match end {
-        RunEnd::Reported(..) | RunEnd::Unwritten(_) => {}
+        RunEnd::Reported(..) | RunEnd::StallReported(_) | RunEnd::Unwritten(_) => {}
         RunEnd::NotBegun | RunEnd::Lacking(_) => refuse(&LaunchRefusal::Memory, sink),
     }
 }
@@ -238,6 +265,10 @@ fn finished_run(end: RunEnd) -> Finished
             status: status_number(status),
             kept: Some(record),
         },
+        RunEnd::StallReported(record) => Finished {
+            status: 71,
+            kept: Some(record),
+        },
         RunEnd::Unwritten(record) => Finished {
             status: 69,
             kept: Some(record),
@@ -268,7 +299,7 @@ fn finish(end: TopEnd<'_>) -> Finished
 
 /// Runs the program that the words name on the launch text of standard input, and writes its report.
 ///
-/// The status is 0 where the run ended and process 0 exited with 0, 1 where it ended otherwise, 2 for faulty words, 65
+/// The status is 0 where the run ended and process 0 exited with 0, 1 where it ended otherwise, 71 where it stalled, 2 for faulty words, 65
 /// for a launch text, 67 for a program and 68 for a tree document that is refused, 66 for an input that can't be read or
 /// is too long, 69 where the sink failed while the report was written, and 70 where memory ran out. What a refusal writes
 /// is its line, or a prefix of it where the sink failed.
@@ -307,11 +338,12 @@ pub fn run_launch<S: Source, K: Sink, G: Gate + Sync, R: Threads + Wait + Sync>(
     ensures memory { result.status ≡ 70 → Wrote (K.written sink.old) (K.written sink.new) (Rose (K.faults sink.old) (K.faults sink.new)) memory_line
         × IfSome result.kept (λ r. r.history ≢ []) }
     ensures ended { (result.status ≡ 0) ⊎ (result.status ≡ 1) → IsSomeAnd result.kept (HasReported (asks_history (map string_bytes words.now)) (K.written sink.old) (K.written sink.new) result.status) }
+    ensures stalled { result.status ≡ 71 → IsSomeAnd result.kept (HasStalled (asks_history (map string_bytes words.now)) (K.written sink.old) (K.written sink.new)) }
     ensures unwritten { result.status ≡ 69 → Rose (K.faults sink.old) (K.faults sink.new) × IsSomeAnd result.kept (HasFailed (asks_history (map string_bytes words.now)) (K.written sink.old) (K.written sink.new)) }
 
     // What is kept.
     ensures kept { IfSome result.kept (IsKept (words_of (map string_bytes words.now)) (launch_of (map string_bytes words.now) (S.content source.old))) }
-    ensures none_kept { IsSome result.kept → (result.status ≡ 0) ⊎ (result.status ≡ 1) ⊎ (result.status ≡ 69) ⊎ (result.status ≡ 70) }
+    ensures none_kept { IsSome result.kept → (result.status ≡ 0) ⊎ (result.status ≡ 1) ⊎ (result.status ≡ 69) ⊎ (result.status ≡ 70) ⊎ (result.status ≡ 71) }
 
     // What is described is answered where no fault came.
     ensures complete { ¬ Rose (S.faults source.old) (S.faults source.new)

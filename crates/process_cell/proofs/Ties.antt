@@ -1,9 +1,8 @@
--- A process stays tied to the world of what its pass has seen: at its start, over a turn, and over a call.
+-- A process stays tied to the world of what its pass has seen: at its start, over a turn, over a call, and over a wake.
 use Rattle.std.proofs.Common.{◌≡◌, ℕ, ◌<◌, List, [], ◌∷◌, ◌++◌, IsSome, refl, sym, ap, subst, ◌∙◌}
 use Rattle.std.specs.FinMap.{empty, get}
 use Rattle.abi_types.specs.declared.call.Call.{Call}
 use Rattle.abi_types.specs.declared.status.Status.TheVariants.{Live}
-use Rattle.abi_types.specs.declared.who.Who.{Who}
 use Rattle.run_types.specs.declared.history.Entry.{Entry}
 use Rattle.run_types.specs.declared.launch.Launch.{Launch}
 use Rattle.kernel_model.specs.State.{State}
@@ -16,12 +15,15 @@ use Rattle.run_model.specs.Own.{IsLiveIn}
 use Rattle.run_model.specs.World.{World, Guest, world, start_world, guest_of, first_guest, turned_guest, turned_guest_by, turn_end}
 use Rattle.run_model.proofs.Histories.{world_none, first_guest_is, first_state, first_thread, turned_more, whole_more}
 use Rattle.run_model.proofs.Registers.{legal_has_registers}
-use Rattle.kernel_cell.specs.Acting.{GoesOn, IsActed, thread_of_pass}
+use Rattle.kernel_cell.specs.Acting.{GoesOn, IsActed, IsWoken, KeepsTurns, Looked, WaitsOn}
+use Rattle.kernel_cell.proofs.PassOutcomes.{asks_wake_since}
 use Rattle.shared_history.specs.Passes.{Passing}
 use Rattle.kernel_cell.specs.declared.results.Acted.{Acted}
 use Rattle.kernel_cell.specs.declared.results.Acted.TheVariants as acted
-use Rattle.process_cell.specs.Phases.{phase_after_turn, phase_after_act}
-use Rattle.process_cell.specs.Process.{Stands, TiedIn, Tied, new_pass}
+use Rattle.kernel_cell.specs.declared.results.Woken.{Woken}
+use Rattle.kernel_cell.specs.declared.results.Woken.TheVariants as woken
+use Rattle.process_cell.specs.Phases.{phase_after_turn, phase_after_act, phase_after_wake}
+use Rattle.process_cell.specs.Process.{Stands, StandsParked, TiedIn, Tied, new_pass}
 use Rattle.process_cell.specs.declared.results.Phase.{Phase}
 use Rattle.process_cell.specs.declared.results.Phase.TheVariants as phase
 
@@ -91,17 +93,31 @@ tied_turn launch pass t turns more guest after now later end tied runs some one 
 -- ---- a call
 
 -- the thread goes on after an entry of its own
-stands_on : (launch : Launch) (history : List Entry) (who : Who) (guest : Guest) → Legal launch history → GoesOn launch history who guest
-    → TiedIn (world launch history) who.pid who.tid [] guest phase.Runs
-stands_on launch history who guest legal goes = (
+stands_on : (launch : Launch) (history : List Entry) (p t : ℕ) (guest : Guest) → Legal launch history → GoesOn launch history p t guest
+    → TiedIn (world launch history) p t [] guest phase.Runs
+stands_on launch history p t guest legal goes = (
   record {
     live = goes.live;
     runnable = goes.runnable;
     guest_is = goes.guest_is;
-    registers = subst (λ (g : Guest). IsSome (get g.regs who.tid)) (sym goes.guest_is)
-        (legal_has_registers launch history who.pid who.tid legal goes.live (subst IsSome (sym goes.runnable) refl));
+    registers = subst (λ (g : Guest). IsSome (get g.regs t)) (sym goes.guest_is)
+        (legal_has_registers launch history p t legal goes.live (subst IsSome (sym goes.runnable) refl));
   },
   tt,
+)
+
+-- the thread waits in its call after the entry of it
+waits_on : (launch : Launch) (history : List Entry) (p t : ℕ) (guest : Guest) → Legal launch history → WaitsOn launch history p t guest
+    → TiedIn (world launch history) p t [] guest phase.Parks
+waits_on launch history p t guest legal waits = (
+  waits.live,
+  record {
+    guest_is = waits.guest_is;
+    registers = subst (λ (g : Guest). IsSome (get g.regs t)) (sym waits.guest_is)
+        (legal_has_registers launch history p t legal waits.live (subst IsSome (sym waits.waits.there) refl));
+    whole = tt;
+    waits = waits.waits;
+  },
 )
 
 -- what is said of the pass's process is said of the same process by the pass's number
@@ -113,7 +129,10 @@ acted_at : (launch : Launch) (v w : Passing) (t : ℕ) (turns : List ℕ) (call 
     → IsActed launch v t turns call guest w outcome → Tied launch w t [] guest (phase_after_act outcome)
 acted_at launch v w t turns call guest acted.Runs told =
     at_pass launch w v.pid t [] guest phase.Runs told.0.added.pid
-    (stands_on launch w.seen (thread_of_pass v t) guest told.0.added.seen.legal told.1)
+    (stands_on launch w.seen v.pid t guest told.0.added.seen.legal told.1)
+acted_at launch v w t turns call guest acted.Parks told =
+    at_pass launch w v.pid t [] guest phase.Parks told.0.added.pid
+    (waits_on launch w.seen v.pid t guest told.0.added.seen.legal told.1)
 acted_at launch v w t turns call guest acted.Ends told = at_pass launch w v.pid t [] guest phase.Gone told.0.added.pid told.1
 acted_at launch v w t turns call guest acted.Gone told = at_pass launch w v.pid t [] guest phase.Gone told.0.pid told.1
 acted_at launch v w t turns call guest acted.NoMemory told = tt
@@ -123,3 +142,31 @@ pub tied_act : (launch : Launch) (v w : Passing) (t : ℕ) (turns none : List �
 tied_act launch v w t turns none call guest outcome later told empty is =
     subst (Tied launch w t none guest) (sym is)
     (subst (λ (ts : List ℕ). Tied launch w t ts guest (phase_after_act outcome)) (sym empty) (acted_at launch v w t turns call guest outcome told))
+
+-- ---- a wake
+
+module _ (launch : Launch) (v w : Passing) (t : ℕ) (turns : List ℕ) (was : Guest) where
+  -- the thread waits on after entries of others
+  parked_still : StandsParked (world launch v.seen) v.pid t turns was → Looked launch v w → IsLiveIn (world launch w.seen) v.pid
+      → Tied launch w t turns was phase.Parks
+  parked_still tied looked live =
+      at_pass launch w v.pid t turns was phase.Parks looked.pid
+      (live, asks_wake_since launch v.pid t v.seen w.seen turns was looked.seen.legal looked.later (subst IsSome (sym tied.0) refl) tied.1 live)
+
+  woken_at : (guest : Guest) (turns' : List ℕ) (outcome : Woken) → StandsParked (world launch v.seen) v.pid t turns was
+      → IsWoken launch v t turns guest w outcome → KeepsTurns was guest turns turns' outcome → Tied launch w t turns' guest (phase_after_wake outcome)
+  woken_at guest turns' woken.Runs tied told kept =
+      subst (λ (ts : List ℕ). Tied launch w t ts guest phase.Runs) (sym kept)
+      (at_pass launch w v.pid t [] guest phase.Runs told.0.added.pid (stands_on launch w.seen v.pid t guest told.0.added.seen.legal told.1))
+  woken_at guest turns' woken.Ends tied told kept = at_pass launch w v.pid t turns' guest phase.Gone told.0.added.pid told.1
+  woken_at guest turns' woken.NotReady tied told kept =
+      subst (λ (x : List ℕ × Guest). Tied launch w t x.0 x.1 phase.Parks) (λ i. (sym kept.1 i, sym kept.0 i)) (parked_still tied told.0 told.1.0)
+  woken_at guest turns' woken.Gone tied told kept = at_pass launch w v.pid t turns' guest phase.Gone told.0.pid told.1
+  woken_at guest turns' woken.NoMemory tied told kept = tt
+
+  pub tied_wake : (now later : Phase) (guest : Guest) (turns' : List ℕ) (outcome : Woken) → Tied launch v t turns was now → now ≡ phase.Parks
+      → IsWoken launch v t turns guest w outcome → KeepsTurns was guest turns turns' outcome → later ≡ phase_after_wake outcome
+      → Tied launch w t turns' guest later
+  tied_wake now later guest turns' outcome tied parks told kept is =
+      subst (Tied launch w t turns' guest) (sym is)
+      (woken_at guest turns' outcome (subst (Tied launch v t turns was) parks tied) told kept)

@@ -2,6 +2,7 @@
 use Rattle.std.specs.Prelude.{◌≡◌, ℕ, List, [], IsSome}
 use Rattle.std.specs.FinMap.{get}
 use Rattle.shared_history.specs.Passes.{Passing}
+use Rattle.kernel_cell.specs.Acting.{AsksWake}
 use Rattle.kernel_cell.specs.declared.results.EndBy.{EndBy}
 use Rattle.kernel_cell.specs.declared.results.EndBy.TheVariants as end_by
 use Rattle.run_types.specs.declared.launch.Launch.{Launch}
@@ -21,11 +22,17 @@ pub record Stands (w : World) (p t : ℕ) (turns : List ℕ) (guest : Guest) : T
   pub guest_is : guest ≡ turned_guest_by turns (guest_of w p)
   pub registers : IsSome (get guest.regs t)
 
+-- In this world process p is live and its thread t waits in a call, this guest is what the process has after these turns, which are
+-- whole, and the thread has registers there.
+abbrev pub StandsParked : World → ℕ → ℕ → List ℕ → Guest → Type 0
+StandsParked w p t turns guest = IsLiveIn w p × AsksWake w p t turns guest
+
 -- the same by phase, and how the turns ended
 abbrev pub TiedIn : World → ℕ → ℕ → List ℕ → Guest → Phase → Type 0
 TiedIn w p t turns guest phase.Runs = Stands w p t turns guest × AreWhole w.state p (guest_of w p) turns
 TiedIn w p t turns guest phase.Calls = Stands w p t turns guest × LastEnds w.state p (guest_of w p) turns t turn_end_is.Ecall
 TiedIn w p t turns guest (phase.Traps signal) = Stands w p t turns guest × LastEnds w.state p (guest_of w p) turns t (turn_end_is.Trap signal)
+TiedIn w p t turns guest phase.Parks = StandsParked w p t turns guest
 TiedIn w p t turns guest phase.Gone = ¬ IsLiveIn w p
 TiedIn w p t turns guest phase.Lost = Unit {0}
 
@@ -35,7 +42,15 @@ Tied launch pass t turns guest now = TiedIn (world launch pass.seen) pass.pid t 
 
 -- what contracts see of a process that has these parts
 abbrev pub standing_of : Passing → ℕ → List ℕ → Guest → Phase → Standing
-standing_of pass t turns guest now = record { pid = pass.pid; tid = t; phase = now; left = guest.left; turns = turns; own = own pass.pid pass.seen }
+standing_of pass t turns guest now = record {
+  pid = pass.pid;
+  tid = t;
+  phase = now;
+  left = guest.left;
+  turns = turns;
+  seen = pass.seen;
+  own = own pass.pid pass.seen;
+}
 
 -- ---- conditions
 
@@ -45,7 +60,7 @@ new_pass = record { pid = 0; seen = [] }
 
 -- process 0 at the start of its launch
 abbrev pub first_standing : Launch → Standing
-first_standing launch = record { pid = 0; tid = 1; phase = phase.Runs; left = launch.turns; turns = []; own = [] }
+first_standing launch = record { pid = 0; tid = 1; phase = phase.Runs; left = launch.turns; turns = []; seen = []; own = [] }
 
 -- an end of this kind is due
 abbrev pub IsDue : EndBy → Standing → Type 0

@@ -3,12 +3,13 @@ use Rattle.std.specs.Prelude.{ℕ, List}
 use Rattle.run_types.specs.declared.history.Entry.{Entry}
 use Rattle.process_cell.specs.declared.results.Phase.{Phase}
 
--- its number, its thread's number, its phase, how many turns it has left, which threads took the turns that no entry has yet, and the
--- entries that it did itself
+-- its number, its thread's number, its phase, how many turns it has left, which threads took the turns that no entry has yet, the
+-- history as it has seen it, and the entries of it that it did itself
 pub record Standing : Type 0 where
   pub pid : ℕ
   pub tid : ℕ
   pub phase : Phase
   pub left : ℕ
   pub turns : List ℕ
+  pub seen : List Entry
   pub own : List Entry

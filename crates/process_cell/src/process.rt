@@ -5,10 +5,13 @@ ghost use Rattle.call_codec.specs.Bounded.{IsBounded};
 ghost use Rattle.kernel_cell.specs.declared.results.EndBy.TheVariants as end_by;
 ghost use Rattle.process_cell.specs.declared.results.Phase.TheVariants as phase;
 ghost use Rattle.process_cell.specs.Process.{IsDue, new_pass, first_standing};
-ghost use Rattle.process_cell.specs.Steps.{IsSameThread, IsCalled, IsEnded, IsStepped, turned_standing};
+ghost use Rattle.process_cell.specs.Steps.{IsSameThread, IsCalled, IsFinished, IsEnded, IsStepped, turned_standing};
 
 use crate::gate::Gate;
-use crate::results::{Did, Phase, did_in, phase_after_act, phase_after_end, phase_after_turn};
+use crate::results::{
+    Did, Phase, did_after_wake, did_in, phase_after_act, phase_after_end, phase_after_turn,
+    phase_after_wake,
+};
 use abi_types::{Pid, Signal, Tid, TidList};
 use guest_process::{FIRST_THREAD, Guest};
 use kernel_cell::{Cell, EndBy, Naming, Pass};
@@ -20,7 +23,7 @@ use std::mem;
 use std::sync::Wait;
 
 /// A process of a run, with its one thread. Contracts see whose it is, its phase, how many turns it has left, the turns that no entry
-/// has yet, and the entries that it did.
+/// has yet, the history as it has seen it, and the entries of it that it did.
 #[derive(Drop)]
 pub struct Process<J: Naming> {
     guest: Guest,
@@ -127,6 +130,25 @@ impl<J: Naming> Process<J> {
         did_in(self.phase)
     }
 
+    /// The wake of its thread, which waits in a call: where the thread is ready, its call is answered, and that is an entry of the
+    /// history. Else the process stays as it is.
+    pub fn finish<R: Wait>(&mut self, rt: &R, alloc: Global, cell: &Cell<J>) -> Did
+        requires { self.old.phase ≡ phase.Parks }
+        ensures same { IsSameThread self.old self.new }
+        ensures finished { IsFinished J.launch self.old self.new result }
+    {
+        let woken = cell.wake(
+            rt,
+            &mut self.pass,
+            alloc,
+            self.tid,
+            &mut self.turns,
+            &mut self.guest,
+        );
+        self.phase = phase_after_wake(woken);
+        did_after_wake(woken)
+    }
+
     // Its end from outside, which is an entry of the history.
     fn end<R: Wait>(&mut self, rt: &R, alloc: Global, cell: &Cell<J>, how: EndBy) -> Did
         requires { IsDue how self.old }
@@ -161,23 +183,24 @@ impl<J: Naming> Process<J> {
         self.end(rt, alloc, cell, EndBy::Expire)
     }
 
-    // What a process that is to take no turn now does in place of it, with an entry of the history.
+    // What a process that is to take no turn now does in place of it.
     fn enter<R: Wait>(&mut self, rt: &R, alloc: Global, cell: &Cell<J>) -> Did
         requires { self.old.phase ≡ phase.Runs → self.old.left ≡ 0 }
         ensures same { IsSameThread self.old self.new }
-        ensures stepped { IsStepped self.old self.new result }
+        ensures stepped { IsStepped J.launch self.old self.new result }
     {
         match self.phase() {
             Phase::Runs => self.expire(rt, alloc, cell),
             Phase::Calls => self.call(rt, alloc, cell),
             Phase::Traps(signal) => self.trap(rt, alloc, cell, signal),
+            Phase::Parks => self.finish(rt, alloc, cell),
             Phase::Gone => Did::ProcessGone,
             Phase::Lost => Did::NoMemory,
         }
     }
 
-    /// The next step of the process: a turn; or the call or the trap by which its last turn ended; or its end, where no turn is
-    /// left. The gate is passed before it and, but for a turn, after it.
+    /// The next step of the process: a turn; or the call or the trap by which its last turn ended; or the wake of its thread, where it
+    /// waits; or its end, where no turn is left. The gate is passed before it and, but for a turn, after it.
     pub fn step<R: Wait, G: Gate>(
         &mut self,
         rt: &R,
@@ -187,7 +210,7 @@ impl<J: Naming> Process<J> {
         worker: u32,
     ) -> Did
         ensures same { IsSameThread self.old self.new }
-        ensures stepped { IsStepped self.old self.new result }
+        ensures stepped { IsStepped J.launch self.old self.new result }
     {
         match self.phase() {
             Phase::Gone => return Did::ProcessGone,

@@ -1,9 +1,9 @@
 //! In which phase a process is, and what came of a step of it.
 ghost use Rattle.std.specs.Prelude.{◌≡◌};
-ghost use Rattle.process_cell.specs.Phases.{phase_after_turn, phase_after_act, phase_after_end, did_in};
+ghost use Rattle.process_cell.specs.Phases.{phase_after_turn, phase_after_act, phase_after_wake, phase_after_end, did_in, did_after_wake};
 
 use abi_types::Signal;
-use kernel_cell::{Acted, Stopped};
+use kernel_cell::{Acted, Stopped, Woken};
 use rv_interp::TurnEnd;
 
 /// In which phase a process is.
@@ -15,6 +15,8 @@ pub enum Phase {
     Calls,
     /// The last turn ended by a trap, which ends the process.
     Traps(Signal),
+    /// Its thread waits in a call.
+    Parks,
     /// The process has ended.
     Gone,
     /// Memory ran out, and the process is good for nothing more.
@@ -26,6 +28,10 @@ pub enum Phase {
 pub enum Did {
     /// The process goes on.
     Runs,
+    /// Its thread waits in the call that it made.
+    Parks,
+    /// Its thread waits on, and nothing was done.
+    NotReady,
     /// The process has ended.
     ProcessGone,
     /// Memory ran out.
@@ -49,8 +55,21 @@ pub(crate) fn phase_after_act(acted: Acted) -> Phase
 {
     match acted {
         Acted::Runs => Phase::Runs,
+        Acted::Parks => Phase::Parks,
         Acted::Ends | Acted::Gone => Phase::Gone,
         Acted::NoMemory => Phase::Lost,
+    }
+}
+
+// The phase after the wake of a thread that came to this.
+pub(crate) fn phase_after_wake(woken: Woken) -> Phase
+    ensures { result ≡ phase_after_wake woken }
+{
+    match woken {
+        Woken::Runs => Phase::Runs,
+        Woken::NotReady => Phase::Parks,
+        Woken::Ends | Woken::Gone => Phase::Gone,
+        Woken::NoMemory => Phase::Lost,
     }
 }
 
@@ -70,7 +89,20 @@ pub(crate) fn did_in(phase: Phase) -> Did
 {
     match phase {
         Phase::Runs | Phase::Calls | Phase::Traps(_) => Did::Runs,
+        Phase::Parks => Did::Parks,
         Phase::Gone => Did::ProcessGone,
         Phase::Lost => Did::NoMemory,
+    }
+}
+
+// What the wake of a thread that waited came to.
+pub(crate) fn did_after_wake(woken: Woken) -> Did
+    ensures { result ≡ did_after_wake woken }
+{
+    match woken {
+        Woken::Runs => Did::Runs,
+        Woken::NotReady => Did::NotReady,
+        Woken::Ends | Woken::Gone => Did::ProcessGone,
+        Woken::NoMemory => Did::NoMemory,
     }
 }

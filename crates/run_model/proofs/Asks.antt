@@ -13,7 +13,7 @@ module _ (S T : State) (p : ℕ) (same : threads_of T p ≡ threads_of S p) wher
   runnable_there : (t : ℕ) → IsRunnable S p t → IsRunnable T p t
   runnable_there t runs = ap (λ o. thread_in o t) same ∙ runs
 
-  whole_there : (guest : Guest) (ts : List ℕ) → AreWhole S p guest ts → AreWhole T p guest ts
+  pub whole_there : (guest : Guest) (ts : List ℕ) → AreWhole S p guest ts → AreWhole T p guest ts
   whole_there guest [] whole = tt
   whole_there guest (t ∷ ts) whole = ((runnable_there t whole.0.0, whole.0.1), whole.1, whole_there (turned_guest guest t) ts whole.2)
 
@@ -23,10 +23,11 @@ module _ (S T : State) (p : ℕ) (same : threads_of T p ≡ threads_of S p) wher
 asks_there : (S T : State) (who : Who) (guest : Guest) (ts : List ℕ) (a : Act) → threads_of T who.pid ≡ threads_of S who.pid → Asks S who guest ts a
     → Asks T who guest ts a
 asks_there S T who guest ts (act.Call call given) same asks = (last_there S T who.pid same guest ts who.tid turn_end_is.Ecall asks.0, asks.1)
-asks_there S T who guest ts (act.Wake call given answered) same asks = absurd asks
+asks_there S T who guest ts (act.Wake call given answered) same asks =
+    (whole_there S T who.pid same guest ts asks.0, (asks.1.0, ap (λ o. thread_in o who.tid) same ∙ asks.1.1), asks.2)
 asks_there S T who guest ts (act.Trap signal) same asks = last_there S T who.pid same guest ts who.tid (turn_end_is.Trap signal) asks
 asks_there S T who guest ts act.Expire same asks = (whole_there S T who.pid same guest ts asks.0, runnable_there S T who.pid same who.tid asks.1, asks.2)
-asks_there S T who guest ts act.Idle same asks = absurd asks
+asks_there S T who guest ts act.Idle same asks = asks
 
 pub asks_stay : (w v : World) (who : Who) (ts : List ℕ) (a : Act) → guest_of v who.pid ≡ guest_of w who.pid
     → threads_of v.state who.pid ≡ threads_of w.state who.pid → Asks w.state who (guest_of w who.pid) ts a

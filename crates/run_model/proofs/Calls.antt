@@ -1,8 +1,10 @@
 -- What a call leaves of the kernel's state, and the end of a process from outside.
 --     called_is      a step of a call that registers encode leaves what its answer says
---     runs_on      a runnable thread of a process that lives on is runnable after a call
+--     woken_is      and so does a wake
+--     stays_on      a thread of a process that lives on is there after its call
+--     runs_on      a runnable thread of a process that lives on is runnable after a call with a reply
 --     ended_by      a process that is ended is not live
-use Rattle.std.proofs.Common.{◌≡◌, ◌≢◌, inl, inr, ℕ, Option, Some, IsSome, refl, sym, ap, subst, ◌∙◌}
+use Rattle.std.proofs.Common.{◌≡◌, ◌≢◌, inl, inr, ℕ, true, false, Option, None, Some, IsSome, is_some, refl, sym, ap, subst, ◌∙◌}
 use Rattle.std.proofs.lemmas.Bool.Decides.{eqb_tells}
 use Rattle.std.specs.FinMap.{get}
 use Rattle.abi_types.specs.declared.reply.Answer.{Answer}
@@ -15,18 +17,25 @@ use Rattle.abi_types.specs.declared.status.Status.{Status}
 use Rattle.abi_types.specs.declared.status.Status.TheVariants.{Live}
 use Rattle.abi_types.specs.declared.thread.Thread.{Thread}
 use Rattle.abi_types.specs.declared.thread.Thread.TheVariants.{Runnable}
+use Rattle.abi_types.specs.declared.wake.WakeIn.{WakeIn}
+use Rattle.abi_types.specs.declared.wake.WakeIn.TheVariants as wake
 use Rattle.abi_types.specs.declared.who.Who.{Who}
 use Rattle.abi_base.specs.Registers.{Registers}
+use Rattle.kernel_model.specs.Outcome.{is_parked}
 use Rattle.kernel_model.specs.State.{State, thread_of}
 use Rattle.kernel_model.specs.Step.{failed, step_state, IsStep, end_state}
 use Rattle.kernel_model.proofs.Refusals.{IsNoLackOf, reply_no_lack}
 use Rattle.kernel_model.specs.Threads.{IsCallerAfter}
+use Rattle.kernel_model.specs.Waits.{may_wait, resumed, waiting}
+use Rattle.kernel_model.specs.Wakes.{IsWake}
+use Rattle.kernel_model.proofs.Tests.{not_true}
+use Rattle.kernel_model.proofs.WaitedCalls.{waited_is_no_lack}
 use Rattle.kernel_model.proofs.Steps.{step_moves_only, end_ends_only}
 use Rattle.kernel_model.proofs.Threads.{keeps_caller, keeps_others}
 use Rattle.guest_memory.specs.Page.{Pages}
 use Rattle.call_codec.specs.Arguments.{args_of}
 use Rattle.run_model.specs.Legal.{IsRunnable}
-use Rattle.run_model.specs.World.{by_errno, called_state}
+use Rattle.run_model.specs.World.{by_errno, called_state, woken_state}
 use Rattle.run_model.proofs.Encoded.{args_no_lack}
 
 -- ---- what an answered call leaves
@@ -38,6 +47,8 @@ by_other _ lacking done h = refl
 called_by : (constants : Constants) (S : State) (who : Who) (call : Call) (given : Answer) (T : State) → IsNoLackOf call → IsStep constants S who call given T
     → T ≡ called_state constants S who call given
 unfolding called_state
+called_by constants S who call (answer.Parked writes) T none (inl done) = done.1
+called_by constants S who call (answer.Parked writes) T none (inr lacking) = absurd (not_true (sym (ap is_parked lacking.1)))
 called_by constants S who call (answer.Reply reply) T none (inl done) =
     done.1 ∙ sym (by_other reply.errno (failed S who) (step_state constants S who call) (reply_no_lack constants S who call reply none (sym done.0)))
 called_by constants S who call (answer.Reply reply) T none (inr lacking) =
@@ -48,20 +59,42 @@ pub called_is : (m : Pages) (r : Registers) (constants : Constants) (S : State) 
     → IsStep constants S who (args_of m r) given T → T ≡ called_state constants S who (args_of m r) given
 called_is m r constants S who given T step = called_by constants S who (args_of m r) given T (args_no_lack m r) step
 
+-- and so does a wake of a call in which a thread may wait
+pub woken_is : (constants : Constants) (S : State) (who : Who) (call : Call) (given : WakeIn) (answered : Answer) (T : State) → may_wait call ≡ true
+    → IsWake constants S who call given answered T → T ≡ woken_state constants S who call given answered
+woken_is constants S who call (wake.Plain word) answered T may is =
+    called_by constants (resumed S who) who call answered T (waited_is_no_lack call may) is.0
+woken_is constants S who call wake.Fault answered T may is = is.1
+
 -- ---- a thread that runs on
 
-caller_runs : (given : Answer) (before after : Option Thread) → IsCallerAfter given before after → before ≡ Some Runnable → after ≡ Some Runnable
-caller_runs (answer.Reply reply) before after same runs = same ∙ runs
+caller_there : (waits : Thread) (given : Answer) (before after : Option Thread) → IsCallerAfter waits given before after → IsSome before → IsSome after
+caller_there waits (answer.Parked writes) None after is there = absurd (not_true there)
+caller_there waits (answer.Parked writes) (Some thread) after is there = ap is_some is
+caller_there waits (answer.Reply reply) before after is there = subst IsSome (sym is) there
 
--- a runnable thread of a process that is live after its call is runnable then
+-- a thread of a process that is live after its call is there then
+pub stays_on : (constants : Constants) (S : State) (who : Who) (call : Call) (given : Answer) (T : State) → IsStep constants S who call given T
+    → get T.statuses who.pid ≡ Some Live → IsSome (thread_of S who.pid who.tid) → IsSome (thread_of T who.pid who.tid)
+stays_on constants S who call given T step live there =
+    let left = (step_moves_only constants S who call given T step).threads live in
+    caller_there (waiting constants call who.since) given (thread_of S who.pid who.tid) (thread_of T who.pid who.tid)
+    (left.caller (keeps_caller constants S who call given T step)) there
+
+caller_runs : (waits : Thread) (given : Answer) (before after : Option Thread) → is_parked given ≡ false → IsCallerAfter waits given before after
+    → before ≡ Some Runnable → after ≡ Some Runnable
+caller_runs waits (answer.Parked writes) before after replies same runs = absurd (not_true (sym replies))
+caller_runs waits (answer.Reply reply) before after replies same runs = same ∙ runs
+
+-- a runnable thread of a process that is live after a call with a reply is runnable then
 pub runs_on : (constants : Constants) (S : State) (who : Who) (call : Call) (given : Answer) (T : State) (t : ℕ) → IsStep constants S who call given T
-    → get T.statuses who.pid ≡ Some Live → IsRunnable S who.pid t → IsRunnable T who.pid t
-runs_on constants S who call given T t step live runs =
+    → is_parked given ≡ false → get T.statuses who.pid ≡ Some Live → IsRunnable S who.pid t → IsRunnable T who.pid t
+runs_on constants S who call given T t step replies live runs =
     let left = (step_moves_only constants S who call given T step).threads live in
     elim (eqb_tells t who.tid) [
       | inl is ↦ subst (IsRunnable T who.pid) (sym is.1)
-          (caller_runs given (thread_of S who.pid who.tid) (thread_of T who.pid who.tid) (left.caller (keeps_caller constants S who call given T step))
-          (subst (IsRunnable S who.pid) is.1 runs))
+          (caller_runs (waiting constants call who.since) given (thread_of S who.pid who.tid) (thread_of T who.pid who.tid) replies
+          (left.caller (keeps_caller constants S who call given T step)) (subst (IsRunnable S who.pid) is.1 runs))
       | inr other ↦ left.others t other.1 (subst IsSome (sym runs) refl) (keeps_others constants S who call given T step) ∙ runs
     ]
 

@@ -1,5 +1,5 @@
 -- Each entry of a legal history is confined.
-use Rattle.std.proofs.Common.{◌≡◌, inl, inr, ℕ, true, List, ◌∷◌, ◌++◌, refl, sym, ap, subst, ◌∙◌}
+use Rattle.std.proofs.Common.{◌≡◌, inl, inr, ℕ, true, false, List, ◌∷◌, ◌++◌, refl, sym, ap, subst, ◌∙◌}
 use Rattle.abi_types.specs.declared.reply.Answer.{Answer}
 use Rattle.abi_types.specs.declared.reply.Answer.TheVariants as answer
 use Rattle.abi_types.specs.declared.call.Call.{Call}
@@ -8,6 +8,8 @@ use Rattle.abi_types.specs.declared.constants.Constants.{Constants}
 use Rattle.abi_base.specs.declared.errno.Errno.TheVariants.{Badf, Nomem}
 use Rattle.abi_base.specs.declared.signal.Signal.TheVariants.{Xcpu}
 use Rattle.abi_types.specs.declared.status.Status.TheVariants.{Killed}
+use Rattle.abi_types.specs.declared.wake.WakeIn.{WakeIn}
+use Rattle.abi_types.specs.declared.wake.WakeIn.TheVariants as wake
 use Rattle.abi_types.specs.declared.who.Who.{Who}
 use Rattle.run_types.specs.declared.history.Act.{Act}
 use Rattle.run_types.specs.declared.history.Act.TheVariants as act
@@ -16,20 +18,27 @@ use Rattle.run_types.specs.declared.launch.Launch.{Launch}
 use Rattle.kernel_model.specs.CallBounds.{IsAbsentIn, IsBadfBefore}
 use Rattle.kernel_model.specs.Calls.{takes_memory}
 use Rattle.kernel_model.specs.Laws.{HasSameSight, EndsAlike, IsNotDeniedEarly}
-use Rattle.kernel_model.specs.Outcome.{Outcome, IsSuccess}
+use Rattle.kernel_model.specs.Outcome.{Outcome, IsSuccess, is_parked}
 use Rattle.kernel_model.specs.Reply.{refused}
 use Rattle.tree_model.specs.Grants.{MayBegin}
-use Rattle.kernel_model.specs.State.{State, AgreeOn}
+use Rattle.kernel_model.specs.State.{State, AgreeOn, at_clock, at_proc}
 use Rattle.kernel_model.specs.Step.{tick, sight, unreleased, step_answer, step_state, failed, IsStep}
+use Rattle.kernel_model.specs.Deadlines.{idle_state}
 use Rattle.kernel_model.specs.Valid.{IsValid}
+use Rattle.kernel_model.specs.Waits.{may_wait, resumed, MayWait}
+use Rattle.kernel_model.specs.Wakes.{IsWake}
+use Rattle.kernel_model.proofs.Readiness.{idle_jumps, parking_is_allowed, parking_keeps}
+use Rattle.kernel_model.proofs.Tests.{not_true}
+use Rattle.kernel_model.proofs.WaitedCalls.{waited_is_plain}
+use Rattle.kernel_model.proofs.Waking.{resumed_runs, resumed_valid}
 use Rattle.kernel_model.proofs.Calls.{proper}
 use Rattle.kernel_model.proofs.Decisions.{sight_decides, step_decided, ticks_alike}
 use Rattle.kernel_model.proofs.Found.{badf_is_absent}
 use Rattle.kernel_model.proofs.Refusals.{lack_is_denied, leaving_is_denied, replies_are_listed, reply_no_lack, error_keeps, step_denial, step_reported}
 use Rattle.kernel_model.proofs.Touches as touches
-use Rattle.run_model.specs.Confined.{MayAnswer, CallIsConfined, ActIsConfined, EntryIsConfined, IsConfined}
+use Rattle.run_model.specs.Confined.{MayAnswer, CallIsConfined, WakeIsConfined, OnlyClockChanges, ActIsConfined, EntryIsConfined, IsConfined}
 use Rattle.run_model.specs.Legal.{FitsAct, Fits, Legal}
-use Rattle.run_model.specs.World.{World, Guest, guest_of, registers_of, called_state, turned_guest_by, turned, acted, who_of, world}
+use Rattle.run_model.specs.World.{World, Guest, guest_of, registers_of, called_state, woken_state, turned_guest_by, turned, acted, who_of, world}
 use Rattle.run_model.proofs.Encoded.{args_not_denied}
 use Rattle.run_model.proofs.EncodedBadf.{args_not_badf}
 use Rattle.run_model.proofs.Histories.{apply_is, legal_front, legal_next}
@@ -92,7 +101,39 @@ call_confined constants S who call given T valid plain fine step = record {
   absent = λ reply is badf. call_absent constants S who call reply T valid fine (subst (λ a. IsStep constants S who call a T) is step) badf;
   listed = λ reply is. replies_are_listed constants S who call reply T (subst (λ a. IsStep constants S who call a T) is step);
   error = λ reply is other. error_keeps constants S who call reply T (subst (λ a. IsStep constants S who call a T) is step) valid other;
+  waits = λ writes is. (
+      let parks = subst (λ a. IsStep constants S who call a T) is step in
+      ((parking_is_allowed constants S who call writes T parks).0, parking_keeps constants S who call writes T parks valid));
 }
+
+-- a wake of a thread that waits in a call in which it may is confined
+woken_ends : (constants : Constants) (S : State) (who : Who) (call : Call) (given : WakeIn) (answered : Answer) (T : State)
+    → IsWake constants S who call given answered T → is_parked answered ≡ false
+woken_ends constants S who call (wake.Plain word) answered T is = is.1
+woken_ends constants S who call wake.Fault answered T is = ap is_parked is.0
+
+woken_step : (constants : Constants) (S : State) (who : Who) (call : Call) (given : WakeIn) (answered : Answer) (T : State) (word : ℕ)
+    → IsWake constants S who call given answered T → given ≡ wake.Plain word → IsStep constants (resumed S who) who call answered T
+woken_step constants S who call given answered T word is plain = (subst (λ g. IsWake constants S who call g answered T) plain is).0
+
+pub wake_confined : (constants : Constants) (S : State) (who : Who) (call : Call) (given : WakeIn) (answered : Answer) (T : State) → IsValid S
+    → may_wait call ≡ true → IsWake constants S who call given answered T → WakeIsConfined constants S who call given answered T
+wake_confined constants S who call given answered T valid may is =
+    let plain = waited_is_plain call may in
+    record {
+      resumes = resumed_runs S who;
+      done = λ word given_is.
+          call_confined constants (resumed S who) who call answered T (resumed_valid S who valid) plain.0 plain.1
+          (woken_step constants S who call given answered T word is given_is);
+      faults = λ given_is. subst (λ g. IsWake constants S who call g answered T) given_is is;
+      ends = woken_ends constants S who call given answered T is;
+    }
+
+-- an idle jump changes the clock alone
+idle_changes_clock : (S : State) → OnlyClockChanges S (idle_state S)
+idle_changes_clock S at_clock h = absurd (not_true (sym h))
+idle_changes_clock S (at_proc p) h = (refl, refl)
+idle_changes_clock S part h = refl
 
 act_confined : (w : World) (who : Who) (guest : Guest) (ts : List ℕ) (a : Act) → IsValid w.state → FitsAct w.constants w.state who guest ts a
     → ActIsConfined w.constants w.state who a (acted w who a).state
@@ -101,16 +142,18 @@ act_confined w who guest ts (act.Call call given) valid fits =
     (subst IsNotDeniedEarly (sym fits.0.1) (args_not_denied (turned_guest_by ts guest).memory (registers_of (turned_guest_by ts guest) who.tid)))
     (subst (λ (c : Call). ¬ IsBadfBefore c) (sym fits.0.1) (args_not_badf (turned_guest_by ts guest).memory (registers_of (turned_guest_by ts guest) who.tid)))
     fits.1
-act_confined w who guest ts (act.Wake call given answered) valid fits = absurd fits.0
+act_confined w who guest ts (act.Wake call given answered) valid fits =
+    wake_confined w.constants w.state who call given answered (woken_state w.constants w.state who call given answered) valid
+    (subst MayWait fits.0.1.1 (valid.nearly.waits who.pid who.tid)) fits.1.1
 act_confined w who guest ts (act.Trap signal) valid fits = touches.end_keeps w.state who.pid (Killed signal)
 act_confined w who guest ts act.Expire valid fits = touches.end_keeps w.state who.pid (Killed Xcpu)
-act_confined w who guest ts act.Idle valid fits = absurd fits.0
+act_confined w who guest ts act.Idle valid fits = (idle_changes_clock w.state, idle_jumps w.state)
 
 -- an entry that fits a valid world is confined
 pub entry_confined : (w : World) (e : Entry) → IsValid w.state → Fits w e → EntryIsConfined w e
 entry_confined w e valid fits =
-    subst (λ (v : World). ActIsConfined w.constants w.state (who_of e) e.act v.state) (sym (apply_is w e))
-    (act_confined (turned w e.pid e.turns) (who_of e) (guest_of w e.pid) e.turns e.act valid fits.act)
+    subst (λ (v : World). ActIsConfined w.constants w.state (who_of w.state e) e.act v.state) (sym (apply_is w e))
+    (act_confined (turned w e.pid e.turns) (who_of w.state e) (guest_of w e.pid) e.turns e.act valid fits.act)
 
 legal_entry : (launch : Launch) (front : List Entry) (e : Entry) (rest : List Entry) → MayBegin launch.tree launch.grants → Legal launch (front ++ e ∷ rest)
     → EntryIsConfined (world launch front) e

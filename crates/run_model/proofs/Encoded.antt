@@ -4,7 +4,7 @@
 use Rattle.std.proofs.Common.{◌≡◌, ◌≢◌, ℕ, nat_le, ◌&&◌, Bool, true, false, cond, List, [], ◌∷◌, Option, Some, None, refl, sym, ap, subst, ◌∙◌}
 use Rattle.std.specs.List.{AllByRecursion}
 use Rattle.abi_types.specs.declared.call.Call.{Call}
-use Rattle.abi_types.specs.declared.call.Call.TheVariants.{FileSymlink, MemMap, Memory, Refused}
+use Rattle.abi_types.specs.declared.call.Call.TheVariants.{FileSymlink, MemMap, Memory, Refused, Poll}
 use Rattle.abi_base.specs.declared.errno.Errno.{Errno}
 use Rattle.abi_base.specs.declared.errno.Errno.TheVariants.{Success, Fault, Inval, Nobufs, Nomem, Nosys, Notcapable, Notsup}
 use Rattle.abi_types.specs.declared.needed.Needed.{Needed}
@@ -12,6 +12,10 @@ use Rattle.abi_types.specs.declared.place.Place.{Place}
 use Rattle.abi_types.specs.declared.place.Place.TheVariants as place
 use Rattle.abi_types.specs.declared.place.Place.TheVariants.{At}
 use Rattle.abi_base.specs.Registers.{Registers}
+use Rattle.abi_structures.specs.declared.events.Subscription.{Subscription}
+use Rattle.abi_structures.specs.declared.events.What.{What}
+use Rattle.abi_structures.specs.declared.events.What.TheVariants.{Clock}
+use Rattle.kernel_model.specs.Families.WaitCalls.{lone_poll, poll}
 use Rattle.kernel_model.specs.Calls.{errors_of}
 use Rattle.kernel_model.specs.Laws.{IsNotDeniedEarly}
 use Rattle.kernel_model.specs.Families.FileMeaning.{on_open}
@@ -111,6 +115,16 @@ symlink_plain : (error : Option Errno) (text path : List ℕ) → are_plain (mak
 symlink_plain None text path = refl
 symlink_plain (Some errno) text path = refl
 
+-- nor does what a poll waits for
+lone_plain : (userdata : ℕ) (what : What) → are_plain (lone_poll userdata what).errors ≡ true
+lone_plain userdata (Clock clock timeout precision flags) = refl
+lone_plain userdata what = refl
+
+poll_plain : (subscriptions : List Subscription) → are_plain (poll subscriptions).errors ≡ true
+poll_plain [] = refl
+poll_plain (subscription ∷ []) = lone_plain subscription.userdata subscription.what
+poll_plain (first ∷ second ∷ rest) = refl
+
 -- ---- all of them
 
 call_plain : (m : Pages) (r : Registers) (call : Call) → IsEncodedBy m r call → are_plain (errors_of call) ≡ true
@@ -118,6 +132,7 @@ call_plain m r (MemMap place length prot flags fd offset) is = map_plain m r pla
 call_plain m r (Memory it errno) is = memory_plain errno (memory_listed m r it errno is)
 call_plain m r (Refused it errno) is = listed_plain errno is
 call_plain m r (FileSymlink text fd path) is = symlink_plain (text_error text) text path
+call_plain m r (Poll subscriptions) is = poll_plain subscriptions
 call_plain m r call is = refl
 
 pub args_plain : (m : Pages) (r : Registers) → IsPlainCall (args_of m r)

@@ -1,13 +1,19 @@
 -- Some entry follows each legal history whose run is neither ended nor stalled, so each launch has a run that ends or stalls.
-use Rattle.std.proofs.Common.{◌≡◌, ◌⊎◌, inl, inr, ℕ, zero, suc, ◌+◌, ◌*◌, ◌-◌, ◌≤◌, List, [], ◌∷◌, ◌++◌, length, Some, refl, sym, ap, subst, ◌∙◌, arith, length-append}
+use Rattle.std.proofs.Common.{◌≡◌, ◌⊎◌, inl, inr, ℕ, zero, suc, ◌+◌, ◌*◌, ◌-◌, ◌≤◌, true, false, List, [], ◌∷◌, ◌++◌, length, Option, None, Some, IsSome, is_some, refl, sym, ap, subst, ◌∙◌, arith, length-append}
 use Rattle.std.proofs.lemmas.Bool.Decides.{eqb_tells}
 use Rattle.std.specs.FinMap.{get}
+use Rattle.abi_base.specs.declared.errno.Errno.TheVariants.{Fault}
+use Rattle.abi_types.specs.declared.call.Call.{Call}
 use Rattle.abi_types.specs.declared.constants.Constants.{Constants}
+use Rattle.abi_types.specs.declared.reply.Answer.{Answer}
+use Rattle.abi_types.specs.declared.reply.Answer.TheVariants as answer
 use Rattle.abi_base.specs.declared.signal.Signal.{Signal}
 use Rattle.abi_base.specs.declared.signal.Signal.TheVariants.{Xcpu}
 use Rattle.abi_types.specs.declared.status.Status.TheVariants.{Live, Killed}
 use Rattle.abi_types.specs.declared.thread.Thread.{Thread}
-use Rattle.abi_types.specs.declared.thread.Thread.TheVariants.{Runnable}
+use Rattle.abi_types.specs.declared.thread.Thread.TheVariants.{Runnable, Waits}
+use Rattle.abi_types.specs.declared.wake.WakeIn.{WakeIn}
+use Rattle.abi_types.specs.declared.wake.WakeIn.TheVariants as wake
 use Rattle.abi_types.specs.declared.who.Who.{Who}
 use Rattle.abi_base.specs.Registers.{Registers}
 use Rattle.run_types.specs.declared.history.Act.{Act}
@@ -15,22 +21,29 @@ use Rattle.run_types.specs.declared.history.Act.TheVariants as act
 use Rattle.run_types.specs.declared.history.Entry.{Entry}
 use Rattle.run_types.specs.declared.launch.Launch.{Launch}
 use Rattle.kernel_model.specs.Ends.{NoneLive}
-use Rattle.kernel_model.specs.State.{State, thread_in}
+use Rattle.kernel_model.specs.Deadlines.{least_deadline}
+use Rattle.kernel_model.specs.Reply.{refused}
+use Rattle.kernel_model.specs.State.{State, thread_in, thread_of}
 use Rattle.kernel_model.specs.Step.{step_answer, step_state}
 use Rattle.kernel_model.specs.Valid.{IsValid}
+use Rattle.kernel_model.specs.Waits.{may_wait, resumed, MayWait, WaitsIn}
+use Rattle.kernel_model.specs.Wakes.{is_ready, is_ready_as, AllParked, IsStalled, IsWake, MayJump, NoneReady}
+use Rattle.kernel_model.proofs.Tests.{not_true}
+use Rattle.kernel_model.proofs.Waking.{ready_has_wake, wake_makes_none, wake_moves_only}
 use Rattle.tree_model.specs.Grants.{MayBegin}
 use Rattle.rv_interp.specs.declared.turns.TurnEnd.{TurnEnd}
 use Rattle.rv_interp.specs.declared.turns.TurnEnd.TheVariants as turn_end_is
 use Rattle.guest_memory.specs.Page.{Pages}
 use Rattle.call_codec.specs.Arguments.{args_of}
-use Rattle.run_model.specs.Ends.{Ended, Stalled, HasThread, AllParked}
+use Rattle.call_codec.specs.Given.{given_of}
+use Rattle.run_model.specs.Ends.{Ended, Stalled, HasThread}
 use Rattle.run_model.specs.Legal.{IsRunnable, MayTurn, AreWhole, FitsAct, Fits, FollowsFrom, Legal}
-use Rattle.run_model.specs.Own.{IsLeft, is_born, is_ended, stays}
-use Rattle.run_model.specs.World.{World, Guest, start_world, guest_of, registers_of, called_state, turn_end, turned_guest_by, turned, acted, who_of, apply, apply_all, world}
-use Rattle.run_model.proofs.Calls.{called_is, runs_on, ended_by}
-use Rattle.run_model.proofs.Ends.{asks_runnable, killed_is_not_live, start_only}
+use Rattle.run_model.specs.Own.{is_idle, IsLeft, is_born, is_ended, stays}
+use Rattle.run_model.specs.World.{World, Guest, start_world, guest_of, registers_of, called_state, woken_state, made_since, thread_at, turn_end, turned_guest_by, turned, acted, who_of, apply, apply_all, world}
+use Rattle.run_model.proofs.Calls.{called_is, ended_by, stays_on, woken_is}
+use Rattle.run_model.proofs.Ends.{killed_is_not_live, start_only}
 use Rattle.run_model.proofs.Own.{own_or_left, no_births, same_threads}
-use Rattle.run_model.proofs.Running.{NoneRuns, one_or_none, some_lives, thread_lives}
+use Rattle.run_model.proofs.Running.{NoneRuns, one_or_none, ready_or_none, some_lives, thread_lives}
 use Rattle.run_model.proofs.Worlds.{world_is_valid}
 use Rattle.run_model.proofs.Potentials.{history_is_short}
 use Rattle.run_model.proofs.Histories.{apply_is, turned_more, whole_more, legal_none, legal_more, first_thread}
@@ -41,24 +54,31 @@ use Rattle.run_model.proofs.Histories.{apply_is, turned_more, whole_more, legal_
 abbrev HasThreads : State → ℕ → Type 0
 HasThreads S p = get S.statuses p ≡ Some Live → (t : ℕ) × (thread : Thread) × HasThread S p t thread
 
+the_thread : (S : State) (p t : ℕ) (o : Option Thread) → thread_of S p t ≡ o → IsSome o → (u : ℕ) × (thread : Thread) × HasThread S p u thread
+the_thread S p t None is there = absurd (not_true there)
+the_thread S p t (Some thread) is there = (t, thread, is)
+
 -- the thread that did an act is there after it, if its process lives on
-acted_has : (w : World) (who : Who) (guest : Guest) (ts : List ℕ) (a : Act) → FitsAct w.constants w.state who guest ts a
+acted_has : (w : World) (who : Who) (guest : Guest) (ts : List ℕ) (a : Act) → is_idle a ≡ false → FitsAct w.constants w.state who guest ts a
     → HasThreads (acted w who a).state who.pid
-acted_has w who guest ts (act.Call call given) fits live = (
+acted_has w who guest ts (act.Call call given) done fits live =
+    let T = called_state w.constants w.state who call given in
+    the_thread T who.pid who.tid (thread_of T who.pid who.tid) refl
+    (stays_on w.constants w.state who call given T fits.1 live (ap is_some fits.0.0.3.0))
+acted_has w who guest ts (act.Wake call given answered) done fits live = (
   who.tid,
   Runnable,
-  runs_on w.constants w.state who call given (called_state w.constants w.state who call given) who.tid fits.1 live
-      (asks_runnable w.state who guest ts (act.Call call given) fits.0),
+  (wake_moves_only w.constants w.state who call given answered (woken_state w.constants w.state who call given answered) fits.1.1).runs live
+      (ap is_some fits.0.1.1) (wake_makes_none w.constants w.state who call given answered (woken_state w.constants w.state who call given answered) fits.1.1).0,
 )
-acted_has w who guest ts (act.Wake call given answered) fits live = absurd fits.0
-acted_has w who guest ts (act.Trap signal) fits live = absurd (ended_by w.state who.pid (Killed signal) (killed_is_not_live signal) live)
-acted_has w who guest ts act.Expire fits live = absurd (ended_by w.state who.pid (Killed Xcpu) (killed_is_not_live Xcpu) live)
-acted_has w who guest ts act.Idle fits live = absurd fits.0
+acted_has w who guest ts (act.Trap signal) done fits live = absurd (ended_by w.state who.pid (Killed signal) (killed_is_not_live signal) live)
+acted_has w who guest ts act.Expire done fits live = absurd (ended_by w.state who.pid (Killed Xcpu) (killed_is_not_live Xcpu) live)
+acted_has w who guest ts act.Idle done fits live = absurd (not_true (sym done))
 
-own_has : (w : World) (e : Entry) → Fits w e → HasThreads (apply w e).state e.pid
-own_has w e fits =
+own_has : (w : World) (e : Entry) → is_idle e.act ≡ false → Fits w e → HasThreads (apply w e).state e.pid
+own_has w e done fits =
     subst (λ (v : World). HasThreads v.state e.pid) (sym (apply_is w e))
-    (acted_has (turned w e.pid e.turns) (who_of e) (guest_of w e.pid) e.turns e.act fits.act)
+    (acted_has (turned w e.pid e.turns) (who_of w.state e) (guest_of w e.pid) e.turns e.act done fits.act)
 
 others_have : (w v : World) (a : Act) (q : ℕ) → HasThreads w.state q → IsLeft w v a q → HasThreads v.state q
 others_have w v a q before (is_born there) live = absurd (no_births a q there)
@@ -69,7 +89,7 @@ others_have w v a q before (stays same) live =
 threads_after : (w : World) (e : Entry) → ((p : ℕ) → HasThreads w.state p) → Fits w e → (p : ℕ) → HasThreads (apply w e).state p
 threads_after w e before fits p =
     elim (own_or_left w e p fits) [
-      | inl is ↦ subst (HasThreads (apply w e).state) (sym is.0) (own_has w e fits)
+      | inl is ↦ subst (HasThreads (apply w e).state) (sym is.0) (own_has w e is.1 fits)
       | inr left ↦ others_have w (apply w e) e.act p (before p) left
     ]
 
@@ -139,32 +159,85 @@ acts constants S who guest (suc n) ts runs whole left =
     (λ more. acts constants S who guest n (ts ++ who.tid ∷ []) runs more (left_more ts who.tid guest n left))
 
 -- an act that fits is that of an entry at its moment
-entry_of : (w : World) (who : Who) → get w.state.statuses who.pid ≡ Some Live → HasAct w.constants w.state who (guest_of w who.pid)
+entry_of : (w : World) (p t : ℕ) → get w.state.statuses p ≡ Some Live → HasAct w.constants w.state (thread_at w.state p t) (guest_of w p)
     → (e : Entry) × Fits w e
 unfolding apply
-entry_of w who live next = (
-  record { moment = (acted (turned w who.pid next.0) who next.1).state.clock; pid = who.pid; tid = who.tid; turns = next.0; act = next.1 },
+entry_of w p t live next = (
+  record { moment = (acted (turned w p next.0) (thread_at w.state p t) next.1).state.clock; pid = p; tid = t; turns = next.0; act = next.1 },
   record { live = λ _. live; act = next.2; moment = refl },
 )
 
 -- a runnable thread of a live process goes on
 thread_goes_on : (w : World) (p t : ℕ) → get w.state.statuses p ≡ Some Live → IsRunnable w.state p t → (e : Entry) × Fits w e
 thread_goes_on w p t live runs =
-    let who : Who = record { pid = p; tid = t } in
-    entry_of w who live (acts w.constants w.state who (guest_of w p) (guest_of w p).left [] runs tt refl)
+    let who : Who = thread_at w.state p t in
+    entry_of w p t live (acts w.constants w.state who (guest_of w p) (guest_of w p).left [] runs tt refl)
+
+-- ---- a wake that follows
+
+-- a wake of a thread that waits in this call, as it is given
+woken_by : (constants : Constants) (S : State) (who : Who) (call : Call) (given : WakeIn) → may_wait call ≡ true → WaitsIn S who call
+    → is_ready constants S who.pid who.tid ≡ true
+    → (answered : Answer) × IsWake constants S who call given answered (woken_state constants S who call given answered)
+woken_by constants S who call (wake.Plain word) may kept ready =
+    let a = step_answer constants (resumed S who) who call in
+    let T = step_state constants (resumed S who) who call in
+    let is = ready_has_wake constants S who call word kept ready in
+    (a, subst (IsWake constants S who call (wake.Plain word) a) (woken_is constants S who call (wake.Plain word) a T may is) is)
+woken_by constants S who call wake.Fault may kept ready = (answer.Reply (refused Fault), (refl, refl))
+
+-- a ready thread waits in a call
+waits_where : (constants : Constants) (S : State) (p t : ℕ) (thread : Thread) → HasThread S p t thread → is_ready constants S p t ≡ true
+    → (call : Call) × WaitsIn S (thread_at S p t) call
+waits_where constants S p t Runnable there ready = absurd (not_true (sym (ap (is_ready_as constants S p t) there) ∙ ready))
+waits_where constants S p t (Waits call since until) there ready = (
+  call,
+  (until, there ∙ ap (λ n. Some (Waits call n until)) (sym (ap (made_since (S.clock + 1000)) there))),
+)
+
+thread_wakes : (w : World) (p t : ℕ) (thread : Thread) → IsValid w.state → HasThread w.state p t thread → is_ready w.constants w.state p t ≡ true
+    → (e : Entry) × Fits w e
+thread_wakes w p t thread valid there ready =
+    let who : Who = thread_at w.state p t in
+    let waits = waits_where w.constants w.state p t thread there ready in
+    let given = given_of (guest_of w p).memory (registers_of (guest_of w p) t) waits.0 in
+    let may : may_wait waits.0 ≡ true = subst MayWait waits.1.1 (valid.nearly.waits p t) in
+    let woken = woken_by w.constants w.state who waits.0 given may waits.1 ready in
+    entry_of w p t (thread_lives w.state p t thread valid there) ([], act.Wake waits.0 given woken.0, ((tt, waits.1, refl), (ready, woken.1)))
+
+-- ---- a jump that follows
+
+time_jumps : (w : World) → MayJump w.constants w.state → (e : Entry) × Fits w e
+unfolding apply
+time_jumps w may = (
+  record { moment = (acted (turned w 0 []) (thread_at w.state 0 0) act.Idle).state.clock; pid = 0; tid = 0; turns = []; act = act.Idle },
+  record { live = λ done. absurd (not_true (sym done)); act = ((refl, refl, refl), may); moment = refl },
+)
 
 -- ---- the end
 
-stalled_where : (S : State) → NoneRuns S → (p : ℕ) → HasThreads S p → get S.statuses p ≡ Some Live → AllParked S
-stalled_where S none p has live = let thread = has live in ((p, thread.0, thread.1, thread.2), none)
+parked_where : (S : State) → NoneRuns S → (p : ℕ) → HasThreads S p → get S.statuses p ≡ Some Live → AllParked S
+parked_where S none p has live = let thread = has live in ((p, thread.0, thread.1, thread.2, live), none)
+
+jumps_or_stalls : (w : World) → AllParked w.state → NoneReady w.constants w.state → (o : Option ℕ) → least_deadline w.state ≡ o
+    → IsStalled w.constants w.state ⊎ ((e : Entry) × Fits w e)
+jumps_or_stalls w all none None is = inl (record { all = all; none = none; least = is })
+jumps_or_stalls w all none (Some until) is = inr (time_jumps w (record { all = all; none = none; until = until; least = is }))
+
+parked_goes_on : (w : World) → IsValid w.state → AllParked w.state → IsStalled w.constants w.state ⊎ ((e : Entry) × Fits w e)
+parked_goes_on w valid all =
+    elim (ready_or_none w.constants w.state) [
+      | inl ready ↦ inr (thread_wakes w ready.0 ready.1 ready.2 valid ready.3 ready.4)
+      | inr none ↦ jumps_or_stalls w all none (least_deadline w.state) refl
+    ]
 
 world_goes_on : (w : World) → IsValid w.state → ((p : ℕ) → HasThreads w.state p)
-    → NoneLive w.state ⊎ (AllParked w.state ⊎ ((e : Entry) × Fits w e))
+    → NoneLive w.state ⊎ (IsStalled w.constants w.state ⊎ ((e : Entry) × Fits w e))
 world_goes_on w valid threads =
     elim (one_or_none w.state) [
       | inl runs ↦ inr (inr (thread_goes_on w runs.0 runs.1 (thread_lives w.state runs.0 runs.1 Runnable valid runs.2) runs.2))
       | inr none ↦ elim (some_lives w.state) [
-        | inl live ↦ inr (inl (stalled_where w.state none live.0 (threads live.0) live.1))
+        | inl live ↦ inr (parked_goes_on w valid (parked_where w.state none live.0 (threads live.0) live.1))
         | inr dead ↦ inl dead
       ]
     ]
@@ -178,8 +251,7 @@ ends_or_goes_on launch history begins legal =
 pub ended_or_stalled : (launch : Launch) (history : List Entry) → MayBegin launch.tree launch.grants → Legal launch history → Ended launch history
     → Stalled launch history → ⊥
 ended_or_stalled launch history begins legal ended stalled =
-    ended stalled.0.0
-    (thread_lives (world launch history).state stalled.0.0 stalled.0.1 stalled.0.2 (world_is_valid launch history begins legal) stalled.0.3)
+    ended stalled.all.0.0 stalled.all.0.4
 
 -- a legal history whose run is ended or stalled
 abbrev HasEnd : Launch → Type 0

@@ -57,9 +57,9 @@ acted_constants w who act.Expire = refl
 acted_constants w who act.Idle = refl
 
 -- what stays the same for the whole run does
-apply_constants : (w : World) (e : Entry) → (apply w e).constants ≡ w.constants
+pub apply_constants : (w : World) (e : Entry) → (apply w e).constants ≡ w.constants
 unfolding apply
-apply_constants w e = acted_constants (turned w e.pid e.turns) (who_of e) e.act
+apply_constants w e = acted_constants (turned w e.pid e.turns) (who_of w.state e) e.act
 
 all_constants : (w : World) (history : List Entry) → (apply_all w history).constants ≡ w.constants
 unfolding apply_all
@@ -120,7 +120,7 @@ legal_rest launch front rest all = follows_rest (start_world launch) front rest 
 -- ---- what an entry leaves
 
 -- an entry is its turns and then its act
-pub apply_is : (w : World) (e : Entry) → apply w e ≡ acted (turned w e.pid e.turns) (who_of e) e.act
+pub apply_is : (w : World) (e : Entry) → apply w e ≡ acted (turned w e.pid e.turns) (who_of w.state e) e.act
 unfolding apply
 apply_is w e = refl
 

@@ -12,4 +12,7 @@ pub mod EncodedBadf
 pub mod Own
 pub mod Registers
 pub mod Bounds
+pub mod Wakes
+pub mod Waited
+pub mod WaitingRegisters
 pub mod Asks

@@ -12,16 +12,19 @@ use Rattle.std.proofs.lemmas.List.Elements.{filter-append}
 use Rattle.std.specs.Option.{option_map}
 use Rattle.abi_base.specs.declared.signal.Signal.TheVariants.{Kill}
 use Rattle.abi_types.specs.declared.status.Status.TheVariants.{Live, Killed}
+use Rattle.abi_types.specs.declared.who.Who.{Who}
 use Rattle.run_types.specs.declared.history.Act.{Act}
+use Rattle.run_types.specs.declared.history.Act.TheVariants as act
 use Rattle.run_types.specs.declared.history.Entry.{Entry}
 use Rattle.run_types.specs.declared.launch.Launch.{Launch}
+use Rattle.maps.specs.Maps.{get-insert-other}
 use Rattle.kernel_model.specs.State.{ProcessState, threads_of}
 use Rattle.kernel_model.proofs.Tests.{not_true, same_some}
-use Rattle.run_model.specs.Legal.{Fits, FollowsFrom, Legal}
+use Rattle.run_model.specs.Legal.{FitsAct, Fits, FollowsFrom, Legal}
 use Rattle.run_model.specs.Own.{is_idle, is_own, own, born, Made, IsLiveIn, Same, IsLeft, is_born, is_ended, stays}
-use Rattle.run_model.specs.World.{World, apply, apply_all, world}
-use Rattle.run_model.proofs.Ends.{fits_done, apply_process, apply_made, killed_is_not_live}
-use Rattle.run_model.proofs.Histories.{world_rest, legal_rest}
+use Rattle.run_model.specs.World.{World, acted, apply, apply_all, guest_of, or_no_guest, turned, who_of, with_guest, world}
+use Rattle.run_model.proofs.Ends.{apply_process, apply_made, killed_is_not_live}
+use Rattle.run_model.proofs.Histories.{apply_is, guest_set, world_rest, legal_rest}
 use Rattle.run_model.proofs.Worlds.{apply_guest}
 
 -- ---- one entry
@@ -32,24 +35,52 @@ other_process q e done other =
     let by_number : is_own q e ≡ (e.pid == q) = ap (λ b. not b && (e.pid == q)) done in
     elim (eqb_tells e.pid q) [ inl is ↦ absurd (not_true (sym other ∙ by_number ∙ is.0)) | inr apart ↦ λ same. apart.1 (sym same) ]
 
-pub others_left : (w : World) (e : Entry) (q : ℕ) → Fits w e → is_own q e ≡ false → IsLeft w (apply w e) e.act q
-others_left w e q fits other =
-    let apart : q ≢ e.pid = other_process q e (fits_done w e fits) other in
+-- turns of no thread leave each guest
+no_turns : (w : World) (p : ℕ) (ts : List ℕ) (q : ℕ) → ts ≡ [] → guest_of (turned w p ts) q ≡ guest_of w q
+no_turns w p ts q none =
+    ap (λ us. guest_of (turned w p us) q) none
+    ∙ elim (eqb_tells q p) [
+      | inl is ↦ subst (λ k. guest_of (with_guest w p (guest_of w p)) k ≡ guest_of w k) (sym is.1) (guest_set w p (guest_of w p))
+      | inr other ↦ ap or_no_guest (get-insert-other w.guests p (guest_of w p) q other.1)
+    ]
+
+-- an idle jump leaves each process as it was
+idle_same : (w : World) (who : Who) (ts : List ℕ) (a : Act) (q : ℕ) → is_idle a ≡ true → FitsAct w.constants w.state who (guest_of w who.pid) ts a
+    → Same (acted (turned w who.pid ts) who a) w q
+idle_same w who ts (act.Call call given) q idle fits = absurd (not_true idle)
+idle_same w who ts (act.Wake call given answered) q idle fits = absurd (not_true idle)
+idle_same w who ts (act.Trap signal) q idle fits = absurd (not_true idle)
+idle_same w who ts act.Expire q idle fits = absurd (not_true idle)
+idle_same w who ts act.Idle q idle fits = record { guest = no_turns w who.pid ts q fits.0.2; table = refl; rest = refl; status = refl }
+
+pub idle_leaves : (w : World) (e : Entry) (q : ℕ) → Fits w e → is_idle e.act ≡ true → Same (apply w e) w q
+idle_leaves w e q fits idle =
+    subst (λ (v : World). Same v w q) (sym (apply_is w e)) (idle_same w (who_of w.state e) e.turns e.act q idle fits.act)
+
+others_of : (w : World) (e : Entry) (q : ℕ) → Fits w e → q ≢ e.pid → IsLeft w (apply w e) e.act q
+others_of w e q fits apart =
     elim (apply_process w e q fits apart) [
       | inl process ↦ stays (record { guest = apply_guest w e q apart; table = process.0; rest = process.1; status = process.2 })
       | inr killed ↦ is_ended killed.1.0 (λ live. killed_is_not_live Kill (same_some (Killed Kill) Live (sym killed.1.1 ∙ live)))
     ]
+
+pub others_left : (w : World) (e : Entry) (q : ℕ) → Fits w e → is_own q e ≡ false → IsLeft w (apply w e) e.act q
+others_left w e q fits other =
+    elim (is_idle e.act) as (λ b. is_idle e.act ≡ b → IsLeft w (apply w e) e.act q) [
+      | true ↦ λ idle. stays (idle_leaves w e q fits idle)
+      | false ↦ λ done. others_of w e q fits (other_process q e done other)
+    ] refl
 
 -- who did an entry has its number, and it is no idle jump
 own_is : (idle : Bool) (p q : ℕ) → not idle && (p == q) ≡ true → (idle ≡ false) × (q ≡ p)
 own_is true p q mine = absurd (not_true mine)
 own_is false p q mine = elim (eqb_tells p q) [ inl is ↦ (refl, sym is.1) | inr apart ↦ absurd (not_true (sym apart.0 ∙ mine)) ]
 
--- each process either did the entry, and was live before it, or is left by it
-pub own_or_left : (w : World) (e : Entry) (q : ℕ) → Fits w e → ((q ≡ e.pid) × IsLiveIn w e.pid) ⊎ IsLeft w (apply w e) e.act q
+-- each process either did the entry, which is no idle jump, or is left by it
+pub own_or_left : (w : World) (e : Entry) (q : ℕ) → Fits w e → ((q ≡ e.pid) × (is_idle e.act ≡ false)) ⊎ IsLeft w (apply w e) e.act q
 own_or_left w e q fits =
-    elim (is_own q e) as (λ (b : Bool). is_own q e ≡ b → ((q ≡ e.pid) × IsLiveIn w e.pid) ⊎ IsLeft w (apply w e) e.act q) [
-      | true ↦ λ mine. (let is = own_is (is_idle e.act) e.pid q mine in inl (is.1, fits.live is.0))
+    elim (is_own q e) as (λ (b : Bool). is_own q e ≡ b → ((q ≡ e.pid) × (is_idle e.act ≡ false)) ⊎ IsLeft w (apply w e) e.act q) [
+      | true ↦ λ mine. (let is = own_is (is_idle e.act) e.pid q mine in inl (is.1, is.0))
       | false ↦ λ other. inr (others_left w e q fits other)
     ] refl
 

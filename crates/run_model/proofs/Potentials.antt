@@ -1,8 +1,7 @@
 -- Each entry takes from what is left to do, so a history is short.
-use Rattle.std.proofs.Common.{◌≡◌, ◌≢◌, inl, inr, ℕ, ◌+◌, ◌-◌, ◌*◌, ◌<◌, ◌≤◌, List, [], ◌∷◌, length, Option, Some, None, refl, sym, ap, subst, ◌∙◌, arith, length-append}
-use Rattle.std.proofs.lemmas.Bool.Decides.{eqb_tells}
+use Rattle.std.proofs.Common.{◌≡◌, ◌≢◌, ◌⊎◌, ℕ, ◌+◌, ◌-◌, ◌*◌, ◌<◌, ◌≤◌, true, false, List, [], ◌∷◌, length, Option, Some, None, IsSome, is_some, refl, sym, ap, subst, ◌∙◌, arith, length-append}
 use Rattle.std.specs.Ordering.{nat_cmp}
-use Rattle.std.specs.FinMap.{FinMap, empty, get, get-empty, remove}
+use Rattle.std.specs.FinMap.{empty, get, get-empty}
 use Rattle.abi_types.specs.declared.reply.Answer.{Answer}
 use Rattle.abi_types.specs.declared.reply.Answer.TheVariants as answer
 use Rattle.abi_types.specs.declared.call.Call.{Call}
@@ -14,25 +13,29 @@ use Rattle.run_types.specs.declared.history.Act.{Act}
 use Rattle.run_types.specs.declared.history.Act.TheVariants as act
 use Rattle.run_types.specs.declared.history.Entry.{Entry}
 use Rattle.run_types.specs.declared.launch.Launch.{Launch}
-use Rattle.abi_types.specs.declared.thread.Thread.{Thread}
 use Rattle.abi_types.specs.declared.thread.Thread.TheVariants.{Runnable}
 use Rattle.tree_model.specs.Grants.{MayBegin}
-use Rattle.kernel_model.specs.State.{State, ProcessState}
+use Rattle.kernel_model.specs.Deadlines.{idle_state}
+use Rattle.kernel_model.specs.State.{State, thread_of}
 use Rattle.kernel_model.specs.Valid.{IsValid}
+use Rattle.kernel_model.specs.Waits.{HasDeadlines}
+use Rattle.kernel_model.proofs.Readiness.{jump_readies}
+use Rattle.kernel_model.proofs.Starts.{start_runs}
+use Rattle.kernel_model.proofs.Tests.{not_true}
 use Rattle.kernel_model.specs.Step.{end_state}
-use Rattle.maps.specs.Closure.{total_below}
-use Rattle.maps.specs.Maps.{get-remove-same, get-remove-other, total, weight, total_none, total-empty, total-insert, total-remove}
+use Rattle.maps.specs.Maps.{total, weight, total-empty, total-insert}
 use Rattle.rv_interp.specs.declared.turns.TurnEnd.{TurnEnd}
 use Rattle.rv_interp.specs.declared.turns.TurnEnd.TheVariants.{Ecall, Trap}
-use Rattle.run_model.specs.Ends.{turns_taken, live_number, wakes_left, all_wakes_left, potential}
+use Rattle.run_model.specs.Ends.{turns_taken, live_number, potential}
 use Rattle.run_model.specs.Legal.{AreWhole, LastEnds, Asks, FitsAct, Fits, FollowsFrom, Legal}
-use Rattle.run_model.specs.Own.{IsLeft, is_born, is_ended, stays}
+use Rattle.run_model.specs.Own.{is_idle, IsLeft, is_born, is_ended, stays}
 use Rattle.run_model.specs.World.{World, Guest, start_world, first_guest, guest_of, or_no_guest, called_guest, turned_guest, turned_guest_by, turned, acted, who_of, apply, apply_all, world}
 use Rattle.run_model.proofs.Calls.{ended_by}
-use Rattle.run_model.proofs.Ends.{fits_live, killed_is_not_live}
-use Rattle.run_model.proofs.Histories.{apply_is, turned_more, first_thread}
-use Rattle.run_model.proofs.Running.{no_jump, jump_at_most}
-use Rattle.run_model.proofs.Worlds.{apply_valid, first_valid}
+use Rattle.run_model.proofs.Ends.{killed_is_not_live}
+use Rattle.run_model.proofs.Histories.{apply_is, first_state, turned_more, first_thread}
+use Rattle.run_model.proofs.Running.{jump_at_most, jump_is_left, ready_no_jump, running_no_jump}
+use Rattle.run_model.proofs.Worlds.{apply_deadlines, apply_valid, first_deadlines, first_valid}
+use Rattle.run_model.proofs.Wakes.{all_wakes, call_wakes, end_wakes, none_wakes, total_around, woken_wakes}
 use Rattle.run_model.proofs.Own.{left_where, no_births}
 
 -- ---- turns
@@ -64,10 +67,11 @@ last_take S p guest ts t end last =
 
 asks_take : (S : State) (who : Who) (guest : Guest) (ts : List ℕ) (a : Act) → Asks S who guest ts a → (turned_guest_by ts guest).left + length ts ≡ guest.left
 asks_take S who guest ts (act.Call call given) asks = (last_take S who.pid guest ts who.tid Ecall asks.0).0
-asks_take S who guest ts (act.Wake call given answered) asks = absurd asks
+asks_take S who guest ts (act.Wake call given answered) asks = whole_take S who.pid ts guest asks.0
 asks_take S who guest ts (act.Trap signal) asks = (last_take S who.pid guest ts who.tid (Trap signal) asks).0
 asks_take S who guest ts act.Expire asks = whole_take S who.pid ts guest asks.0
-asks_take S who guest ts act.Idle asks = absurd asks
+asks_take S who guest ts act.Idle asks =
+    ap (λ us. (turned_guest_by us guest).left + length us) asks.2 ∙ omega arith
 
 -- turns of which one is a thread's that may take one leave fewer
 last_takes : (S : State) (p : ℕ) (guest : Guest) (ts : List ℕ) (t : ℕ) (end : TurnEnd) → LastEnds S p guest ts t end → (turned_guest_by ts guest).left < guest.left
@@ -92,6 +96,7 @@ turned_all w p ts =
     omega (arith, sums, here)
 
 called_left : (guest : Guest) (t : ℕ) (call : Call) (given : Answer) → (called_guest guest t call given).left ≡ guest.left
+called_left guest t call (answer.Parked writes) = refl
 called_left guest t call (answer.Reply reply) = refl
 
 acted_all : (w : World) (who : Who) (a : Act) → all_left (acted w who a) ≡ all_left w
@@ -100,7 +105,11 @@ acted_all w who (act.Call call given) =
     let here = left_here (get w.guests who.pid) in
     let same = called_left (guest_of w who.pid) who.tid call given in
     omega (arith, sums, here, same)
-acted_all w who (act.Wake call given answered) = refl
+acted_all w who (act.Wake call given answered) =
+    let sums = total-insert left_of w.guests who.pid (called_guest (guest_of w who.pid) who.tid call answered) in
+    let here = left_here (get w.guests who.pid) in
+    let same = called_left (guest_of w who.pid) who.tid call answered in
+    omega (arith, sums, here, same)
 acted_all w who (act.Trap signal) = refl
 acted_all w who act.Expire = refl
 acted_all w who act.Idle = refl
@@ -109,9 +118,9 @@ acted_all w who act.Idle = refl
 entry_takes : (w : World) (e : Entry) → Fits w e → all_left (apply w e) + length e.turns ≡ all_left w
 entry_takes w e fits =
     let turns = turned_all w e.pid e.turns in
-    let same = acted_all (turned w e.pid e.turns) (who_of e) e.act in
-    let takes = asks_take w.state (who_of e) (guest_of w e.pid) e.turns e.act fits.act.0 in
-    let after : all_left (apply w e) ≡ all_left (acted (turned w e.pid e.turns) (who_of e) e.act) = ap all_left (apply_is w e) in
+    let same = acted_all (turned w e.pid e.turns) (who_of w.state e) e.act in
+    let takes = asks_take w.state (who_of w.state e) (guest_of w e.pid) e.turns e.act fits.act.0 in
+    let after : all_left (apply w e) ≡ all_left (acted (turned w e.pid e.turns) (who_of w.state e) e.act) = ap all_left (apply_is w e) in
     omega (arith, turns, same, takes, after)
 
 follows_take : (w : World) (history : List Entry) → FollowsFrom w history → all_left (apply_all w history) + turns_taken history ≡ all_left w
@@ -147,48 +156,15 @@ other_counts w v a q (is_born there) = absurd (no_births a q there)
 other_counts w v a q (is_ended was dead) = let none = not_counted (get v.state.statuses q) dead in omega (arith, none)
 other_counts w v a q (stays same) = let status = ap (weight live_number) same.status in omega (arith, status)
 
--- where no other key weighs more in m than in n, the total of m is greater by no more than what the key k weighs more
-total_around : {X : Type 0} (f : X → ℕ) (m n : FinMap nat_cmp X) (k : ℕ) → ((q : ℕ) → q ≢ k → weight f (get m q) ≤ weight f (get n q))
-    → total f m + weight f (get n k) ≤ total f n + weight f (get m k)
-total_around f m n k others =
-    let below : total f (remove m k) ≤ total f (remove n k) =
-    total_below f f (remove m k) (remove n k) (λ q. elim (eqb_tells q k) [
-      | inl is ↦ (
-          let none : weight f (get (remove m k) q) ≡ 0 = ap (weight f) (ap (get (remove m k)) is.1 ∙ get-remove-same m k) in
-          omega (arith, none))
-      | inr other ↦ (
-          let there : weight f (get (remove m k) q) ≡ weight f (get m q) = ap (weight f) (get-remove-other m k q other.1) in
-          let here : weight f (get (remove n k) q) ≡ weight f (get n q) = ap (weight f) (get-remove-other n k q other.1) in
-          let less = others q other.1 in
-          omega (arith, there, here, less))
-    ]) in
-    let first = total-remove f m k in
-    let second = total-remove f n k in
-    omega (arith, below, first, second)
-
--- after an entry at most as many processes are live as before it, and one less if its own is not
-lives_fall : (w : World) (e : Entry) → Fits w e
+-- after an entry that is no jump at most as many processes are live as before it, and one less if its own is not
+lives_fall : (w : World) (e : Entry) → is_idle e.act ≡ false → Fits w e
     → all_live (apply w e).state + 1 ≤ all_live w.state + weight live_number (get (apply w e).state.statuses e.pid)
-lives_fall w e fits =
-    let one : weight live_number (get w.state.statuses e.pid) ≡ 1 = ap (weight live_number) (fits_live w e fits) in
+lives_fall w e done fits =
+    let one : weight live_number (get w.state.statuses e.pid) ≡ 1 = ap (weight live_number) (fits.live done) in
     let sums =
     total_around live_number (apply w e).state.statuses w.state.statuses e.pid
     (λ q apart. other_counts w (apply w e) e.act q (left_where w e q fits apart)) in
     omega (arith, one, sums)
-
--- ---- wakes
-
-no_wake : (o : Option Thread) → weight wakes_left o ≡ 0
-no_wake None = refl
-no_wake (Some Runnable) = refl
-
-no_wakes : (o : Option ProcessState) → weight all_wakes_left o ≡ 0
-no_wakes None = refl
-no_wakes (Some own) = total_none wakes_left own.threads (λ t. no_wake (get own.threads t))
-
--- no thread has a wake left, since none waits
-wakes_none : (S : State) → total all_wakes_left S.processes ≡ 0
-wakes_none S = total_none all_wakes_left S.processes (λ p. no_wakes (get S.processes p))
 
 -- ---- entries
 
@@ -198,49 +174,85 @@ LivesFall w who ts a =
     let after = (acted (turned w who.pid ts) who a).state in
     all_live after + 1 ≤ all_live w.state + weight live_number (get after.statuses who.pid)
 
--- where w becomes v by an act that takes a turn, or ends its process, less is left to do
-falls : (w v : World) → all_left v + 1 ≤ all_left w → all_live v.state ≤ all_live w.state → potential v < potential w
-falls w v left lives = omega (arith, wakes_none w.state, wakes_none v.state, jump_at_most v.state)
+-- where w becomes v by an act that takes a turn, and leaves at most one wake more, less is left to do
+falls : (w v : World) → all_left v + 1 ≤ all_left w → all_live v.state ≤ all_live w.state → all_wakes v.state ≤ all_wakes w.state + 1 → potential v < potential w
+falls w v left lives wakes = let most = jump_at_most v.constants v.state in omega (arith, left, lives, wakes, most)
 
-act_falls : (w : World) (who : Who) (ts : List ℕ) (a : Act) → LivesFall w who ts a → FitsAct w.constants w.state who (guest_of w who.pid) ts a
-    → potential (acted (turned w who.pid ts) who a) < potential w
-act_falls w who ts (act.Call call given) lives fits =
+act_falls : (w : World) (who : Who) (ts : List ℕ) (a : Act) → is_idle a ≡ false → IsSome (get w.state.statuses who.pid) → IsValid w.state
+    → LivesFall w who ts a → FitsAct w.constants w.state who (guest_of w who.pid) ts a → potential (acted (turned w who.pid ts) who a) < potential w
+act_falls w who ts (act.Call call given) done made valid lives fits =
     let turns = turned_all w who.pid ts in
     let same = acted_all (turned w who.pid ts) who (act.Call call given) in
-    let most = at_most_one (get (acted (turned w who.pid ts) who (act.Call call given)).state.statuses who.pid) in
+    let v = acted (turned w who.pid ts) who (act.Call call given) in
+    let most = at_most_one (get v.state.statuses who.pid) in
     let less = last_takes w.state who.pid (guest_of w who.pid) ts who.tid Ecall fits.0.0 in
-    falls w (acted (turned w who.pid ts) who (act.Call call given)) (omega (arith, turns, same, less)) (omega (arith, lives, most))
-act_falls w who ts (act.Wake call given answered) lives fits = absurd fits.0
-act_falls w who ts (act.Trap signal) lives fits =
+    let wakes = call_wakes w.constants w.state who call given v.state valid fits.1 fits.0.0.3.0 in
+    falls w v (omega (arith, turns, same, less)) (omega (arith, lives, most)) wakes
+act_falls w who ts (act.Wake call given answered) done made valid lives fits =
+    let turns = turned_all w who.pid ts in
+    let same = acted_all (turned w who.pid ts) who (act.Wake call given answered) in
+    let v = acted (turned w who.pid ts) who (act.Wake call given answered) in
+    let most = at_most_one (get v.state.statuses who.pid) in
+    let left = turned_left ts (guest_of w who.pid) in
+    let wakes = woken_wakes w.constants w.state who call given answered v.state valid fits.0.1 fits.1.1 in
+    let jumps = jump_at_most v.constants v.state in
+    omega (arith, turns, same, lives, most, left, wakes, jumps)
+act_falls w who ts (act.Trap signal) done made valid lives fits =
     let turns = turned_all w who.pid ts in
     let same = acted_all (turned w who.pid ts) who (act.Trap signal) in
-    let most = at_most_one (get (acted (turned w who.pid ts) who (act.Trap signal)).state.statuses who.pid) in
+    let v = acted (turned w who.pid ts) who (act.Trap signal) in
+    let most = at_most_one (get v.state.statuses who.pid) in
     let less = last_takes w.state who.pid (guest_of w who.pid) ts who.tid (Trap signal) fits.0 in
-    falls w (acted (turned w who.pid ts) who (act.Trap signal)) (omega (arith, turns, same, less)) (omega (arith, lives, most))
-act_falls w who ts act.Expire lives fits =
+    let wakes = end_wakes w.state who.pid (Killed signal) (killed_is_not_live signal) made valid in
+    falls w v (omega (arith, turns, same, less)) (omega (arith, lives, most)) (omega (arith, wakes))
+act_falls w who ts act.Expire done made valid lives fits =
     let turns = turned_all w who.pid ts in
     let same = acted_all (turned w who.pid ts) who act.Expire in
     let after = end_state w.state who.pid (Killed Xcpu) in
     let none = not_counted (get after.statuses who.pid) (ended_by w.state who.pid (Killed Xcpu) (killed_is_not_live Xcpu)) in
     let most = turned_left ts (guest_of w who.pid) in
-    omega (arith, turns, same, lives, none, most, wakes_none w.state, wakes_none after, jump_at_most after)
-act_falls w who ts act.Idle lives fits = absurd fits.0
+    let wakes = end_wakes w.state who.pid (Killed Xcpu) (killed_is_not_live Xcpu) made valid in
+    let jumps = jump_at_most w.constants after in
+    omega (arith, turns, same, lives, none, most, wakes, jumps)
+act_falls w who ts act.Idle done made valid lives fits = absurd (not_true (sym done))
+
+-- a jump comes where it is left, and after it some thread is ready
+idle_falls : (w : World) (who : Who) (ts : List ℕ) (a : Act) → is_idle a ≡ true → IsValid w.state → HasDeadlines w.constants w.state
+    → FitsAct w.constants w.state who (guest_of w who.pid) ts a → potential (acted (turned w who.pid ts) who a) < potential w
+idle_falls w who ts (act.Call call given) idle valid due fits = absurd (not_true idle)
+idle_falls w who ts (act.Wake call given answered) idle valid due fits = absurd (not_true idle)
+idle_falls w who ts (act.Trap signal) idle valid due fits = absurd (not_true idle)
+idle_falls w who ts act.Expire idle valid due fits = absurd (not_true idle)
+idle_falls w who ts act.Idle idle valid due fits =
+    let may = fits.1 in
+    let turns = turned_all w who.pid ts in
+    let same = acted_all (turned w who.pid ts) who act.Idle in
+    let left = turned_left ts (guest_of w who.pid) in
+    let one = jump_is_left w.constants w.state may.all.1 may.none in
+    let ready = jump_readies w.constants w.state may.until valid due may.least in
+    let none = ready_no_jump w.constants (idle_state w.state) ready.0 ready.1 ready.2 in
+    omega (arith, turns, same, left, one, none)
 
 -- each entry takes from what is left
-pub potential_falls : (w : World) (e : Entry) → IsValid w.state → Fits w e → potential (apply w e) < potential w
-potential_falls w e valid fits =
+pub potential_falls : (w : World) (e : Entry) → IsValid w.state → HasDeadlines w.constants w.state → Fits w e → potential (apply w e) < potential w
+potential_falls w e valid due fits =
     subst (λ (v : World). potential v < potential w) (sym (apply_is w e))
-    (act_falls w (who_of e) e.turns e.act
-    (subst (λ (v : World). all_live v.state + 1 ≤ all_live w.state + weight live_number (get v.state.statuses e.pid)) (apply_is w e) (lives_fall w e fits)) fits.act)
+    (elim (is_idle e.act) as (λ b. is_idle e.act ≡ b → potential (acted (turned w e.pid e.turns) (who_of w.state e) e.act) < potential w) [
+      | true ↦ λ idle. idle_falls w (who_of w.state e) e.turns e.act idle valid due fits.act
+      | false ↦ λ done.
+          act_falls w (who_of w.state e) e.turns e.act done (ap is_some (fits.live done)) valid
+          (subst (λ (v : World). all_live v.state + 1 ≤ all_live w.state + weight live_number (get v.state.statuses e.pid)) (apply_is w e) (lives_fall w e done fits))
+          fits.act
+    ] refl)
 
-follows_short : (w : World) (history : List Entry) → IsValid w.state → FollowsFrom w history
+follows_short : (w : World) (history : List Entry) → IsValid w.state → HasDeadlines w.constants w.state → FollowsFrom w history
     → length history + potential (apply_all w history) ≤ potential w
 unfolding FollowsFrom apply_all
-follows_short w [] valid follows = omega arith
-follows_short w (e ∷ history) valid follows =
+follows_short w [] valid due follows = omega arith
+follows_short w (e ∷ history) valid due follows =
     let rest : length history + potential (apply_all (apply w e) history) ≤ potential (apply w e) =
-    follows_short (apply w e) history (apply_valid w e follows.0 valid) follows.1 in
-    let here : potential (apply w e) < potential w = potential_falls w e valid follows.0 in
+    follows_short (apply w e) history (apply_valid w e follows.0 valid) (apply_deadlines w e follows.0 valid due) follows.1 in
+    let here : potential (apply w e) < potential w = potential_falls w e valid due follows.0 in
     omega (arith, rest, here)
 
 first_counts : (launch : Launch) → (all_left (start_world launch) ≡ launch.turns) × (all_live (start_world launch).state ≡ 1)
@@ -258,13 +270,17 @@ first_counts launch =
 start_potential : (launch : Launch) → potential (start_world launch) ≡ 6 * launch.turns + 2
 start_potential launch =
     let counts = first_counts launch in
-    omega (arith, counts.0, counts.1, wakes_none (start_world launch).state, no_jump (start_world launch).state 0 1 (first_thread launch))
+    let wakes : all_wakes (start_world launch).state ≡ 0 =
+    none_wakes (start_world launch).state (subst (λ (S : State). (p t : ℕ) → (thread_of S p t ≡ None) ⊎ (thread_of S p t ≡ Some Runnable))
+    (sym (first_state launch)) (start_runs launch.tree launch.grants launch.stdin)) in
+    let jump = running_no_jump (start_world launch).constants (start_world launch).state 0 1 (first_thread launch) in
+    omega (arith, counts.0, counts.1, wakes, jump)
 
 pub history_is_paid : (launch : Launch) (history : List Entry) → MayBegin launch.tree launch.grants → Legal launch history
     → length history + potential (world launch history) ≤ 6 * launch.turns + 2
 unfolding Legal world
 history_is_paid launch history begins legal =
-    let short = follows_short (start_world launch) history (first_valid launch begins) legal in
+    let short = follows_short (start_world launch) history (first_valid launch begins) (first_deadlines launch) legal in
     let start = start_potential launch in
     omega (arith, short, start)
 

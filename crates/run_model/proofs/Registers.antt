@@ -1,5 +1,5 @@
 -- In the world of a legal history each thread of a live process has registers.
-use Rattle.std.proofs.Common.{◌≡◌, ◌≢◌, ◌⊎◌, ℕ, List, [], ◌∷◌, Option, Some, None, IsSome, inl, inr, refl, sym, ap, subst, ◌∙◌}
+use Rattle.std.proofs.Common.{◌≡◌, ◌≢◌, ◌⊎◌, ℕ, false, List, [], ◌∷◌, Option, Some, None, IsSome, inl, inr, refl, sym, ap, subst, ◌∙◌}
 use Rattle.std.proofs.lemmas.Bool.Decides.{eqb_tells}
 use Rattle.std.specs.Ordering.{nat_cmp}
 use Rattle.std.specs.FinMap.{empty, get, get-empty}
@@ -9,6 +9,7 @@ use Rattle.abi_types.specs.declared.constants.Constants.{Constants}
 use Rattle.abi_base.specs.declared.signal.Signal.TheVariants.{Xcpu}
 use Rattle.abi_types.specs.declared.status.Status.TheVariants.{Live, Killed}
 use Rattle.abi_types.specs.declared.thread.Thread.TheVariants.{Runnable}
+use Rattle.abi_types.specs.declared.wake.WakeIn.{WakeIn}
 use Rattle.abi_types.specs.declared.who.Who.{Who}
 use Rattle.run_types.specs.declared.history.Act.{Act}
 use Rattle.run_types.specs.declared.history.Act.TheVariants as act
@@ -19,14 +20,16 @@ use Rattle.kernel_model.specs.Step.{IsStep}
 use Rattle.kernel_model.proofs.Steps.{insert_some, step_moves_only}
 use Rattle.kernel_model.proofs.Tests.{not_true}
 use Rattle.kernel_model.proofs.Threads.{makes_none}
+use Rattle.kernel_model.proofs.Waking.{wake_makes_none, wake_moves_only}
+use Rattle.kernel_model.specs.Wakes.{IsWake}
 use Rattle.maps.specs.Maps.{get-insert-same, get-insert-other}
 use Rattle.call_codec.specs.Put.{answered_of}
 use Rattle.call_codec.specs.Start.{first_registers}
 use Rattle.run_model.specs.Legal.{FitsAct, Fits, FollowsFrom, Legal}
-use Rattle.run_model.specs.Own.{IsLiveIn, IsLeft, is_born, is_ended, stays}
-use Rattle.run_model.specs.World.{World, Guest, start_world, guest_of, registers_of, thread_turn, called_guest, called_state, turned_guest, turned_guest_by, turned, acted, who_of, apply, apply_all, world}
+use Rattle.run_model.specs.Own.{is_idle, IsLiveIn, IsLeft, is_born, is_ended, stays}
+use Rattle.run_model.specs.World.{World, Guest, start_world, guest_of, registers_of, thread_turn, called_guest, called_state, woken_state, with_guest, turned_guest, turned_guest_by, turned, acted, who_of, apply, apply_all, world}
 use Rattle.run_model.proofs.Calls.{ended_by}
-use Rattle.run_model.proofs.Ends.{fits_live, killed_is_not_live, start_only}
+use Rattle.run_model.proofs.Ends.{killed_is_not_live, start_only}
 use Rattle.run_model.proofs.Histories.{apply_is, guest_set, guest_turned, first_guest_is, first_threads}
 use Rattle.run_model.proofs.Own.{no_births, own_or_left, same_threads}
 
@@ -61,26 +64,45 @@ was_there constants S who call given T t step live here =
       | inr none ↦ absurd (not_true (sym (makes_none constants S who call given T step) ∙ (left.made t none here).0))
     ]
 
+-- nor does a wake
+was_woken : (constants : Constants) (S : State) (who : Who) (call : Call) (given : WakeIn) (answered : Answer) (T : State) (t : ℕ)
+    → IsWake constants S who call given answered T → get T.statuses who.pid ≡ Some Live → IsSome (thread_of T who.pid t) → IsSome (thread_of S who.pid t)
+was_woken constants S who call given answered T t is live here =
+    elim (some_or_none (thread_of S who.pid t)) [
+      | inl there ↦ there
+      | inr none ↦ absurd (not_true (sym (wake_makes_none constants S who call given answered T is).2
+          ∙ ((wake_moves_only constants S who call given answered T is).made live t none here).0))
+    ]
+
 -- ---- entries
 
-acted_registers : (w : World) (who : Who) (ts : List ℕ) (a : Act) → FitsAct w.constants w.state who (guest_of w who.pid) ts a → IsLiveIn w who.pid
-    → AllHaveRegisters w who.pid → AllHaveRegisters (acted (turned w who.pid ts) who a) who.pid
-acted_registers w who ts (act.Call call given) fits alive before live t here =
-    let was = was_there w.constants w.state who call given (called_state w.constants w.state who call given) t fits.1 live here in
+-- after turns and an answer to a call each thread that was there has registers
+answered_registers : (w : World) (who : Who) (ts : List ℕ) (call : Call) (given : Answer) (t : ℕ) → HasRegisters (guest_of w who.pid) t
+    → HasRegisters (guest_of (with_guest (turned w who.pid ts) who.pid (called_guest (guest_of (turned w who.pid ts) who.pid) who.tid call given)) who.pid) t
+answered_registers w who ts call given t some =
     let turned_has : HasRegisters (guest_of (turned w who.pid ts) who.pid) t =
-    subst (λ (g : Guest). HasRegisters g t) (sym (guest_turned w who.pid ts)) (turned_registers ts (guest_of w who.pid) t (before alive t was)) in
+    subst (λ (g : Guest). HasRegisters g t) (sym (guest_turned w who.pid ts)) (turned_registers ts (guest_of w who.pid) t some) in
     subst (λ (g : Guest). HasRegisters g t)
     (sym (guest_set (turned w who.pid ts) who.pid (called_guest (guest_of (turned w who.pid ts) who.pid) who.tid call given)))
     (called_registers (guest_of (turned w who.pid ts) who.pid) who.tid call given t turned_has)
-acted_registers w who ts (act.Wake call given answered) fits alive before live t here = absurd fits.0
-acted_registers w who ts (act.Trap signal) fits alive before live t here =
-    absurd (ended_by w.state who.pid (Killed signal) (killed_is_not_live signal) live)
-acted_registers w who ts act.Expire fits alive before live t here = absurd (ended_by w.state who.pid (Killed Xcpu) (killed_is_not_live Xcpu) live)
-acted_registers w who ts act.Idle fits alive before live t here = absurd fits.0
 
-own_registers : (w : World) (e : Entry) → Fits w e → AllHaveRegisters w e.pid → AllHaveRegisters (apply w e) e.pid
-own_registers w e fits before =
-    subst (λ (v : World). AllHaveRegisters v e.pid) (sym (apply_is w e)) (acted_registers w (who_of e) e.turns e.act fits.act (fits_live w e fits) before)
+acted_registers : (w : World) (who : Who) (ts : List ℕ) (a : Act) → is_idle a ≡ false → FitsAct w.constants w.state who (guest_of w who.pid) ts a
+    → IsLiveIn w who.pid → AllHaveRegisters w who.pid → AllHaveRegisters (acted (turned w who.pid ts) who a) who.pid
+acted_registers w who ts (act.Call call given) done fits alive before live t here =
+    let was = was_there w.constants w.state who call given (called_state w.constants w.state who call given) t fits.1 live here in
+    answered_registers w who ts call given t (before alive t was)
+acted_registers w who ts (act.Wake call given answered) done fits alive before live t here =
+    let was = was_woken w.constants w.state who call given answered (woken_state w.constants w.state who call given answered) t fits.1.1 live here in
+    answered_registers w who ts call answered t (before alive t was)
+acted_registers w who ts (act.Trap signal) done fits alive before live t here =
+    absurd (ended_by w.state who.pid (Killed signal) (killed_is_not_live signal) live)
+acted_registers w who ts act.Expire done fits alive before live t here = absurd (ended_by w.state who.pid (Killed Xcpu) (killed_is_not_live Xcpu) live)
+acted_registers w who ts act.Idle done fits alive before live t here = absurd (not_true (sym done))
+
+own_registers : (w : World) (e : Entry) → is_idle e.act ≡ false → Fits w e → AllHaveRegisters w e.pid → AllHaveRegisters (apply w e) e.pid
+own_registers w e done fits before =
+    subst (λ (v : World). AllHaveRegisters v e.pid) (sym (apply_is w e))
+    (acted_registers w (who_of w.state e) e.turns e.act done fits.act (fits.live done) before)
 
 others_registers : (w : World) (e : Entry) (p : ℕ) → AllHaveRegisters w p → IsLeft w (apply w e) e.act p → AllHaveRegisters (apply w e) p
 others_registers w e p before (is_born there) live t here = absurd (no_births e.act p there)
@@ -92,7 +114,7 @@ others_registers w e p before (stays same) live t here =
 apply_registers : (w : World) (e : Entry) → Fits w e → ((p : ℕ) → AllHaveRegisters w p) → (p : ℕ) → AllHaveRegisters (apply w e) p
 apply_registers w e fits before p =
     elim (own_or_left w e p fits) [
-      | inl is ↦ subst (AllHaveRegisters (apply w e)) (sym is.0) (own_registers w e fits (before e.pid))
+      | inl is ↦ subst (AllHaveRegisters (apply w e)) (sym is.0) (own_registers w e is.1 fits (before e.pid))
       | inr left ↦ others_registers w e p (before p) left
     ]
 

@@ -8,17 +8,23 @@ use Rattle.run_types.specs.declared.history.Act.TheVariants as act
 use Rattle.run_types.specs.declared.history.Entry.{Entry}
 use Rattle.run_types.specs.declared.launch.Launch.{Launch}
 use Rattle.tree_model.specs.Grants.{MayBegin}
+use Rattle.kernel_model.specs.Deadlines.{idle_state, jumped_to, least_deadline}
 use Rattle.kernel_model.specs.State.{State}
 use Rattle.kernel_model.specs.Valid.{IsValid}
-use Rattle.kernel_model.proofs.Starts.{start_valid}
+use Rattle.kernel_model.specs.Waits.{HasDeadlines}
+use Rattle.kernel_model.proofs.Deadlines.{jump_goes_on, jump_is_bounded}
+use Rattle.kernel_model.proofs.Readiness.{idle_valid, least_is_soon}
+use Rattle.kernel_model.proofs.Starts.{start_deadlines, start_valid}
+use Rattle.kernel_model.proofs.Tests.{not_true}
+use Rattle.kernel_model.proofs.Waking.{end_deadlines, step_deadlines, wake_deadlines, wake_keeps_valid, wake_moves_only}
 use Rattle.kernel_model.proofs.Steps.{step_keeps_valid, end_valid, step_moves_only, end_ends_only}
 use Rattle.maps.specs.Maps.{get-insert-other}
 use Rattle.run_model.specs.Laws.{TakesTime, HasNoJump}
 use Rattle.run_model.specs.Legal.{FitsAct, Fits, FollowsFrom, Legal}
 use Rattle.run_model.specs.Own.{is_idle, IsLiveIn}
-use Rattle.run_model.specs.World.{World, Guest, start_world, or_no_guest, guest_of, called_guest, called_state, turned_guest_by, turned, acted, who_of, apply, apply_all, world}
+use Rattle.run_model.specs.World.{World, Guest, start_world, or_no_guest, guest_of, called_guest, called_state, woken_state, turned_guest_by, turned, acted, who_of, apply, apply_all, world}
 use Rattle.run_model.proofs.Ends.{killed_is_not_live}
-use Rattle.run_model.proofs.Histories.{apply_is, first_state}
+use Rattle.run_model.proofs.Histories.{apply_constants, apply_is, first_state}
 
 -- ---- valid states
 
@@ -26,15 +32,16 @@ acted_valid : (w : World) (who : Who) (guest : Guest) (ts : List ℕ) (a : Act) 
     → FitsAct w.constants w.state who guest ts a → IsValid w.state → IsValid (acted w who a).state
 acted_valid w who guest ts (act.Call call given) live fits valid =
     step_keeps_valid w.constants w.state who call given (called_state w.constants w.state who call given) fits.1 valid
-acted_valid w who guest ts (act.Wake call given answered) live fits valid = absurd fits.0
+acted_valid w who guest ts (act.Wake call given answered) live fits valid =
+    wake_keeps_valid w.constants w.state who call given answered (woken_state w.constants w.state who call given answered) fits.1.1 valid
 acted_valid w who guest ts (act.Trap signal) live fits valid = end_valid w.state who.pid (Killed signal) (ap is_some (live refl)) valid
 acted_valid w who guest ts act.Expire live fits valid = end_valid w.state who.pid (Killed Xcpu) (ap is_some (live refl)) valid
-acted_valid w who guest ts act.Idle live fits valid = absurd fits.0
+acted_valid w who guest ts act.Idle live fits valid = idle_valid w.state valid
 
 pub apply_valid : (w : World) (e : Entry) → Fits w e → IsValid w.state → IsValid (apply w e).state
 apply_valid w e fits valid =
     subst (λ (v : World). IsValid v.state) (sym (apply_is w e))
-    (acted_valid (turned w e.pid e.turns) (who_of e) (guest_of w e.pid) e.turns e.act fits.live fits.act valid)
+    (acted_valid (turned w e.pid e.turns) (who_of w.state e) (guest_of w e.pid) e.turns e.act fits.live fits.act valid)
 
 follows_valid : (w : World) (history : List Entry) → FollowsFrom w history → IsValid w.state → IsValid (apply_all w history).state
 unfolding FollowsFrom apply_all
@@ -51,24 +58,87 @@ first_valid launch begins = subst IsValid (sym (first_state launch)) (start_vali
 pub world_is_valid : (launch : Launch) (history : List Entry) → MayBegin launch.tree launch.grants → Legal launch history → IsValid (world launch history).state
 world_is_valid launch history begins legal = legal_valid launch history (first_valid launch begins) legal
 
+-- ---- deadlines
+
+acted_deadlines : (w : World) (who : Who) (guest : Guest) (ts : List ℕ) (a : Act) → FitsAct w.constants w.state who guest ts a → IsValid w.state
+    → HasDeadlines w.constants w.state → HasDeadlines w.constants (acted w who a).state
+acted_deadlines w who guest ts (act.Call call given) fits valid before =
+    step_deadlines w.constants w.state who call given (called_state w.constants w.state who call given) fits.1 valid before
+acted_deadlines w who guest ts (act.Wake call given answered) fits valid before =
+    wake_deadlines w.constants w.state who call given answered (woken_state w.constants w.state who call given answered) fits.1.1 valid before
+acted_deadlines w who guest ts (act.Trap signal) fits valid before =
+    end_deadlines w.constants w.state who.pid (Killed signal) (killed_is_not_live signal) valid before
+acted_deadlines w who guest ts act.Expire fits valid before =
+    end_deadlines w.constants w.state who.pid (Killed Xcpu) (killed_is_not_live Xcpu) valid before
+acted_deadlines w who guest ts act.Idle fits valid before = before
+
+-- each thread that waits does until its call's deadline
+abbrev pub AreDue : World → Type 0
+AreDue w = HasDeadlines w.constants w.state
+
+pub apply_deadlines : (w : World) (e : Entry) → Fits w e → IsValid w.state → AreDue w → AreDue (apply w e)
+apply_deadlines w e fits valid before =
+    subst (λ constants. HasDeadlines constants (apply w e).state) (sym (apply_constants w e))
+    (subst (λ (v : World). HasDeadlines w.constants v.state) (sym (apply_is w e))
+    (acted_deadlines (turned w e.pid e.turns) (who_of w.state e) (guest_of w e.pid) e.turns e.act fits.act valid before))
+
+follows_deadlines : (w : World) (history : List Entry) → FollowsFrom w history → IsValid w.state → AreDue w → AreDue (apply_all w history)
+unfolding FollowsFrom apply_all
+follows_deadlines w [] follows valid before = before
+follows_deadlines w (e ∷ history) follows valid before =
+    follows_deadlines (apply w e) history follows.1 (apply_valid w e follows.0 valid) (apply_deadlines w e follows.0 valid before)
+
+pub first_deadlines : (launch : Launch) → AreDue (start_world launch)
+first_deadlines launch =
+    subst (HasDeadlines (start_world launch).constants) (sym (first_state launch))
+    (start_deadlines (start_world launch).constants launch.tree launch.grants launch.stdin)
+
+pub world_has_deadlines : (launch : Launch) (history : List Entry) → MayBegin launch.tree launch.grants → Legal launch history
+    → AreDue (world launch history)
+unfolding Legal world
+world_has_deadlines launch history begins legal =
+    follows_deadlines (start_world launch) history legal (first_valid launch begins) (first_deadlines launch)
+
 -- ---- the clock
 
-acted_clock : (w : World) (who : Who) (guest : Guest) (ts : List ℕ) (a : Act) → FitsAct w.constants w.state who guest ts a
-    → (acted w who a).state.clock ≡ w.state.clock + 1000
-acted_clock w who guest ts (act.Call call given) fits =
-    (step_moves_only w.constants w.state who call given (called_state w.constants w.state who call given) fits.1).clock
-acted_clock w who guest ts (act.Wake call given answered) fits = absurd fits.0
-acted_clock w who guest ts (act.Trap signal) fits = (end_ends_only w.state who.pid (Killed signal) (killed_is_not_live signal)).clock
-acted_clock w who guest ts act.Expire fits = (end_ends_only w.state who.pid (Killed Xcpu) (killed_is_not_live Xcpu)).clock
-acted_clock w who guest ts act.Idle fits = absurd fits.0
+-- what takes 1000 nanoseconds
+takes_one : (w v : World) (a : Act) → v.state.clock ≡ w.state.clock + 1000 → TakesTime w v a
+takes_one w v a takes = record { exact = λ _. takes; least = omega (arith, takes); most = inl takes }
+
+jump_takes : (w v : World) → v.state ≡ idle_state w.state → TakesTime w v act.Idle
+jump_takes w v is =
+    let clock : v.state.clock ≡ jumped_to w.state.clock (least_deadline w.state) = ap (λ (S : State). S.clock) is in
+    let forward = jump_goes_on w.state.clock (least_deadline w.state) in
+    record {
+      exact = λ done. absurd (not_true (sym done));
+      least = omega (arith, clock, forward);
+      most = elim (jump_is_bounded w.state.clock (least_deadline w.state)) [
+        | inl one ↦ inl (clock ∙ one)
+        | inr least ↦ (
+            let soon = least_is_soon w.state (jumped_to w.state.clock (least_deadline w.state)) least in
+            inr (omega (arith, clock, soon)))
+      ];
+    }
+
+acted_takes : (w v : World) (who : Who) (guest : Guest) (ts : List ℕ) (a : Act) → FitsAct w.constants w.state who guest ts a
+    → v.state ≡ (acted (turned w who.pid ts) who a).state → TakesTime w v a
+acted_takes w v who guest ts (act.Call call given) fits is =
+    takes_one w v (act.Call call given)
+    (ap (λ (S : State). S.clock) is ∙ (step_moves_only w.constants w.state who call given (called_state w.constants w.state who call given) fits.1).clock)
+acted_takes w v who guest ts (act.Wake call given answered) fits is =
+    takes_one w v (act.Wake call given answered)
+    (ap (λ (S : State). S.clock) is
+    ∙ (wake_moves_only w.constants w.state who call given answered (woken_state w.constants w.state who call given answered) fits.1.1).clock)
+acted_takes w v who guest ts (act.Trap signal) fits is =
+    takes_one w v (act.Trap signal) (ap (λ (S : State). S.clock) is ∙ (end_ends_only w.state who.pid (Killed signal) (killed_is_not_live signal)).clock)
+acted_takes w v who guest ts act.Expire fits is =
+    takes_one w v act.Expire (ap (λ (S : State). S.clock) is ∙ (end_ends_only w.state who.pid (Killed Xcpu) (killed_is_not_live Xcpu)).clock)
+acted_takes w v who guest ts act.Idle fits is = jump_takes w v is
 
 -- an entry takes 1000 nanoseconds, unless it is an idle jump
 pub apply_clock : (w : World) (e : Entry) → Fits w e → TakesTime w (apply w e) e.act
 apply_clock w e fits =
-    let takes : (apply w e).state.clock ≡ w.state.clock + 1000 =
-    ap (λ (v : World). v.state.clock) (apply_is w e)
-    ∙ acted_clock (turned w e.pid e.turns) (who_of e) (guest_of w e.pid) e.turns e.act fits.act in
-    record { exact = λ _. takes; least = omega (arith, takes); most = inl takes }
+    acted_takes w (apply w e) (who_of w.state e) (guest_of w e.pid) e.turns e.act fits.act (ap (λ (v : World). v.state) (apply_is w e))
 
 follows_least : (w : World) (history : List Entry) → FollowsFrom w history → w.state.clock + 1000 * length history ≤ (apply_all w history).state.clock
 unfolding FollowsFrom apply_all
@@ -133,7 +203,8 @@ turned_others w p ts q n = ap or_no_guest (get-insert-other w.guests p (turned_g
 acted_others : (w : World) (who : Who) (a : Act) (q : ℕ) → q ≢ who.pid → guest_of (acted w who a) q ≡ guest_of w q
 acted_others w who (act.Call call given) q n =
     ap or_no_guest (get-insert-other w.guests who.pid (called_guest (guest_of w who.pid) who.tid call given) q n)
-acted_others w who (act.Wake call given answered) q n = refl
+acted_others w who (act.Wake call given answered) q n =
+    ap or_no_guest (get-insert-other w.guests who.pid (called_guest (guest_of w who.pid) who.tid call answered) q n)
 acted_others w who (act.Trap signal) q n = refl
 acted_others w who act.Expire q n = refl
 acted_others w who act.Idle q n = refl
@@ -141,5 +212,5 @@ acted_others w who act.Idle q n = refl
 pub apply_guest : (w : World) (e : Entry) (q : ℕ) → q ≢ e.pid → guest_of (apply w e) q ≡ guest_of w q
 apply_guest w e q n =
     ap (λ v. guest_of v q) (apply_is w e)
-    ∙ acted_others (turned w e.pid e.turns) (who_of e) e.act q n
+    ∙ acted_others (turned w e.pid e.turns) (who_of w.state e) e.act q n
     ∙ turned_others w e.pid e.turns q n

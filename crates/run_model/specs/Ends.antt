@@ -4,13 +4,17 @@ use Rattle.abi_base.specs.declared.signal.Signal.TheVariants.{Xcpu}
 use Rattle.abi_types.specs.declared.status.Status.{Status}
 use Rattle.abi_types.specs.declared.status.Status.TheVariants.{Live, Exit, Killed}
 use Rattle.abi_types.specs.declared.thread.Thread.{Thread}
-use Rattle.abi_types.specs.declared.thread.Thread.TheVariants.{Runnable}
+use Rattle.abi_types.specs.declared.constants.Constants.{Constants}
+use Rattle.abi_types.specs.declared.thread.Thread.TheVariants.{Runnable, Waits}
 use Rattle.run_types.specs.declared.history.Act.{Act}
 use Rattle.run_types.specs.declared.history.Act.TheVariants as act
 use Rattle.run_types.specs.declared.history.Entry.{Entry}
 use Rattle.run_types.specs.declared.launch.Launch.{Launch}
 use Rattle.kernel_model.specs.Ends.{NoneLive}
-use Rattle.kernel_model.specs.State.{State, ProcessState, thread_of}
+use Rattle.kernel_model.specs.State.{State, ProcessState}
+use Rattle.kernel_model.specs.Wakes.{is_ready_as, IsStalled}
+pub use Rattle.kernel_model.specs.Waits.{IsParked}
+pub use Rattle.kernel_model.specs.Wakes.{HasThread, AllParked}
 use Rattle.maps.specs.Maps.{total, least_key}
 use Rattle.run_model.specs.World.{World, Guest, world}
 
@@ -18,23 +22,9 @@ use Rattle.run_model.specs.World.{World, Guest, world}
 abbrev pub Ended : Launch → List Entry → Type 0
 Ended launch history = NoneLive (world launch history).state
 
--- whether a live thread waits
-abbrev pub IsParked : Thread → Type 0
-IsParked Runnable = ⊥
-
--- the process has this thread
-abbrev pub HasThread : State → ℕ → ℕ → Thread → Type 0
-HasThread S p t thread = thread_of S p t ≡ Some thread
-
--- some thread is live, and each live thread waits
-abbrev pub AllParked : State → Type 0
-AllParked S =
-    ((p : ℕ) × (t : ℕ) × (thread : Thread) × HasThread S p t thread)
-    × ((p t : ℕ) (thread : Thread) → HasThread S p t thread → IsParked thread)
-
 -- the run is stalled
 abbrev pub Stalled : Launch → List Entry → Type 0
-Stalled launch history = AllParked (world launch history).state
+Stalled launch history = IsStalled (world launch history).constants (world launch history).state
 
 -- the status of a process that an act ends from outside
 abbrev pub EndsBy : Act → Status → Type 0
@@ -57,30 +47,31 @@ live_number Live = 1
 live_number (Exit code) = 0
 live_number (Killed signal) = 0
 
--- How many wakes a thread may still have before its process takes a turn again. One that doesn't wait has none, and no call makes a
--- thread wait yet.
+-- how many wakes a thread may still have before its process takes a turn again: one that waits has one, which ends its wait
 abbrev pub wakes_left : Thread → ℕ
 wakes_left Runnable = 0
+wakes_left (Waits call since until) = 1
 
 -- those of all threads of a process
 abbrev pub all_wakes_left : ProcessState → ℕ
 all_wakes_left own = total wakes_left own.threads
 
--- whether a thread takes its turns
-abbrev pub runs : Thread → Bool
-runs Runnable = true
+-- whether a thread takes its turns, or is ready to
+abbrev pub goes_on : Constants → State → ℕ → ℕ → Thread → Bool
+goes_on constants S p t Runnable = true
+goes_on constants S p t (Waits call since until) = is_ready_as constants S p t (Some (Waits call since until))
 
 -- whether some thread of a process does
-abbrev pub some_runs : ℕ → ProcessState → Bool
-some_runs p own = is_some (least_key (λ _ thread. runs thread) own.threads)
+abbrev pub some_goes_on : Constants → State → ℕ → ProcessState → Bool
+some_goes_on constants S p own = is_some (least_key (goes_on constants S p) own.threads)
 
--- how many jumps of time may come next: one, unless some thread takes turns
+-- how many jumps of time may come next: one, unless some thread takes turns or is ready to
 abbrev pub jumps_unless : Bool → ℕ
 jumps_unless true = 0
 jumps_unless false = 1
 
-abbrev pub jumps_left : State → ℕ
-jumps_left S = jumps_unless (is_some (least_key some_runs S.processes))
+abbrev pub jumps_left : Constants → State → ℕ
+jumps_left constants S = jumps_unless (is_some (least_key (some_goes_on constants S) S.processes))
 
 -- What is left to do, counted in entries:
 -- Six for each turn that a process has left. These are the entry that the turn comes to, two wakes of a call with a jump each, and one
@@ -92,4 +83,4 @@ abbrev pub potential : World → ℕ
 potential w =
     6 * total (λ (guest : Guest). guest.left) w.guests + 2 * total live_number w.state.statuses
     + 2 * total all_wakes_left w.state.processes
-    + jumps_left w.state
+    + jumps_left w.constants w.state

@@ -1,9 +1,12 @@
 -- What holds of every legal history: the statements that are the contracts of the functions of src/laws.rt.
-use Rattle.std.specs.Prelude.{◌≡◌, ◌≢◌, ◌⊎◌, ◌+◌, ◌*◌, ◌^◌, ◌<◌, ◌≤◌, false, List, [], ◌∷◌, ◌++◌, length}
+use Rattle.std.specs.Prelude.{◌≡◌, ◌≢◌, ◌⊎◌, ◌+◌, ◌*◌, ◌^◌, ◌<◌, ◌≤◌, ℕ, false, List, [], ◌∷◌, ◌++◌, length, Option, Some}
 use Rattle.abi_types.specs.declared.reply.Answer.TheVariants as answer
 use Rattle.std.specs.List.{AllByRecursion}
 use Rattle.abi_base.specs.declared.errno.Errno.TheVariants.{Nomem, Notcapable}
 use Rattle.abi_base.specs.Registers.{Registers}
+use Rattle.abi_types.specs.declared.call.Call.{Call}
+use Rattle.abi_types.specs.declared.reply.WordWrites.{WordWrites}
+use Rattle.abi_types.specs.declared.thread.Thread.TheVariants.{Waits}
 use Rattle.run_types.specs.declared.history.Act.{Act}
 use Rattle.run_types.specs.declared.history.Act.TheVariants as act
 use Rattle.run_types.specs.declared.history.Entry.{Entry}
@@ -11,14 +14,16 @@ use Rattle.run_types.specs.declared.launch.Launch.{Launch}
 use Rattle.tree_model.specs.Grants.{MayBegin}
 use Rattle.kernel_model.specs.CallBounds.{IsBadfBefore}
 use Rattle.kernel_model.specs.Calls.{errors_of}
+use Rattle.kernel_model.specs.State.{thread_of}
 use Rattle.kernel_model.specs.Valid.{IsValid}
+use Rattle.kernel_model.specs.Waits.{HasDeadlines}
 use Rattle.guest_memory.specs.Page.{Pages}
 use Rattle.call_codec.specs.Arguments.{args_of}
 use Rattle.run_model.specs.Confined.{IsConfined}
 use Rattle.run_model.specs.Ends.{Ended, Stalled, turns_taken, potential}
 use Rattle.run_model.specs.Legal.{Fits, Legal}
 use Rattle.run_model.specs.Own.{is_idle}
-use Rattle.run_model.specs.World.{World, apply, world}
+use Rattle.run_model.specs.World.{World, apply, guest_of, registers_of, world}
 
 -- ---- legal histories
 
@@ -38,7 +43,9 @@ EachEntryFits =
 
 -- memory didn't run out where the act was done
 abbrev pub LacksNothing : Act → Type 0
+LacksNothing (act.Call call (answer.Parked writes)) = Unit {0}
 LacksNothing (act.Call call (answer.Reply reply)) = reply.errno ≢ Nomem
+LacksNothing (act.Wake call given (answer.Parked writes)) = Unit {0}
 LacksNothing (act.Wake call given (answer.Reply reply)) = reply.errno ≢ Nomem
 LacksNothing (act.Trap signal) = Unit {0}
 LacksNothing act.Expire = Unit {0}
@@ -70,6 +77,40 @@ EncodedIsNotBadf = (m : Pages) (r : Registers) → ¬ IsBadfBefore (args_of m r)
 -- The kernel's state of each legal history is valid, if the launch's grants are proper.
 abbrev pub WorldIsValid : Type 0
 WorldIsValid = (launch : Launch) (history : List Entry) → MayBegin launch.tree launch.grants → Legal launch history → IsValid (world launch history).state
+
+-- In it each thread that waits does until its call's deadline.
+abbrev pub WorldHasDeadlines : Type 0
+WorldHasDeadlines =
+    (launch : Launch) (history : List Entry) → MayBegin launch.tree launch.grants → Legal launch history
+    → HasDeadlines (world launch history).constants (world launch history).state
+
+-- Each call that a thread waits in was made by an entry of the history, to which the kernel answered that the thread waits; the moment
+-- since which it waits is that of the entry; and memory and registers encoded the call.
+pub record WasCalled (history : List Entry) (p t : ℕ) (call : Call) (since : ℕ) : Type 0 where
+  pub front : List Entry
+  pub e : Entry
+  pub rest : List Entry
+  pub writes : WordWrites
+  pub there : history ≡ front ++ e ∷ rest
+  pub process : e.pid ≡ p
+  pub thread : e.tid ≡ t
+  pub made : e.act ≡ act.Call call (answer.Parked writes)
+  pub moment : e.moment ≡ since
+  pub memory : Pages
+  pub registers : Registers
+  pub encoded : call ≡ args_of memory registers
+
+abbrev pub WaitsWereCalled : Type 0
+WaitsWereCalled =
+    (launch : Launch) (history : List Entry) (p t : ℕ) (call : Call) (since : ℕ) (until : Option ℕ) → MayBegin launch.tree launch.grants
+    → Legal launch history → thread_of (world launch history).state p t ≡ Some (Waits call since until) → WasCalled history p t call since
+
+-- A thread that waits has still the registers that encoded its call, with some memory.
+abbrev pub WaitsAreEncoded : Type 0
+WaitsAreEncoded =
+    (launch : Launch) (history : List Entry) (p t : ℕ) (call : Call) (since : ℕ) (until : Option ℕ) → MayBegin launch.tree launch.grants
+    → Legal launch history → thread_of (world launch history).state p t ≡ Some (Waits call since until)
+    → (m : Pages) × (call ≡ args_of m (registers_of (guest_of (world launch history) p) t))
 
 -- Time goes on by 1000 nanoseconds from the world w to the world v, or more where the act between them is an idle jump. A jump that takes
 -- longer leads to a deadline, of which none counts that is later than 2^62.
@@ -105,7 +146,8 @@ TurnsAreBounded = (launch : Launch) (history : List Entry) → Legal launch hist
 
 -- Each entry takes from what is left to do.
 abbrev pub EntryTakes : Type 0
-EntryTakes = (w : World) (e : Entry) → IsValid w.state → Fits w e → potential (apply w e) < potential w
+EntryTakes =
+    (w : World) (e : Entry) → IsValid w.state → HasDeadlines w.constants w.state → Fits w e → potential (apply w e) < potential w
 
 -- The entries of a legal history of a launch with proper grants and what is left to do after them are together at most six times the
 -- launch's turns and two more. So it has no more entries than that.

@@ -20,7 +20,7 @@ is_own p e = not (is_idle e.act) && (e.pid == p)
 abbrev pub own : ℕ → List Entry → List Entry
 own p history = filter (is_own p) history
 
--- the processes that an act makes: no call makes one yet
+-- the processes that an act makes: no call makes one yet, and no wake
 abbrev pub born : Act → List ℕ
 born a = []
 

@@ -1,5 +1,5 @@
 -- A kernel's state together with its processes' memories, registers and turns, and how an entry changes them.
-use Rattle.std.specs.Prelude.{ℕ, ◌-◌, List, [], ◌∷◌, Option, None, Some}
+use Rattle.std.specs.Prelude.{ℕ, ◌+◌, ◌-◌, List, [], ◌∷◌, Option, None, Some}
 use Rattle.std.specs.Ordering.{nat_cmp}
 use Rattle.std.specs.FinMap.{FinMap, empty, get, insert}
 use Rattle.abi_types.specs.declared.reply.Answer.{Answer}
@@ -10,6 +10,10 @@ use Rattle.abi_base.specs.declared.errno.Errno.{Errno}
 use Rattle.abi_base.specs.declared.errno.Errno.TheVariants.{Nomem}
 use Rattle.abi_base.specs.declared.signal.Signal.TheVariants.{Xcpu}
 use Rattle.abi_types.specs.declared.status.Status.TheVariants.{Killed}
+use Rattle.abi_types.specs.declared.thread.Thread.{Thread}
+use Rattle.abi_types.specs.declared.thread.Thread.TheVariants.{Waits}
+use Rattle.abi_types.specs.declared.wake.WakeIn.{WakeIn}
+use Rattle.abi_types.specs.declared.wake.WakeIn.TheVariants as wake
 use Rattle.abi_types.specs.declared.who.Who.{Who}
 use Rattle.abi_base.specs.Registers.{Registers, start_registers}
 use Rattle.guest_memory.specs.Page.{Pages}
@@ -17,9 +21,11 @@ use Rattle.run_types.specs.declared.history.Act.{Act}
 use Rattle.run_types.specs.declared.history.Act.TheVariants as act
 use Rattle.run_types.specs.declared.history.Entry.{Entry}
 use Rattle.run_types.specs.declared.launch.Launch.{Launch}
+use Rattle.kernel_model.specs.Deadlines.{idle_state}
 use Rattle.kernel_model.specs.Start.{start_state}
-use Rattle.kernel_model.specs.State.{State}
+use Rattle.kernel_model.specs.State.{State, thread_of}
 use Rattle.kernel_model.specs.Step.{failed, step_state, end_state}
+use Rattle.kernel_model.specs.Waits.{resumed}
 use Rattle.rv_interp.specs.declared.turns.TurnEnd.{TurnEnd}
 use Rattle.rv_interp.specs.Turns.{Turn, turn_of}
 use Rattle.call_codec.specs.Start.{canary, first_registers, start_pages}
@@ -110,9 +116,16 @@ abbrev pub by_errno : Errno → State → State → State
 by_errno Nomem lacking done = lacking
 by_errno _ lacking done = done
 
--- the kernel's state after a call that was answered so
+-- the kernel's state after a call that was answered so: where its thread waits, what the call does leaves it so
 unfoldable pub called_state : Constants → State → Who → Call → Answer → State
+called_state constants S who call (answer.Parked writes) = step_state constants S who call
 called_state constants S who call (answer.Reply reply) = by_errno reply.errno (failed S who) (step_state constants S who call)
+
+-- The kernel's state after a wake that was answered so. Its call is done in the state in which the thread runs; where the places of
+-- the call's output could not be written any more, the thread runs and nothing is done.
+abbrev pub woken_state : Constants → State → Who → Call → WakeIn → Answer → State
+woken_state constants S who call wake.Fault answered = failed (resumed S who) who
+woken_state constants S who call (wake.Plain word) answered = called_state constants (resumed S who) who call answered
 
 -- the guest after a call of its thread that was answered so
 abbrev pub called_guest : Guest → ℕ → Call → Answer → Guest
@@ -122,25 +135,38 @@ called_guest guest t call given = record {
   left = guest.left;
 }
 
--- The world after an act of a thread. No call makes a thread wait yet, so no wake and no idle jump fits any world, and each leaves
--- the world as it is.
+-- The world after an act of a thread. A call of which the thread waits leaves its registers, and a wake is answered as the call is that
+-- its thread waits in. An idle jump moves the clock alone.
 abbrev pub acted : World → Who → Act → World
 acted w who (act.Call call given) = record w {
   state = called_state w.constants w.state who call given;
   guests = insert w.guests who.pid (called_guest (guest_of w who.pid) who.tid call given);
 }
-acted w who (act.Wake call given answered) = w
+acted w who (act.Wake call given answered) = record w {
+  state = woken_state w.constants w.state who call given answered;
+  guests = insert w.guests who.pid (called_guest (guest_of w who.pid) who.tid call answered);
+}
 acted w who (act.Trap signal) = record w { state = end_state w.state who.pid (Killed signal) }
 acted w who act.Expire = record w { state = end_state w.state who.pid (Killed Xcpu) }
-acted w who act.Idle = w
+acted w who act.Idle = record w { state = idle_state w.state }
+
+-- the moment at which the call was made that a thread waits in; where it waits in none, this moment
+abbrev pub made_since : ℕ → Option Thread → ℕ
+made_since now (Some (Waits call since until)) = since
+made_since now _ = now
+
+-- A thread of a process that does an act in this state: where it waits, its call was made when it says; where it doesn't, its call
+-- is made at the moment after this entry's 1000 nanoseconds.
+abbrev pub thread_at : State → ℕ → ℕ → Who
+thread_at S p t = record { pid = p; tid = t; since = made_since (S.clock + 1000) (thread_of S p t) }
 
 -- who an entry is of
-abbrev pub who_of : Entry → Who
-who_of e = record { pid = e.pid; tid = e.tid }
+abbrev pub who_of : State → Entry → Who
+who_of S e = thread_at S e.pid e.tid
 
 -- the world after an entry: its turns, and then its act
 unfoldable pub apply : World → Entry → World
-apply w e = acted (turned w e.pid e.turns) (who_of e) e.act
+apply w e = acted (turned w e.pid e.turns) (who_of w.state e) e.act
 
 -- the world after these entries, one after another
 unfoldable pub apply_all : World → List Entry → World

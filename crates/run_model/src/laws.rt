@@ -1,5 +1,5 @@
 //! Laws of legal histories. The statements are in `specs/Laws.antt`, and each holds of every launch and history.
-ghost use Rattle.run_model.specs.Laws.{LegalBegins, LegalGoesOn, EachEntryFits, EntryIsOne, LegalIsConfined, WorldIsValid, EntryTakesTime, ClockCounts, ClockIsExact, TurnsAreBounded, EntryTakes, EncodedIsPlain, EncodedIsNotBadf};
+ghost use Rattle.run_model.specs.Laws.{LegalBegins, LegalGoesOn, EachEntryFits, EntryIsOne, LegalIsConfined, WorldIsValid, WorldHasDeadlines, WaitsAreEncoded, WaitsWereCalled, EntryTakesTime, ClockCounts, ClockIsExact, TurnsAreBounded, EntryTakes, EncodedIsPlain, EncodedIsNotBadf};
 ghost use Rattle.run_model.specs.Laws.{HistoryIsShort, EndedIsFinal, StalledIsFinal, EndedOrStalled, EndsOrGoesOn, RunsToItsEnd};
 ghost use Rattle.run_model.specs.OwnLaws.{EntryLeavesOthers, BornIsNew, OthersStay, MadeLater, LeftAlone, AsksStay, LegalHasRegisters, MomentIsEarly, LengthIsBounded};
 
@@ -29,9 +29,18 @@ pub fn legal_is_confined()
     ensures { LegalIsConfined }
 {}
 
-/// The kernel's state of each legal history is valid, if the launch's grants are proper.
+/// The kernel's state of each legal history is valid, if the launch's grants are proper. In it each thread that waits does until
+/// its call's deadline.
 pub fn world_is_valid()
-    ensures { WorldIsValid }
+    ensures valid { WorldIsValid }
+    ensures deadlines { WorldHasDeadlines }
+{}
+
+/// Each call that a thread waits in, in the world of a legal history, was made by an entry of it, at the moment since which the
+/// thread waits, and was the one that memory and registers encoded. The thread has these registers still.
+pub fn waits_were_called()
+    ensures called { WaitsWereCalled }
+    ensures encoded { WaitsAreEncoded }
 {}
 
 /// An entry takes 1000 nanoseconds, and an idle jump at least as long; one that takes longer leads to a moment of at most 2^62.

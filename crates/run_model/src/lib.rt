@@ -7,5 +7,6 @@ pub mod laws;
 pub use laws::{
     asks_stay, clock_counts, encoded_calls_are_plain, ended_is_final, entry_is_one,
     entry_leaves_others, history_is_short, left_alone, legal_goes_on, legal_has_registers,
-    legal_is_confined, made_later, moment_is_early, others_stay, runs_to_its_end, world_is_valid,
+    legal_is_confined, made_later, moment_is_early, others_stay, runs_to_its_end,
+    waits_were_called, world_is_valid,
 };

@@ -4,7 +4,7 @@ use Rattle.std.specs.Fmt.{decimal}
 use Rattle.std.specs.List.{flat_map}
 use Rattle.abi_base.specs.Errno.{name_of}
 use Rattle.abi_types.specs.declared.reply.Answer.{Answer}
-use Rattle.abi_types.specs.declared.reply.Answer.TheVariants.{Reply}
+use Rattle.abi_types.specs.declared.reply.Answer.TheVariants.{Parked, Reply}
 use Rattle.abi_types.specs.declared.call.Call.{Call}
 use Rattle.run_types.specs.declared.history.Act.{Act}
 use Rattle.run_types.specs.declared.history.Act.TheVariants as act
@@ -12,10 +12,14 @@ use Rattle.run_types.specs.declared.history.Entry.{Entry}
 use Rattle.run_report.specs.CallNames.{call_name}
 use Rattle.run_report.specs.Denials.{thread_text}
 
--- the word of an act, its call, the name of the error, and the two numbers that it gave
+-- the name of the error, and the two numbers that the call gave; where its thread waits there are none
+abbrev pub answer_text : Answer → List ℕ
+answer_text (Parked writes) = codes "PARKED 0 0"
+answer_text (Reply reply) = name_of reply.errno ++ (codes " " ++ (decimal reply.r1 ++ (codes " " ++ decimal reply.r2)))
+
+-- the word of an act, its call and the answer
 abbrev pub call_text : List ℕ → Call → Answer → List ℕ
-call_text word call (Reply reply) =
-    word ++ (codes " " ++ (call_name call ++ (codes " " ++ (name_of reply.errno ++ (codes " " ++ (decimal reply.r1 ++ (codes " " ++ decimal reply.r2)))))))
+call_text word call answer = word ++ (codes " " ++ (call_name call ++ (codes " " ++ answer_text answer)))
 
 -- what an entry did
 abbrev pub act_text : Act → List ℕ

@@ -2,7 +2,7 @@
 ghost use Rattle.std.specs.Prelude.{◌≡◌, ◌++◌, IfOk, OnOk};
 ghost use Rattle.std.specs.List.{flat_map};
 ghost use Rattle.std.specs.String.{string_bytes};
-ghost use Rattle.run_report.specs.HistoryLines.{act_text, call_text, entry_text, history_text};
+ghost use Rattle.run_report.specs.HistoryLines.{act_text, answer_text, call_text, entry_text, history_text};
 
 use crate::call_names::call_name;
 use crate::denials::thread_text;
@@ -11,14 +11,26 @@ use block_list::BlockList;
 use run_types::{Act, Entry};
 use std::alloc::{AllocError, Global};
 
-// The word of an act, its call, the answer, and the two numbers that it gave.
+// The name of an answer's error, and the two numbers that it gave. The answer that the thread waits gave none.
+fn answer_text(alloc: Global, answer: &Answer) -> Result<String, AllocError>
+    ensures { IfOk result (λ text. string_bytes text ≡ answer_text answer.now) }
+{
+    match answer {
+        Answer::Parked(_) => String::from_str(alloc, "PARKED 0 0"),
+        Answer::Reply(reply) => {
+            let error = reply.errno.name();
+            format!(in alloc; "{error} {} {}", reply.r1, reply.r2)
+        }
+    }
+}
+
+// The word of an act, its call and the answer.
 fn call_text(alloc: Global, word: &str, call: &Call, answer: &Answer) -> Result<String, AllocError>
     ensures { IfOk result (λ text. string_bytes text ≡ call_text word.now call.now answer.now) }
 {
-    let Answer::Reply(reply) = answer;
     let call = call_name(alloc, call)?;
-    let error = reply.errno.name();
-    format!(in alloc; "{word} {call} {error} {} {}", reply.r1, reply.r2)
+    let answer = answer_text(alloc, answer)?;
+    format!(in alloc; "{word} {call} {answer}")
 }
 
 // What an entry did.

@@ -10,7 +10,7 @@ pub enum Act {
         answer: Answer,
     },
     /// A thread that waited in a call goes on: the call that it made when it began to wait, what the wake is given by its
-    /// memory, and what the kernel answered. No call makes a thread wait yet, so no legal history has a wake.
+    /// memory, and what the kernel answered.
     Wake {
         call: Call,
         given: WakeIn,
@@ -20,8 +20,7 @@ pub enum Act {
     Trap(Signal),
     /// A thread's turn would have been next, and its process had no turn left.
     Expire,
-    /// All threads wait, and the time goes to the next deadline. No call makes a thread wait yet, so no legal history has an
-    /// idle jump.
+    /// All threads wait, none is ready, and the time goes to the next deadline.
     Idle,
 }
 

@@ -1,8 +1,12 @@
 -- What is kept of a history that grows.
-use Rattle.std.proofs.Common.{◌≡◌, Bool, true, false, List, [], ◌∷◌, ◌++◌, refl, sym, ap, ◌∙◌}
+use Rattle.std.proofs.Common.{◌≡◌, ℕ, Bool, true, false, List, [], ◌∷◌, ◌++◌, Option, None, Some, refl, sym, ap, ◌∙◌}
 use Rattle.denied_calls.proofs.DeniedEntries.{denied_more}
-use Rattle.denied_calls.specs.DeniedCalls.{denied_calls}
+use Rattle.abi_types.specs.declared.call.Call.{Call}
+use Rattle.abi_types.specs.declared.reply.Answer.{Answer}
+use Rattle.abi_types.specs.declared.wake.WakeIn.{WakeIn}
+use Rattle.denied_calls.specs.DeniedCalls.{denied_act, denied_by, denied_calls}
 use Rattle.run_types.specs.declared.history.Entry.{Entry}
+use Rattle.shared_history.specs.Entries.{act_of}
 use Rattle.shared_history.specs.Kept.{kept_of, IsKeptOf, Takes}
 use Rattle.shared_history.specs.declared.kept.Kept.{Kept}
 
@@ -35,3 +39,9 @@ takes_reserved e before reserved after all entries denied t = record {
   entries_are = t.entries_are ∙ (λ i. entries i ++ kept_of (all i) (e ∷ []));
   denied_are = t.denied_are ∙ ap (λ calls. calls ++ denied_calls (e ∷ [])) denied;
 }
+
+-- a call is denied at a wake as it is where it is answered at once
+pub denied_as_call : (pid tid : ℕ) (call : Call) (given : Option WakeIn) (answered : Answer)
+    → denied_act pid tid (act_of call given answered) ≡ denied_by pid tid call answered
+denied_as_call pid tid call None answered = refl
+denied_as_call pid tid call (Some given) answered = refl

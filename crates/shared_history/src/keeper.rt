@@ -4,14 +4,15 @@ ghost use Rattle.std.specs.Prelude.{◌≡◌, ℕ, ◌^◌, ◌<◌, [], ◌∷
 ghost use Rattle.run_model.specs.Legal.{Fits};
 ghost use Rattle.run_model.specs.Own.{born};
 ghost use Rattle.run_model.specs.World.{world};
-ghost use Rattle.shared_history.specs.Entries.{called};
+ghost use Rattle.shared_history.specs.Entries.{answered_call};
 ghost use Rattle.shared_history.specs.Keeper.{IsAtRest};
 ghost use Rattle.shared_history.specs.Passes.{IsSeen, Later};
 ghost use Rattle.shared_history.specs.Rule.{first_view, Covers, IsAppended, tail_of};
 
+use crate::entries::EntryHead;
 use crate::passes::{Naming, Pass, Passes};
 use crate::rule::{Appends, Compares, EntryName, HandsOut, TakesIn, View};
-use abi_types::{Answer, Call, Pid, TidList, Who};
+use abi_types::{Answer, Call, Pid, WakeIn};
 use atomic_table::Seat;
 use run_types::Entry;
 use std::marker::{Brand, Model, PhantomData};
@@ -52,24 +53,23 @@ fn append_as<E: EntryName, J: Naming>(
     passes.table.shared.fetch_add::<Appends<E>>(seat, 0, 1);
 }
 
-// The same of the entry of a thread's call, which is told by its parts.
+// The same of the entry of a thread's call or wake, which is told by its parts.
 fn append_call_as<E: EntryName, J: Naming>(
     passes: &Passes<J>,
     seat: &mut Seat<Entry, View>,
-    moment: u64,
-    who: &Who,
-    turns: &TidList,
+    head: &EntryHead,
     call: &Call,
+    given: Option<WakeIn>,
     answer: &Answer,
 )
-    requires entry { called moment who.now turns.now call.now answer.now ≡ E.entry }
+    requires entry { answered_call head.now call.now given answer.now ≡ E.entry }
     requires table { seat.old.table_id ≡ J.table }
     requires rest { IsAtRest seat.old.me }
-    requires covers { Contains seat.old.me.0.held who.now.pid }
-    requires fits { Fits (world J.launch seat.old.me.0.log) (called moment who.now turns.now call.now answer.now) }
+    requires covers { Contains seat.old.me.0.held head.now.pid }
+    requires fits { Fits (world J.launch seat.old.me.0.log) (answered_call head.now call.now given answer.now) }
     requires room { length seat.old.me.0.log < 2 ^ 63 }
     ensures table { seat.new.table_id ≡ seat.old.table_id }
-    ensures view { IsAppended (called moment who.now turns.now call.now answer.now) seat.old.me seat.new.me }
+    ensures view { IsAppended (answered_call head.now call.now given answer.now) seat.old.me seat.new.me }
 {
     passes.table.shared.fetch_add::<Appends<E>>(seat, 0, 1);
 }
@@ -102,7 +102,7 @@ impl<J: Naming> Keeper<J> {
         shared.load::<Compares>(&mut self.seat, 0);
     }
 
-    /// Appends an entry of a process that the keeper holds.
+    /// Appends an entry, which is of a process that the keeper holds, or an idle jump.
     pub fn append(&mut self, passes: &Passes<J>, entry: &Entry)
         requires covers { Covers entry.now self.old.held }
         requires fits { Fits (world J.launch self.old.log) entry.now }
@@ -112,22 +112,22 @@ impl<J: Naming> Keeper<J> {
         append_as::<Brand, J>(passes, &mut self.seat, entry);
     }
 
-    /// Appends the entry of a call of a thread whose process the keeper holds. The entry isn't made: proofs alone see it.
+    /// Appends the entry of a call of a thread whose process the keeper holds, or of the wake of a thread that waited in the call,
+    /// where something was given to it. The entry isn't made: proofs alone see it.
     pub fn append_call(
         &mut self,
         passes: &Passes<J>,
-        moment: u64,
-        who: &Who,
-        turns: &TidList,
+        head: &EntryHead,
         call: &Call,
+        given: Option<WakeIn>,
         answer: &Answer,
     )
-        requires covers { Contains self.old.held who.now.pid }
-        requires fits { Fits (world J.launch self.old.log) (called moment who.now turns.now call.now answer.now) }
+        requires covers { Contains self.old.held head.now.pid }
+        requires fits { Fits (world J.launch self.old.log) (answered_call head.now call.now given answer.now) }
         requires room { length self.old.log < 2 ^ 63 }
-        ensures { self.new ≡ record { log = self.old.log ++ called moment who.now turns.now call.now answer.now ∷ []; held = self.old.held } }
+        ensures { self.new ≡ record { log = self.old.log ++ answered_call head.now call.now given answer.now ∷ []; held = self.old.held } }
     {
-        append_call_as::<Brand, J>(passes, &mut self.seat, moment, who, turns, call, answer);
+        append_call_as::<Brand, J>(passes, &mut self.seat, head, call, given, answer);
     }
 
     /// Hands out a pass of the first process that the keeper holds.

@@ -1,13 +1,14 @@
 //! What a run keeps of its history in memory.
 ghost use Rattle.std.specs.Prelude.{◌≡◌, ◌<◌, [], ◌∷◌, ◌++◌, OnOk};
 ghost use Rattle.denied_calls.specs.DeniedCalls.{denied_calls};
-ghost use Rattle.shared_history.specs.Entries.{called};
+ghost use Rattle.shared_history.specs.Entries.{answered_call};
 ghost use Rattle.shared_history.specs.Kept.{kept_of, listed, HasRoom};
 
-use abi_types::{Answer, Call, TidList, Who};
+use crate::entries::{EntryHead, act_of};
+use abi_types::{Answer, Call, WakeIn};
 use block_list::BlockList;
 use denied_calls::DeniedCall;
-use run_types::{Act, Entry};
+use run_types::Entry;
 use std::alloc::{AllocError, Global};
 
 /// What is kept of a history in memory: its denied calls, of which a report without the history is written, and its entries, or none of
@@ -74,22 +75,20 @@ impl Kept {
         }
     }
 
-    /// The same of the entry of a thread's call at this moment, which is made only where it is kept.
-    pub fn take_call(&mut self, moment: u64, who: &Who, turns: TidList, call: Call, answer: Answer)
+    /// The same of the entry of a thread's call, or of the wake of a thread that waited in the call, where something was given to it.
+    /// The entry is made only where it is kept.
+    #[tactic(auto, using(crate::proofs::KeptEntries::denied_as_call))]
+    pub fn take_call(&mut self, head: EntryHead, call: Call, given: Option<WakeIn>, answer: Answer)
         requires { HasRoom self.old }
         ensures all { self.new.all ≡ self.old.all }
-        ensures entries { self.new.entries.items ≡ self.old.entries.items ++ kept_of self.old.all (called moment who.now turns call answer ∷ []) }
-        ensures denied { self.new.denied.items ≡ self.old.denied.items ++ denied_calls (called moment who.now turns call answer ∷ []) }
+        ensures entries { self.new.entries.items ≡ self.old.entries.items ++ kept_of self.old.all (answered_call head call given answer ∷ []) }
+        ensures denied { self.new.denied.items ≡ self.old.denied.items ++ denied_calls (answered_call head call given answer ∷ []) }
     {
-        push_denied(&mut self.denied, DeniedCall::of_call(*who, &call, &answer));
+        let denied = DeniedCall::of_call(head.pid, head.tid, &call, &answer);
+        push_denied(&mut self.denied, denied);
         if self.all {
-            self.entries.push_reserved(Entry {
-                moment,
-                pid: who.pid,
-                tid: who.tid,
-                turns,
-                act: Act::Call { call, answer },
-            });
+            self.entries
+                .push_reserved(head.with(act_of(call, given, answer)));
         }
     }
 }

@@ -2,11 +2,13 @@
 //! memory.
 #![tactic(auto)]
 
+pub use entries::{EntryHead, idle_entry};
 pub use keeper::{Keeper, Past};
 pub use kept::Kept;
 pub use passes::{Naming, Pass, Passes};
 pub use rule::{OneHistory, View};
 
+mod entries;
 mod keeper;
 mod kept;
 mod passes;

@@ -7,3 +7,4 @@ mod polls;
 mod processes;
 mod showing;
 mod sockets;
+mod wakes;

@@ -38,6 +38,8 @@ fd_close fd = record {
   numbers = 0;
   errors = [];
   takes_memory = false;
+  may_wait = false;
+  deadline = λ constants since. None;
 }
 
 -- ---- fd_datasync and fd_sync: what is written stands at once
@@ -83,6 +85,8 @@ fd_dup fd = record {
   numbers = 0;
   errors = Badf ∷ Mfile ∷ [];
   takes_memory = true;
+  may_wait = false;
+  deadline = λ constants since. None;
 }
 
 -- ---- fd_replace
@@ -103,6 +107,8 @@ fd_replace from to = record {
   numbers = 0;
   errors = Badf ∷ [];
   takes_memory = false;
+  may_wait = false;
+  deadline = λ constants since. None;
 }
 
 -- ---- fd_stat_get
@@ -147,6 +153,8 @@ fd_stat_get fd = record {
   numbers = 0;
   errors = Badf ∷ [];
   takes_memory = false;
+  may_wait = false;
+  deadline = λ constants since. None;
 }
 
 -- ---- fd_stat_put
@@ -205,4 +213,6 @@ fd_stat_put fd stat flags = record {
   numbers = 0;
   errors = Badf ∷ [];
   takes_memory = false;
+  may_wait = false;
+  deadline = λ constants since. None;
 }

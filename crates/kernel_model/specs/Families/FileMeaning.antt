@@ -1,6 +1,6 @@
 -- What a call means that works on the open of one descriptor, a file's or a directory's: all of it hangs on the time, on that open,
 -- and on the part of the file tree that is seen.
-use Rattle.std.specs.Prelude.{ℕ, Bool, List, [], ◌∷◌, Option, None, Some}
+use Rattle.std.specs.Prelude.{ℕ, Bool, false, List, [], ◌∷◌, Option, None, Some}
 use Rattle.std.specs.FinMap.{get}
 use Rattle.abi_base.specs.declared.errno.Errno.{Errno}
 use Rattle.abi_types.specs.declared.descriptor.Descriptor.{Descriptor}
@@ -39,4 +39,6 @@ on_open row m = record {
   numbers = 0;
   errors = m.errors;
   takes_memory = m.takes_memory;
+  may_wait = false;
+  deadline = λ constants since. None;
 }

@@ -1,5 +1,5 @@
 -- What a call means that makes names of files, moves them or takes them away, by the paths of one descriptor or of two.
-use Rattle.std.specs.Prelude.{ℕ, true, ◌++◌, List, [], ◌∷◌, Option, None, Some, if◌then◌else◌}
+use Rattle.std.specs.Prelude.{ℕ, true, false, ◌++◌, List, [], ◌∷◌, Option, None, Some, if◌then◌else◌}
 use Rattle.std.specs.FinMap.{get}
 use Rattle.abi_base.specs.declared.errno.Errno.{Errno}
 use Rattle.abi_base.specs.declared.errno.Errno.TheVariants.{Again}
@@ -58,6 +58,8 @@ by_name row m = record {
   numbers = m.new_nodes;
   errors = m.errors;
   takes_memory = true;
+  may_wait = false;
+  deadline = λ constants since. None;
 }
 
 -- and by the paths of two
@@ -75,6 +77,8 @@ by_names first second m = record {
   numbers = m.new_nodes;
   errors = m.errors;
   takes_memory = true;
+  may_wait = false;
+  deadline = λ constants since. None;
 }
 
 -- ---- parts of what such calls do

@@ -1,5 +1,5 @@
 -- The call that opens what a path leads to, and may make a file there.
-use Rattle.std.specs.Prelude.{ℕ, ◌+◌, ◌==◌, ◌&&◌, ◌||◌, bit_and, not, Bool, true, List, [], ◌∷◌, ◌++◌, Option, None, Some, if◌then◌else◌}
+use Rattle.std.specs.Prelude.{ℕ, ◌+◌, ◌==◌, ◌&&◌, ◌||◌, bit_and, not, Bool, true, false, List, [], ◌∷◌, ◌++◌, Option, None, Some, if◌then◌else◌}
 use Rattle.std.specs.FinMap.{get, insert}
 use Rattle.abi_base.specs.declared.errno.Errno.{Errno}
 use Rattle.abi_base.specs.declared.errno.Errno.TheVariants.{Again, Badf, Exist, Isdir, Loop, Mfile, Noent, Notdir}
@@ -182,4 +182,6 @@ file_open lookup path oflags stat = record {
   numbers = 2;
   errors = path_errors ++ Mfile ∷ Exist ∷ Isdir ∷ Again ∷ [];
   takes_memory = true;
+  may_wait = false;
+  deadline = λ constants since. None;
 }

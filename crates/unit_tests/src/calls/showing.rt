@@ -47,8 +47,8 @@ fn prot(read: bool, write: bool) -> Prot {
     }
 }
 
-// The memory of a row.
-fn memory_of(alloc: Global, content: &[u64]) -> Result<GuestMemory, MemFault> {
+/// The memory of a row.
+pub fn memory_of(alloc: Global, content: &[u64]) -> Result<GuestMemory, MemFault> {
     let mut memory = GuestMemory::new(alloc);
     memory.map(alloc, DATA, 17, prot(true, true))?;
     memory.map(alloc, READ_ONLY, 1, prot(true, false))?;
@@ -61,8 +61,8 @@ fn memory_of(alloc: Global, content: &[u64]) -> Result<GuestMemory, MemFault> {
     Ok(memory)
 }
 
-// The registers of a row.
-fn registers_of(number: u64, arguments: &[u64]) -> Regs {
+/// The registers of a row.
+pub fn registers_of(number: u64, arguments: &[u64]) -> Regs {
     let mut regs = Regs::new(0x10000);
     regs.set(17, number);
     let mut register = 10;

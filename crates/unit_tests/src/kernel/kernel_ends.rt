@@ -4,14 +4,14 @@ use abi_types::{Call, Signal, Status, Thread};
 use kernel_core::Kernel;
 use std::test::Fail;
 
-// The moment, the process's status, whether it is live, and its first thread.
-type Stand = (u64, Option<Status>, bool, Option<Thread>);
+// The moment, the process's status, whether it is live, and whether its first thread takes turns.
+type Stand = (u64, Option<Status>, bool, bool);
 
-const BEFORE: Stand = (0, Some(Status::Live), true, Some(Thread::Runnable));
+const BEFORE: Stand = (0, Some(Status::Live), true, true);
 
 // The end at the first call's moment, with this status.
 const fn behind(status: Status) -> Stand {
-    (1000, Some(status), false, None)
+    (1000, Some(status), false, false)
 }
 
 fn stand(kernel: &Kernel) -> Stand {
@@ -19,7 +19,7 @@ fn stand(kernel: &Kernel) -> Stand {
         kernel.moment(),
         kernel.status(PID),
         kernel.live(PID),
-        kernel.thread(PID, TID),
+        matches!(kernel.thread(PID, TID), Some(Thread::Runnable)),
     )
 }
 

@@ -1,5 +1,5 @@
-//! What those calls name and need that the command answers by NOSYS before the kernel sees them, and their refusals for lack of
-//! that: with no descriptor at all, with just what they need, and with each needed right taken away in turn. The same of the
+//! What those calls name and need that the command answers by NOSYS before the kernel sees them, and a poll of descriptors, and their
+//! refusals for lack of that: with no descriptor at all, with just what they need, and with each needed right taken away in turn. The same of the
 //! other calls is shown by scripts of calls (docs/GATE.md).
 use crate::kernel::stdout_kernel::{answer_to, bare_kernel};
 use abi_types::{
@@ -337,7 +337,10 @@ fn reported(reply: Option<Reply>) -> Reported {
 // The answer of a kernel whose process has no descriptor.
 fn bare_answer(alloc: Global, call: &Call) -> Result<Option<Errno>, AllocError> {
     let mut kernel = bare_kernel(alloc)?;
-    Ok(answer_to(&mut kernel, call).map(|Answer::Reply(reply)| reply.errno))
+    match answer_to(&mut kernel, call) {
+        Some(Answer::Reply(reply)) => Ok(Some(reply.errno)),
+        _ => Ok(None),
+    }
 }
 
 // Nothing, and each right that the rows need, as it is taken away.

@@ -16,7 +16,9 @@ use std::test::Fail;
 enum Other {
     // A call of this number that lacks these rights of descriptor 3.
     Denied(u64, Rights, Rights),
-    // A wake out of such a call.
+    // A call of this number at this moment in which its thread waits.
+    Waits { moment: u64, number: u64 },
+    // A wake out of a call that lacks these rights of descriptor 3.
     DeniedWake(u64, Rights, Rights),
     // A wake at this moment out of a call of this number, which gives this first number.
     Wake { moment: u64, number: u64, r1: u64 },
@@ -72,6 +74,10 @@ const RUNS: &[Run] = &[
     Run {
         written: None,
         others: &[
+            Other::Waits {
+                moment: 1000,
+                number: 37,
+            },
             Other::Idle(5_000_000),
             Other::Wake {
                 moment: 5_001_000,
@@ -82,7 +88,7 @@ const RUNS: &[Run] = &[
         ],
         expires: false,
         lines: true,
-        report: "== stdout 0\n== stderr 0\n== status live\n== run stalled\n== denials 1\n0abcdef0.12 fd_read fd 3 base FD_READ inheriting -\n== tree 0\n== history 3\n5000000 00000000.0 0 idle - - 0 0\n5001000 00000000.1 0 wake poll SUCCESS 1 0\n0 0abcdef0.12 0 wake fd_read NOTCAPABLE 0 0\n",
+        report: "== stdout 0\n== stderr 0\n== status live\n== run stalled\n== denials 1\n0abcdef0.12 fd_read fd 3 base FD_READ inheriting -\n== tree 0\n== history 4\n1000 00000000.1 0 call poll PARKED 0 0\n5000000 00000000.0 0 idle - - 0 0\n5001000 00000000.1 0 wake poll SUCCESS 1 0\n0 0abcdef0.12 0 wake fd_read NOTCAPABLE 0 0\n",
     },
 ];
 
@@ -214,6 +220,15 @@ fn entry_of(alloc: Global, other: &Other) -> Result<Entry, AllocError> {
         Other::DeniedWake(number, base, inheriting) => {
             Ok(of_another(alloc, wake_of(*number, lacking(*base, *inheriting))))
         }
+        Other::Waits { moment, number } => Ok(of_first(
+            alloc,
+            *moment,
+            TID,
+            Act::Call {
+                call: numbered(*number),
+                answer: Answer::Parked(WordWrites::Zero),
+            },
+        )),
         Other::Wake { moment, number, r1 } => {
             Ok(of_first(alloc, *moment, TID, wake_of(*number, giving(*r1))))
         }

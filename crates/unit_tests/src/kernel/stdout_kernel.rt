@@ -5,7 +5,7 @@ ghost use Rattle.tree_model.specs.Tree.{Tree};
 
 use abi_types::{
     Answer, Bytes, Call, Constants, Grant, GrantList, GrantTarget, Pid, Rights, Signal, Status,
-    Thread, Tid, Times, Who,
+    Thread, Tid, Times,
 };
 use elf_image::{Elf, SegmentList};
 use kernel_core::{Kernel, Launch};
@@ -86,21 +86,14 @@ pub fn write_of(alloc: Global, text: &str) -> Result<Call, AllocError> {
     })
 }
 
-// The first thread.
-fn first_thread() -> Who
-    ensures { result ≡ record { pid = 0; tid = 1 } }
-{
-    Who { pid: PID, tid: TID }
-}
-
 /// The answer to a call of the first thread. `None` where that thread can make no call.
 pub fn answer_to(kernel: &mut Kernel, call: &Call) -> Option<Answer> {
     if !kernel.live(PID) || kernel.moment() > 1_000_000 {
         return None;
     }
     match kernel.thread(PID, TID) {
-        None => None,
-        Some(Thread::Runnable) => Some(kernel.step(&CONSTANTS, &first_thread(), call)),
+        Some(Thread::Runnable) => Some(kernel.step(&CONSTANTS, PID, TID, call)),
+        _ => None,
     }
 }
 

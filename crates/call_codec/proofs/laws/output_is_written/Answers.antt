@@ -1,5 +1,6 @@
 use Rattle.call_codec.proofs.Mappings.{mapping_filled}
 use Rattle.call_codec.proofs.Outputs.{entries_written, found_state_written, link_written, open_state_written, pread_written, read_written, state_written}
+use Rattle.call_codec.proofs.WokenOutputs.{events_written, words_written}
 use Rattle.call_codec.proofs.laws.output_is_written.Goals as goal
 
 pub returns-clause-pread : goal.returns-clause-pread
@@ -25,3 +26,9 @@ returns-clause-found_state c = found_state_written
 
 pub returns-clause-mapping : goal.returns-clause-mapping
 returns-clause-mapping c = mapping_filled
+
+pub returns-clause-events : goal.returns-clause-events
+returns-clause-events c = events_written
+
+pub returns-clause-words : goal.returns-clause-words
+returns-clause-words c = words_written

@@ -1,9 +1,11 @@
-use Rattle.std.proofs.Common.{ℕ, sym, subst, ◌∙◌}
+use Rattle.std.proofs.Common.{ℕ, IsSome, sym, subst, ◌∙◌}
+use Rattle.std.specs.FinMap.{get}
 use Rattle.abi_types.specs.declared.call.Call.{Call}
-use Rattle.abi_types.specs.declared.call.Call.TheVariants.{MemMap}
+use Rattle.abi_types.specs.declared.call.Call.TheVariants.{MemMap, Memory}
 use Rattle.call_codec.specs.MemoryCalls.{MayMapThere}
 use Rattle.call_codec.specs.Put.{IsRoomAt, IsRoomFor}
-use Rattle.call_codec.proofs.Puts.{call_suits}
+use Rattle.call_codec.proofs.Puts.{call_suits, few_ranges, keeps_pages}
+use Rattle.guest_memory.specs.Page.{Pages}
 use Rattle.guest_memory.specs.Room.{without_each}
 use Rattle.call_codec.proofs.replies.put_memory.Goals as goal
 
@@ -18,3 +20,22 @@ pub map-requires-clause-room : goal.map-requires-clause-room
 map-requires-clause-room c =
     subst (λ (k : ℕ). IsRoomAt c.in-MemMap.place k c.args.room c.args.memory.now) (sym c.pages_in-pages.ensures)
     (subst (λ (call : Call). IsRoomFor call c.args.room c.args.memory.now) c.in-MemMap.is c.requires.room)
+
+pub change-requires-clause-aligned : goal.change-requires-clause-aligned
+change-requires-clause-aligned c =
+    let m = without_each c.args.room c.args.memory.now in
+    (call_suits m c.args.regs.now (Memory c.in-Memory.number c.in-Memory.errno) (sym c.in-Memory.is ∙ c.requires.encoded) c.in-Success.is).0
+
+pub change-requires-clause-there : goal.change-requires-clause-there
+change-requires-clause-there c = λ protects q within.
+    let m = without_each c.args.room c.args.memory.now in
+    let suits = call_suits m c.args.regs.now (Memory c.in-Memory.number c.in-Memory.errno) (sym c.in-Memory.is ∙ c.requires.encoded) c.in-Success.is in
+    subst (λ (pages : Pages). IsSome (get pages q)) (sym c.remove_room.ensures) (suits.1 protects q within)
+
+pub put_output-requires : goal.put_output-requires
+put_output-requires c =
+    let m = without_each c.args.room c.args.memory.now in
+    record {
+      other = keeps_pages c.args.call.now c.in_default.not-MemMap c.in_default.not-Memory;
+      few = few_ranges m c.args.regs.now c.args.call.now c.requires.encoded;
+    }

@@ -4,7 +4,7 @@ use Rattle.launch_run.specs.declared.top.Finished.{Finished}
 use Rattle.launch_reading.specs.Launch.{launch_of}
 use Rattle.launch_run.specs.TopCall.{IsKept}
 use Rattle.command_line.specs.Reading.{words_of}
-use Rattle.launch_run.proofs.TopClauses.{top_complete, top_ended, top_input, top_kept, top_memory, top_program, top_text, top_tree, top_unwritten, top_words, top_words_refused}
+use Rattle.launch_run.proofs.TopClauses.{top_complete, top_ended, top_input, top_kept, top_memory, top_program, top_stalled, top_text, top_tree, top_unwritten, top_words, top_words_refused}
 use Rattle.launch_run.proofs.top.run_launch.Goals as goal
 
 pub returns-clause-words : goal.returns-clause-words
@@ -49,6 +49,9 @@ returns-clause-memory g c = rw (c.finish.ensures) (top_memory _ _ _ _ _ _ c.laun
 
 pub returns-clause-ended : goal.returns-clause-ended
 returns-clause-ended g c = rw (c.finish.ensures) (top_ended _ _ _ _ _ _ c.launch_and_run.result c.launch_and_run.ensures.end)
+
+pub returns-clause-stalled : goal.returns-clause-stalled
+returns-clause-stalled g c = rw (c.finish.ensures) (top_stalled _ _ _ _ _ _ c.launch_and_run.result c.launch_and_run.ensures.end)
 
 pub returns-clause-unwritten : goal.returns-clause-unwritten
 returns-clause-unwritten g c = rw (c.finish.ensures) (top_unwritten _ _ _ _ _ _ c.launch_and_run.result c.launch_and_run.ensures.end)

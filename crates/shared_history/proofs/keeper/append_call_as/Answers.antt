@@ -1,5 +1,5 @@
 use Rattle.std.proofs.Common.{◌<◌, sym, ◌∙◌, arith}
-use Rattle.shared_history.specs.Entries.{called}
+use Rattle.shared_history.specs.Entries.{answered_call}
 use Rattle.shared_history.proofs.Steps.{appends_at}
 use Rattle.shared_history.proofs.keeper.append_call_as.Goals as goal
 
@@ -9,6 +9,6 @@ fetch_add-requires g c =
     let word : 0 < passes.table.shared.table_id.words = omega (arith, passes.one_word) in (
       c.requires.table ∙ sym passes.table_is,
       word,
-      appends_at g.J.Naming.launch passes.table.shared.key passes.table.shared.table_id.slots c.args.seat.now.id c.args.seat.now.me (called c.args.moment c.args.who.now c.args.turns.now c.args.call.now c.args.answer.now) g.E.EntryName.entry
+      appends_at g.J.Naming.launch passes.table.shared.key passes.table.shared.table_id.slots c.args.seat.now.id c.args.seat.now.me (answered_call c.args.head.now c.args.call.now c.args.given c.args.answer.now) g.E.EntryName.entry
           passes.launch_is c.requires.rest c.requires.entry (λ _. c.requires.covers) c.requires.fits c.requires.room,
     )

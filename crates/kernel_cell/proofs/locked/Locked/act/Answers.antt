@@ -1,7 +1,8 @@
 use Rattle.std.proofs.Common.{sym, ap, subst, ◌∙◌}
 use Rattle.shared_history.specs.Passes.{seen_of}
+use Rattle.kernel_cell.specs.Acting.{IsActedOn}
 use Rattle.kernel_cell.specs.Recorded.{IsRecorded}
-use Rattle.kernel_cell.proofs.PassOutcomes.{later_of, asks_call_now, acted_is_seen, pass_after_call, acted_on_same}
+use Rattle.kernel_cell.proofs.PassOutcomes.{later_of, asks_call_now, acted_is_seen, pass_after_call, on_same}
 use Rattle.kernel_cell.proofs.locked.Locked.act.Goals as goal
 
 pub call-acted-requires-clause-recorded : goal.call-acted-requires-clause-recorded
@@ -44,9 +45,10 @@ returns-clause-pass g c =
 
 pub returns-clause-history : goal.returns-clause-history
 returns-clause-history g c =
-    acted_on_same g.J.Naming.launch c.args.tid c.args.turns c.args.call c.call-acted.new.guest c.call-acted.result c.take_in.new.self.log c.args.self.now c.call-acted.new.self.keeper.log
-    c.hand_out.new.self.log c.pass.inside.pid c.args.pass.now.pid (ap (λ k. k.log) c.take_in.ensures.keeper ∙ c.self.view_is) (ap (λ v. v.pid) c.pass.view_is)
-    (sym (ap (λ k. k.log) c.hand_out.ensures.keeper)) c.call-acted.ensures.acted
+    on_same (λ log p after. IsActedOn g.J.Naming.launch log p c.args.tid c.args.turns c.args.call c.call-acted.new.guest after c.call-acted.result)
+    c.take_in.new.self.log c.args.self.now c.call-acted.new.self.keeper.log c.hand_out.new.self.log c.pass.inside.pid c.args.pass.now.pid
+    (ap (λ k. k.log) c.take_in.ensures.keeper ∙ c.self.view_is) (ap (λ v. v.pid) c.pass.view_is) (sym (ap (λ k. k.log) c.hand_out.ensures.keeper))
+    c.call-acted.ensures.acted
 
 pub returns-clause-seen : goal.returns-clause-seen
 returns-clause-seen g c = ap (λ v. v.seen) (c.drop.view_is ∙ c.hand_out.ensures.pass) ∙ sym (ap (λ k. k.log) c.hand_out.ensures.keeper)

@@ -1,7 +1,8 @@
 use Rattle.std.proofs.Common.{sym, ap, subst, ◌∙◌}
 use Rattle.shared_history.specs.Passes.{seen_of}
+use Rattle.kernel_cell.specs.Acting.{IsStoppedOn}
 use Rattle.kernel_cell.specs.Recorded.{IsRecorded}
-use Rattle.kernel_cell.proofs.PassOutcomes.{later_of, asks_end_now, stopped_is_seen, pass_after_end, stopped_on_same}
+use Rattle.kernel_cell.proofs.PassOutcomes.{later_of, asks_end_now, stopped_is_seen, pass_after_end, on_same}
 use Rattle.kernel_cell.proofs.locked.Locked.end.Goals as goal
 
 pub end-stopped-requires-clause-recorded : goal.end-stopped-requires-clause-recorded
@@ -44,9 +45,10 @@ returns-clause-pass g c =
 
 pub returns-clause-history : goal.returns-clause-history
 returns-clause-history g c =
-    stopped_on_same g.J.Naming.launch c.args.tid c.args.turns c.args.how c.end-stopped.result c.take_in.new.self.log c.args.self.now c.end-stopped.new.self.keeper.log
-    c.hand_out.new.self.log c.pass.inside.pid c.args.pass.now.pid (ap (λ k. k.log) c.take_in.ensures.keeper ∙ c.self.view_is) (ap (λ v. v.pid) c.pass.view_is)
-    (sym (ap (λ k. k.log) c.hand_out.ensures.keeper)) c.end-stopped.ensures.stopped
+    on_same (λ log p after. IsStoppedOn g.J.Naming.launch log p c.args.tid c.args.turns c.args.how after c.end-stopped.result)
+    c.take_in.new.self.log c.args.self.now c.end-stopped.new.self.keeper.log c.hand_out.new.self.log c.pass.inside.pid c.args.pass.now.pid
+    (ap (λ k. k.log) c.take_in.ensures.keeper ∙ c.self.view_is) (ap (λ v. v.pid) c.pass.view_is) (sym (ap (λ k. k.log) c.hand_out.ensures.keeper))
+    c.end-stopped.ensures.stopped
 
 pub returns-clause-seen : goal.returns-clause-seen
 returns-clause-seen g c = ap (λ v. v.seen) (c.drop.view_is ∙ c.hand_out.ensures.pass) ∙ sym (ap (λ k. k.log) c.hand_out.ensures.keeper)

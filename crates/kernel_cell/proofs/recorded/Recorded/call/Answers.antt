@@ -1,19 +1,18 @@
-use Rattle.std.proofs.Common.{◌≡◌, ℕ, ◌<◌, List, length, slice_index_or, IsSome, refl, sym, ap, subst, ◌∙◌, arith, true≢false}
+use Rattle.std.proofs.Common.{◌≡◌, ℕ, ◌<◌, List, length, slice_index_or, IsSome, refl, sym, ap, subst, ◌∙◌, arith}
 use Rattle.std.specs.FinMap.{get}
 use Rattle.call_codec.specs.Arguments.{args_of}
 use Rattle.call_codec.proofs.Puts.{may_map_for}
 use Rattle.shared_history.proofs.KeptEntries.{takes_reserved}
 use Rattle.kernel_cell.proofs.EntryEffects.{call_encoded}
-use Rattle.kernel_cell.proofs.RecordedSteps.{kernel_early, log_short, constants_early, live_there, call_runs, fits_call, recorded_call, acted_runs, acted_ends}
+use Rattle.kernel_cell.proofs.RecordedSteps.{kernel_early, log_short, constants_early, live_there, call_runs_there, fits_call, recorded_call, acted_there}
 use Rattle.run_model.specs.World.{Guest, world, registers_of, called_guest}
 use Rattle.kernel_cell.proofs.recorded.Recorded.call.Goals as goal
 
 pub step-answer-requires-clause-runnable : goal.step-answer-requires-clause-runnable
 step-answer-requires-clause-runnable g c =
     let self = c.args.self.now in
-    let who = c.args.who.now in
-    let live = live_there g.J.Naming.launch g.J.Naming.keeps_all self.keeper.log self.kernel self.constants self.kept c.requires.recorded who.pid (c.if-not-live.ensures.0 refl) in
-    call_runs g.J.Naming.launch g.J.Naming.keeps_all self.keeper.log self.kernel self.constants self.kept c.requires.recorded who c.args.turns c.args.call c.args.guest.now
+    let live = live_there g.J.Naming.launch g.J.Naming.keeps_all self.keeper.log self.kernel self.constants self.kept c.requires.recorded c.args.pid (c.if-not-live.ensures.0 refl) in
+    call_runs_there g.J.Naming.launch g.J.Naming.keeps_all self.keeper.log self.kernel self.constants self.kept c.requires.recorded c.args.pid c.args.tid c.args.turns c.args.call c.args.guest.now
     (c.requires.asks live)
 
 pub step-answer-requires-clause-early : goal.step-answer-requires-clause-early
@@ -29,82 +28,55 @@ step-answer-requires-clause-epoch g c =
 pub make_room-requires : goal.make_room-requires
 make_room-requires g c =
     let self = c.args.self.now in
-    let who = c.args.who.now in
-    let guest = c.args.guest.now in
-    let live = live_there g.J.Naming.launch g.J.Naming.keeps_all self.keeper.log self.kernel self.constants self.kept c.requires.recorded who.pid (c.if-not-live.ensures.0 refl) in
-    may_map_for guest.memory (registers_of guest who.tid) c.args.call
-    (call_encoded (world g.J.Naming.launch self.keeper.log) who c.args.turns guest c.args.call (c.requires.asks live))
+    let live = live_there g.J.Naming.launch g.J.Naming.keeps_all self.keeper.log self.kernel self.constants self.kept c.requires.recorded c.args.pid (c.if-not-live.ensures.0 refl) in
+    may_map_for c.args.guest.now.memory (registers_of c.args.guest.now c.args.tid) c.args.call
+    (call_encoded (world g.J.Naming.launch self.keeper.log) c.args.pid c.args.tid c.args.turns c.args.guest.now c.args.call (c.requires.asks live))
 
 pub answer-requires-clause-thread : goal.answer-requires-clause-thread
 answer-requires-clause-thread g c =
     let self = c.args.self.now in
-    let who = c.args.who.now in
-    let live = live_there g.J.Naming.launch g.J.Naming.keeps_all self.keeper.log self.kernel self.constants self.kept c.requires.recorded who.pid (c.if-not-live.ensures.0 refl) in
-    subst (λ (guest : Guest). IsSome (get guest.regs who.tid)) (sym c.in-Ok-make_room.ensures.without) (c.requires.asks live).registers
+    let live = live_there g.J.Naming.launch g.J.Naming.keeps_all self.keeper.log self.kernel self.constants self.kept c.requires.recorded c.args.pid (c.if-not-live.ensures.0 refl) in
+    subst (λ (guest : Guest). IsSome (get guest.regs c.args.tid)) (sym c.in-Ok-make_room.ensures.without) (c.requires.asks live).registers
 
 pub answer-requires-clause-encoded : goal.answer-requires-clause-encoded
 answer-requires-clause-encoded g c =
     let self = c.args.self.now in
-    let who = c.args.who.now in
-    let live = live_there g.J.Naming.launch g.J.Naming.keeps_all self.keeper.log self.kernel self.constants self.kept c.requires.recorded who.pid (c.if-not-live.ensures.0 refl) in
-    subst (λ (guest : Guest). c.args.call ≡ args_of guest.memory (registers_of guest who.tid)) (sym c.in-Ok-make_room.ensures.without)
-    (call_encoded (world g.J.Naming.launch self.keeper.log) who c.args.turns c.args.guest.now c.args.call (c.requires.asks live))
+    let live = live_there g.J.Naming.launch g.J.Naming.keeps_all self.keeper.log self.kernel self.constants self.kept c.requires.recorded c.args.pid (c.if-not-live.ensures.0 refl) in
+    subst (λ (guest : Guest). c.args.call ≡ args_of guest.memory (registers_of guest c.args.tid)) (sym c.in-Ok-make_room.ensures.without)
+    (call_encoded (world g.J.Naming.launch self.keeper.log) c.args.pid c.args.tid c.args.turns c.args.guest.now c.args.call (c.requires.asks live))
 
 pub append_call-requires-clause-covers : goal.append_call-requires-clause-covers
 append_call-requires-clause-covers g c =
-    let who = c.args.who.now in
-    subst (λ (held : List ℕ). (x : ℕ) × (x < length held) × (slice_index_or held x who.pid ≡ who.pid)) (sym c.requires.held) (0, omega arith, refl)
+    subst (λ (held : List ℕ). (x : ℕ) × (x < length held) × (slice_index_or held x c.args.pid ≡ c.args.pid)) (sym c.requires.held) (0, omega arith, refl)
 
 pub append_call-requires-clause-fits : goal.append_call-requires-clause-fits
 append_call-requires-clause-fits g c =
     let self = c.args.self.now in
-    let who = c.args.who.now in
-    let live = live_there g.J.Naming.launch g.J.Naming.keeps_all self.keeper.log self.kernel self.constants self.kept c.requires.recorded who.pid (c.if-not-live.ensures.0 refl) in
-    fits_call g.J.Naming.launch g.J.Naming.keeps_all self.keeper.log self.kernel self.constants self.kept c.requires.recorded who c.args.turns c.args.call c.args.guest.now
-    (c.requires.asks live) c.step-answer.result c.step-answer.new.self c.moment-moment.result c.moment-moment.ensures c.step-answer.ensures.step live
+    let live = live_there g.J.Naming.launch g.J.Naming.keeps_all self.keeper.log self.kernel self.constants self.kept c.requires.recorded c.args.pid (c.if-not-live.ensures.0 refl) in
+    fits_call g.J.Naming.launch g.J.Naming.keeps_all self.keeper.log self.kernel self.constants self.kept c.requires.recorded c.args.pid c.args.tid c.args.turns c.args.call c.args.guest.now
+    (c.requires.asks live) c.step-answer.result c.step-answer.new.self c.moment.result c.moment.ensures c.step-answer.ensures.step live
 
 pub append_call-requires-clause-room : goal.append_call-requires-clause-room
 append_call-requires-clause-room g c =
     let self = c.args.self.now in
     log_short g.J.Naming.launch g.J.Naming.keeps_all self.keeper.log self.kernel self.constants self.kept c.requires.recorded
 
-pub returns-then-live-clause-recorded : goal.returns-then-live-clause-recorded
-returns-then-live-clause-recorded g c =
+pub returns-clause-recorded : goal.returns-clause-recorded
+returns-clause-recorded g c =
     let self = c.args.self.now in
-    let who = c.args.who.now in
-    let live = live_there g.J.Naming.launch g.J.Naming.keeps_all self.keeper.log self.kernel self.constants self.kept c.requires.recorded who.pid (c.if-not-live.ensures.0 refl) in
-    recorded_call g.J.Naming.launch g.J.Naming.keeps_all self.keeper.log self.kernel self.constants self.kept c.requires.recorded who c.args.turns c.args.call c.args.guest.now
-    (c.requires.asks live) c.step-answer.result c.step-answer.new.self c.moment-moment.result c.moment-moment.ensures c.step-answer.ensures.step live
+    let live = live_there g.J.Naming.launch g.J.Naming.keeps_all self.keeper.log self.kernel self.constants self.kept c.requires.recorded c.args.pid (c.if-not-live.ensures.0 refl) in
+    recorded_call g.J.Naming.launch g.J.Naming.keeps_all self.keeper.log self.kernel self.constants self.kept c.requires.recorded c.args.pid c.args.tid c.args.turns c.args.call c.args.guest.now
+    (c.requires.asks live) c.step-answer.result c.step-answer.new.self c.moment.result c.moment.ensures c.step-answer.ensures.step live
     c.append_call.new.self.log (ap (λ k. k.log) c.append_call.ensures) c.take_call.new.self
     (takes_reserved _ self.kept c.reserve.new.self _ c.reserve.ensures.all c.reserve.ensures.entries c.reserve.ensures.denied
     (record { all_is = c.take_call.ensures.all; entries_are = c.take_call.ensures.entries; denied_are = c.take_call.ensures.denied }))
 
-pub returns-else-live-clause-recorded : goal.returns-else-live-clause-recorded
-returns-else-live-clause-recorded g c =
+pub returns-clause-acted : goal.returns-clause-acted
+returns-clause-acted g c =
     let self = c.args.self.now in
-    let who = c.args.who.now in
-    let live = live_there g.J.Naming.launch g.J.Naming.keeps_all self.keeper.log self.kernel self.constants self.kept c.requires.recorded who.pid (c.if-not-live.ensures.0 refl) in
-    recorded_call g.J.Naming.launch g.J.Naming.keeps_all self.keeper.log self.kernel self.constants self.kept c.requires.recorded who c.args.turns c.args.call c.args.guest.now
-    (c.requires.asks live) c.step-answer.result c.step-answer.new.self c.moment-moment.result c.moment-moment.ensures c.step-answer.ensures.step live
-    c.append_call.new.self.log (ap (λ k. k.log) c.append_call.ensures) c.take_call.new.self
-    (takes_reserved _ self.kept c.reserve.new.self _ c.reserve.ensures.all c.reserve.ensures.entries c.reserve.ensures.denied
-    (record { all_is = c.take_call.ensures.all; entries_are = c.take_call.ensures.entries; denied_are = c.take_call.ensures.denied }))
-
-pub returns-then-live-clause-acted : goal.returns-then-live-clause-acted
-returns-then-live-clause-acted g c =
-    let self = c.args.self.now in
-    let who = c.args.who.now in
-    let live = live_there g.J.Naming.launch g.J.Naming.keeps_all self.keeper.log self.kernel self.constants self.kept c.requires.recorded who.pid (c.if-not-live.ensures.0 refl) in
-    acted_runs g.J.Naming.launch g.J.Naming.keeps_all self.keeper.log self.kernel self.constants self.kept c.requires.recorded who c.args.turns c.args.call c.args.guest.now
-    (c.requires.asks live) c.step-answer.result c.step-answer.new.self c.moment-moment.result c.moment-moment.ensures c.step-answer.ensures.step live
+    let live = live_there g.J.Naming.launch g.J.Naming.keeps_all self.keeper.log self.kernel self.constants self.kept c.requires.recorded c.args.pid (c.if-not-live.ensures.0 refl) in
+    acted_there g.J.Naming.launch g.J.Naming.keeps_all self.keeper.log self.kernel self.constants self.kept c.requires.recorded c.args.pid c.args.tid c.args.turns c.args.call c.args.guest.now
+    (c.requires.asks live) c.step-answer.result c.step-answer.new.self c.moment.result c.moment.ensures c.step-answer.ensures.step live
     c.append_call.new.self.log (ap (λ k. k.log) c.append_call.ensures) c.answer.new.self
-    (c.answer.ensures ∙ ap (λ (guest : Guest). called_guest guest who.tid c.args.call c.step-answer.result) c.in-Ok-make_room.ensures.without) (c.if-live.ensures.0 refl)
-
-pub returns-else-live-clause-acted : goal.returns-else-live-clause-acted
-returns-else-live-clause-acted g c =
-    let self = c.args.self.now in
-    let who = c.args.who.now in
-    let live = live_there g.J.Naming.launch g.J.Naming.keeps_all self.keeper.log self.kernel self.constants self.kept c.requires.recorded who.pid (c.if-not-live.ensures.0 refl) in
-    acted_ends g.J.Naming.launch g.J.Naming.keeps_all self.keeper.log self.kernel self.constants self.kept c.requires.recorded who c.args.turns c.args.call c.args.guest.now
-    (c.requires.asks live) c.step-answer.result c.step-answer.new.self c.moment-moment.result c.moment-moment.ensures c.step-answer.ensures.step live
-    c.append_call.new.self.log (ap (λ k. k.log) c.append_call.ensures) c.answer.new.self (λ on. true≢false (sym (c.if-live.ensures.1 on)))
+    (c.answer.ensures ∙ ap (λ (guest : Guest). called_guest guest c.args.tid c.args.call c.step-answer.result) c.in-Ok-make_room.ensures.without)
+    c.acted.result c.live-2.result c.is_parked-parks.result c.acted.ensures c.is_parked-parks.ensures c.live-2.ensures

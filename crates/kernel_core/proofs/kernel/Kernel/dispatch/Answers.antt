@@ -21,13 +21,14 @@ use Rattle.kernel_model.specs.Valid.{IsValid}
 use Rattle.kernel_model.specs.View.{whole}
 use Rattle.kernel_model.proofs.Valids.{release_valid, same_value}
 use Rattle.kernel_parts.specs.Changes.{change_outcome}
+use Rattle.kernel_parts.specs.Polls.{poll_outcome}
 use Rattle.kernel_core.specs.Entries.{entry_outcome}
 use Rattle.kernel_core.specs.Files.{file_outcome}
 use Rattle.kernel_core.specs.OffsetCalls.{offset_outcome}
 use Rattle.kernel_core.specs.Opening.{open_outcome}
 use Rattle.kernel_core.proofs.Acts.{act_allowed, act_refused, by_outcome, stat_get_sets_nothing}
 use Rattle.kernel_core.proofs.EntryCalls.{entries_does, first_is_named}
-use Rattle.kernel_core.proofs.Families.{all_named, answered_does, answered_is, change_does, change_is, change_replaces, change_takes_memory, entries_is, entries_on, exit_is, file_is, file_on, offset_is, offset_on, on_err_all, on_err_both, open_is, state_is, unbuilt_does, unbuilt_is, zeros_does, zeros_is}
+use Rattle.kernel_core.proofs.Families.{all_named, answered_does, answered_is, change_does, change_is, change_replaces, change_takes_memory, entries_is, entries_on, exit_is, file_is, file_on, offset_is, offset_on, on_err_all, on_err_both, open_is, poll_does, poll_is, poll_sets_nothing, poll_takes_memory, state_is, unbuilt_does, unbuilt_is, zeros_does, zeros_is}
 use Rattle.kernel_core.proofs.FileCalls.{file_does}
 use Rattle.kernel_core.proofs.OffsetCalls.{offset_does}
 use Rattle.kernel_core.proofs.OpenCalls.{open_does}
@@ -273,6 +274,33 @@ returns-in-Zeros-clause-ok c =
     (allowed a c.args.call.now (replies c.placed.result) c.in_default-refusal.is refl
     (zeros_does c.args.call.now c.in-Zeros.place c.args.constants.now (whole S) c.args.who.now c.in-Some.table.now
     (zeros_is c.args.call.now c.family.result c.family.ensures c.in-Zeros.place c.in-Zeros.is) ∙ ap replies (sym c.placed.ensures)))
+
+pub returns-in-Poll-clause-ok : goal.returns-in-Poll-clause-ok
+returns-in-Poll-clause-ok c =
+    let a = (goal.at.returns-in-Poll-clause-ok c).After-refusal in
+    let S = c.args.self.now in
+    let who = c.args.who.now in
+    let subscriptions = c.in-Poll.subscriptions.now in
+    let o = poll_outcome c.args.constants.now who.since S.clock subscriptions in
+    let is = allowed a (call.Poll subscriptions) o c.in_default-refusal.is (poll_is c.args.call.now c.family.result c.family.ensures c.in-Poll.subscriptions c.in-Poll.is)
+    (poll_does c.args.constants.now S who c.in-Some.table.now subscriptions) in
+    IfOk-weaker _ _ _ (λ given answered. by_outcome c.args.constants.now S S who c.args.call.now given o is
+    (answered ∙ (λ i. (poll_outcome c.args.constants.now ((c.who.view_is i).since) ((c.self.view_is i).clock) subscriptions).answer), sym (ap (λ us. release (put_all us S)) (poll_sets_nothing c.args.constants.now who.since S.clock subscriptions) ∙ release_valid S (valid a))))
+    c.poll.ensures.ok
+
+pub returns-in-Poll-clause-err : goal.returns-in-Poll-clause-err
+returns-in-Poll-clause-err c =
+    let a = (goal.at.returns-in-Poll-clause-err c).After-refusal in
+    let S = c.args.self.now in
+    let who = c.args.who.now in
+    let subscriptions = c.in-Poll.subscriptions.now in
+    let o = poll_outcome c.args.constants.now who.since S.clock subscriptions in
+    let same = poll_is c.args.call.now c.family.result c.family.ensures c.in-Poll.subscriptions c.in-Poll.is in
+    let is = allowed a (call.Poll subscriptions) o c.in_default-refusal.is same (poll_does c.args.constants.now S who c.in-Some.table.now subscriptions) in
+    on_err_both c.poll.result c.poll.ensures.err c.poll.ensures.err (λ succeeds _.
+    let done : IsSuccess o.answer =
+    subst IsSuccess (λ i. (poll_outcome c.args.constants.now ((c.who.view_is i).since) ((c.self.view_is i).clock) subscriptions).answer) succeeds in
+    lacks a S (call.Poll subscriptions) o same is (poll_takes_memory c.args.constants.now who.since S.clock subscriptions done) done refl)
 
 pub returns-in-Answered-clause-ok : goal.returns-in-Answered-clause-ok
 returns-in-Answered-clause-ok c =

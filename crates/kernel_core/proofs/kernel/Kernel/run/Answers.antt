@@ -1,21 +1,26 @@
-use Rattle.std.proofs.Common.{ap, subst, ◌∙◌}
+use Rattle.std.proofs.Common.{◌≡◌, IsSome, is_some, sym, ap, subst, ◌∙◌}
 use Rattle.abi_types.specs.declared.reply.Answer.TheVariants as answer
 use Rattle.kernel_model.specs.Outcome.{IsSuccess}
 use Rattle.kernel_model.specs.Release.{release}
-use Rattle.kernel_model.specs.State.{State, put_all}
+use Rattle.kernel_model.specs.State.{State, put_all, thread_of}
 use Rattle.kernel_model.specs.Step.{outcome_by, tick}
+use Rattle.kernel_model.specs.Valid.{IsValid}
 use Rattle.kernel_model.specs.View.{whole}
 use Rattle.kernel_core.proofs.Acts.{done_is_step, lack_is_step}
+use Rattle.kernel_core.proofs.Parks.{park_lacks_is_step, parked_is_step, parked_left, parks_may}
 use Rattle.kernel_core.proofs.kernel.Kernel.run.Goals as goal
+use Rattle.kernel_core.proofs.kernel.Kernel.run.Goals.{In-Ok-Parked}
 
-pub returns-in-Ok-clause-step : goal.returns-in-Ok-clause-step
-returns-in-Ok-clause-step c =
+-- ---- a call that is done
+
+pub returns-in-Ok-Reply-clause-step : goal.returns-in-Ok-Reply-clause-step
+returns-in-Ok-Reply-clause-step c =
     let constants = c.args.constants.now in
     let who = c.args.who.now in
     let call = c.args.call.now in
-    done_is_step constants c.args.self.now c.dispatch.new.self who call c.in-Ok.answer
-    ((c.in-Ok.ensures.ok.0) ∙ ap (λ (S : State). (outcome_by constants (whole (tick S)) who call).answer) c.self.view_is)
-    ((c.in-Ok.ensures.ok.1) ∙ ap (λ (S : State). release (put_all (outcome_by constants (whole (tick S)) who call).updates (tick S))) c.self.view_is)
+    done_is_step constants c.args.self.now c.dispatch.new.self who call c.in-Ok-Reply.reply
+    (sym c.in-Ok-Reply.field-0-is ∙ c.in-Ok-Reply.ensures.ok.0 ∙ ap (λ (S : State). (outcome_by constants (whole (tick S)) who call).answer) c.self.view_is)
+    (c.in-Ok-Reply.ensures.ok.1 ∙ ap (λ (S : State). release (put_all (outcome_by constants (whole (tick S)) who call).updates (tick S))) c.self.view_is)
 
 pub returns-in-Err-clause-step : goal.returns-in-Err-clause-step
 returns-in-Err-clause-step c =
@@ -23,6 +28,46 @@ returns-in-Err-clause-step c =
     let who = c.args.who.now in
     let call = c.args.call.now in
     let lacks = c.in-Err.ensures.err in
-    lack_is_step constants c.args.self.now c.dispatch.new.self who call (answer.Reply c.refused.result) lacks.0
+    lack_is_step constants c.args.self.now c.dispatch.new.self who call (answer.Reply c.refused-in-Err.result) lacks.0
     (subst (λ (S : State). IsSuccess (outcome_by constants (whole (tick S)) who call).answer) c.self.view_is lacks.1)
-    (ap answer.Reply c.refused.ensures) (lacks.2 ∙ ap tick c.self.view_is)
+    (ap answer.Reply c.refused-in-Err.ensures) (lacks.2 ∙ ap tick c.self.view_is)
+
+-- ---- a call in which its thread waits
+
+answered : (c : In-Ok-Parked)
+    → answer.Parked c.in-Ok-Parked.writes ≡ (outcome_by c.args.constants.now (whole (tick c.args.self.now)) c.args.who.now c.args.call.now).answer
+answered c =
+    sym c.in-Ok-Parked.field-0-is ∙ c.in-Ok-Parked.ensures.ok.0
+    ∙ ap (λ (S : State). (outcome_by c.args.constants.now (whole (tick S)) c.args.who.now c.args.call.now).answer) c.self.view_is
+
+valid : (c : In-Ok-Parked) → IsValid c.args.self.now
+valid c = subst IsValid c.self.view_is c.self.invariant.valid
+
+-- it has done nothing else
+left : (c : In-Ok-Parked) → c.dispatch.new.self ≡ tick c.args.self.now
+left c =
+    parked_left c.args.constants.now c.args.self.now c.args.who.now c.args.call.now c.in-Ok-Parked.writes (answered c) c.dispatch.new.self (valid c)
+    (c.in-Ok-Parked.ensures.ok.1
+    ∙ ap (λ (S : State). release (put_all (outcome_by c.args.constants.now (whole (tick S)) c.args.who.now c.args.call.now).updates (tick S))) c.self.view_is)
+
+pub park-requires-clause-there : goal.park-requires-clause-there
+park-requires-clause-there d =
+    let c = (goal.at.park-requires-clause-there d).In-Ok-Parked in
+    subst (λ (S : State). IsSome (thread_of S c.args.who.now.pid c.args.who.now.tid)) (sym (left c)) (ap is_some c.requires.runnable)
+
+pub park-requires-clause-may : goal.park-requires-clause-may
+park-requires-clause-may d =
+    let c = (goal.at.park-requires-clause-may d).In-Ok-Parked in
+    parks_may c.args.constants.now c.args.self.now c.args.who.now c.args.call.now c.in-Ok-Parked.writes (answered c)
+
+pub returns-in-Ok-clause-step : goal.returns-in-Ok-clause-step
+returns-in-Ok-clause-step c =
+    let a = (goal.at.returns-in-Ok-clause-step c).In-Ok-Parked in
+    parked_is_step c.args.constants.now c.args.self.now c.args.who.now c.args.call.now c.in-Ok-Parked.writes (answered a) c.dispatch.new.self c.park.new.self
+    (valid a) (left a) c.in-Ok.ensures.ok
+
+pub returns-in-Err-park-clause-step : goal.returns-in-Err-park-clause-step
+returns-in-Err-park-clause-step c =
+    let a = (goal.at.returns-in-Err-park-clause-step c).In-Ok-Parked in
+    park_lacks_is_step c.args.constants.now c.args.self.now c.args.who.now c.args.call.now c.in-Ok-Parked.writes (answered a) c.park.new.self
+    (answer.Reply c.refused.result) (c.in-Err-park.ensures.err ∙ left a) (ap answer.Reply c.refused.ensures)

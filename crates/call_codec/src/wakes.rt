@@ -1,0 +1,98 @@
+//! What a thread that waited in a call is given when it goes on.
+ghost use Rattle.std.specs.Prelude.{◌≡◌, ◌*◌};
+ghost use Rattle.codec_arguments.specs.Bytes.{writable};
+ghost use Rattle.call_codec.specs.Given.{awaited_word, first_lock, given_of, has_places, has_room, lock_awaited, lock_of};
+
+use crate::output::EVENT_SIZE;
+use abi_types::{Call, Errno, Regs, Subscription, WakeIn, What};
+use codec_arguments::{check_writable, read_room, read_word, refuse_when};
+use guest_memory::GuestMemory;
+
+/// What a thread with these registers is given that waited in the call: the present word of the lock that it waits for, or 0, where that
+/// word and the places of the call's output are accessible and have the room that the call asked for. It takes no memory.
+pub fn given(regs: &Regs, memory: &GuestMemory, call: &Call) -> WakeIn
+    ensures { result ≡ given_of memory.now regs.now call.now }
+{
+    match read_awaited(regs, memory, call) {
+        Ok(word) => WakeIn::Plain { word },
+        Err(_) => WakeIn::Fault,
+    }
+}
+
+// The word of the lock that a call waits for, or 0, where its output has its places.
+fn read_awaited(regs: &Regs, memory: &GuestMemory, call: &Call) -> Result<u32, Errno>
+    ensures { result ≡ awaited_word memory.now regs.now call.now }
+{
+    check_places(regs, memory, call)?;
+    match lock_awaited(call) {
+        Some(lock) => read_word(memory, lock),
+        None => Ok(0),
+    }
+}
+
+// FAULT where a place of a call's output can't be written, or they have less room than it asked for.
+fn check_places(regs: &Regs, memory: &GuestMemory, call: &Call) -> Result<(), Errno>
+    ensures { result ≡ has_places memory.now regs.now call.now }
+{
+    match call {
+        Call::FdRead { length, .. } => {
+            let room = read_room(memory, regs.get(11), regs.get(12))?;
+            check_room(*length, room)
+        }
+        Call::Poll { subscriptions } => {
+            check_room(subscriptions.len() as u64, regs.get(12))?;
+            check_events(memory, regs.get(11), regs.get(12))
+        }
+        _ => Ok(()),
+    }
+}
+
+// FAULT where there is less room than was asked for.
+fn check_room(asked: u64, room: u64) -> Result<(), Errno>
+    ensures { result ≡ has_room asked room }
+{
+    refuse_when(room < asked, Errno::Fault)
+}
+
+// FAULT where so many events can't be written from an address on. More than there are addresses never can.
+fn check_events(memory: &GuestMemory, at: u64, count: u64) -> Result<(), Errno>
+    ensures { result ≡ writable memory.now at (32 * count) }
+{
+    memory.keeps_limits();
+    match count.checked_mul(EVENT_SIZE) {
+        Some(bytes) => check_writable(memory, at, bytes),
+        None => Err(Errno::Fault),
+    }
+}
+
+// The address of the lock that a call waits for.
+fn lock_awaited(call: &Call) -> Option<u64>
+    ensures { result ≡ lock_awaited call.now }
+{
+    match call {
+        Call::Poll { subscriptions } => first_lock(subscriptions.as_slice()),
+        _ => None,
+    }
+}
+
+// That of the first subscription.
+fn first_lock(subscriptions: &[Subscription]) -> Option<u64>
+    ensures { result ≡ first_lock subscriptions.now }
+{
+    match subscriptions.first() {
+        Some(first) => lock_of(&first.what),
+        None => None,
+    }
+}
+
+// The address of the lock that is waited for; for a condition variable that of the lock that is taken afterwards.
+fn lock_of(what: &What) -> Option<u64>
+    ensures { result ≡ lock_of what.now }
+{
+    match what {
+        What::Condvar { lock, .. }
+        | What::LockRdlock { lock, .. }
+        | What::LockWrlock { lock, .. } => Some(*lock),
+        _ => None,
+    }
+}

@@ -1,0 +1,54 @@
+use Rattle.std.proofs.Common.{sym, ap, subst, ◌∙◌}
+use Rattle.shared_history.specs.Passes.{seen_of}
+use Rattle.kernel_cell.specs.Acting.{IsWokenOn}
+use Rattle.kernel_cell.specs.Recorded.{IsRecorded}
+use Rattle.kernel_cell.proofs.PassOutcomes.{later_of, asks_wake_now, woken_is_seen, pass_after_wake, on_same}
+use Rattle.kernel_cell.proofs.locked.Locked.wake.Goals as goal
+
+pub wake-woken-requires-clause-recorded : goal.wake-woken-requires-clause-recorded
+wake-woken-requires-clause-recorded g c =
+    let it = c.self.inside.recorded in
+    subst (λ h. IsRecorded g.J.Naming.launch g.J.Naming.keeps_all h it.kernel it.constants it.kept) (sym (ap (λ k. k.log) c.take_in.ensures.keeper))
+    c.self.invariant
+
+pub wake-woken-requires-clause-asks : goal.wake-woken-requires-clause-asks
+wake-woken-requires-clause-asks g c =
+    let pass = c.pass.inside in
+    let log = c.self.inside.recorded.keeper.log in
+    asks_wake_now g.J.Naming.launch pass.pid c.args.tid (seen_of pass.badge.views) c.args.turns.now log c.take_in.new.self.log (ap (λ k. k.log) c.take_in.ensures.keeper)
+    c.pass.invariant.seen c.self.invariant.legal (later_of c.lent.result pass.pid (seen_of pass.badge.views) log c.lent.ensures c.take_in.ensures.later)
+    c.args.pass.now c.args.guest.now c.pass.view_is c.requires
+
+pub hand_out-requires-clause-seen : goal.hand_out-requires-clause-seen
+hand_out-requires-clause-seen g c =
+    let pass = c.pass.inside in
+    let log = c.self.inside.recorded.keeper.log in
+    woken_is_seen g.J.Naming.launch pass.pid c.args.tid (seen_of pass.badge.views) c.args.turns.now log c.take_in.new.self.log (ap (λ k. k.log) c.take_in.ensures.keeper)
+    c.pass.invariant.seen c.self.invariant.legal (later_of c.lent.result pass.pid (seen_of pass.badge.views) log c.lent.ensures c.take_in.ensures.later)
+    c.wake-woken.new.guest c.wake-woken.new.self.keeper.log c.wake-woken.result c.wake-woken.ensures.woken
+
+pub invariant_of-self : goal.invariant_of-self
+invariant_of-self g c =
+    let it = c.wake-woken.new.self in
+    subst (λ h. IsRecorded g.J.Naming.launch g.J.Naming.keeps_all h it.kernel it.constants it.kept) (sym (ap (λ k. k.log) c.hand_out.ensures.keeper))
+    c.wake-woken.ensures.recorded
+
+pub returns-clause-pass : goal.returns-clause-pass
+returns-clause-pass g c =
+    let pass = c.pass.inside in
+    let log = c.self.inside.recorded.keeper.log in
+    pass_after_wake g.J.Naming.launch pass.pid c.args.tid (seen_of pass.badge.views) c.args.turns.now log c.take_in.new.self.log (ap (λ k. k.log) c.take_in.ensures.keeper)
+    c.pass.invariant.seen c.self.invariant.legal (later_of c.lent.result pass.pid (seen_of pass.badge.views) log c.lent.ensures c.take_in.ensures.later)
+    c.wake-woken.new.guest c.wake-woken.new.self.keeper.log c.wake-woken.result c.wake-woken.ensures.woken
+    c.args.pass.now (record { pid = c.drop.inside.pid; seen = seen_of c.drop.inside.badge.views })
+    c.pass.view_is (c.drop.view_is ∙ c.hand_out.ensures.pass)
+
+pub returns-clause-history : goal.returns-clause-history
+returns-clause-history g c =
+    on_same (λ log p after. IsWokenOn g.J.Naming.launch log p c.args.tid c.args.turns.now c.wake-woken.new.guest after c.wake-woken.result)
+    c.take_in.new.self.log c.args.self.now c.wake-woken.new.self.keeper.log c.hand_out.new.self.log c.pass.inside.pid c.args.pass.now.pid
+    (ap (λ k. k.log) c.take_in.ensures.keeper ∙ c.self.view_is) (ap (λ v. v.pid) c.pass.view_is) (sym (ap (λ k. k.log) c.hand_out.ensures.keeper))
+    c.wake-woken.ensures.woken
+
+pub returns-clause-seen : goal.returns-clause-seen
+returns-clause-seen g c = ap (λ v. v.seen) (c.drop.view_is ∙ c.hand_out.ensures.pass) ∙ sym (ap (λ k. k.log) c.hand_out.ensures.keeper)

@@ -1,0 +1,160 @@
+//! Threads that wait in calls: how they begin to, their wakes, and the jumps of time where nothing else can happen.
+ghost use Rattle.std.specs.Prelude.{◌≡◌, ◌≢◌, ◌^◌, ◌<◌, ◌≤◌, ◌↔◌, ℕ, Some, None, IsSome, IfSome, IfNone, OnOk, OnErr, IsTrue, IsFalse, false, true, option_copied};
+ghost use Rattle.abi_types.specs.declared.reply.Answer.TheVariants as answer;
+ghost use Rattle.kernel_core.specs.Waiting.{ThreadsDo, kept_call, waiter};
+ghost use Rattle.kernel_model.specs.Deadlines.{idle_state};
+ghost use Rattle.kernel_model.specs.State.{Part, Agree, thread_of};
+ghost use Rattle.kernel_model.specs.Step.{tick, IsUntouched};
+ghost use Rattle.kernel_model.specs.Valid.{IsValid};
+ghost use Rattle.kernel_model.specs.Waits.{may_wait, resumed, waiting, with_thread, WaitsIn};
+ghost use Rattle.kernel_model.specs.Wakes.{is_ready, IsStalled, IsWake, MayJump};
+ghost use Rattle.kernel_parts.specs.Waiting.{kept_in};
+
+use crate::kernel::{Kernel, STEP_TIME};
+use abi_types::{Answer, Call, Constants, Errno, Pid, Reply, Thread, Tid, WakeIn, Who};
+use kernel_parts::{Activity, deadline_of, is_over, next_number};
+use right_rules::refused;
+use std::alloc::AllocError;
+
+impl Kernel {
+    // Makes the thread wait in a call that it made. `Err` changes nothing.
+    pub(crate) fn park(
+        &mut self,
+        constants: &Constants,
+        who: &Who,
+        call: &Call,
+    ) -> Result<(), AllocError>
+        requires there { IsSome (thread_of self.old who.now.pid who.now.tid) }
+        requires may { may_wait call.now ≡ true }
+        ensures ok { OnOk result (self.new ≡ with_thread self.old who.now.pid who.now.tid (waiting constants.now call.now who.now.since)) }
+        ensures err { OnErr result (self.new ≡ self.old) }
+    {
+        let until = deadline_of(constants, call, who.since);
+        let own = self.processes.get_mut(u64::from(who.pid.0));
+        own.park(who.tid, call, who.since, until)
+    }
+
+    // Lets a thread run that waits, and gives back the call that it waited in, and when that was made. `None` exactly where the
+    // thread doesn't wait; then nothing changes.
+    fn resume(&mut self, pid: Pid, tid: Tid) -> Option<(Call, u64)>
+        ensures kept { result ≡ kept_in (thread_of self.old pid tid) }
+        ensures runs { self.new ≡ with_thread self.old pid tid Thread.Runnable }
+    {
+        let p = u64::from(pid.0);
+        if !self.processes.contains(p) {
+            return None;
+        }
+        self.processes.get_mut(p).resume(tid)
+    }
+
+    /// The call that a thread waits in. `None` exactly where there is no such live thread, or it doesn't wait.
+    pub fn kept(&self, pid: Pid, tid: Tid) -> Option<&Call>
+        ensures { option_copied result ≡ kept_call (thread_of self.now pid tid) }
+    {
+        match self.thread(pid, tid)? {
+            Thread::Waits { call, .. } => Some(call),
+            Thread::Runnable => None,
+        }
+    }
+
+    /// Whether a thread waits in a call that would be done now, in a run with these constants. Looks at that thread alone.
+    pub fn is_ready(&self, constants: &Constants, pid: Pid, tid: Tid) -> bool
+        ensures { result ≡ is_ready constants.now self.now pid tid }
+    {
+        match self.thread(pid, tid) {
+            Some(Thread::Waits { call, since, .. }) => {
+                let table = self.tables.get(u64::from(pid.0));
+                is_over(constants, table, *since, self.clock, call)
+            }
+            _ => false,
+        }
+    }
+
+    /// The wake of a thread in a run with these constants: `None`, with nothing changed, exactly where it isn't ready. Else it runs, and
+    /// the call that it waited in is done: this is the call, with its answer. Where the places of the call's output can't be written any
+    /// more, it is refused by `Errno::Fault`. A wake takes 1000 nanoseconds. `Errno::Nomem` comes only where memory runs out in a call that would
+    /// else succeed. A wake that answers an error moves only the clock, and the thread runs.
+    pub fn wake(
+        &mut self,
+        constants: &Constants,
+        pid: Pid,
+        tid: Tid,
+        given: WakeIn,
+    ) -> Option<(Call, Answer)>
+        requires early { self.old.clock < 2 ^ 63 }
+        requires epoch { constants.now.epoch ≤ 2 ^ 62 }
+        ensures none { IfNone result ((is_ready constants.now self.old pid tid ≡ false) × (self.new ≡ self.old)) }
+        ensures ready { IfSome result (λ _. is_ready constants.now self.old pid tid ≡ true) }
+        ensures woken { IfSome result (λ done. (since : ℕ) → WaitsIn self.old (waiter pid tid since) done.0
+            → IsWake constants.now self.old (waiter pid tid since) done.0 given done.1 self.new) }
+        ensures kept { IfSome result (λ done. Some done.0 ≡ kept_call (thread_of self.old pid tid)) }
+        ensures valid { IfSome result (λ _. IsValid self.new) }
+        ensures others { (since : ℕ) (call : Call) (q : Part) → WaitsIn self.old (waiter pid tid since) call
+            → IsUntouched constants.now (resumed self.old (waiter pid tid since)) (waiter pid tid since) call q → Agree self.new self.old q }
+        ensures refused { IfSome result (λ done. (reply : Reply) → done.1 ≡ answer.Reply reply → reply.errno ≢ Errno.Success
+            → self.new ≡ tick (with_thread self.old pid tid Thread.Runnable)) }
+    {
+        if !self.is_ready(constants, pid, tid) {
+            return None;
+        }
+        let (call, since) = self.resume(pid, tid)?;
+        match given {
+            WakeIn::Fault => {
+                self.clock += STEP_TIME;
+                Some((call, Answer::Reply(refused(Errno::Fault))))
+            }
+            WakeIn::Plain { .. } => {
+                let answer = self.run(constants, &Who { pid, tid, since }, &call);
+                Some((call, answer))
+            }
+        }
+    }
+
+    /// What the threads of all processes do, in a run with these constants. Looks at each thread.
+    pub fn activity(&self, constants: &Constants) -> Activity
+        ensures { ThreadsDo constants.now self.now result }
+    {
+        let mut found = Activity::NoThread;
+        let mut last = None;
+        while let Some(p) = next_number(&self.processes, last) {
+            if let Some(own) = self.processes.get(p) {
+                found = found.with(own.activity(constants, self.tables.get(p), self.clock));
+            }
+            last = Some(p);
+        }
+        found
+    }
+
+    /// Lets time go to the next deadline, but as far as each entry moves it at least. `true` exactly where it may, in a run with these
+    /// constants: there are live threads, each waits, none is ready, and one has a deadline. Else nothing changes. Looks at each thread.
+    pub fn idle(&mut self, constants: &Constants) -> bool
+        requires early { self.old.clock < 2 ^ 63 }
+        ensures exact { IsTrue result ↔ MayJump constants.now self.old }
+        ensures jumps { IsTrue result → self.new ≡ idle_state self.old }
+        ensures none { IsFalse result → self.new ≡ self.old }
+        ensures valid { IsValid self.new }
+    {
+        match self.activity(constants) {
+            Activity::Waiting { until: deadline } => {
+                let Some(until) = deadline else {
+                    return false;
+                };
+                let soonest = self.clock + STEP_TIME;
+                self.clock = if soonest < until { until } else { soonest };
+                true
+            }
+            _ => false,
+        }
+    }
+
+    /// Whether nothing can happen any more in a run with these constants: there are live threads, each waits, none is ready, and none has
+    /// a deadline. Looks at each thread.
+    pub fn stalled(&self, constants: &Constants) -> bool
+        ensures { IsTrue result ↔ IsStalled constants.now self.now }
+    {
+        match self.activity(constants) {
+            Activity::Waiting { until } => until.is_none(),
+            _ => false,
+        }
+    }
+}

@@ -1,0 +1,353 @@
+-- What wakes do, and what steps, wakes and ends leave of the deadlines until which threads wait.
+--     ready_has_wake, wake_ends_wait      a ready thread has a wake, and its wakes end its wait
+--     wake_moves_only, wake_error_keeps, wake_others_stay      what a wake changes
+--     wake_keeps_valid, wake_keeps_made      what it leaves
+--     step_each, wake_each, end_each      what holds of each thread
+--     step_deadlines, wake_deadlines, end_deadlines      deadlines are kept
+use Rattle.std.proofs.Common.{◌≡◌, ◌≢◌, ◌⊎◌, ℕ, ◌+◌, ◌<◌, Bool, true, false, not, inl, inr, Option, Some, None, IsSome, is_some, refl, sym, ap, subst, ◌∙◌, arith}
+use Rattle.std.proofs.lemmas.Bool.Decides.{eqb_tells}
+use Rattle.std.specs.Option.{option_map}
+use Rattle.std.specs.Ordering.{nat_cmp}
+use Rattle.std.specs.FinMap.{get, get-empty, empty}
+use Rattle.abi_base.specs.declared.errno.Errno.TheVariants.{Fault, Success}
+use Rattle.abi_types.specs.declared.call.Call.{Call}
+use Rattle.abi_types.specs.declared.call.Call.TheVariants as call
+use Rattle.abi_types.specs.declared.constants.Constants.{Constants}
+use Rattle.abi_types.specs.declared.counts.Counts.{Counts}
+use Rattle.abi_types.specs.declared.reply.Answer.{Answer}
+use Rattle.abi_types.specs.declared.reply.Answer.TheVariants as answer
+use Rattle.abi_types.specs.declared.reply.Reply.{Reply}
+use Rattle.abi_types.specs.declared.status.Status.{Status}
+use Rattle.abi_types.specs.declared.status.Status.TheVariants.{Live, Exit, Killed}
+use Rattle.abi_types.specs.declared.thread.Thread.{Thread}
+use Rattle.abi_types.specs.declared.thread.Thread.TheVariants.{Runnable}
+use Rattle.abi_types.specs.declared.wake.WakeIn.{WakeIn}
+use Rattle.abi_types.specs.declared.wake.WakeIn.TheVariants as wake
+use Rattle.abi_types.specs.declared.who.Who.{Who}
+use Rattle.kernel_model.specs.Families.ProcessCalls.{ended_process}
+use Rattle.kernel_model.specs.Laws.{HasSameProcess, IsKilled, MovesOnly}
+use Rattle.kernel_model.specs.Outcome.{is_parked}
+use Rattle.kernel_model.specs.Reply.{refused}
+use Rattle.kernel_model.specs.State.{State, ProcessState, Part, Threads, has_part, Agree, threads_of, thread_in, thread_of}
+use Rattle.kernel_model.specs.Release.{ends, is_killed, process_left}
+use Rattle.kernel_model.specs.Step.{tick, end_state, end_unreleased, step_answer, step_state, touch, IsStep, IsUntouched}
+use Rattle.kernel_model.specs.Threads.{ends_caller, ends_others, makes_thread, IsCallerAfter}
+use Rattle.kernel_model.specs.Valid.{IsValid}
+use Rattle.kernel_model.specs.WaitLaws.{ResumesOnly, WakesOnly}
+use Rattle.kernel_model.specs.Waits.{resumed, waiting, HasDeadline, HasDeadlines, WaitsIn}
+use Rattle.kernel_model.specs.Wakes.{answer_now, is_done_now, is_ready, IsWake}
+use Rattle.kernel_model.proofs.Ends.{process_after}
+use Rattle.kernel_model.proofs.Outcomes.{outcome_reads}
+use Rattle.kernel_model.proofs.Parts.{agree_through}
+use Rattle.kernel_model.proofs.Readiness.{done_stays, ready_is}
+use Rattle.kernel_model.proofs.Refusals.{error_keeps}
+use Rattle.kernel_model.proofs.Steps.{end_ends_only, step_keeps_made, step_keeps_valid, step_moves_only}
+use Rattle.kernel_model.proofs.Tests.{none_is_no, not_true}
+use Rattle.kernel_model.proofs.Threading.{each_of, thread_apart, thread_here, with_apart, with_counts, with_keeps, with_valid}
+use Rattle.kernel_model.proofs.Threads.{keeps_caller, keeps_others, makes_none}
+use Rattle.kernel_model.proofs.Touches.{others_stay, outside_own, tick_keeps, outside_clock}
+use Rattle.kernel_model.proofs.Valids.{threads_at, tick_valid}
+
+-- ---- the wake of a ready thread
+
+not_not : (b : Bool) → not b ≡ true → b ≡ false
+not_not true h = absurd (not_true h)
+not_not false h = refl
+
+answers_then : (constants : Constants) (S : State) (who : Who) (call : Call) → WaitsIn S who call → is_ready constants S who.pid who.tid ≡ true
+    → is_parked (step_answer constants (resumed S who) who call) ≡ false
+answers_then constants S who call kept ready =
+    let R = resumed S who in
+    let later : is_done_now constants (tick S) who call ≡ true =
+    done_stays constants S who call (S.clock + 1000) (omega arith) (ready_is constants S who call kept ready) in
+    ap (λ o. is_parked o.answer) (outcome_reads constants R who call) ∙ not_not (is_parked (answer_now constants (tick R) who call)) later
+
+pub ready_has_wake : (constants : Constants) (S : State) (who : Who) (call : Call) (word : ℕ) → WaitsIn S who call → is_ready constants S who.pid who.tid ≡ true
+    → IsWake constants S who call (wake.Plain word) (step_answer constants (resumed S who) who call) (step_state constants (resumed S who) who call)
+ready_has_wake constants S who call word kept ready = (inl (refl, refl), answers_then constants S who call kept ready)
+
+pub wake_ends_wait : (constants : Constants) (S : State) (who : Who) (call : Call) (answered : Answer) (T : State) → WaitsIn S who call
+    → is_ready constants S who.pid who.tid ≡ true → IsStep constants (resumed S who) who call answered T → is_parked answered ≡ false
+wake_ends_wait constants S who call answered T kept ready (inl done) = ap is_parked done.0 ∙ answers_then constants S who call kept ready
+wake_ends_wait constants S who call answered T kept ready (inr lacking) = ap is_parked lacking.1
+
+-- ---- what a wake changes
+
+resumed_other : (S : State) (who : Who) (q : ℕ) → q ≢ who.pid → HasSameProcess (resumed S who) S q
+resumed_other S who q apart = (refl, with_apart S who.pid who.tid Runnable q apart, refl)
+
+-- the same of two states that have the same of the process before
+others_through : (S R T : State) (q : ℕ) → HasSameProcess R S q → HasSameProcess T R q ⊎ IsKilled R T q → HasSameProcess T S q ⊎ IsKilled S T q
+others_through S R T q same (inl kept) = inl (kept.0 ∙ same.0, kept.1 ∙ same.1, kept.2 ∙ same.2)
+others_through S R T q same (inr killed) =
+    inr (
+      (
+        killed.0.0 ∙ ap (option_map (λ table. empty)) same.0,
+        killed.0.1 ∙ ap (option_map (λ (own : ProcessState). ended_process (Some own))) same.1,
+      ),
+      (sym same.2 ∙ killed.1.0, killed.1.1),
+    )
+
+replied_caller : (thread : Thread) (given : Answer) (before after : Option Thread) → is_parked given ≡ false → IsCallerAfter thread given before after → after ≡ before
+replied_caller thread (answer.Parked writes) before after none is = absurd (not_true (sym none))
+replied_caller thread (answer.Reply reply) before after none is = is
+
+always_runs : (o : Option Thread) → IsSome o → option_map (λ (before : Thread). Runnable) o ≡ Some Runnable
+always_runs None there = absurd (not_true there)
+always_runs (Some thread) there = refl
+
+runs_there : (S : State) (who : Who) → IsSome (thread_of S who.pid who.tid) → thread_of (resumed S who) who.pid who.tid ≡ Some Runnable
+runs_there S who there = thread_here S who.pid who.tid Runnable ∙ always_runs (thread_of S who.pid who.tid) there
+
+-- a thread that was not there is none that runs
+none_resumed : (S : State) (who : Who) (t : ℕ) → thread_of S who.pid t ≡ None → thread_of (resumed S who) who.pid t ≡ None
+none_resumed S who t none =
+    elim (eqb_tells t who.tid) [
+      | inl is ↦ subst (λ k. thread_of (resumed S who) who.pid k ≡ None) (sym is.1)
+          (thread_here S who.pid who.tid Runnable ∙ ap (option_map (λ (before : Thread). Runnable)) (sym (ap (thread_of S who.pid) is.1) ∙ none))
+      | inr other ↦ thread_apart S who.pid who.tid Runnable t other.1 ∙ none
+    ]
+
+pub resumed_runs : (S : State) (who : Who) → ResumesOnly S who (resumed S who)
+resumed_runs S who = record {
+  others = with_keeps S who.pid who.tid Runnable;
+  table = refl;
+  counts = with_counts S who.pid who.tid Runnable who.pid;
+  runs = runs_there S who;
+  threads = thread_apart S who.pid who.tid Runnable;
+}
+
+-- what is a step from the state in which the thread runs
+resumed_moves : (constants : Constants) (S : State) (who : Who) (call : Call) (answered : Answer) (T : State) → is_parked answered ≡ false
+    → MovesOnly constants (resumed S who) who call answered T → WakesOnly S who call answered T
+resumed_moves constants S who call answered T replied moves = record {
+  clock = moves.clock;
+  others = λ q apart. others_through S (resumed S who) T q (resumed_other S who q apart) (moves.others q apart);
+  runs = λ live there lasts.
+      replied_caller (waiting constants call who.since) answered (thread_of (resumed S who) who.pid who.tid) (thread_of T who.pid who.tid) replied
+      ((moves.threads live).caller lasts) ∙ runs_there S who there;
+  threads = λ live t apart there lasts. (
+      let same = thread_apart S who.pid who.tid Runnable t apart in
+      (moves.threads live).others t apart (subst IsSome (sym same) there) lasts ∙ same);
+  made = λ live t none there. (
+      let makes = (moves.threads live).made t (none_resumed S who t none) there in
+      (makes.0, subst (λ (c : Counts). c.threads < t) (with_counts S who.pid who.tid Runnable who.pid) makes.1));
+}
+
+pub wake_moves_only : (constants : Constants) (S : State) (who : Who) (call : Call) (given : WakeIn) (answered : Answer) (T : State)
+    → IsWake constants S who call given answered T → WakesOnly S who call answered T
+wake_moves_only constants S who call (wake.Plain word) answered T is =
+    resumed_moves constants S who call answered T is.1 (step_moves_only constants (resumed S who) who call answered T is.0)
+wake_moves_only constants S who call wake.Fault answered T is =
+    subst (WakesOnly S who call answered) (sym is.1) (record {
+      clock = refl;
+      others = λ q apart. inl (resumed_other S who q apart);
+      runs = λ live there lasts. runs_there S who there;
+      threads = λ live t apart there lasts. thread_apart S who.pid who.tid Runnable t apart;
+      made = λ live t none there. absurd (not_true (subst IsSome (none_resumed S who t none) there));
+    })
+
+-- no wake makes or ends a thread yet
+fault_makes : (call : Call) → makes_thread call (answer.Reply (refused Fault)) ≡ false
+fault_makes (call.ThreadCreate attributes) = refl
+fault_makes _ = refl
+
+fault_ends : (call : Call) → ends_caller call (answer.Reply (refused Fault)) ≡ false
+fault_ends (call.ThreadExit lock word scope) = refl
+fault_ends _ = refl
+
+fault_ends_others : (call : Call) → ends_others call (answer.Reply (refused Fault)) ≡ false
+fault_ends_others (call.ProcExec fd bytes fds) = refl
+fault_ends_others _ = refl
+
+pub wake_makes_none : (constants : Constants) (S : State) (who : Who) (call : Call) (given : WakeIn) (answered : Answer) (T : State)
+    → IsWake constants S who call given answered T
+    → (ends_caller call answered ≡ false) × (ends_others call answered ≡ false) × (makes_thread call answered ≡ false)
+wake_makes_none constants S who call (wake.Plain word) answered T is = (
+  keeps_caller constants (resumed S who) who call answered T is.0,
+  keeps_others constants (resumed S who) who call answered T is.0,
+  makes_none constants (resumed S who) who call answered T is.0,
+)
+wake_makes_none constants S who call wake.Fault answered T is = (
+  ap (ends_caller call) is.0 ∙ fault_ends call,
+  ap (ends_others call) is.0 ∙ fault_ends_others call,
+  ap (makes_thread call) is.0 ∙ fault_makes call,
+)
+
+pub resumed_valid : (S : State) (who : Who) → IsValid S → IsValid (resumed S who)
+resumed_valid S who valid = with_valid S who.pid who.tid Runnable tt valid
+
+pub wake_error_keeps : (constants : Constants) (S : State) (who : Who) (call : Call) (given : WakeIn) (reply : Reply) (T : State)
+    → IsWake constants S who call given (answer.Reply reply) T → IsValid S → reply.errno ≢ Success → T ≡ tick (resumed S who)
+wake_error_keeps constants S who call (wake.Plain word) reply T is valid other =
+    error_keeps constants (resumed S who) who call reply T is.0 (resumed_valid S who valid) other
+wake_error_keeps constants S who call wake.Fault reply T is valid other = is.1
+
+resumed_keeps : (S : State) (who : Who) (call : Call) (q : Part) → has_part (touch (resumed S who) who call) q ≡ false → Agree (resumed S who) S q
+resumed_keeps S who call q h = with_keeps S who.pid who.tid Runnable q (outside_own (resumed S who) who call q h)
+
+pub wake_others_stay : (constants : Constants) (S : State) (who : Who) (call : Call) (given : WakeIn) (answered : Answer) (T : State) (q : Part)
+    → IsWake constants S who call given answered T → IsUntouched constants (resumed S who) who call q → Agree T S q
+wake_others_stay constants S who call (wake.Plain word) answered T q is untouched =
+    agree_through T (resumed S who) S q (others_stay constants (resumed S who) who call answered T q is.0 untouched) (resumed_keeps S who call q untouched.0)
+wake_others_stay constants S who call wake.Fault answered T q is untouched =
+    subst (λ U. Agree U S q) (sym is.1)
+    (agree_through (tick (resumed S who)) (resumed S who) S q (tick_keeps (resumed S who) q (outside_clock (resumed S who) who call q untouched.0))
+    (resumed_keeps S who call q untouched.0))
+
+-- ---- what a wake leaves
+
+pub wake_keeps_valid : (constants : Constants) (S : State) (who : Who) (call : Call) (given : WakeIn) (answered : Answer) (T : State)
+    → IsWake constants S who call given answered T → IsValid S → IsValid T
+wake_keeps_valid constants S who call (wake.Plain word) answered T is valid =
+    step_keeps_valid constants (resumed S who) who call answered T is.0 (resumed_valid S who valid)
+wake_keeps_valid constants S who call wake.Fault answered T is valid =
+    subst IsValid (sym is.1) (tick_valid (resumed S who) (resumed_valid S who valid))
+
+pub wake_keeps_made : (constants : Constants) (S : State) (who : Who) (call : Call) (given : WakeIn) (answered : Answer) (T : State) (q : ℕ)
+    → IsWake constants S who call given answered T → IsSome (get S.statuses q) → IsSome (get T.statuses q)
+wake_keeps_made constants S who call (wake.Plain word) answered T q is made = step_keeps_made constants (resumed S who) who call answered T q is.0 made
+wake_keeps_made constants S who call wake.Fault answered T q is made = subst (λ (U : State). IsSome (get U.statuses q)) (sym is.1) made
+
+-- ---- what holds of each thread
+
+-- the threads that a process has of its own
+abbrev threads_in : Option ProcessState → Option Threads
+threads_in own = option_map (λ (x : ProcessState). x.threads) own
+
+none_in : (own : Option ProcessState) (t : ℕ) → is_some own ≡ false → thread_in (threads_in own) t ≡ None
+none_in None t none = refl
+none_in (Some own) t none = absurd (not_true (sym none))
+
+bare_in : (o : Option Threads) (t : ℕ) → o ≡ Some empty → thread_in o t ≡ None
+bare_in o t bare = ap (λ x. thread_in x t) bare ∙ get-empty nat_cmp t
+
+pub ended_thread : (T : State) (p t : ℕ) (o : Option Status) → IsValid T → get T.statuses p ≡ o → o ≢ Some Live → thread_of T p t ≡ None
+ended_thread T p t None valid is dead = none_in (get T.processes p) t (valid.nearly.owns p ∙ ap is_some is)
+ended_thread T p t (Some status) valid is dead =
+    bare_in (threads_of T p) t (valid.nearly.ended p status is (λ live. dead (ap Some live))).1
+
+-- whether a process lives
+live_or_dead : (o : Option Status) → (o ≡ Some Live) ⊎ (o ≢ Some Live)
+live_or_dead None = inr (λ e. none_is_no Live e)
+live_or_dead (Some Live) = inl refl
+live_or_dead (Some (Exit code)) = inr (λ e. cc)
+live_or_dead (Some (Killed signal)) = inr (λ e. cc)
+
+killed_threads : (o : Option ProcessState) (t : ℕ) → thread_in (threads_in (option_map (λ (own : ProcessState). ended_process (Some own)) o)) t ≡ None
+killed_threads None t = refl
+killed_threads (Some own) t = get-empty nat_cmp t
+
+-- a thread that the step of another has left is what it was, and no thread comes
+pub other_after : (constants : Constants) (S : State) (who : Who) (call : Call) (given : Answer) (T : State) → IsStep constants S who call given T → IsValid T
+    → (t : ℕ) → t ≢ who.tid → (thread_of T who.pid t ≡ None) ⊎ (thread_of T who.pid t ≡ thread_of S who.pid t)
+other_after constants S who call given T step valid t apart =
+    elim (live_or_dead (get T.statuses who.pid)) [
+      | inl live ↦ (
+          let leaves = (step_moves_only constants S who call given T step).threads live in
+          elim (thread_of S who.pid t) as (λ o. thread_of S who.pid t ≡ o
+          → (thread_of T who.pid t ≡ None) ⊎ (thread_of T who.pid t ≡ thread_of S who.pid t)) [
+            | None ↦ λ e. inl (none_comes (thread_of T who.pid t) (λ there. not_true (sym (makes_none constants S who call given T step) ∙ (leaves.made t e there).0)))
+            | Some thread ↦ λ e. inr (leaves.others t apart (ap is_some e) (keeps_others constants S who call given T step))
+          ] refl)
+      | inr dead ↦ inl (ended_thread T who.pid t (get T.statuses who.pid) valid refl dead)
+    ] where
+      none_comes : (o : Option Thread) → (IsSome o → ⊥) → o ≡ None
+      none_comes None none = refl
+      none_comes (Some thread) none = absurd (none refl)
+
+-- what the caller does after its step: nothing, or what its answer says
+pub caller_after : (constants : Constants) (S : State) (who : Who) (call : Call) (given : Answer) (T : State) → IsStep constants S who call given T → IsValid T
+    → (thread_of T who.pid who.tid ≡ None)
+    ⊎ IsCallerAfter (waiting constants call who.since) given (thread_of S who.pid who.tid) (thread_of T who.pid who.tid)
+caller_after constants S who call given T step valid =
+    elim (live_or_dead (get T.statuses who.pid)) [
+      | inl live ↦ inr (((step_moves_only constants S who call given T step).threads live).caller (keeps_caller constants S who call given T step))
+      | inr dead ↦ inl (ended_thread T who.pid who.tid (get T.statuses who.pid) valid refl dead)
+    ]
+
+left_threads : (killed : Bool) (o : Option ProcessState) (t : ℕ) → thread_in (threads_in o) t ≡ None
+    → thread_in (threads_in (option_map (process_left killed) o)) t ≡ None
+left_threads killed None t bare = refl
+left_threads true (Some own) t bare = get-empty nat_cmp t
+left_threads false (Some own) t bare = bare
+
+-- a process that ends from outside has no thread
+end_threads : (S : State) (p : ℕ) (status : Status) (t : ℕ) → thread_of (end_state S p status) p t ≡ None
+unfolding end_state
+end_threads S p status t =
+    let U = end_unreleased S p status in
+    ap (λ o. thread_in (threads_in o) t) (process_after U (ends U) p)
+    ∙ left_threads (is_killed U (ends U) p) (get U.processes p) t (bare_in (threads_of U p) t (threads_at (tick S) p status))
+
+module _ (P : ℕ → ℕ → Option Thread → Type 0) (none : (p t : ℕ) → P p t None) where
+  other_thread : (S T : State) (q t : ℕ) → HasSameProcess T S q ⊎ IsKilled S T q → P q t (thread_of S q t) → P q t (thread_of T q t)
+  other_thread S T q t (inl same) before = subst (P q t) (sym (ap (λ o. thread_in (threads_in o) t) same.1)) before
+  other_thread S T q t (inr killed) before =
+      subst (P q t) (sym (ap (λ o. thread_in (threads_in o) t) killed.0.1 ∙ killed_threads (get S.processes q) t)) (none q t)
+
+  caller_thread : (p t : ℕ) (thread : Thread) (given : Answer) (before after : Option Thread) → (is_parked given ≡ true → P p t (Some thread))
+      → IsCallerAfter thread given before after → P p t before → P p t after
+  caller_thread p t thread (answer.Parked writes) None after waits is h = subst (P p t) (sym is) (none p t)
+  caller_thread p t thread (answer.Parked writes) (Some before) after waits is h = subst (P p t) (sym is) (waits refl)
+  caller_thread p t thread (answer.Reply reply) before after waits is h = subst (P p t) (sym is) h
+
+  -- what holds of each thread, and of one that waits in the call where it does, holds of each after a step
+  pub step_each : (constants : Constants) (S : State) (who : Who) (call : Call) (given : Answer) (T : State) → IsStep constants S who call given T → IsValid T
+      → (is_parked given ≡ true → P who.pid who.tid (Some (waiting constants call who.since))) → ((p t : ℕ) → P p t (thread_of S p t))
+      → (p t : ℕ) → P p t (thread_of T p t)
+  step_each constants S who call given T step valid waits before p t =
+      elim (eqb_tells p who.pid) [
+        | inl is ↦ subst (λ q. P q t (thread_of T q t)) (sym is.1) (elim (eqb_tells t who.tid) [
+          | inl same ↦ subst (λ u. P who.pid u (thread_of T who.pid u)) (sym same.1)
+              (elim (caller_after constants S who call given T step valid) [
+                | inl gone ↦ subst (P who.pid who.tid) (sym gone) (none who.pid who.tid)
+                | inr is_after ↦ caller_thread who.pid who.tid (waiting constants call who.since) given (thread_of S who.pid who.tid)
+                    (thread_of T who.pid who.tid) waits is_after (before who.pid who.tid)
+              ])
+          | inr other ↦ elim (other_after constants S who call given T step valid t other.1) [
+            | inl gone ↦ subst (P who.pid t) (sym gone) (none who.pid t)
+            | inr stays ↦ subst (P who.pid t) (sym stays) (before who.pid t)
+          ]
+        ])
+        | inr other ↦ other_thread S T p t ((step_moves_only constants S who call given T step).others p other.1) (before p t)
+      ]
+
+  pub end_each : (S : State) (p : ℕ) (status : Status) → status ≢ Live → IsValid S → ((q t : ℕ) → P q t (thread_of S q t))
+      → (q t : ℕ) → P q t (thread_of (end_state S p status) q t)
+  end_each S p status dead valid before q t =
+      let ends = end_ends_only S p status dead in
+      elim (eqb_tells q p) [
+        | inl is ↦ subst (λ k. P k t (thread_of (end_state S p status) k t)) (sym is.1)
+            (subst (P p t) (sym (end_threads S p status t)) (none p t))
+        | inr other ↦ other_thread S (end_state S p status) q t (ends.others q other.1) (before q t)
+      ]
+
+-- what holds of each thread that waits or runs, after a wake
+pub wake_each : (P : ℕ → ℕ → Option Thread → Type 0) → ((p t : ℕ) → P p t None) → ((p t : ℕ) → P p t (Some Runnable)) → (constants : Constants) (S : State)
+    (who : Who) (call : Call) (given : WakeIn) (answered : Answer) (T : State) → IsWake constants S who call given answered T → IsValid S
+    → ((p t : ℕ) → P p t (thread_of S p t)) → (p t : ℕ) → P p t (thread_of T p t)
+wake_each P none runs constants S who call (wake.Plain word) answered T is valid before =
+    step_each P none constants (resumed S who) who call answered T is.0
+    (step_keeps_valid constants (resumed S who) who call answered T is.0 (resumed_valid S who valid))
+    (λ parked. absurd (not_true (sym is.1 ∙ parked)))
+    (each_of who.pid who.tid Runnable S P (runs who.pid who.tid) before)
+wake_each P none runs constants S who call wake.Fault answered T is valid before =
+    subst (λ (U : State). (p t : ℕ) → P p t (thread_of U p t)) (sym is.1) (each_of who.pid who.tid Runnable S P (runs who.pid who.tid) before)
+
+-- ---- deadlines
+
+pub step_deadlines : (constants : Constants) (S : State) (who : Who) (call : Call) (given : Answer) (T : State) → IsStep constants S who call given T
+    → IsValid S → HasDeadlines constants S → HasDeadlines constants T
+step_deadlines constants S who call given T step valid before =
+    step_each (λ p t. HasDeadline constants) (λ p t. tt) constants S who call given T step (step_keeps_valid constants S who call given T step valid)
+    (λ _. refl) before
+
+pub wake_deadlines : (constants : Constants) (S : State) (who : Who) (call : Call) (given : WakeIn) (answered : Answer) (T : State)
+    → IsWake constants S who call given answered T → IsValid S → HasDeadlines constants S → HasDeadlines constants T
+wake_deadlines constants S who call given answered T is valid before =
+    wake_each (λ p t. HasDeadline constants) (λ p t. tt) (λ p t. tt) constants S who call given answered T is valid before
+
+pub end_deadlines : (constants : Constants) (S : State) (p : ℕ) (status : Status) → status ≢ Live → IsValid S → HasDeadlines constants S
+    → HasDeadlines constants (end_state S p status)
+end_deadlines constants S p status dead valid before = end_each (λ q t. HasDeadline constants) (λ q t. tt) S p status dead valid before

@@ -1,0 +1,188 @@
+-- What holds of threads that wait, of their wakes and of idle jumps: the statements that are the contracts of the functions of
+-- src/wait_laws.rt.
+use Rattle.std.specs.Prelude.{◌≡◌, ◌≢◌, ◌⊎◌, ℕ, ◌+◌, ◌^◌, ◌<◌, ◌≤◌, true, false, List, Option, None, Some, IsSome}
+use Rattle.std.specs.FinMap.{get}
+use Rattle.abi_base.specs.declared.errno.Errno.TheVariants.{Success}
+use Rattle.abi_base.specs.declared.grant.Grant.{Grant}
+use Rattle.abi_types.specs.declared.call.Call.{Call}
+use Rattle.abi_types.specs.declared.constants.Constants.{Constants}
+use Rattle.abi_types.specs.declared.reply.Answer.{Answer}
+use Rattle.abi_types.specs.declared.reply.Answer.TheVariants as answer
+use Rattle.abi_types.specs.declared.reply.Reply.{Reply}
+use Rattle.abi_types.specs.declared.reply.WordWrites.{WordWrites}
+use Rattle.abi_types.specs.declared.status.Status.{Status}
+use Rattle.abi_types.specs.declared.status.Status.TheVariants.{Live}
+use Rattle.abi_types.specs.declared.thread.Thread.TheVariants.{Runnable, Waits}
+use Rattle.abi_types.specs.declared.wake.WakeIn.{WakeIn}
+use Rattle.abi_types.specs.declared.wake.WakeIn.TheVariants as wake
+use Rattle.abi_types.specs.declared.who.Who.{Who}
+use Rattle.kernel_model.specs.Calls.{refusal_of, takes_memory}
+use Rattle.kernel_model.specs.Deadlines.{idle_state, least_deadline}
+use Rattle.kernel_model.specs.Laws.{HasSameProcess, HasSameSight, IsKilled}
+use Rattle.kernel_model.specs.Outcome.{is_parked}
+use Rattle.kernel_model.specs.Start.{start_state}
+use Rattle.kernel_model.specs.State.{State, Part, Tree, at_proc, same_part, Agree, counts_in, thread_of}
+use Rattle.kernel_model.specs.Step.{end_state, outside, step_answer, step_state, tick, IsStep, IsUntouched}
+use Rattle.kernel_model.specs.Threads.{ends_caller, ends_others, makes_thread}
+use Rattle.kernel_model.specs.Valid.{IsValid}
+use Rattle.kernel_model.specs.Waits.{may_wait, resumed, waiting, with_thread, HasDeadlines, WaitsIn}
+use Rattle.kernel_model.specs.Wakes.{is_ready, IsWake}
+
+-- ---- calls in which threads wait
+
+-- A thread waits only in a call in which it may. The call takes memory, it is not refused, and no path of it leads outside.
+abbrev pub ParkingIsAllowed : Type 0
+ParkingIsAllowed =
+    (constants : Constants) (S : State) (who : Who) (call : Call) (writes : WordWrites) (T : State) → IsStep constants S who call (answer.Parked writes) T
+    → (may_wait call ≡ true) × (takes_memory call ≡ true) × (refusal_of call (get S.tables who.pid) ≡ None) × (outside S who call ≡ None)
+
+-- the state in which the thread waits in the call that it made: beside that only the clock has moved
+abbrev pub parked : Constants → State → Who → Call → State
+parked constants S who call = with_thread (tick S) who.pid who.tid (waiting constants call who.since)
+
+-- A call in which its thread waits changes only the clock and this thread of a valid state.
+abbrev pub ParkingKeeps : Type 0
+ParkingKeeps =
+    (constants : Constants) (S : State) (who : Who) (call : Call) (writes : WordWrites) (T : State) → IsStep constants S who call (answer.Parked writes) T
+    → IsValid S → T ≡ parked constants S who call
+
+-- ---- threads that are ready
+
+-- the state at another moment
+abbrev pub at_moment : State → ℕ → State
+at_moment S moment = record S { clock = moment }
+
+-- A thread that is ready is ready at each later moment, as long as nothing else changes.
+abbrev pub ReadyStays : Type 0
+ReadyStays =
+    (constants : Constants) (S : State) (p t later : ℕ) → is_ready constants S p t ≡ true → S.clock ≤ later → is_ready constants (at_moment S later) p t ≡ true
+
+-- A thread of a valid state is ready once its deadline has come.
+abbrev pub DueIsReady : Type 0
+DueIsReady =
+    (constants : Constants) (S : State) (p t : ℕ) (call : Call) (since until : ℕ) → IsValid S → HasDeadlines constants S
+    → thread_of S p t ≡ Some (Waits call since (Some until)) → until ≤ S.clock → is_ready constants S p t ≡ true
+
+-- So is one of a state in which its call sees the same: whether a thread is ready hangs on what its call sees alone.
+abbrev pub ReadyDecided : Type 0
+ReadyDecided =
+    (constants : Constants) (S T : State) (who : Who) (call : Call) → WaitsIn S who call → HasSameSight S T who call
+    → is_ready constants S who.pid who.tid ≡ is_ready constants T who.pid who.tid
+
+-- ---- wakes
+
+-- A thread that waits and is ready has a wake: its call, done in the state in which it runs, has a reply.
+abbrev pub ReadyHasWake : Type 0
+ReadyHasWake =
+    (constants : Constants) (S : State) (who : Who) (call : Call) (word : ℕ) → WaitsIn S who call → is_ready constants S who.pid who.tid ≡ true
+    → IsWake constants S who call (wake.Plain word) (step_answer constants (resumed S who) who call) (step_state constants (resumed S who) who call)
+
+-- Each step of the call from there has one, so a wake of a ready thread ends its wait.
+abbrev pub WakeEndsWait : Type 0
+WakeEndsWait =
+    (constants : Constants) (S : State) (who : Who) (call : Call) (answered : Answer) (T : State) → WaitsIn S who call
+    → is_ready constants S who.pid who.tid ≡ true → IsStep constants (resumed S who) who call answered T → is_parked answered ≡ false
+
+-- The state in which a thread runs that waited differs in nothing but what this thread does.
+pub record ResumesOnly (S : State) (who : Who) (R : State) : Type 0 where
+  pub others : (part : Part) → same_part (at_proc who.pid) part ≡ false → Agree R S part
+  pub table : get R.tables who.pid ≡ get S.tables who.pid
+  pub counts : counts_in (get R.processes who.pid) ≡ counts_in (get S.processes who.pid)
+  pub runs : IsSome (thread_of S who.pid who.tid) → thread_of R who.pid who.tid ≡ Some Runnable
+  pub threads : (t : ℕ) → t ≢ who.tid → thread_of R who.pid t ≡ thread_of S who.pid t
+
+abbrev pub ResumedRuns : Type 0
+ResumedRuns = (S : State) (who : Who) → ResumesOnly S who (resumed S who)
+
+-- Where a call sees the same in two states it does so in those in which its thread runs. So what is said of calls that see the same is said
+-- of wakes.
+abbrev pub ResumedSeesSame : Type 0
+ResumedSeesSame = (S T : State) (who : Who) (call : Call) → HasSameSight S T who call → HasSameSight (resumed S who) (resumed T who) who call
+
+-- A wake takes 1000 nanoseconds and changes nothing of other processes but of those that the release after it kills. Where its process
+-- lives on the thread runs, unless its call ends it; each other thread is what it was, unless the call ends the others; and a
+-- thread that was not there was made by the call.
+pub record WakesOnly (S : State) (who : Who) (call : Call) (answered : Answer) (T : State) : Type 0 where
+  pub clock : T.clock ≡ S.clock + 1000
+  pub others : (q : ℕ) → q ≢ who.pid → HasSameProcess T S q ⊎ IsKilled S T q
+  pub runs : get T.statuses who.pid ≡ Some Live → IsSome (thread_of S who.pid who.tid) → ends_caller call answered ≡ false
+      → thread_of T who.pid who.tid ≡ Some Runnable
+  pub threads : get T.statuses who.pid ≡ Some Live → (t : ℕ) → t ≢ who.tid → IsSome (thread_of S who.pid t) → ends_others call answered ≡ false
+      → thread_of T who.pid t ≡ thread_of S who.pid t
+  pub made : get T.statuses who.pid ≡ Some Live → (t : ℕ) → thread_of S who.pid t ≡ None → IsSome (thread_of T who.pid t)
+      → (makes_thread call answered ≡ true) × ((counts_in (get S.processes who.pid)).threads < t)
+
+abbrev pub WakeMovesOnly : Type 0
+WakeMovesOnly =
+    (constants : Constants) (S : State) (who : Who) (call : Call) (given : WakeIn) (answered : Answer) (T : State) → IsWake constants S who call given answered T
+    → WakesOnly S who call answered T
+
+-- A wake that answers an error, FAULT and lack of memory among them, changes only the clock of a valid state, and the thread runs.
+abbrev pub WakeErrorKeeps : Type 0
+WakeErrorKeeps =
+    (constants : Constants) (S : State) (who : Who) (call : Call) (given : WakeIn) (reply : Reply) (T : State)
+    → IsWake constants S who call given (answer.Reply reply) T → IsValid S → reply.errno ≢ Success → T ≡ tick (resumed S who)
+
+-- After a wake each part that its call does not touch and that the release does not end has the value it had.
+abbrev pub WakeOthersStay : Type 0
+WakeOthersStay =
+    (constants : Constants) (S : State) (who : Who) (call : Call) (given : WakeIn) (answered : Answer) (T : State) (q : Part)
+    → IsWake constants S who call given answered T → IsUntouched constants (resumed S who) who call q → Agree T S q
+
+-- ---- idle jumps
+
+-- the thread waits in some call until this moment, which is before 2^62
+abbrev pub WaitsUntil : State → ℕ → ℕ → ℕ → Type 0
+WaitsUntil S p t until = (call : Call) × (since : ℕ) × (thread_of S p t ≡ Some (Waits call since (Some until))) × (until < 2 ^ 62)
+
+-- the deadline is the least of all threads', and there is none where none has one
+abbrev pub IsLeastDeadline : State → Option ℕ → Type 0
+IsLeastDeadline S None = (p t other : ℕ) → ¬ WaitsUntil S p t other
+IsLeastDeadline S (Some until) =
+    ((p : ℕ) × (t : ℕ) × WaitsUntil S p t until) × ((p t other : ℕ) → WaitsUntil S p t other → until ≤ other)
+
+abbrev pub LeastIsLeast : Type 0
+LeastIsLeast = (S : State) → IsLeastDeadline S (least_deadline S)
+
+-- It is before 2^62.
+abbrev pub LeastIsSoon : Type 0
+LeastIsSoon = (S : State) (until : ℕ) → least_deadline S ≡ Some until → until < 2 ^ 62
+
+-- An idle jump moves the clock forward, by what each entry takes at least, and no further than to the least deadline where that is more;
+-- nothing else changes.
+pub record JumpsTo (S T : State) : Type 0 where
+  pub only : T ≡ at_moment S T.clock
+  pub forward : S.clock + 1000 ≤ T.clock
+  pub bounded : (T.clock ≡ S.clock + 1000) ⊎ (least_deadline S ≡ Some T.clock)
+
+abbrev pub IdleJumps : Type 0
+IdleJumps = (S : State) → JumpsTo S (idle_state S)
+
+-- After it some thread is ready, if one had a deadline. So no two jumps follow each other.
+abbrev pub JumpReadies : Type 0
+JumpReadies =
+    (constants : Constants) (S : State) (until : ℕ) → IsValid S → HasDeadlines constants S → least_deadline S ≡ Some until
+    → (p : ℕ) × (t : ℕ) × (is_ready constants (idle_state S) p t ≡ true)
+
+-- ---- what stays
+
+-- A wake and an idle jump leave a valid state valid.
+abbrev pub WakeKeepsValid : Type 0
+WakeKeepsValid =
+    (constants : Constants) (S : State) (who : Who) (call : Call) (given : WakeIn) (answered : Answer) (T : State)
+    → IsWake constants S who call given answered T → IsValid S → IsValid T
+
+abbrev pub IdleKeepsValid : Type 0
+IdleKeepsValid = (S : State) → IsValid S → IsValid (idle_state S)
+
+-- At the start each thread that waits does until its call's deadline, and a step, a wake, the end of a process from outside and an idle
+-- jump leave it so in valid states.
+pub record DeadlinesAreKept : Type 0 where
+  pub start : (constants : Constants) (tree : Tree) (grants : List Grant) (stdin : List ℕ) → HasDeadlines constants (start_state tree grants stdin)
+  pub step : (constants : Constants) (S : State) (who : Who) (call : Call) (given : Answer) (T : State) → IsStep constants S who call given T → IsValid S
+      → HasDeadlines constants S → HasDeadlines constants T
+  pub wake : (constants : Constants) (S : State) (who : Who) (call : Call) (given : WakeIn) (answered : Answer) (T : State)
+      → IsWake constants S who call given answered T → IsValid S → HasDeadlines constants S → HasDeadlines constants T
+  pub end : (constants : Constants) (S : State) (p : ℕ) (status : Status) → status ≢ Live → IsValid S → HasDeadlines constants S
+      → HasDeadlines constants (end_state S p status)
+  pub idle : (constants : Constants) (S : State) → HasDeadlines constants S → HasDeadlines constants (idle_state S)

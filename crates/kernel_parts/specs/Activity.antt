@@ -1,0 +1,62 @@
+-- What threads do, taken together.
+use Rattle.std.specs.Prelude.{◌≡◌, ⊤, ℕ, ◌≤◌, nat_lt, Bool, Option, None, Some, if◌then◌else◌}
+use Rattle.std.specs.FinMap.{get}
+use Rattle.abi_types.specs.declared.constants.Constants.{Constants}
+use Rattle.abi_types.specs.declared.thread.Thread.{Thread}
+use Rattle.abi_types.specs.declared.thread.Thread.TheVariants.{Runnable, Waits}
+use Rattle.kernel_model.specs.Deadlines.{soon}
+use Rattle.kernel_model.specs.State.{Table, Threads}
+use Rattle.kernel_parts.specs.Waiting.{is_over}
+use Rattle.kernel_parts.specs.declared.activity.Activity.{Activity}
+use Rattle.kernel_parts.specs.declared.activity.Activity.TheVariants.{NoThread, Busy, Waiting}
+
+-- what a thread does by whether the call that it waits in is over
+abbrev pub by_over : Bool → Option ℕ → Activity
+by_over over until = if over then Busy else Waiting (soon until)
+
+-- what a thread does at the moment `now`, of a process with this table
+abbrev pub activity_of : Constants → Option Table → ℕ → Thread → Activity
+activity_of constants table now Runnable = Busy
+activity_of constants table now (Waits call since until) = by_over (is_over constants table since now call) until
+
+abbrev pub activity_by : Constants → Option Table → ℕ → Option Thread → Activity
+activity_by constants table now None = NoThread
+activity_by constants table now (Some thread) = activity_of constants table now thread
+
+-- the same of the thread with this number, if there is one
+abbrev pub activity_at : Constants → Option Table → ℕ → Threads → ℕ → Activity
+activity_at constants table now threads t = activity_by constants table now (get threads t)
+
+-- ---- of several threads
+
+-- the earlier of two moments, or the one that there is
+abbrev pub earlier : Option ℕ → Option ℕ → Option ℕ
+earlier None second = second
+earlier (Some first) None = Some first
+earlier (Some first) (Some second) = if nat_lt second first then Some second else Some first
+
+-- what those do together that do this and that
+abbrev pub both : Activity → Activity → Activity
+both NoThread second = second
+both Busy second = Busy
+both (Waiting first) NoThread = Waiting first
+both (Waiting first) Busy = Busy
+both (Waiting first) (Waiting second) = Waiting (earlier first second)
+
+-- the second moment is not before the first, where there are moments; and where there is no first there is no second
+abbrev pub IsNotEarlier : Option ℕ → Option ℕ → Type 0
+IsNotEarlier first None = ⊤
+IsNotEarlier None (Some second) = ⊥
+IsNotEarlier (Some first) (Some second) = first ≤ second
+
+-- what does this is no thread, or it waits, and not until an earlier moment
+abbrev pub WaitsLater : Option ℕ → Activity → Type 0
+WaitsLater until NoThread = ⊤
+WaitsLater until Busy = ⊥
+WaitsLater until (Waiting other) = IsNotEarlier until other
+
+-- What some threads do comes to this together: none is one, or one is busy, or one waits until this moment and none waits less.
+abbrev pub IsActivity : {I : Type 0} → (I → Activity) → (I → Type 0) → Activity → Type 0
+IsActivity {I} does these NoThread = (i : I) → these i → does i ≡ NoThread
+IsActivity {I} does these Busy = (i : I) × these i × (does i ≡ Busy)
+IsActivity {I} does these (Waiting until) = ((i : I) × these i × (does i ≡ Waiting until)) × ((i : I) → these i → WaitsLater until (does i))

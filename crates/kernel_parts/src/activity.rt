@@ -1,0 +1,74 @@
+//! What threads do, taken together.
+ghost use Rattle.std.specs.Prelude.{◌≡◌, option_copied};
+ghost use Rattle.kernel_parts.specs.Activity.{activity_of, both, earlier};
+
+use crate::polls::soon;
+use crate::waiting::is_over;
+use abi_types::{Constants, Thread};
+use fd_table::FdTable;
+
+/// What some threads do, taken together.
+#[derive(Clone, Copy)]
+pub enum Activity {
+    /// There is no thread.
+    NoThread,
+    /// A thread runs, or it waits in a call that would be done now.
+    Busy,
+    /// Each thread waits in a call that would wait on. The earliest moment until which one of them waits, if there is one.
+    Waiting { until: Option<u64> },
+}
+
+// The earlier of two moments, or the one that there is.
+fn earlier(first: Option<u64>, second: Option<u64>) -> Option<u64>
+    ensures { result ≡ earlier first second }
+{
+    match first {
+        None => second,
+        Some(one) => match second {
+            None => first,
+            Some(other) => Some(one.min(other)),
+        },
+    }
+}
+
+impl Activity {
+    /// What these threads do together with others.
+    pub fn with(self, other: Activity) -> Activity
+        ensures { result ≡ both self other }
+    {
+        match self {
+            Activity::NoThread => other,
+            Activity::Busy => Activity::Busy,
+            Activity::Waiting { until: first } => match other {
+                Activity::NoThread => self,
+                Activity::Busy => Activity::Busy,
+                Activity::Waiting { until: second } => Activity::Waiting {
+                    until: earlier(first, second),
+                },
+            },
+        }
+    }
+
+    /// What one thread does at the moment `now`, of the process that has this table.
+    pub(crate) fn of_thread(
+        constants: &Constants,
+        table: Option<&FdTable>,
+        now: u64,
+        thread: &Thread,
+    ) -> Activity
+        ensures { result ≡ activity_of constants.now (option_copied table.entry) now thread.now }
+    {
+        match thread {
+            Thread::Runnable => Activity::Busy,
+            Thread::Waits { call, since, until } => {
+                if is_over(constants, table, *since, now, call) {
+                    Activity::Busy
+                } else {
+                    Activity::Waiting {
+                        until: soon(*until),
+                    }
+                }
+            }
+        }
+    }
+}

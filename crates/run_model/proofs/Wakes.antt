@@ -1,0 +1,211 @@
+-- How many wakes are left after an entry.
+--     call_wakes      a call leaves at most one more
+--     woken_wakes      a wake leaves one less
+--     end_wakes      the end of a process leaves no more
+--     start_wakes      at the start there are none
+use Rattle.std.proofs.Common.{◌≡◌, ◌≢◌, ◌⊎◌, inl, inr, ℕ, ◌+◌, ◌≤◌, false, Option, Some, None, IsSome, refl, sym, ap, subst, ◌∙◌, arith}
+use Rattle.std.proofs.lemmas.Bool.Decides.{eqb_tells}
+use Rattle.std.specs.Option.{option_map}
+use Rattle.std.specs.Ordering.{nat_cmp}
+use Rattle.std.specs.FinMap.{FinMap, empty, get, get-empty, remove}
+use Rattle.abi_types.specs.declared.call.Call.{Call}
+use Rattle.abi_types.specs.declared.constants.Constants.{Constants}
+use Rattle.abi_types.specs.declared.reply.Answer.{Answer}
+use Rattle.abi_types.specs.declared.reply.Answer.TheVariants as answer
+use Rattle.abi_types.specs.declared.status.Status.{Status}
+use Rattle.abi_types.specs.declared.status.Status.TheVariants.{Live}
+use Rattle.abi_types.specs.declared.thread.Thread.{Thread}
+use Rattle.abi_types.specs.declared.thread.Thread.TheVariants.{Runnable, Waits}
+use Rattle.abi_types.specs.declared.wake.WakeIn.{WakeIn}
+use Rattle.abi_types.specs.declared.wake.WakeIn.TheVariants as wake
+use Rattle.abi_types.specs.declared.who.Who.{Who}
+use Rattle.kernel_model.specs.Families.ProcessCalls.{ended_process}
+use Rattle.kernel_model.specs.Laws.{HasSameProcess, IsKilled}
+use Rattle.kernel_model.specs.Outcome.{is_parked}
+use Rattle.kernel_model.specs.State.{State, ProcessState, Threads, thread_in, thread_of}
+use Rattle.kernel_model.specs.Step.{end_state, IsStep}
+use Rattle.kernel_model.specs.Threads.{IsCallerAfter}
+use Rattle.kernel_model.specs.Valid.{IsValid}
+use Rattle.kernel_model.specs.Waits.{resumed, waiting, WaitsIn}
+use Rattle.kernel_model.specs.Wakes.{IsWake}
+use Rattle.kernel_model.proofs.Steps.{end_ends_only, end_valid, step_keeps_valid, step_moves_only}
+use Rattle.kernel_model.proofs.Tests.{not_true, same_some}
+use Rattle.kernel_model.proofs.Threading.{thread_apart, thread_here, with_apart}
+use Rattle.kernel_model.proofs.Waking.{caller_after, ended_thread, other_after, resumed_valid}
+use Rattle.maps.specs.Closure.{total_below}
+use Rattle.maps.specs.Maps.{get-remove-same, get-remove-other, total, weight, total_none, total-empty, total-remove}
+use Rattle.run_model.specs.Ends.{wakes_left, all_wakes_left}
+
+-- where no other key weighs more in m than in n, the total of m is greater by no more than what the key k weighs more
+pub total_around : {X : Type 0} (f : X → ℕ) (m n : FinMap nat_cmp X) (k : ℕ) → ((q : ℕ) → q ≢ k → weight f (get m q) ≤ weight f (get n q))
+    → total f m + weight f (get n k) ≤ total f n + weight f (get m k)
+total_around f m n k others =
+    let below : total f (remove m k) ≤ total f (remove n k) =
+    total_below f f (remove m k) (remove n k) (λ q. elim (eqb_tells q k) [
+      | inl is ↦ (
+          let none : weight f (get (remove m k) q) ≡ 0 = ap (weight f) (ap (get (remove m k)) is.1 ∙ get-remove-same m k) in
+          omega (arith, none))
+      | inr other ↦ (
+          let there : weight f (get (remove m k) q) ≡ weight f (get m q) = ap (weight f) (get-remove-other m k q other.1) in
+          let here : weight f (get (remove n k) q) ≡ weight f (get n q) = ap (weight f) (get-remove-other n k q other.1) in
+          let less = others q other.1 in
+          omega (arith, there, here, less))
+    ]) in
+    let first = total-remove f m k in
+    let second = total-remove f n k in
+    omega (arith, below, first, second)
+
+-- ---- a process
+
+-- its threads, and none if it was never made
+abbrev threads_or_none : Option ProcessState → Threads
+threads_or_none None = empty
+threads_or_none (Some own) = own.threads
+
+own_wakes : (o : Option ProcessState) → weight all_wakes_left o ≡ total wakes_left (threads_or_none o)
+own_wakes None = sym (total-empty wakes_left)
+own_wakes (Some own) = refl
+
+own_thread : (o : Option ProcessState) (t : ℕ) → thread_in (option_map (λ (own : ProcessState). own.threads) o) t ≡ get (threads_or_none o) t
+own_thread None t = sym (get-empty nat_cmp t)
+own_thread (Some own) t = refl
+
+-- the wakes of one thread
+abbrev pub thread_wakes : State → ℕ → ℕ → ℕ
+thread_wakes S p t = weight wakes_left (thread_of S p t)
+
+one_wake : (o : Option Thread) → weight wakes_left o ≤ 1
+one_wake None = omega arith
+one_wake (Some Runnable) = omega arith
+one_wake (Some (Waits call since until)) = omega arith
+
+abbrev process_wakes : State → ℕ → ℕ
+process_wakes S p = weight all_wakes_left (get S.processes p)
+
+-- where no other thread has more wakes left, the process has no more than this one's are more
+process_around : (S T : State) (p t : ℕ) → ((u : ℕ) → u ≢ t → thread_wakes T p u ≤ thread_wakes S p u)
+    → process_wakes T p + thread_wakes S p t ≤ process_wakes S p + thread_wakes T p t
+process_around S T p t others =
+    let before = threads_or_none (get S.processes p) in
+    let after = threads_or_none (get T.processes p) in
+    let was : (u : ℕ) → thread_wakes S p u ≡ weight wakes_left (get before u) = λ u. ap (weight wakes_left) (own_thread (get S.processes p) u) in
+    let is : (u : ℕ) → thread_wakes T p u ≡ weight wakes_left (get after u) = λ u. ap (weight wakes_left) (own_thread (get T.processes p) u) in
+    let around =
+    total_around wakes_left after before t (λ u apart. (let less = others u apart in let one = was u in let other = is u in omega (arith, less, one, other))) in
+    let one = was t in
+    let other = is t in
+    let first = own_wakes (get S.processes p) in
+    let second = own_wakes (get T.processes p) in
+    omega (arith, around, one, other, first, second)
+
+-- ---- all processes
+
+abbrev pub all_wakes : State → ℕ
+all_wakes S = total all_wakes_left S.processes
+
+ended_wakes : (o : Option ProcessState) → weight all_wakes_left (option_map (λ (own : ProcessState). ended_process (Some own)) o) ≡ 0
+ended_wakes None = refl
+ended_wakes (Some own) = total-empty wakes_left
+
+other_wakes : (S T : State) (q : ℕ) → HasSameProcess T S q ⊎ IsKilled S T q → process_wakes T q ≤ process_wakes S q
+other_wakes S T q (inl same) = let is = ap (weight all_wakes_left) same.1 in omega (arith, is)
+other_wakes S T q (inr killed) = let none = ap (weight all_wakes_left) killed.0.1 ∙ ended_wakes (get S.processes q) in omega (arith, none)
+
+pub wakes_around : (S T : State) (p t : ℕ) → ((q : ℕ) → q ≢ p → HasSameProcess T S q ⊎ IsKilled S T q)
+    → ((u : ℕ) → u ≢ t → thread_wakes T p u ≤ thread_wakes S p u) → all_wakes T + thread_wakes S p t ≤ all_wakes S + thread_wakes T p t
+wakes_around S T p t processes threads =
+    let around = total_around all_wakes_left T.processes S.processes p (λ q apart. other_wakes S T q (processes q apart)) in
+    let own = process_around S T p t threads in
+    omega (arith, around, own)
+
+-- ---- calls
+
+less_or_same : (a b : Option Thread) → (a ≡ None) ⊎ (a ≡ b) → weight wakes_left a ≤ weight wakes_left b
+less_or_same a b (inl none) = let is = ap (weight wakes_left) none in omega (arith, is)
+less_or_same a b (inr same) = let is = ap (weight wakes_left) same in omega (arith, is)
+
+step_around : (constants : Constants) (S : State) (who : Who) (call : Call) (given : Answer) (T : State) → IsValid S → IsStep constants S who call given T
+    → all_wakes T + thread_wakes S who.pid who.tid ≤ all_wakes S + thread_wakes T who.pid who.tid
+step_around constants S who call given T valid step =
+    wakes_around S T who.pid who.tid (step_moves_only constants S who call given T step).others
+    (λ u apart. less_or_same (thread_of T who.pid u) (thread_of S who.pid u)
+    (other_after constants S who call given T step (step_keeps_valid constants S who call given T step valid) u apart))
+
+pub call_wakes : (constants : Constants) (S : State) (who : Who) (call : Call) (given : Answer) (T : State) → IsValid S → IsStep constants S who call given T
+    → thread_of S who.pid who.tid ≡ Some Runnable → all_wakes T ≤ all_wakes S + 1
+call_wakes constants S who call given T valid step runs =
+    let around = step_around constants S who call given T valid step in
+    let most = one_wake (thread_of T who.pid who.tid) in
+    omega (arith, around, most)
+
+-- ---- wakes
+
+-- a thread that runs, or is no more, has no wake left
+runs_or_not : (o : Option Thread) → (o ≡ None) ⊎ (o ≡ Some Runnable) → weight wakes_left o ≡ 0
+runs_or_not o (inl none) = ap (weight wakes_left) none
+runs_or_not o (inr runs) = ap (weight wakes_left) runs
+
+replied : (thread : Thread) (given : Answer) (before after : Option Thread) → is_parked given ≡ false → IsCallerAfter thread given before after → after ≡ before
+replied thread (answer.Parked writes) before after none is = absurd (not_true (sym none))
+replied thread (answer.Reply reply) before after none is = is
+
+resumed_runs_here : (S : State) (who : Who) (call : Call) → WaitsIn S who call → thread_of (resumed S who) who.pid who.tid ≡ Some Runnable
+resumed_runs_here S who call kept =
+    thread_here S who.pid who.tid Runnable ∙ ap (option_map (λ (before : Thread). Runnable)) kept.1
+
+pub woken_thread : (constants : Constants) (S : State) (who : Who) (call : Call) (given : WakeIn) (answered : Answer) (T : State) → IsValid S → WaitsIn S who call
+    → IsWake constants S who call given answered T → thread_wakes T who.pid who.tid ≡ 0
+woken_thread constants S who call (wake.Plain word) answered T valid kept is =
+    let R = resumed S who in
+    let after = caller_after constants R who call answered T is.0 (step_keeps_valid constants R who call answered T is.0 (resumed_valid S who valid)) in
+    runs_or_not (thread_of T who.pid who.tid) (elim after [
+      | inl gone ↦ inl gone
+      | inr says ↦ inr (replied (waiting constants call who.since) answered (thread_of R who.pid who.tid) (thread_of T who.pid who.tid) is.1 says
+          ∙ resumed_runs_here S who call kept)
+    ])
+woken_thread constants S who call wake.Fault answered T valid kept is =
+    ap (weight wakes_left) (ap (λ (U : State). thread_of U who.pid who.tid) is.1 ∙ resumed_runs_here S who call kept)
+
+resumed_around : (S : State) (who : Who) → all_wakes (resumed S who) + thread_wakes S who.pid who.tid ≤ all_wakes S + thread_wakes (resumed S who) who.pid who.tid
+resumed_around S who =
+    wakes_around S (resumed S who) who.pid who.tid (λ q apart. inl (refl, with_apart S who.pid who.tid Runnable q apart, refl))
+    (λ u apart. less_or_same (thread_of (resumed S who) who.pid u) (thread_of S who.pid u) (inr (thread_apart S who.pid who.tid Runnable u apart)))
+
+woken_around : (constants : Constants) (S : State) (who : Who) (call : Call) (given : WakeIn) (answered : Answer) (T : State) → IsValid S
+    → IsWake constants S who call given answered T → all_wakes T + thread_wakes S who.pid who.tid ≤ all_wakes S + thread_wakes T who.pid who.tid
+woken_around constants S who call (wake.Plain word) answered T valid is =
+    let first = resumed_around S who in
+    let second = step_around constants (resumed S who) who call answered T (resumed_valid S who valid) is.0 in
+    omega (arith, first, second)
+woken_around constants S who call wake.Fault answered T valid is =
+    subst (λ (U : State). all_wakes U + thread_wakes S who.pid who.tid ≤ all_wakes S + thread_wakes U who.pid who.tid) (sym is.1) (resumed_around S who)
+
+pub woken_wakes : (constants : Constants) (S : State) (who : Who) (call : Call) (given : WakeIn) (answered : Answer) (T : State) → IsValid S
+    → WaitsIn S who call → IsWake constants S who call given answered T → all_wakes T + 1 ≤ all_wakes S
+woken_wakes constants S who call given answered T valid kept is =
+    let around = woken_around constants S who call given answered T valid is in
+    let none = woken_thread constants S who call given answered T valid kept is in
+    let one : thread_wakes S who.pid who.tid ≡ 1 = ap (weight wakes_left) kept.1 in
+    omega (arith, around, none, one)
+
+-- ---- the end of a process
+
+pub end_wakes : (S : State) (p : ℕ) (status : Status) → status ≢ Live → IsSome (get S.statuses p) → IsValid S
+    → all_wakes (end_state S p status) ≤ all_wakes S
+end_wakes S p status dead made valid =
+    let ends = end_ends_only S p status dead in
+    let T = end_state S p status in
+    let gone : (u : ℕ) → thread_of T p u ≡ None =
+    λ u. ended_thread T p u (Some status) (end_valid S p status made valid) ends.stands (λ e. dead (same_some status Live e)) in
+    let around = wakes_around S T p 0 ends.others (λ u _. less_or_same (thread_of T p u) (thread_of S p u) (inl (gone u))) in
+    let none : thread_wakes T p 0 ≡ 0 = ap (weight wakes_left) (gone 0) in
+    omega (arith, around, none)
+
+-- ---- none
+
+pub none_wakes : (S : State) → ((p t : ℕ) → (thread_of S p t ≡ None) ⊎ (thread_of S p t ≡ Some Runnable)) → all_wakes S ≡ 0
+none_wakes S each =
+    total_none all_wakes_left S.processes (λ p.
+    own_wakes (get S.processes p)
+    ∙ total_none wakes_left (threads_or_none (get S.processes p)) (λ t.
+    ap (weight wakes_left) (sym (own_thread (get S.processes p) t)) ∙ runs_or_not (thread_of S p t) (each p t)))

@@ -1,0 +1,229 @@
+//! What a thread that waited is given where its memory changed meanwhile, and what its answer leaves.
+use crate::calls::showing::{DATA, LEFT, memory_of, registers_of};
+use abi_base::{GUEST_END, PAGE_SIZE};
+use abi_types::{
+    Answer, Call, Errno, Event, EventList, Payload, Prot, Reply, SubscriptionList, WakeIn,
+    WordWrite, WordWrites,
+};
+use call_codec::{given, put_woken, read_call};
+use guest_memory::{GuestMemory, MemFault};
+use std::alloc::{AllocError, Global};
+use std::test::Fail;
+
+const LOCK: u64 = DATA + 0x800;
+
+const CONDVAR: u64 = DATA + 0x2000;
+
+// A page of its own, for events or for bytes that are read.
+const PLACE: u64 = DATA + 0x1000;
+
+const CLOCK: &[u64] = &[9, 1, 0, 1, 1000, 0, 0];
+
+const WRLOCK: &[u64] = &[9, 6, LOCK, 4, 0, 0, 0];
+
+const WAIT: &[u64] = &[9, 2, CONDVAR, LOCK, 0x404, 0, 0];
+
+// What happens to the memory while the thread waits.
+#[derive(Clone, Copy)]
+enum Change {
+    Nothing,
+    // To the page at an address.
+    Unmapped(u64),
+    ReadOnly(u64),
+    // A number of 64 bits at an address.
+    Stored(u64, u64),
+}
+
+use Change::{Nothing, ReadOnly, Stored, Unmapped};
+
+// A call's number, its arguments, the numbers of 64 bits that stand from `DATA` on, the change, and what is given.
+type Row = (u64, &'static [u64], &'static [u64], Change, WakeIn);
+
+const PLAIN: WakeIn = WakeIn::Plain { word: 0 };
+
+const ROWS: &[Row] = &[
+    (37, &[DATA, PLACE, 1], CLOCK, Nothing, PLAIN),
+    (37, &[DATA, PLACE, 1], CLOCK, Unmapped(DATA), PLAIN),
+    (37, &[DATA, PLACE, 1], CLOCK, Unmapped(PLACE), WakeIn::Fault),
+    (37, &[DATA, PLACE, 1], CLOCK, ReadOnly(PLACE), WakeIn::Fault),
+    (
+        37,
+        &[DATA, PLACE - 16, 1],
+        CLOCK,
+        Unmapped(PLACE),
+        WakeIn::Fault,
+    ),
+    (37, &[DATA, PLACE - 32, 1], CLOCK, Unmapped(PLACE), PLAIN),
+    (37, &[DATA, PLACE, 1], WRLOCK, Nothing, PLAIN),
+    (
+        37,
+        &[DATA, PLACE, 1],
+        WRLOCK,
+        Stored(LOCK, 7),
+        WakeIn::Plain { word: 7 },
+    ),
+    (37, &[DATA, PLACE, 1], WRLOCK, ReadOnly(DATA), WakeIn::Fault),
+    (
+        37,
+        &[DATA, PLACE, 1],
+        WAIT,
+        Stored(LOCK, 0x4000_0001),
+        WakeIn::Plain { word: 0x4000_0001 },
+    ),
+    (37, &[DATA, PLACE, 1], WAIT, Unmapped(CONDVAR), PLAIN),
+    (37, &[DATA, PLACE, 1], WAIT, Unmapped(DATA), WakeIn::Fault),
+    (10, &[0, DATA, 1], &[PLACE, 100], Nothing, PLAIN),
+    (
+        10,
+        &[0, DATA, 1],
+        &[PLACE, 100],
+        ReadOnly(PLACE),
+        WakeIn::Fault,
+    ),
+    (
+        10,
+        &[0, DATA, 1],
+        &[PLACE, 100],
+        Unmapped(DATA),
+        WakeIn::Fault,
+    ),
+    (
+        10,
+        &[0, DATA, 1],
+        &[PLACE, 100],
+        Stored(DATA + 8, 99),
+        WakeIn::Fault,
+    ),
+    (
+        10,
+        &[0, DATA, 1],
+        &[PLACE, 100],
+        Stored(DATA + 8, 101),
+        PLAIN,
+    ),
+    (
+        10,
+        &[0, DATA, 1],
+        &[PLACE, 100],
+        Stored(DATA, CONDVAR),
+        PLAIN,
+    ),
+    (16, &[0, DATA, 1], &[PLACE, 100], Unmapped(DATA), PLAIN),
+    (48, &[], &[], Unmapped(DATA), PLAIN),
+];
+
+const READ: Prot = Prot {
+    read: true,
+    write: false,
+    exec: false,
+};
+
+// The change, made.
+fn changed(memory: &mut GuestMemory, change: Change) -> Result<(), MemFault> {
+    match change {
+        Nothing => Ok(()),
+        Unmapped(at) if at % PAGE_SIZE == 0 && at < GUEST_END => {
+            memory.unmap(at, 1);
+            Ok(())
+        }
+        ReadOnly(at) if at % PAGE_SIZE == 0 && at < GUEST_END => memory.protect(at, 1, READ),
+        Unmapped(at) | ReadOnly(at) => Err(MemFault::NotMapped(at)),
+        Stored(at, number) => memory.write_bytes(at, &number.to_le_bytes()),
+    }
+}
+
+// The first row where what is given isn't what is wanted.
+fn first_other(alloc: Global) -> Result<Option<usize>, AllocError> {
+    for (place, &(number, arguments, content, change, want)) in ROWS.iter().enumerate() {
+        let Ok(mut memory) = memory_of(alloc, content) else {
+            return Ok(Some(place));
+        };
+        let regs = registers_of(number, arguments);
+        let call = read_call(alloc, &regs, &memory, LEFT)?;
+        if changed(&mut memory, change).is_err() || given(&regs, &memory, &call) != want {
+            return Ok(Some(place));
+        }
+    }
+    Ok(None)
+}
+
+#[test]
+fn wakes_look_at_the_memory(rt: HostRuntime) -> Result<(), Fail> {
+    assert_eq!(rt; first_other(rt.alloc())?, None);
+    Ok(())
+}
+
+// A lock that was had, and bytes to read.
+fn events(alloc: Global) -> Result<EventList, AllocError> {
+    let had = Event {
+        userdata: 9,
+        error: 0,
+        kind: 6,
+        nbytes: 0,
+        flags: 0,
+        signal: 0,
+        code: 0,
+    };
+    let mut events = EventList::new(alloc);
+    events.push(had)?;
+    events.push(Event {
+        userdata: 8,
+        kind: 3,
+        nbytes: 5,
+        ..had
+    })?;
+    Ok(events)
+}
+
+// Their bytes.
+const EVENTS: [u8; 64] = [
+    9, 0, 0, 0, 0, 0, 0, 0, 0, 0, 6, 0, 0, 0, 0, 0, 0, 0, 0, 0, 0, 0, 0, 0, 0, 0, 0, 0, 0, 0, 0, 0, //
+    8, 0, 0, 0, 0, 0, 0, 0, 0, 0, 3, 0, 0, 0, 0, 0, 5, 0, 0, 0, 0, 0, 0, 0, 0, 0, 0, 0, 0, 0, 0, 0,
+];
+
+// Words at the lock, and over the first event, which is written after them.
+const WORDS: WordWrites = WordWrites::Two(
+    WordWrite {
+        address: LOCK,
+        word: 0x8000_0001,
+    },
+    WordWrite {
+        address: PLACE,
+        word: 7,
+    },
+);
+
+// What the answer to a poll leaves: a0, a1, the pc, whether the events stand, and the word at the lock.
+fn left(alloc: Global, answer: &Answer) -> Result<(u64, u64, u64, bool, u64), Fail> {
+    let mut memory = memory_of(alloc, CLOCK)?;
+    let mut regs = registers_of(37, &[DATA, PLACE, 2]);
+    let call = Call::Poll {
+        subscriptions: SubscriptionList::new(alloc),
+    };
+    put_woken(&mut regs, &mut memory, &call, answer);
+    let mut bytes = [0; 64];
+    memory.read_bytes(PLACE, &mut bytes)?;
+    let word = memory.load(LOCK, 4)?;
+    Ok((regs.get(10), regs.get(11), regs.pc(), bytes == EVENTS, word))
+}
+
+#[test]
+fn words_and_events_are_put(rt: HostRuntime) -> Result<(), Fail> {
+    let done = Answer::Reply(Reply {
+        errno: Errno::Success,
+        r1: 2,
+        r2: 0,
+        payload: Payload::Events(events(rt.alloc())?),
+        writes: WORDS,
+        denial: None,
+    });
+    assert_eq!(rt;
+        left(rt.alloc(), &done)?,
+        (0, 2, 0x10004, true, 0x8000_0001)
+    );
+    assert_eq!(rt;
+        left(rt.alloc(), &Answer::Parked(WORDS))?,
+        (DATA, PLACE, 0x10000, false, 0x8000_0001)
+    );
+    Ok(())
+}
