@@ -1,4 +1,4 @@
-/* Terminals, of which there are none, and waiting for descriptors, which are always ready. */
+/* Terminals, of which there are none, and waiting for descriptors, which are ready at once. */
 #define _GNU_SOURCE
 #include "system.h"
 
@@ -8,6 +8,7 @@
 #include <sys/ioctl.h>
 #include <sys/select.h>
 #include <termios.h>
+#include <time.h>
 #include <unistd.h>
 
 static int no_terminal(int fd)
@@ -86,15 +87,19 @@ static int ready_ways(int fd, int events)
     return (reading | writing) & events;
 }
 
+/* What isn't ready at once never is: then there is only the time to wait for. */
+
 int poll(struct pollfd fds[], nfds_t count, int timeout)
 {
     int ready = 0;
-    (void)timeout;
     for (nfds_t at = 0; at < count; ++at) {
         fds[at].revents = fds[at].fd < 0 ? 0 : (short)ready_ways(fds[at].fd, fds[at].events);
         ready += fds[at].revents != 0;
     }
-    return ready;
+    if (ready != 0 || timeout <= 0)
+        return ready;
+    struct timespec time = {.tv_sec = timeout / 1000, .tv_nsec = timeout % 1000 * 1000000L};
+    return nanosleep(&time, NULL);
 }
 
 /* Leaves those in a set that are ready; how many, or -1. */
@@ -118,10 +123,13 @@ static int keep_ready(int most, fd_set *set, int events)
 
 int select(int most, fd_set *reading, fd_set *writing, fd_set *other, struct timeval *timeout)
 {
-    (void)timeout;
     int to_read = keep_ready(most, reading, POLLIN);
     int to_write = to_read < 0 ? -1 : keep_ready(most, writing, POLLOUT);
     if (other != NULL)
         FD_ZERO(other);
-    return to_write < 0 ? -1 : to_read + to_write;
+    int ready = to_write < 0 ? -1 : to_read + to_write;
+    if (ready != 0 || timeout == NULL)
+        return ready;
+    struct timespec time = {.tv_sec = timeout->tv_sec, .tv_nsec = timeout->tv_usec * 1000L};
+    return nanosleep(&time, NULL);
 }

@@ -96,11 +96,12 @@ abbrev pub zeros_of : Call → Option Place
 zeros_of (call.MemMap place length prot flags fd offset) = if is_anonymous flags then Some place else None
 zeros_of _ = None
 
--- What a call answers that is answered by itself. fd_datasync, fd_sync and file_advise have nothing to do.
+-- What a call answers that is answered by itself. fd_datasync, fd_sync, file_advise and thread_yield have nothing to do.
 abbrev pub answer_of : Call → Option Errno
 answer_of (call.FdDatasync fd) = Some Success
 answer_of (call.FdSync fd) = Some Success
 answer_of (call.FileAdvise fd offset length advice) = Some Success
+answer_of call.ThreadYield = Some Success
 answer_of (call.Memory number errno) = Some errno
 answer_of (call.Refused number errno) = Some errno
 answer_of (call.Unknown number) = Some Nosys
@@ -108,8 +109,6 @@ answer_of _ = None
 
 -- the calls that aren't built yet
 abbrev pub is_unbuilt : Call → Bool
-is_unbuilt (call.ClockResGet clock) = true
-is_unbuilt (call.ClockTimeGet clock precision) = true
 is_unbuilt (call.CondvarSignal condvar word scope n) = true
 is_unbuilt (call.FdCreate1 kind) = true
 is_unbuilt (call.FdCreate2 kind) = true
@@ -117,13 +116,9 @@ is_unbuilt (call.LockUnlock lock word scope) = true
 is_unbuilt (call.ProcExec fd bytes fds) = true
 is_unbuilt (call.ProcFork left) = true
 is_unbuilt (call.ProcRaise signal) = true
-is_unbuilt (call.RandomGet length) = true
 is_unbuilt (call.SockRecv fd length fds flags) = true
 is_unbuilt (call.SockSend fd bytes fds flags) = true
 is_unbuilt (call.SockShutdown fd how) = true
-is_unbuilt (call.ThreadCreate attributes) = true
-is_unbuilt (call.ThreadExit lock word scope) = true
-is_unbuilt call.ThreadYield = true
 is_unbuilt _ = false
 
 -- ---- the part that does a call
@@ -139,5 +134,10 @@ IsOf c (family.Open view) = c ≡ call_of_open view
 IsOf c (family.Exit code) = c ≡ call.ProcExit code
 IsOf c (family.Zeros place) = zeros_of c ≡ Some place
 IsOf c (family.Poll subscriptions) = c ≡ call.Poll subscriptions.now
+IsOf c (family.ClockResolution clock) = c ≡ call.ClockResGet clock
+IsOf c (family.ClockTime clock precision) = c ≡ call.ClockTimeGet clock precision
+IsOf c (family.Random length) = c ≡ call.RandomGet length
+IsOf c (family.NewThread attributes) = c ≡ call.ThreadCreate attributes
+IsOf c (family.ThreadExit lock word scope) = c ≡ call.ThreadExit lock word scope
 IsOf c (family.Answered errno) = answer_of c ≡ Some errno
 IsOf c family.NotBuilt = is_unbuilt c ≡ true

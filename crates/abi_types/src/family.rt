@@ -5,7 +5,7 @@ ghost use Rattle.abi_types.specs.Families.{IsOf, fd_of_file, fd_of_offset, fds_o
 use crate::call::{Call, Lookup};
 use crate::place::Place;
 use abi_base::Errno;
-use abi_structures::{FdStat, FileStat, Subscription};
+use abi_structures::{FdStat, FileStat, Subscription, ThreadAttr};
 
 /// What a call does to its process's descriptors.
 #[derive(Clone, Copy)]
@@ -147,6 +147,16 @@ pub enum Family<'a> {
     Zeros(Place),
     /// poll: waits for one of these.
     Poll(&'a [Subscription]),
+    /// clock_res_get: how fine a clock is.
+    ClockResolution { clock: u32 },
+    /// clock_time_get: what a clock shows.
+    ClockTime { clock: u32, precision: u64 },
+    /// random_get: draws so many random bytes.
+    Random { length: u64 },
+    /// thread_create: makes a thread, which begins so.
+    NewThread(ThreadAttr),
+    /// thread_exit: lets a lock go, whose word is this, and ends the thread.
+    ThreadExit { lock: u64, word: u32, scope: u32 },
     /// Answers this, and changes nothing.
     Answered(Errno),
     /// One of the calls that aren't built yet.
@@ -353,27 +363,34 @@ impl Call {
             }),
             Call::ProcExit { code } => Family::Exit { code: *code },
             Call::Poll { subscriptions } => Family::Poll(subscriptions.as_slice()),
-            Call::FdDatasync { .. } | Call::FdSync { .. } | Call::FileAdvise { .. } => {
-                Family::Answered(Errno::Success)
-            }
+            Call::ClockResGet { clock } => Family::ClockResolution { clock: *clock },
+            Call::ClockTimeGet { clock, precision } => Family::ClockTime {
+                clock: *clock,
+                precision: *precision,
+            },
+            Call::RandomGet { length } => Family::Random { length: *length },
+            Call::ThreadCreate { attributes } => Family::NewThread(*attributes),
+            Call::ThreadExit { lock, word, scope } => Family::ThreadExit {
+                lock: *lock,
+                word: *word,
+                scope: *scope,
+            },
+            Call::FdDatasync { .. }
+            | Call::FdSync { .. }
+            | Call::FileAdvise { .. }
+            | Call::ThreadYield => Family::Answered(Errno::Success),
             Call::Memory { errno, .. } | Call::Refused { errno, .. } => Family::Answered(*errno),
             Call::Unknown { .. } => Family::Answered(Errno::Nosys),
-            Call::ClockResGet { .. }
-            | Call::ClockTimeGet { .. }
-            | Call::CondvarSignal { .. }
+            Call::CondvarSignal { .. }
             | Call::FdCreate1 { .. }
             | Call::FdCreate2 { .. }
             | Call::LockUnlock { .. }
             | Call::ProcExec { .. }
             | Call::ProcFork { .. }
             | Call::ProcRaise { .. }
-            | Call::RandomGet { .. }
             | Call::SockRecv { .. }
             | Call::SockSend { .. }
-            | Call::SockShutdown { .. }
-            | Call::ThreadCreate { .. }
-            | Call::ThreadExit { .. }
-            | Call::ThreadYield => Family::NotBuilt,
+            | Call::SockShutdown { .. } => Family::NotBuilt,
         }
     }
 }

@@ -1,10 +1,12 @@
 -- What each call leaves of its process's table is what its line of `granted_row` says.
-use Rattle.std.proofs.Common.{◌≡◌, ℕ, ◌==◌, Bool, true, false, cond, List, [], ◌∷◌, ◌++◌, Option, Some, None, refl, sym, ap, subst, ◌∙◌}
+use Rattle.std.proofs.Common.{◌≡◌, ℕ, ◌==◌, not, Bool, true, false, cond, List, [], ◌∷◌, ◌++◌, Option, Some, None, refl, sym, ap, subst, ◌∙◌}
 use Rattle.std.specs.Prelude.{bit_and, option_map}
-use Rattle.std.specs.FinMap.{get, insert, remove}
+use Rattle.std.specs.FinMap.{get, insert, len-empty, remove}
+use Rattle.std.specs.Ordering.{nat_cmp}
 use Rattle.abi_base.specs.declared.errno.Errno.{Errno}
-use Rattle.abi_base.specs.declared.errno.Errno.TheVariants.{Success, Badf, Mfile, Nosys}
+use Rattle.abi_base.specs.declared.errno.Errno.TheVariants.{Success, Again, Badf, Mfile, Nosys, Perm}
 use Rattle.abi_structures.specs.declared.structures.FdStat.{FdStat}
+use Rattle.abi_structures.specs.declared.structures.ThreadAttr.{ThreadAttr}
 use Rattle.abi_types.specs.declared.reply.Answer.{Answer}
 use Rattle.abi_types.specs.declared.reply.Answer.TheVariants as answer
 use Rattle.abi_types.specs.declared.call.Call.{Call}
@@ -18,11 +20,12 @@ use Rattle.abi_types.specs.declared.needed.Needed.{Needed}
 use Rattle.abi_types.specs.declared.node.NodeKind.TheVariants.{Link}
 use Rattle.abi_types.specs.declared.open_kind.OpenKind.{OpenKind}
 use Rattle.abi_types.specs.declared.place.Place.{Place}
+use Rattle.abi_types.specs.declared.thread.Thread.{Thread}
 use Rattle.abi_types.specs.declared.who.Who.{Who}
 use Rattle.maps.specs.Maps.{get-insert-same}
 use Rattle.kernel_model.specs.Calls.{meaning_of, refusal_of}
 use Rattle.kernel_model.specs.Families.DescriptorCalls.{with_table, lowest_free, dup_at, dup_of, replaced_by, stat_open, stat_get, with_flags, lowered_to, stat_set, stat_put}
-use Rattle.kernel_model.specs.Families.ClockCalls.{real_time}
+use Rattle.kernel_model.specs.Families.ClockCalls.{drawn_if, real_time, time_of}
 use Rattle.kernel_model.specs.Families.FileCalls.{file_meaning, file_fd}
 use Rattle.kernel_model.specs.Families.FileMeaning.{on_open, open_of}
 use Rattle.kernel_model.specs.Families.FilePaths.{walked}
@@ -38,6 +41,11 @@ use Rattle.abi_structures.specs.declared.events.Subscription.{Subscription}
 use Rattle.abi_types.specs.declared.reply.WordWrites.TheVariants.{Zero}
 use Rattle.kernel_model.specs.Families.WaitCalls.{clock_event, events_reply}
 use Rattle.kernel_model.proofs.WaitCalls.{poll_holds}
+use Rattle.kernel_model.specs.Families.LockWords.{unlocked}
+use Rattle.kernel_model.specs.Families.ProcessCalls.{ended_process, made_if}
+use Rattle.kernel_model.specs.OwnChanges.{without_thread}
+use Rattle.kernel_model.proofs.ClockCalls.{drawn_holds}
+use Rattle.kernel_model.proofs.ThreadCalls.{left_holds, made_holds}
 use Rattle.kernel_model.specs.Families.StreamCalls.{reading, seeking, writing}
 use Rattle.abi_types.specs.Families.{is_anonymous}
 use Rattle.kernel_model.specs.Families.MemoryCalls.{map_row, map_zeros, mapping}
@@ -50,9 +58,9 @@ use Rattle.kernel_model.proofs.NameProper.{outcome_tables}
 use Rattle.kernel_model.proofs.OpenMeanings.{OpensWell, apart_descriptor, apart_tables}
 use Rattle.kernel_model.proofs.Refusals.{refusal_is_other}
 use Rattle.kernel_model.proofs.StreamCalls.{read_opens_well, seek_opens_well, write_opens_well}
-use Rattle.authority_laws.specs.Ledger.{Row, After, after_of, with_held, lowered_row, granted_row, by_success, answered_row}
+use Rattle.authority_laws.specs.Ledger.{Row, no_row, has_thread, After, after_of, with_held, lowered_row, granted_row, by_success, answered_row}
 use Rattle.authority_laws.proofs.Openings.{open_reported, walk_by_error}
-use Rattle.authority_laws.proofs.Rows.{LeavesRow, row_in, row_of, row_emptied, row_inserted, row_removed, by_error, by_either, refused_reported, badf_is_error, mfile_is_error, nosys_is_error}
+use Rattle.authority_laws.proofs.Rows.{LeavesRow, row_in, row_of, row_emptied, row_inserted, row_removed, by_error, by_either, refused_reported, badf_is_error, mfile_is_error, nosys_is_error, again_is_error, perm_is_error}
 
 -- each outcome of the call of a process with this table, once it is not refused, is such
 abbrev IsReported : Call → Type 0
@@ -237,11 +245,39 @@ put_reported S v p table fd stat flags (Some d) there here = set_stat_reported S
 fd_stat_put_reported : (fd : ℕ) (stat : FdStat) (flags : ℕ) → IsReported (FdStatPut fd stat flags)
 fd_stat_put_reported fd stat flags constants S v who table there = put_reported S v who.pid table fd stat flags (get table fd) there refl
 
+-- ---- threads and random bytes
+
+random_reported : (length : ℕ) → IsReported (call.RandomGet length)
+random_reported length constants S v who table there =
+    drawn_holds (LeavesRow S who.pid (call.RandomGet length)) constants who.pid (v.process who.pid) length
+    (refused_reported S who.pid (call.RandomGet length) Again again_is_error)
+    (λ own _. kept S who.pid (call.RandomGet length) (drawn_if true constants who.pid own length) (λ after row reply. refl) refl)
+
+create_reported : (attributes : ThreadAttr) → IsReported (call.ThreadCreate attributes)
+create_reported attributes constants S v who table there =
+    made_holds (LeavesRow S who.pid (call.ThreadCreate attributes)) who.pid who.tid (v.process who.pid)
+    (refused_reported S who.pid (call.ThreadCreate attributes) Again again_is_error)
+    (λ own _ _. kept S who.pid (call.ThreadCreate attributes) (made_if true who.pid own) (λ after row reply. refl) refl)
+
+-- thread_exit: the process ends with its last thread, and else it has one left
+exit_reported : (lock word scope : ℕ) → IsReported (call.ThreadExit lock word scope)
+exit_reported lock word scope constants S v who table there =
+    let row : Row = row_of S who.pid in
+    left_holds (LeavesRow S who.pid (call.ThreadExit lock word scope)) who.pid who.tid (v.process who.pid) lock (unlocked who.tid word)
+    (refused_reported S who.pid (call.ThreadExit lock word scope) Perm perm_is_error)
+    (λ new last. row_emptied S.tables who.pid
+    ∙ sym (ap (λ o. cond (has_thread o) row no_row) (get-insert-same S.processes who.pid (ended_process (v.process who.pid)))
+    ∙ ap (λ n. cond (not (n == 0)) row no_row) (len-empty nat_cmp Thread)))
+    (λ new own _ more. sym (ap (λ o. cond (has_thread o) row no_row) (get-insert-same S.processes who.pid (without_thread who.tid own))
+    ∙ ap (λ b. cond (not b) row no_row) more))
+
 -- ---- all of them
 
 pub reported : (call : Call) → IsReported call
-reported (call.ClockResGet clock) = unbuilt_reported (call.ClockResGet clock) (λ constants v who table. refl)
-reported (call.ClockTimeGet clock precision) = unbuilt_reported (call.ClockTimeGet clock precision) (λ constants v who table. refl)
+reported (call.ClockResGet clock) = λ constants S v who table there.
+    kept S who.pid (call.ClockResGet clock) (replies (success 1000 0)) (λ after row reply. refl) refl
+reported (call.ClockTimeGet clock precision) = λ constants S v who table there.
+    kept S who.pid (call.ClockTimeGet clock precision) (replies (success (time_of constants clock v.clock) 0)) (λ after row reply. refl) refl
 reported (call.CondvarSignal condvar word scope n) = unbuilt_reported (call.CondvarSignal condvar word scope n) (λ constants v who table. refl)
 reported (call.FdClose fd) = fd_close_reported fd
 reported (call.FdCreate1 kind) = unbuilt_reported (call.FdCreate1 kind) (λ constants v who table. refl)
@@ -286,13 +322,13 @@ reported (call.ProcExec fd bytes fds) = unbuilt_reported (call.ProcExec fd bytes
 reported (call.ProcExit code) = proc_exit_reported code
 reported (call.ProcFork left) = unbuilt_reported (call.ProcFork left) (λ constants v who table. refl)
 reported (call.ProcRaise signal) = unbuilt_reported (call.ProcRaise signal) (λ constants v who table. refl)
-reported (call.RandomGet length) = unbuilt_reported (call.RandomGet length) (λ constants v who table. refl)
+reported (call.RandomGet length) = random_reported length
 reported (call.SockRecv fd length fds flags) = unbuilt_reported (call.SockRecv fd length fds flags) (λ constants v who table. refl)
 reported (call.SockSend fd bytes fds flags) = unbuilt_reported (call.SockSend fd bytes fds flags) (λ constants v who table. refl)
 reported (call.SockShutdown fd how) = unbuilt_reported (call.SockShutdown fd how) (λ constants v who table. refl)
-reported (call.ThreadCreate attributes) = unbuilt_reported (call.ThreadCreate attributes) (λ constants v who table. refl)
-reported (call.ThreadExit lock word scope) = unbuilt_reported (call.ThreadExit lock word scope) (λ constants v who table. refl)
-reported call.ThreadYield = unbuilt_reported call.ThreadYield (λ constants v who table. refl)
+reported (call.ThreadCreate attributes) = create_reported attributes
+reported (call.ThreadExit lock word scope) = exit_reported lock word scope
+reported call.ThreadYield = nothing_reported call.ThreadYield (λ after row reply. refl) (λ constants v who table. refl)
 reported (call.Refused number errno) = λ constants S v who table there. decided_reported (call.Refused number errno) errno S who.pid (λ after row reply. refl)
 reported (call.Unknown number) = λ constants S v who table there. decided_reported (call.Unknown number) Nosys S who.pid (λ after row reply. refl)
 

@@ -8,7 +8,7 @@ use Rattle.abi_structures.specs.declared.structures.FdStat.{FdStat}
 use Rattle.abi_types.specs.declared.reply.Answer.{Answer}
 use Rattle.abi_types.specs.declared.reply.Answer.TheVariants as answer
 use Rattle.abi_types.specs.declared.call.Call.{Call}
-use Rattle.abi_types.specs.declared.call.Call.TheVariants.{FdClose, FdCreate2, FdDup, FdReplace, FdStatPut, FileOpen, ProcExit, ProcFork}
+use Rattle.abi_types.specs.declared.call.Call.TheVariants.{FdClose, FdCreate2, FdDup, FdReplace, FdStatPut, FileOpen, ProcExit, ProcFork, ThreadExit}
 use Rattle.abi_types.specs.declared.reply.Reply.{Reply}
 use Rattle.abi_types.specs.declared.descriptor.Descriptor.{Descriptor}
 use Rattle.run_types.specs.declared.history.Act.{Act}
@@ -16,7 +16,7 @@ use Rattle.run_types.specs.declared.history.Act.TheVariants as act
 use Rattle.abi_types.specs.declared.open_kind.OpenKind.{OpenKind}
 use Rattle.kernel_model.specs.Families.DescriptorCalls.{lowered_to}
 use Rattle.kernel_model.specs.Families.Opening.{opened_descriptor}
-use Rattle.authority_laws.specs.Ledger.{Row, After, with_held, lowered_row, granted_row, by_success, answered_row}
+use Rattle.authority_laws.specs.Ledger.{Row, no_row, After, with_held, lowered_row, granted_row, by_success, answered_row}
 use Rattle.authority_laws.specs.Origins.{IsNoMoreThan, Change, stays, ends, closes, copies, lowers, opens, makes, makes_both}
 use Rattle.authority_laws.specs.Recorded.{acted_row}
 
@@ -48,6 +48,10 @@ opened_change : (after : After) (row : Row) (n : ℕ) (stat : FdStat) (o : Optio
 opened_change after row n stat None there = closes n refl
 opened_change after row n stat (Some kind) there = opens n kind stat there refl
 
+where_ends_change : (after : After) (row : Row) (lasts : Bool) → Change after row (cond lasts row no_row)
+where_ends_change after row true = stays refl
+where_ends_change after row false = ends refl
+
 -- each call that changes what its process holds has a line
 granted_change : (after : After) (row : Row) (call : Call) (reply : Reply) → Change after row (granted_row after row call reply)
 granted_change after row (FdClose fd) reply = closes fd refl
@@ -58,6 +62,7 @@ granted_change after row (FdStatPut fd stat flags) reply = where_set_change afte
 granted_change after row (FileOpen lookup path oflags stat) reply = opened_change after row reply.r1 stat (after.made 0).kind refl
 granted_change after row (ProcExit code) reply = ends refl
 granted_change after row (ProcFork left) reply = makes reply.r1 refl
+granted_change after row (ThreadExit lock word scope) reply = where_ends_change after row after.threaded
 granted_change after row _ reply = stays refl
 
 either_change : (after : After) (errno : Errno) (granted row : Row) → Change after row granted → Change after row (by_success errno granted row)

@@ -31,7 +31,7 @@ use Rattle.kernel_model.proofs.DescriptorCalls.{free_is_absent}
 use Rattle.kernel_model.proofs.HeldOpens.{HoldsAsMuch, dup_holds, open_holds, spares_all, stat_put_holds}
 use Rattle.kernel_model.proofs.Outcomes.{outcome_holds}
 use Rattle.kernel_model.proofs.Refusals.{on_reply, absent_is_badf, refusal_is_other}
-use Rattle.kernel_model.proofs.Tests.{none_is_no, not_true, same_some}
+use Rattle.kernel_model.proofs.Tests.{not_true}
 use Rattle.run_model.specs.Legal.{FitsAct, Legal}
 use Rattle.run_model.specs.World.{World, guest_of, acted, called_state, turned, who_of, world}
 use Rattle.run_model.proofs.Histories.{apply_is, legal_front, legal_next, world_more}

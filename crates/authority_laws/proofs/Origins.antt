@@ -10,7 +10,7 @@ use Rattle.abi_base.specs.declared.errno.Errno.TheVariants.{Success}
 use Rattle.abi_base.specs.declared.grant.Grant.{Grant}
 use Rattle.abi_structures.specs.declared.structures.FdStat.{FdStat}
 use Rattle.abi_types.specs.declared.call.Call.{Call}
-use Rattle.abi_types.specs.declared.call.Call.TheVariants.{FdClose, FdCreate2, FdDup, FdReplace, FdStatPut, FileOpen, ProcExit, ProcFork, SockSend}
+use Rattle.abi_types.specs.declared.call.Call.TheVariants.{FdClose, FdCreate2, FdDup, FdReplace, FdStatPut, FileOpen, ProcExit, ProcFork, SockSend, ThreadExit}
 use Rattle.abi_types.specs.declared.descriptor.Descriptor.{Descriptor}
 use Rattle.abi_types.specs.declared.open_kind.OpenKind.{OpenKind}
 use Rattle.abi_types.specs.declared.reply.Answer.{Answer}
@@ -107,6 +107,10 @@ module _ (after : After) (l : Ledger) (e : Entry) where
   opened_from stat within (Some kind) d is =
       subst (Origin after l e e.pid) (same_some (opened_descriptor (after.made 0).number kind stat) d is) (within kind)
 
+  where_ends_from : (lasts : Bool) → RowComesFrom (cond lasts (l.held e.pid) no_row)
+  where_ends_from true = own_from
+  where_ends_from false = nothing_from
+
   granted_from : (call : Call) (reply : Reply) → OpensWithin call → RowComesFrom (granted_row after (l.held e.pid) call reply)
   granted_from (FdClose fd) reply within = number_from (l.held e.pid) fd None own_from (λ d here. absurd (none_is_no d here))
   granted_from (FdCreate2 kind) reply within =
@@ -121,6 +125,7 @@ module _ (after : After) (l : Ledger) (e : Entry) where
   granted_from (ProcExit code) reply within = nothing_from
   granted_from (ProcFork left) reply within =
       number_from (l.held e.pid) reply.r1 (new_held (after.made 0)) own_from (made_from 0 (after.made 0).kind refl)
+  granted_from (ThreadExit lock word scope) reply within = where_ends_from after.threaded
   granted_from _ reply within = own_from
 
   success_from : (errno : Errno) (granted : Row) → (errno ≡ Success → RowComesFrom granted) → RowComesFrom (by_success errno granted (l.held e.pid))

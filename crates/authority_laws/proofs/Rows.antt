@@ -5,7 +5,7 @@ use Rattle.std.proofs.lemmas.Bool.Decides.{eqb_tells}
 use Rattle.std.specs.Ordering.{nat_cmp}
 use Rattle.std.specs.FinMap.{FinMap, get, get-empty, insert, remove, empty}
 use Rattle.abi_base.specs.declared.errno.Errno.{Errno}
-use Rattle.abi_base.specs.declared.errno.Errno.TheVariants.{Success, Again, Badf, Mfile, Notcapable, Nosys}
+use Rattle.abi_base.specs.declared.errno.Errno.TheVariants.{Success, Again, Badf, Mfile, Notcapable, Nosys, Perm}
 use Rattle.abi_types.specs.declared.call.Call.{Call}
 use Rattle.abi_types.specs.declared.descriptor.Descriptor.{Descriptor}
 use Rattle.maps.specs.Maps.{get-insert-same, get-insert-other, get-remove-same, get-remove-other}
@@ -102,6 +102,9 @@ badf_is_error e = cc
 
 pub mfile_is_error : Mfile ≢ Success
 mfile_is_error e = cc
+
+pub perm_is_error : Perm ≢ Success
+perm_is_error e = cc
 
 pub again_is_error : Again ≢ Success
 again_is_error e = cc

@@ -37,14 +37,14 @@ use Rattle.kernel_model.specs.View.{whole}
 use Rattle.kernel_model.specs.Deadlines.{idle_state}
 use Rattle.kernel_model.specs.Waits.{resumed, waiting, waits_if}
 use Rattle.kernel_model.specs.Wakes.{IsWake}
-use Rattle.kernel_model.proofs.Ends.{table_after, table_spared}
+use Rattle.kernel_model.proofs.Ends.{process_spared, table_after, table_spared}
 use Rattle.kernel_model.proofs.Outcomes.{outcome_holds}
 use Rattle.kernel_model.proofs.Starts.{find_numbered}
 use Rattle.kernel_model.proofs.Steps.{step_moves_only, end_ends_only, unless_killed}
 use Rattle.kernel_model.proofs.Tests.{not_true, none_is_no, same_some}
 use Rattle.kernel_model.proofs.Touches.{live_spared}
 use Rattle.kernel_model.proofs.Valids.{get_released, held_or_carried, held_stays, left_counts, named_is_held, released_stays}
-use Rattle.authority_laws.specs.Ledger.{Row, no_row, with_held, Ledger, After, Made, after_of, object_at, process_of, sends_of, is_live, is_new, last_made, recently_made, with_row, with_child, of_live, launch_row, launch_ledger, new_descriptor, new_held, new_held_of, granted_row, by_success, answered_row, answered_child}
+use Rattle.authority_laws.specs.Ledger.{Row, no_row, has_thread, with_held, Ledger, After, Made, after_of, object_at, process_of, sends_of, is_live, is_new, last_made, recently_made, with_row, with_child, of_live, launch_row, launch_ledger, new_descriptor, new_held, new_held_of, granted_row, by_success, answered_row, answered_child}
 use Rattle.authority_laws.specs.Laws.{Holds}
 use Rattle.authority_laws.proofs.Calls.{reported, refusal_reported}
 use Rattle.authority_laws.proofs.Unbuilt.{makes_no_child}
@@ -145,12 +145,13 @@ seen_made : (U : State) (p k : ℕ) → recently_made (seen U) p k ≡ recently_
 seen_made U p k =
     seen_by_counts U p k ∙ ap (λ (c : Counts). after_by (release U) p c k) (sym (left_counts U p)) ∙ sym (made_by_counts (release U) p k)
 
-seen_after : (U : State) (p : ℕ) → after_of (seen U) p ≡ after_of (release U) p
-seen_after U p = λ i. record {
+seen_after : (U : State) (p : ℕ) → IsSpared U p → after_of (seen U) p ≡ after_of (release U) p
+seen_after U p spared = λ i. record {
   made = λ k. seen_made U p k i;
   child = process_of (seen_made U p 0 i).kind;
   opened = λ o. get (release U).opens o;
   sends = sends_of (release U);
+  threaded = has_thread (sym (process_spared U (ends U) p spared) i);
   live = λ q. is_live (get (release U).statuses q);
 }
 
@@ -219,7 +220,7 @@ step_row constants S who call given T (inl done) unkilled =
     subst (λ (V : State). row_of V who.pid ≡ answered_row (after_of V who.pid) (row_of S who.pid) call given) (sym done.1)
     (row_spared U who.pid spared ∙ reported
     ∙ answered_stays U who.pid (row_of S who.pid) call (step_answer constants S who call) spared reported
-    ∙ ap (λ (a : After). answered_row a (row_of S who.pid) call (step_answer constants S who call)) (seen_after U who.pid)
+    ∙ ap (λ (a : After). answered_row a (row_of S who.pid) call (step_answer constants S who call)) (seen_after U who.pid spared)
     ∙ ap (answered_row (after_of (release U) who.pid) (row_of S who.pid) call) (sym done.0))
 step_row constants S who call given T (inr lacking) unkilled =
     ap (λ (U : State). row_of U who.pid) lacking.2 ∙ ap (answered_row (after_of T who.pid) (row_of S who.pid) call) (sym lacking.1)

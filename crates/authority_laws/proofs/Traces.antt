@@ -11,7 +11,7 @@ use Rattle.abi_base.specs.declared.grant.Grant.{Grant}
 use Rattle.abi_structures.specs.declared.structures.FdStat.{FdStat}
 use Rattle.tree_model.specs.Grants.{MayBegin}
 use Rattle.abi_types.specs.declared.call.Call.{Call}
-use Rattle.abi_types.specs.declared.call.Call.TheVariants.{FdClose, FdCreate2, FdDup, FdReplace, FdStatPut, FileOpen, ProcExit, ProcFork}
+use Rattle.abi_types.specs.declared.call.Call.TheVariants.{FdClose, FdCreate2, FdDup, FdReplace, FdStatPut, FileOpen, ProcExit, ProcFork, ThreadExit}
 use Rattle.abi_types.specs.declared.descriptor.Descriptor.{Descriptor}
 use Rattle.abi_types.specs.declared.open_kind.OpenKind.{OpenKind}
 use Rattle.abi_types.specs.declared.reply.Answer.{Answer}
@@ -150,6 +150,11 @@ module _ (launch : Launch) (front : List Entry) (e : Entry) (begins : MayBegin l
       absurd (unbuilt_fails w.constants w.state (who_of w.state e) call reply (called_state w.constants w.state (who_of w.state e) call (answer.Reply reply)) unbuilt
       (stepped launch front e [] call reply legal done) done.success)
 
+  -- where it holds what it held, or nothing
+  where_ends_traced : (lasts : Bool) → after ≡ cond lasts row no_row → (n : ℕ) (d : Descriptor) → after n ≡ Some d → Is e.pid n d
+  where_ends_traced true left = same_traced left
+  where_ends_traced false left = none_traced left
+
   call_traced : (call : Call) (reply : Reply) → Succeeds e call reply → after ≡ granted_row shown row call reply → (n : ℕ) (d : Descriptor)
       → after n ≡ Some d → Is e.pid n d
   call_traced (FdClose fd) reply done left = closed_traced fd left
@@ -165,6 +170,7 @@ module _ (launch : Launch) (front : List Entry) (e : Entry) (begins : MayBegin l
       changed_at reply.r1 o.d o.stands (way.opened front e lookup.fd reply.r1 stat from o (before e.pid lookup.fd o.x o.source)) o.others
   call_traced (ProcExit code) reply done left = none_traced left
   call_traced (ProcFork count) reply done left = never_done (ProcFork count) reply refl (λ constants v who table. refl) done
+  call_traced (ThreadExit lock word scope) reply done left = where_ends_traced shown.threaded left
   call_traced call reply done left = same_traced left
 
   errno_traced : (call : Call) (reply : Reply) (errno : Errno) → Replies e call reply → reply.errno ≡ errno

@@ -1,6 +1,6 @@
 -- Who holds which descriptors, and what a call leaves of that.
-use Rattle.std.specs.Prelude.{ℕ, zero, suc, ◌-◌, ◌==◌, ◌&&◌, bit_and, Bool, true, false, List, [], ◌∷◌, Option, None, Some, option_map, slice_get, if◌then◌else◌}
-use Rattle.std.specs.FinMap.{get}
+use Rattle.std.specs.Prelude.{ℕ, zero, suc, ◌-◌, ◌==◌, ◌&&◌, bit_and, not, Bool, true, false, List, [], ◌∷◌, Option, None, Some, option_map, slice_get, if◌then◌else◌}
+use Rattle.std.specs.FinMap.{get, len}
 use Rattle.abi_base.specs.declared.errno.Errno.{Errno}
 use Rattle.abi_base.specs.declared.errno.Errno.TheVariants.{Success}
 use Rattle.abi_base.specs.declared.grant.Grant.{Grant}
@@ -8,7 +8,7 @@ use Rattle.abi_structures.specs.declared.structures.FdStat.{FdStat}
 use Rattle.abi_types.specs.declared.reply.Answer.{Answer}
 use Rattle.abi_types.specs.declared.reply.Answer.TheVariants as answer
 use Rattle.abi_types.specs.declared.call.Call.{Call}
-use Rattle.abi_types.specs.declared.call.Call.TheVariants.{FdClose, FdCreate2, FdDup, FdReplace, FdStatPut, FileOpen, ProcExit, ProcFork, SockSend}
+use Rattle.abi_types.specs.declared.call.Call.TheVariants.{FdClose, FdCreate2, FdDup, FdReplace, FdStatPut, FileOpen, ProcExit, ProcFork, SockSend, ThreadExit}
 use Rattle.abi_types.specs.declared.reply.Reply.{Reply}
 use Rattle.abi_types.specs.declared.descriptor.Descriptor.{Descriptor}
 use Rattle.abi_types.specs.declared.open_kind.OpenKind.{OpenKind}
@@ -19,7 +19,7 @@ use Rattle.kernel_model.specs.Families.DescriptorCalls.{lowered_to}
 use Rattle.kernel_model.specs.Families.Numbers.{object_of}
 use Rattle.kernel_model.specs.Families.Opening.{opened_descriptor}
 use Rattle.kernel_model.specs.Start.{granted_descriptor}
-use Rattle.kernel_model.specs.State.{State, Tree, counts_in}
+use Rattle.kernel_model.specs.State.{ProcessState, State, Tree, counts_in}
 use Rattle.kernel_model.specs.Fits.{fits}
 
 -- what one process holds: the descriptor under each number, where there is one
@@ -94,14 +94,20 @@ is_live _ = false
 abbrev pub sends_of : State → ℕ → ℕ
 sends_of S c = 0
 
+-- whether a process has a thread left
+abbrev pub has_thread : Option ProcessState → Bool
+has_thread None = false
+has_thread (Some own) = not (len own.threads == 0)
+
 -- What the ledger reads of the state after an entry: the objects that the entry's process made, from the last one on; the process
--- that it made, if the last of these is the open of one; what each open is; how many sends each channel has had; and whether each
--- process is live. No table is among it.
+-- that it made, if the last of these is the open of one; what each open is; how many sends each channel has had; whether the process has a
+-- thread left; and whether each process is live. No table is among it.
 pub record After : Type 0 where
   pub made : ℕ → Made
   pub child : Option ℕ
   pub opened : ℕ → Option OpenKind
   pub sends : ℕ → ℕ
+  pub threaded : Bool
   pub live : ℕ → Bool
 
 abbrev pub after_of : State → ℕ → After
@@ -110,6 +116,7 @@ after_of S p = record {
   child = process_of (last_made S p).kind;
   opened = λ o. get S.opens o;
   sends = sends_of S;
+  threaded = has_thread (get S.processes p);
   live = λ q. is_live (get S.statuses q);
 }
 
@@ -153,6 +160,7 @@ lowered_row row n stat = with_held row n (option_map (λ d. lowered_to d stat) (
 -- file_open: under the number that is the result stands the open made there, with the rights asked that are of its type.
 -- proc_exit: nothing is held.
 -- proc_fork: under the number that is the result stands the open of the process that was made, with all rights of its type.
+-- thread_exit: nothing is held where the process has no thread left, since it ends with its last one.
 abbrev pub granted_row : After → Row → Call → Reply → Row
 granted_row after row (FdClose fd) reply = with_held row fd None
 granted_row after row (FdCreate2 kind) reply = with_held (with_held row reply.r1 (new_held (after.made 1))) reply.r2 (new_held (after.made 0))
@@ -162,6 +170,7 @@ granted_row after row (FdStatPut fd stat flags) reply = if bit_and flags 2 == 0 
 granted_row after row (FileOpen lookup path oflags stat) reply = with_held row reply.r1 (opened_held (after.made 0) stat)
 granted_row after row (ProcExit code) reply = no_row
 granted_row after row (ProcFork left) reply = with_held row reply.r1 (new_held (after.made 0))
+granted_row after row (ThreadExit lock word scope) reply = if after.threaded then row else no_row
 granted_row after row _ reply = row
 
 -- the process that a call made which succeeded: proc_fork makes one

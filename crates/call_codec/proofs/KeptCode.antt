@@ -10,7 +10,7 @@ use Rattle.abi_base.specs.declared.errno.Errno.TheVariants.{Success}
 use Rattle.abi_base.specs.Registers.{Registers}
 use Rattle.abi_structures.specs.declared.structures.Iovec.{Iovec}
 use Rattle.abi_types.specs.declared.call.Call.{Call}
-use Rattle.abi_types.specs.declared.call.Call.TheVariants.{FdPread, FdRead, FdStatGet, FileReaddir, FileReadlink, FileStatFget, FileStatGet, FdWrite, MemMap, Memory, Poll}
+use Rattle.abi_types.specs.declared.call.Call.TheVariants.{FdPread, FdRead, FdStatGet, FileReaddir, FileReadlink, FileStatFget, FileStatGet, FdWrite, MemMap, Memory, Poll, RandomGet, ThreadExit}
 use Rattle.abi_types.specs.declared.call_number.CallNumber.{CallNumber}
 use Rattle.abi_types.specs.declared.call_number.CallNumber.TheVariants.{MemProtect, MemUnmap}
 use Rattle.abi_types.specs.declared.place.Place.TheVariants as place
@@ -145,6 +145,8 @@ code_after m r (MemMap (place.Refused errno) size prot flags fd offset) writes g
 code_after m r (Memory number errno) writes given encoded none =
     succeeded_code m (with_change m r number) errno (λ done. changed_code m r number none)
 code_after m r (Poll subscriptions) writes given encoded none = as_code m _ (keeps_events m r writes given)
+code_after m r (RandomGet size) writes given encoded none = as_code m _ (keeps_payload m (argument r 0) given)
+code_after m r (ThreadExit lock word scope) writes given encoded none = words_keep_code m writes
 code_after m r _ writes given encoded none = same_code m
 
 -- the answer is a reply that the call succeeded

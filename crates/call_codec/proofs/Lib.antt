@@ -10,6 +10,7 @@ pub mod MemoryCalls
 pub mod Puts
 pub mod Outputs
 pub mod WokenOutputs
+pub mod ThreadOutputs
 pub mod Mappings
 pub mod KeptCode
 pub mod Rooms

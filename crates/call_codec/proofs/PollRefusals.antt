@@ -1,6 +1,6 @@
 -- A poll that is read is a poll, or it is refused with an error that is listed.
 --     poll_gives      so the reading of a poll gives one
-use Rattle.std.proofs.Common.{◌≡◌, ℕ, zero, suc, ◌+◌, ◌%◌, ◌^◌, List, [], ◌∷◌, Option, Some, None, Result, Ok, Err, refl}
+use Rattle.std.proofs.Common.{ℕ, zero, suc, ◌+◌, ◌%◌, ◌^◌, List, [], ◌∷◌, Option, Some, None, Result, Ok, Err, refl}
 use Rattle.abi_base.specs.declared.errno.Errno.{Errno}
 use Rattle.abi_base.specs.declared.errno.Errno.TheVariants.{Inval}
 use Rattle.abi_base.specs.Registers.{Registers}
@@ -11,7 +11,6 @@ use Rattle.abi_types.specs.declared.call.Call.{Call}
 use Rattle.abi_types.specs.declared.call.Call.TheVariants.{Poll}
 use Rattle.codec_arguments.specs.Arrays.{array_at, in_front}
 use Rattle.codec_arguments.specs.Bytes.{bytes_in}
-use Rattle.codec_arguments.specs.Reading.{◌>>=◌}
 use Rattle.codec_poll.specs.Found.{all_found, found_at, subscription_of, with_words, worded}
 use Rattle.codec_poll.specs.Poll.{poll_of}
 use Rattle.codec_poll.specs.Rules.{all_known, allowed, known, scopes_in, scopes_known}

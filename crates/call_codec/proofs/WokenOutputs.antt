@@ -41,10 +41,10 @@ use Rattle.call_codec.proofs.Readings.{passed, test_false}
 -- ---- words
 
 -- a word at an address is written, where its bytes may be
-word_written : (m : Pages) (a word : ℕ) → IsOk (bytes_from Write m a 4) → IsOk (write_of m a (to_le_bytes w32 word))
+pub word_written : (m : Pages) (a word : ℕ) → IsOk (bytes_from Write m a 4) → IsOk (write_of m a (to_le_bytes w32 word))
 word_written m a word may = write_made m a 4 (to_le_bytes w32 word) (omega arith) may
 
-word_room : (m : Pages) (a word : ℕ) → word_at m a ≡ Ok word → IsOk (bytes_from Write m a 4)
+pub word_room : (m : Pages) (a word : ℕ) → word_at m a ≡ Ok word → IsOk (bytes_from Write m a 4)
 word_room m a word stands =
     let may = passed (writable m a 4) (λ x. number_in m a) word stands in had_ok (bytes_from Write m a 4) may.0 may.1
 

@@ -8,6 +8,6 @@ use Rattle.run_types.specs.declared.launch.Launch.{Launch}
 -- argument data, it begins at most 2^62 nanoseconds after 1970, and it has at most 1,000,000,000 turns.
 pub record IsBounded (launch : Launch) : Type 0 where
   pub begins : MayBegin launch.tree launch.grants
-  pub start : MayStart launch.elf launch.argdata canary
+  pub start : MayStart launch.elf launch.argdata (canary launch.constants.key 0 0)
   pub epoch : launch.constants.epoch ≤ 2 ^ 62
   pub turns : launch.turns ≤ 1000000000

@@ -10,3 +10,4 @@ pub mod Start
 pub mod Bounded
 pub mod Refusals
 pub mod StartBlock
+pub mod ThreadLaws

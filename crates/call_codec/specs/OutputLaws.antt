@@ -1,4 +1,5 @@
--- What registers and memory that encode a call say of its output: each byte of it is written, and so are the words of a poll.
+-- What registers and memory that encode a call say of its output: each byte of it is written, and so are the words of a poll and of
+-- thread_exit.
 use Rattle.std.specs.Prelude.{◌≡◌, ◌⊎◌, ◌≤◌, ◌<◌, ◌+◌, ◌*◌, ◌/◌, ◌%◌, ℕ, true, false, List, [], ◌∷◌, take, drop, length, min, slice_index, Ok, IsOk, Option, Some, option_map}
 use Rattle.std.specs.FinMap.{get}
 use Rattle.std.specs.Int.{w32, to_le_bytes}
@@ -12,7 +13,7 @@ use Rattle.abi_structures.specs.declared.events.What.TheVariants as what
 use Rattle.abi_structures.specs.declared.structures.FdStat.{FdStat}
 use Rattle.abi_structures.specs.declared.structures.FileStat.{FileStat}
 use Rattle.abi_structures.specs.declared.structures.Iovec.{Iovec}
-use Rattle.abi_types.specs.declared.call.Call.TheVariants.{FdPread, FdRead, FdStatGet, FileReaddir, FileReadlink, FileStatFget, FileStatGet, MemMap, Poll}
+use Rattle.abi_types.specs.declared.call.Call.TheVariants.{FdPread, FdRead, FdStatGet, FileReaddir, FileReadlink, FileStatFget, FileStatGet, MemMap, Poll, RandomGet, ThreadExit}
 use Rattle.abi_types.specs.declared.call.Lookup.{Lookup}
 use Rattle.abi_types.specs.declared.place.Place.TheVariants.{At}
 use Rattle.abi_types.specs.declared.reply.Payload.{Payload}
@@ -24,6 +25,7 @@ use Rattle.guest_memory.specs.Written.{write_of}
 use Rattle.codec_arguments.specs.Arguments.{argument}
 use Rattle.codec_arguments.specs.Ranges.{ranges_at}
 use Rattle.codec_arguments.specs.declared.ranges.TheConstants.{MOST_TRANSFERRED}
+use Rattle.codec_calls.specs.declared.process_calls.TheConstants.{MOST_RANDOM}
 use Rattle.call_codec.specs.Arguments.{args_of, encoded_call}
 use Rattle.call_codec.specs.MemoryCalls.{pages_in, prot_of}
 use Rattle.call_codec.specs.Output.{content_of, event_bytes, events_bytes, fdstat_bytes, filestat_bytes, with_bytes, with_word, with_words}
@@ -82,6 +84,12 @@ FoundStateIsWritten =
     (m : Pages) (r : Registers) (lookup : Lookup) (path : List ℕ) → args_of m r ≡ FileStatGet lookup path
     → TakesFileState m (argument r 3)
 
+-- Where random_get is encoded, it asks for at most 65,536 bytes, and as many are written.
+abbrev pub RandomIsWritten : Type 0
+RandomIsWritten =
+    (m : Pages) (r : Registers) (size : ℕ) → args_of m r ≡ RandomGet size
+    → (size ≤ MOST_RANDOM) × ((bytes : List ℕ) → length bytes ≤ size → IsOk (write_of m (argument r 0) bytes))
+
 -- From an address on an event is written, of 32 bytes, and as many events as there are places for, one directly behind the other, also
 -- after words were written.
 pub record TakesEvents (m : Pages) (a places : ℕ) : Type 0 where
@@ -122,6 +130,12 @@ abbrev pub WordsAreWritten : Type 0
 WordsAreWritten =
     (m : Pages) (r : Registers) (left : ℕ) (first : Subscription) (others : List Subscription) (writes : WordWrites)
     → encoded_call m r left ≡ Poll (first ∷ others) → AreWordsOf first.what writes → AreWordsWritten m writes
+
+-- Where thread_exit is encoded, the word of the lock that it lets go is written, whatever it becomes.
+abbrev pub ExitWordIsWritten : Type 0
+ExitWordIsWritten =
+    (m : Pages) (r : Registers) (lock word scope becomes : ℕ) → args_of m r ≡ ThreadExit lock word scope
+    → IsOk (write_of m lock (to_le_bytes w32 becomes))
 
 -- the byte that stands at an address, if its page is there
 abbrev pub standing : Pages → ℕ → Option ℕ

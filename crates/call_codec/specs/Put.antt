@@ -6,7 +6,7 @@ use Rattle.abi_base.specs.declared.address_space.TheConstants.{PAGE_SIZE}
 use Rattle.abi_types.specs.declared.reply.Answer.{Answer}
 use Rattle.abi_types.specs.declared.reply.Answer.TheVariants as answer
 use Rattle.abi_types.specs.declared.call.Call.{Call}
-use Rattle.abi_types.specs.declared.call.Call.TheVariants.{FdDup, FdPread, FdPwrite, FdRead, FdSeek, FdStatGet, FdWrite, FileOpen, FileReaddir, FileReadlink, FileStatFget, FileStatGet, MemMap, Memory, Poll}
+use Rattle.abi_types.specs.declared.call.Call.TheVariants.{ClockResGet, ClockTimeGet, FdDup, FdPread, FdPwrite, FdRead, FdSeek, FdStatGet, FdWrite, FileOpen, FileReaddir, FileReadlink, FileStatFget, FileStatGet, MemMap, Memory, Poll, RandomGet, ThreadCreate, ThreadExit}
 use Rattle.abi_types.specs.declared.place.Place.{Place}
 use Rattle.abi_types.specs.declared.place.Place.TheVariants as place
 use Rattle.abi_types.specs.declared.place.Place.TheVariants.{At}
@@ -24,10 +24,12 @@ use Rattle.call_codec.specs.Arguments.{args_of}
 use Rattle.call_codec.specs.MemoryCalls.{memory_with, on_success, pages_in, prot_of, with_mapping, IsSomewhere, MayMapThere}
 use Rattle.call_codec.specs.Output.{content_of, with_content, with_payload, with_words}
 
--- the results of a call that succeeded: fd_dup and file_open have the new number; fd_pread, fd_pwrite, fd_read and fd_write have how
--- many bytes went, and file_readdir and file_readlink how many came; fd_seek has the new offset; mem_map has an address; poll has how
--- many events came
+-- the results of a call that succeeded: clock_res_get and clock_time_get have nanoseconds; fd_dup, file_open and thread_create have the
+-- new number; fd_pread, fd_pwrite, fd_read and fd_write have how many bytes went, and file_readdir and file_readlink how many came;
+-- fd_seek has the new offset; mem_map has an address; poll has how many events came
 abbrev pub with_results : Registers → Call → Reply → Registers
+with_results r (ClockResGet clock) reply = with_x r 11 reply.r1
+with_results r (ClockTimeGet clock precision) reply = with_x r 11 reply.r1
 with_results r (FdDup fd) reply = with_x r 11 reply.r1
 with_results r (FdPread fd length offset) reply = with_x r 11 reply.r1
 with_results r (FdPwrite fd bytes offset) reply = with_x r 11 reply.r1
@@ -39,6 +41,7 @@ with_results r (FileReaddir fd length cookie) reply = with_x r 11 reply.r1
 with_results r (FileReadlink fd path length) reply = with_x r 11 reply.r1
 with_results r (MemMap place length prot flags fd offset) reply = with_x r 11 reply.r1
 with_results r (Poll subscriptions) reply = with_x r 11 reply.r1
+with_results r (ThreadCreate attributes) reply = with_x r 11 reply.r1
 with_results r other reply = r
 
 abbrev pub put_of : Registers → Call → Reply → Registers
@@ -51,7 +54,7 @@ answered_of r call (answer.Parked writes) = r
 answered_of r call (answer.Reply reply) = put_of r call reply
 
 -- the memory after a call of these registers that succeeded and gave this beside its results: that goes to an iovec array, or to the
--- address in a1 or in a3, or stands in the pages that mem_map made. The calls that aren't named here write nothing of it
+-- address in a0, in a1 or in a3, or stands in the pages that mem_map made. The calls that aren't named here write nothing of it
 abbrev pub memory_after : Pages → Registers → Call → Payload → Pages
 memory_after m r (FdPread fd length offset) payload = with_content m r payload
 memory_after m r (FdRead fd length) payload = with_content m r payload
@@ -62,12 +65,14 @@ memory_after m r (FileStatFget fd) payload = with_payload m (argument r 1) paylo
 memory_after m r (FileStatGet lookup path) payload = with_payload m (argument r 3) payload
 memory_after m r (MemMap place length prot flags fd offset) payload = with_mapping m place (pages_in length) (prot_of prot) (content_of payload)
 memory_after m r (Poll subscriptions) payload = with_payload m (argument r 1) payload
+memory_after m r (RandomGet length) payload = with_payload m (argument r 0) payload
 memory_after m r other payload = memory_with m r other
 
--- the memory with the words that a call gave which succeeded: poll's are written before its events. The calls that aren't named here
--- write no word
+-- the memory with the words that a call gave which succeeded: poll's are written before its events, and thread_exit writes that of the
+-- lock that it lets go. The calls that aren't named here write no word
 abbrev pub worded_memory : Pages → Call → WordWrites → Pages
 worded_memory m (Poll subscriptions) writes = with_words m writes
+worded_memory m (ThreadExit lock word scope) writes = with_words m writes
 worded_memory m other writes = m
 
 -- the memory after an answer to a call of these registers

@@ -1,11 +1,13 @@
--- What a program starts with: its segments, a stack, a start block, and its first registers.
-use Rattle.std.specs.Prelude.{◌≡◌, ◌≤◌, ℕ, ◌+◌, ◌-◌, true, false, List, [], ◌∷◌, ◌++◌, length, replicate}
+-- What a program starts with: its segments, a stack, a start block, and its first registers; and the registers of a new thread.
+use Rattle.std.specs.Prelude.{◌≡◌, ◌≤◌, ℕ, ◌+◌, ◌-◌, ◌%◌, ◌^◌, true, false, List, [], ◌∷◌, ◌++◌, length}
 use Rattle.std.specs.Int.{w64, to_le_bytes}
 use Rattle.std.specs.FinMap.{empty}
 use Rattle.abi_base.specs.declared.address_space.TheConstants.{PAGE_SIZE}
 use Rattle.abi_base.specs.declared.limits.TheConstants.{MOST_ARGDATA}
 use Rattle.abi_base.specs.declared.prot.Prot.{Prot}
 use Rattle.abi_base.specs.Registers.{Registers, start_registers, with_x}
+use Rattle.abi_structures.specs.declared.structures.ThreadAttr.{ThreadAttr}
+use Rattle.clock_random.specs.Random.{random_bytes}
 use Rattle.elf_image.specs.declared.elf.Elf.{Elf}
 use Rattle.elf_image.specs.declared.elf.Segment.{Segment}
 use Rattle.elf_image.specs.Sound.{IsSound}
@@ -46,9 +48,9 @@ abbrev pub vector_of : List (ℕ × ℕ) → List ℕ
 vector_of [] = []
 vector_of (entry ∷ entries) = entry_bytes entry ++ vector_of entries
 
--- the canary of a start, 64 bytes, which are zero
-abbrev pub canary : List ℕ
-canary = replicate 64 0
+-- the canary of a start: 64 random bytes of a key and a stream from a place on
+abbrev pub canary : List ℕ → ℕ → ℕ → List ℕ
+canary key stream place = random_bytes key stream place 64
 
 -- the start block: the vector, the canary, and the argument data
 abbrev pub block_bytes : Elf → List ℕ → List ℕ → ℕ → ℕ → List ℕ
@@ -68,6 +70,11 @@ start_pages elf argdata canary pid tid = with_segments empty (start_segments elf
 -- the first thread stands at the entry, with sp at the stack's end, and a0 at the start block
 abbrev pub first_registers : ℕ → Registers
 first_registers entry = with_x (with_x (start_registers entry) 2 stack_end) 10 start_block_at
+
+-- a new thread with this number stands at its entry, with sp at its stack's end, its number in a0 and its argument in a1
+abbrev pub thread_registers : ThreadAttr → ℕ → Registers
+thread_registers attributes tid =
+    with_x (with_x (with_x (start_registers attributes.entry) 2 ((attributes.stack + attributes.stacklen) % 2 ^ 64)) 10 tid) 11 attributes.argument
 
 -- an image, argument data and a canary that a program can start with
 pub record MayStart (elf : Elf) (argdata canary : List ℕ) : Type 0 where

@@ -81,7 +81,9 @@ fn is_built(number: CallNumber) -> bool
     ensures { result ≡ is_built number }
 {
     match number {
-        CallNumber::FdClose
+        CallNumber::ClockResGet
+        | CallNumber::ClockTimeGet
+        | CallNumber::FdClose
         | CallNumber::FdCreate1
         | CallNumber::FdDatasync
         | CallNumber::FdDup
@@ -114,22 +116,20 @@ fn is_built(number: CallNumber) -> bool
         | CallNumber::MemSync
         | CallNumber::MemUnmap
         | CallNumber::Poll
-        | CallNumber::ProcExit => true,
-        CallNumber::ClockResGet
-        | CallNumber::ClockTimeGet
-        | CallNumber::CondvarSignal
+        | CallNumber::ProcExit
+        | CallNumber::RandomGet
+        | CallNumber::ThreadCreate
+        | CallNumber::ThreadExit
+        | CallNumber::ThreadYield => true,
+        CallNumber::CondvarSignal
         | CallNumber::FdCreate2
         | CallNumber::LockUnlock
         | CallNumber::ProcExec
         | CallNumber::ProcFork
         | CallNumber::ProcRaise
-        | CallNumber::RandomGet
         | CallNumber::SockRecv
         | CallNumber::SockSend
-        | CallNumber::SockShutdown
-        | CallNumber::ThreadCreate
-        | CallNumber::ThreadExit
-        | CallNumber::ThreadYield => false,
+        | CallNumber::SockShutdown => false,
     }
 }
 

@@ -1,9 +1,10 @@
 //! Laws of the definitions. The functions do nothing.
 ghost use Rattle.call_codec.specs.GivenLaws.{BuiltIsEncoded, EncodedHasFewRanges, GivenAtCall, WokenEventsAreWritten, WokenReadIsWritten, WokenWordIsWritten};
-ghost use Rattle.call_codec.specs.OutputLaws.{EntriesAreWritten, EventsAreWritten, FoundStateIsWritten, LinkIsWritten, MappingIsFilled};
-ghost use Rattle.call_codec.specs.OutputLaws.{OpenStateIsWritten, PreadIsWritten, ReadIsWritten, StateIsWritten, WordsAreWritten};
+ghost use Rattle.call_codec.specs.OutputLaws.{EntriesAreWritten, EventsAreWritten, ExitWordIsWritten, FoundStateIsWritten, LinkIsWritten, MappingIsFilled};
+ghost use Rattle.call_codec.specs.OutputLaws.{OpenStateIsWritten, PreadIsWritten, RandomIsWritten, ReadIsWritten, StateIsWritten, WordsAreWritten};
 ghost use Rattle.call_codec.specs.Refusals.{AdviseIsListed, MapIsListed, ProtectIsListed, SyncIsListed, UnmapIsListed};
 ghost use Rattle.call_codec.specs.StartBlock.{ArgdataStands, CanaryStands, VectorStands};
+ghost use Rattle.call_codec.specs.ThreadLaws.{ThreadStarts};
 
 /// What each call about memory answers, by a list of conditions of which the first that holds answers.
 pub fn refusals_are_listed()
@@ -22,10 +23,15 @@ pub fn start_block_stands()
     ensures argdata { ArgdataStands }
 {}
 
+/// A thread that is made starts with the registers that its maker asked for, and an instruction can stand at its entry.
+pub fn threads_start()
+    ensures { ThreadStarts }
+{}
+
 /// The output of a call that registers and memory encode is written whole: no write of bytes that were read, as many as the call
-/// asks for or has room for at most, and none of the state of a descriptor or of a file is refused. The pages that mem_map makes
-/// have the bytes that it gives, and zeros behind them. As many events as poll has subscriptions are written, and so are the words of the
-/// lock and the condition variable that it waits for.
+/// asks for or has room for at most, of as many random ones as it asks for, and none of the state of a descriptor or of a file is
+/// refused. The pages that mem_map makes have the bytes that it gives, and zeros behind them. As many events as poll has subscriptions
+/// are written, and so are the words of the lock and the condition variable that it waits for, and of the lock that thread_exit lets go.
 pub fn output_is_written()
     ensures pread { PreadIsWritten }
     ensures read { ReadIsWritten }
@@ -34,9 +40,11 @@ pub fn output_is_written()
     ensures link { LinkIsWritten }
     ensures open_state { OpenStateIsWritten }
     ensures found_state { FoundStateIsWritten }
+    ensures random { RandomIsWritten }
     ensures mapping { MappingIsFilled }
     ensures events { EventsAreWritten }
     ensures words { WordsAreWritten }
+    ensures exit_word { ExitWordIsWritten }
 {}
 
 /// What a thread that waited in a call is given when it goes on. Where its registers and memory encode the call as they did, it is the

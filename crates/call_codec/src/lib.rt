@@ -1,15 +1,17 @@
-//! Calls between registers, memory and the kernel: the memory that a program starts with, the call that registers and
-//! memory encode, and the registers and memory after an answer.
+//! Calls between registers, memory and the kernel: the memory that a program starts with, the registers of a new thread, the call
+//! that registers and memory encode, and the registers and memory after an answer.
 #![tactic(auto)]
 
 pub use arguments::{args, read_call};
 pub use code::may_change_code;
 pub use image::load;
-pub use laws::{output_is_written, refusals_are_listed, start_block_stands, wakes_are_given};
+pub use laws::{
+    output_is_written, refusals_are_listed, start_block_stands, threads_start, wakes_are_given,
+};
 pub use output::put_words;
 pub use replies::{put_answer, put_woken};
 pub use room::make_room;
-pub use start::start_memory;
+pub use start::{start_memory, thread_registers};
 pub use wakes::given;
 
 mod arguments;

@@ -89,7 +89,9 @@ fn put_results(regs: &mut Regs, call: &Call, reply: &Reply)
     ensures { regs.new ≡ with_results regs.old call.now reply.now }
 {
     match call {
-        Call::FdDup { .. }
+        Call::ClockResGet { .. }
+        | Call::ClockTimeGet { .. }
+        | Call::FdDup { .. }
         | Call::FdPread { .. }
         | Call::FdPwrite { .. }
         | Call::FdRead { .. }
@@ -99,7 +101,8 @@ fn put_results(regs: &mut Regs, call: &Call, reply: &Reply)
         | Call::FileReaddir { .. }
         | Call::FileReadlink { .. }
         | Call::MemMap { .. }
-        | Call::Poll { .. } => regs.set(11, reply.r1),
+        | Call::Poll { .. }
+        | Call::ThreadCreate { .. } => regs.set(11, reply.r1),
         _ => {}
     }
 }
@@ -170,6 +173,8 @@ fn put_output(regs: &Regs, memory: &mut GuestMemory, call: &Call, reply: &Reply)
             put_words(memory, &reply.writes);
             put_payload(memory, regs.get(11), payload);
         }
+        Call::RandomGet { .. } => put_payload(memory, regs.get(10), payload),
+        Call::ThreadExit { .. } => put_words(memory, &reply.writes),
         _ => {}
     }
 }

@@ -1,10 +1,10 @@
-//! What a program starts with.
+//! What a program and a new thread start with.
 ghost use Rattle.std.specs.Prelude.{◌≡◌, ◌++◌, ◌≤◌, length, IfOk, OnOk};
-ghost use Rattle.call_codec.specs.Start.{MayStart, block_bytes, block_of, entry_bytes, first_registers, stack, start_pages, vector_of};
+ghost use Rattle.call_codec.specs.Start.{MayStart, block_bytes, block_of, entry_bytes, first_registers, stack, start_pages, thread_registers, vector_of};
 
 use crate::image::{READ_WRITE, load, map_segment};
 use abi_base::PAGE_SIZE;
-use abi_types::{Bytes, Pid, Regs, Tid};
+use abi_types::{Bytes, Pid, Regs, ThreadAttr, Tid};
 use elf_image::{Elf, Segment};
 use guest_memory::{GuestMemory, MemFault};
 use std::alloc::{AllocError, Global};
@@ -105,6 +105,18 @@ fn first_registers(entry: u64) -> Regs
     let mut regs = Regs::new(entry);
     regs.set(2, STACK_END);
     regs.set(10, START_BLOCK);
+    regs
+}
+
+/// The registers that a new thread starts with: it stands at its entry, with sp at its stack's end, its number in a0 and its argument
+/// in a1. Every other register is 0.
+pub fn thread_registers(attributes: &ThreadAttr, tid: Tid) -> Regs
+    ensures { result ≡ thread_registers attributes.now tid }
+{
+    let mut regs = Regs::new(attributes.entry);
+    regs.set(2, attributes.stack.wrapping_add(attributes.stacklen));
+    regs.set(10, u64::from(tid.0));
+    regs.set(11, attributes.argument);
     regs
 }
 

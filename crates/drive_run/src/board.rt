@@ -2,7 +2,8 @@
 ghost use Rattle.std.specs.Prelude.{◌≡◌};
 
 use abi_types::{Pid, Tid};
-use kernel_cell::{Idled, Naming};
+use guest_process::FIRST_THREAD;
+use kernel_cell::{Idled, Naming, Times};
 use process_cell::{Did, Process};
 use std::alloc::{AllocError, Global};
 use std::sync::{Arc, Mutex};
@@ -31,12 +32,25 @@ impl<J: Naming> Ticket for ThreadTicket<J> {
 }
 
 impl<J: Naming> ThreadTicket<J> {
-    /// The ticket of a process's thread. `Err` where memory ran out.
+    /// The ticket of a process's first thread. `Err` where memory ran out.
     pub fn new(alloc: Global, process: Process<J>) -> Result<ThreadTicket<J>, AllocError> {
         let pid = process.pid();
-        let tid = process.tid();
         let process = Arc::new(alloc, Mutex::new(process))?;
-        Ok(ThreadTicket { pid, tid, process })
+        Ok(ThreadTicket {
+            pid,
+            tid: FIRST_THREAD,
+            process,
+        })
+    }
+
+    // The ticket of another thread of its process. `Err` where memory ran out.
+    fn beside(&self, tid: Tid) -> Result<ThreadTicket<J>, AllocError> {
+        let process = self.process.clone()?;
+        Ok(ThreadTicket {
+            pid: self.pid,
+            tid,
+            process,
+        })
     }
 }
 
@@ -54,10 +68,10 @@ pub enum Task<J: Naming> {
 /// What a worker did.
 #[derive(Drop)]
 pub enum Done<J: Naming> {
-    /// Steps of a thread, which came to this.
-    Ran(ThreadTicket<J>, Did),
-    /// It asked the kernel to let time go on, which came to this.
-    Idled(Idled),
+    /// Steps of a thread, which came to this; and the run's moment then, and until when the thread waits.
+    Ran(ThreadTicket<J>, Did, Times),
+    /// It asked the kernel to let time go on, which came to this; and the run's moment then.
+    Idled(Idled, u64),
 }
 
 /// The tickets of a run, how many workers are at work, how many wait for something to do, and whether all are to stop, because memory
@@ -88,37 +102,55 @@ impl<J: Naming> Board<J> {
         }
     }
 
-    // Parks the ticket of a thread that waits in a call. Where memory runs out, all workers are to stop.
-    fn park(&mut self, ticket: ThreadTicket<J>) {
-        if self.queue.park(ticket).is_err() {
+    // Parks the ticket of a thread that waits in a call until this moment. Where memory runs out, all workers are to stop.
+    fn park(&mut self, ticket: ThreadTicket<J>, until: Option<u64>) {
+        if self.queue.park(ticket, until).is_err() {
             self.stops = true;
         }
     }
 
-    // Takes a ticket back from the worker that had it and came to this with it.
-    fn take_back(&mut self, ticket: ThreadTicket<J>, did: Did) {
+    // Takes a ticket back from the worker that had it and came to this with it. A thread that was made has a ticket from then on, and one
+    // that has ended has none.
+    fn take_back(&mut self, ticket: ThreadTicket<J>, did: Did, until: Option<u64>) {
         match did {
             Did::Runs => self.put(ticket),
-            Did::Parks | Did::NotReady => self.park(ticket),
-            Did::ProcessGone => {}
+            Did::Started(tid) => {
+                match ticket.beside(tid) {
+                    Ok(started) => self.put(started),
+                    Err(_) => self.stops = true,
+                }
+                self.put(ticket);
+            }
+            Did::Parks | Did::NotReady => self.park(ticket, until),
+            Did::ThreadGone | Did::ProcessGone => {}
             Did::NoMemory => self.stops = true,
         }
     }
 
-    // What came of time: where it went on, or some thread is ready, all threads that wait are looked at again.
-    fn take_idled(&mut self, idled: Idled) {
+    // What came of time: where it went on to this moment, threads whose deadline has come are ready. Where some thread is ready already, or
+    // none is found, all threads that wait are looked at again.
+    fn take_idled(&mut self, idled: Idled, moment: u64) {
         match idled {
-            Idled::Jumped | Idled::Busy => self.queue.revive_all(),
+            Idled::Jumped => {
+                self.queue.revive_due(moment);
+                if self.queue.ready_count() == 0 {
+                    self.queue.revive_all();
+                }
+            }
+            Idled::Busy => self.queue.revive_all(),
             Idled::Stalled | Idled::NoMemory => self.stops = true,
         }
     }
 
-    /// Takes what a worker did that was at work.
+    /// Takes what a worker did that was at work. Threads whose deadline has come by then are ready, while others go on running.
     pub fn take_done(&mut self, done: Done<J>) {
         self.at_work = self.at_work.saturating_sub(1);
         match done {
-            Done::Ran(ticket, did) => self.take_back(ticket, did),
-            Done::Idled(idled) => self.take_idled(idled),
+            Done::Ran(ticket, did, times) => {
+                self.take_back(ticket, did, times.until);
+                self.queue.revive_due(times.moment);
+            }
+            Done::Idled(idled, moment) => self.take_idled(idled, moment),
         }
     }
 

@@ -7,9 +7,10 @@ use std::alloc::Global;
 use std::sync::{Condvar, Mutex, Wait};
 use std::thread;
 use std::thread::Threads;
+use turn_queue::Ticket;
 
-// How many steps a worker takes with a ticket before it gives it back: a turn and what it ended by are two.
-const STEPS: u32 = 128;
+// How many steps a worker takes with a ticket before it gives it back, and with it the memory lock of the ticket's process.
+const STEPS: u32 = 64;
 
 // What the workers of a run share beside its kernel: the board of tickets behind a lock, and the bell that they wait for.
 #[derive(Drop)]
@@ -40,7 +41,7 @@ impl<J: Naming> Workplace<J> {
     }
 }
 
-// Steps of a ticket's process, under its memory lock.
+// Steps of a ticket's thread, under the memory lock of its process.
 fn run_ticket<J: Naming, R: Wait, G: Gate>(
     rt: &R,
     alloc: Global,
@@ -51,7 +52,7 @@ fn run_ticket<J: Naming, R: Wait, G: Gate>(
 ) -> Did {
     let mut process = ticket.process.lock(rt);
     for _ in 0..STEPS {
-        match process.step(rt, alloc, cell, gate, worker) {
+        match process.step(rt, alloc, cell, gate, worker, ticket.tid()) {
             Did::Runs => {}
             did => return did,
         }
@@ -73,16 +74,20 @@ fn work<J: Naming, R: Wait, G: Gate>(
         done = match workplace.next(rt, done) {
             Task::Run(ticket) => {
                 let did = run_ticket(rt, alloc, cell, &ticket, gate, worker);
-                Some(Done::Ran(ticket, did))
+                let times = cell.times(rt, ticket.pid(), ticket.tid());
+                Some(Done::Ran(ticket, did, times))
             }
-            Task::Idle => Some(Done::Idled(cell.idle(rt, alloc))),
+            Task::Idle => {
+                let idled = cell.idle(rt, alloc);
+                Some(Done::Idled(idled, cell.moment(rt)))
+            }
             Task::Leave => return,
         };
     }
 }
 
-/// Runs a process and all that it makes, with this many workers, of which the caller is one. A worker whose thread can't be started
-/// is left out.
+/// Runs a process with all its threads, and all that it makes, with this many workers, of which the caller is one. A worker whose thread
+/// can't be started is left out.
 pub fn run_process<J: Naming + Send + Sync, R: Threads + Wait + Sync, G: Gate + Sync>(
     rt: &R,
     alloc: Global,

@@ -1,20 +1,22 @@
 //! A process as the machine has it: its memory, its threads' registers, and the turns that it has left.
-ghost use Rattle.std.specs.Prelude.{◌≡◌, ◌&&◌, ◌<◌, IsFalse, IsSome, IfOk, OnErr};
+ghost use Rattle.std.specs.Prelude.{◌≡◌, ◌&&◌, ◌<◌, IsFalse, IsSome, IfOk, OnErr, true};
 ghost use Rattle.std.specs.FinMap as map;
 ghost use Rattle.call_codec.specs.Arguments.{args_of, is_built, is_copied, AsksFor};
 ghost use Rattle.call_codec.specs.Given.{given_of, CanWait};
-ghost use Rattle.call_codec.specs.Put.{HasFewRanges, IsRoomFor, MayMapFor, TakesRoom};
+ghost use Rattle.call_codec.specs.Put.{HasFewRanges, MayMapFor};
 ghost use Rattle.call_codec.specs.Start.{MayStart, canary};
 ghost use Rattle.guest_memory.specs.Page.{Pages};
-ghost use Rattle.guest_memory.specs.Room.{without_each};
 ghost use Rattle.guest_memory.specs.Written.{KeepsCode};
-ghost use Rattle.guest_process.specs.Room.{without_room};
+ghost use Rattle.guest_process.specs.Room.{without_room, HasNumber, HasOther, HasRoomFor, TakesMemory};
+ghost use Rattle.kernel_model.specs.Threads.{first_result, makes_thread};
 ghost use Rattle.rv_interp.specs.Cache.{AreTrue};
 ghost use Rattle.run_model.specs.World.{first_guest, registers_of, turned_guest, turn_end, called_guest};
 
+use crate::room::{GuestRoom, keep_threads, new_thread, undo};
 use abi_types::{Answer, Call, Pid, Regs, Tid, WakeIn};
 use call_codec::{args, given, make_room, may_change_code, put_answer, put_woken, start_memory};
-use guest_memory::{GuestMemory, Room};
+use clock_random::canary;
+use guest_memory::GuestMemory;
 use maps::NumMap;
 use run_types::Launch;
 use rv_interp::{Cache, TurnEnd, turn};
@@ -26,9 +28,6 @@ pub const FIRST: Pid = Pid(0);
 
 /// Its first thread.
 pub const FIRST_THREAD: Tid = Tid(1);
-
-// The canary of a start, which has no random bytes yet.
-const CANARY: [u8; 64] = [0; 64];
 
 /// A process's memory, the registers of its threads by their numbers, and the turns that it has left. Beside the memory stand
 /// instructions of it that are decoded, which contracts don't see: each of them is true of the memory.
@@ -66,15 +65,16 @@ fn forget_where(code: &mut Cache, may_change: bool)
 impl Guest {
     /// Process 0 as a launch starts it: its first thread stands at the entry, and every turn is left.
     pub fn start(alloc: Global, launch: &Launch) -> Result<Guest, AllocError>
-        requires { MayStart launch.now.elf launch.now.argdata canary }
+        requires { MayStart launch.now.elf launch.now.argdata (canary launch.now.constants.key 0 0) }
         ensures { IfOk result (λ guest. guest ≡ first_guest launch.now) }
     {
         let argdata = launch.argdata.as_slice();
+        let canary = canary(&launch.constants.key, FIRST.0, 0);
         let (memory, first) = start_memory(
             alloc,
             &launch.elf,
             argdata,
-            &CANARY,
+            &canary,
             FIRST,
             FIRST_THREAD,
         )?;
@@ -114,30 +114,49 @@ impl Guest {
         args(alloc, regs, &self.memory)
     }
 
-    /// Makes the room for the answer to a call before the call is made. Where memory runs out, nothing changes; only a mem_map that
-    /// goes somewhere meets that.
-    pub fn make_room(&mut self, alloc: Global, call: &Call) -> Result<Room, AllocError>
+    /// Makes the room for the answer to a call before the call is made: for its mapping, and for the registers of the thread that it may
+    /// make, whose number is `next`. Where memory runs out, nothing changes; only a mem_map that goes somewhere and a thread_create
+    /// meet that.
+    pub fn make_room(
+        &mut self,
+        alloc: Global,
+        call: &Call,
+        next: Tid,
+    ) -> Result<GuestRoom, AllocError>
         requires { MayMapFor self.old.memory call.now }
-        ensures room { IfOk result (λ room. IsRoomFor call.now room self.new.memory) }
+        ensures room { IfOk result (λ room. HasRoomFor call.now room self.new) }
+        ensures number { IfOk result (λ room. HasNumber next room.thread) }
         ensures without { IfOk result (λ room. without_room room self.new ≡ self.old) }
-        ensures only { OnErr result (TakesRoom call.now) }
+        ensures only { OnErr result (TakesMemory call.now) }
         ensures err { OnErr result (self.new ≡ self.old) }
     {
-        make_room(alloc, &mut self.memory, call)
+        let thread = new_thread(&mut self.regs, call, next)?;
+        match make_room(alloc, &mut self.memory, call) {
+            Ok(pages) => Ok(GuestRoom { pages, thread }),
+            Err(failed) => {
+                undo(&mut self.regs, thread);
+                Err(failed)
+            }
+        }
     }
 
-    /// Gives a thread the answer to the call that it encodes, for which room was made. It takes no memory.
+    /// Gives a thread the answer to the call that it encodes, for which room was made. A thread that the call made has its registers
+    /// then, and one that it ended has none. It takes no memory.
     #[tactic(auto, using(maps::specs::Maps::number_laws))]
-    pub fn answer(&mut self, tid: Tid, call: &Call, answer: &Answer, room: Room)
-        requires thread { IsSome (map.get self.old.regs tid) }
-        requires encoded { call.now ≡ args_of (without_each room self.old.memory) (registers_of self.old tid) }
-        requires room { IsRoomFor call.now room self.old.memory }
+    pub fn answer(&mut self, tid: Tid, call: &Call, answer: &Answer, room: GuestRoom)
+        requires thread { IsSome (map.get (without_room room self.old).regs tid) }
+        requires encoded { call.now ≡ args_of (without_room room self.old).memory (registers_of (without_room room self.old) tid) }
+        requires room { HasRoomFor call.now room self.old }
+        requires other { HasOther tid room.thread }
+        requires number { makes_thread call.now answer.now ≡ true → HasNumber (first_result answer.now) room.thread }
         ensures { self.new ≡ called_guest (without_room room self.old) tid call.now answer.now }
     {
+        let GuestRoom { pages, thread } = room;
         let regs = self.regs.get_mut(u64::from(tid.0));
         let may_change = may_change_code(regs, &self.memory, call, answer);
         forget_where(&mut self.code, may_change);
-        put_answer(regs, &mut self.memory, room, call, answer);
+        put_answer(regs, &mut self.memory, pages, call, answer);
+        keep_threads(&mut self.regs, tid, call, answer, thread);
     }
 
     /// What a thread that waits in a call is given where it goes on.

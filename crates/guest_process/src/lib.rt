@@ -2,5 +2,7 @@
 #![tactic(auto)]
 
 pub use guest::{FIRST, FIRST_THREAD, Guest};
+pub use room::{GuestRoom, NewThread, ends_caller, makes_thread};
 
 mod guest;
+mod room;

@@ -1,10 +1,10 @@
 -- What an entry leaves that the kernel makes: its world's state is the kernel's, and a call's or a wake's guest has the answer.
 --     entry_state, entry_fits, entry_dead, entry_guest      an entry of any act
---     call_leaves, call_answered, call_runs, call_waits      a call
---     wake_leaves, wake_answered, wake_runs      a wake
+--     call_leaves, call_answered, call_runs, call_waits, call_left, call_keeps, call_makes      a call
+--     wake_leaves, wake_answered, wake_runs, wake_stays      a wake
 --     end_leaves      an end from outside
 --     recorded_next      what stands behind the lock after an entry
-use Rattle.std.proofs.Common.{◌≡◌, ℕ, ◌+◌, Bool, true, false, List, [], ◌∷◌, ◌++◌, Option, None, Some, IsSome, refl, sym, ap, subst, ◌∙◌}
+use Rattle.std.proofs.Common.{◌≡◌, ◌≢◌, ℕ, ◌+◌, Bool, true, false, List, [], ◌∷◌, ◌++◌, Option, None, Some, IsSome, refl, sym, ap, subst, ◌∙◌}
 use Rattle.std.specs.Option.{option_map}
 use Rattle.std.specs.Ordering.{nat_cmp}
 use Rattle.std.specs.FinMap.{FinMap, get, insert}
@@ -28,13 +28,13 @@ use Rattle.kernel_model.specs.Reply.{refused}
 use Rattle.kernel_model.specs.State.{State, thread_of}
 use Rattle.kernel_model.specs.Step.{IsStep, end_state}
 use Rattle.kernel_model.specs.Valid.{IsValid}
-use Rattle.kernel_model.specs.Threads.{IsCallerAfter}
+use Rattle.kernel_model.specs.Threads.{ends_caller, makes_thread, next_number, IsCallerAfter, LeavesThreads}
 use Rattle.kernel_model.specs.Waits.{may_wait, waiting, IsParked, MayWait, WaitsIn}
 use Rattle.kernel_model.specs.Wakes.{is_ready, HasThread, IsWake}
 use Rattle.kernel_model.proofs.Steps.{step_moves_only}
 use Rattle.kernel_model.proofs.Tests.{not_true}
-use Rattle.kernel_model.proofs.Threads.{keeps_caller}
-use Rattle.kernel_model.proofs.Waking.{wake_makes_none, wake_moves_only}
+use Rattle.kernel_model.proofs.Threads.{keeps_others}
+use Rattle.kernel_model.proofs.Waking.{wake_keeps, wake_moves_only}
 use Rattle.maps.specs.Maps.{get-insert-same}
 use Rattle.call_codec.specs.Arguments.{args_of}
 use Rattle.call_codec.specs.Given.{given_of}
@@ -45,7 +45,9 @@ use Rattle.run_model.specs.World.{World, Guest, world, apply, acted, made_since,
 use Rattle.run_model.proofs.Calls.{called_is, woken_is, runs_on, ended_by}
 use Rattle.run_model.proofs.Ends.{acted_end, end_is_answered, ends_not_live}
 use Rattle.run_model.proofs.Histories.{world_more, world_constants, legal_more, apply_is, guest_turned}
-use Rattle.kernel_cell.specs.Acting.{AsksCall, AsksWake, GoesOn, IsDead, WaitsOn, act_of, status_of}
+use Rattle.run_model.proofs.ThreadRegisters.{parked_ends}
+use Rattle.run_model.proofs.Waited.{parked_is}
+use Rattle.kernel_cell.specs.Acting.{AsksCall, AsksWake, GoesOn, HasLeft, HasStarted, IsDead, KeepsBut, WaitsOn, act_of, status_of}
 use Rattle.shared_history.specs.Entries.{head_of, entry_of}
 use Rattle.shared_history.specs.Kept.{Takes}
 use Rattle.kernel_cell.specs.Recorded.{IsRecorded}
@@ -98,6 +100,20 @@ module _ (launch : Launch) (log : List Entry) (p t : ℕ) (turns : List ℕ) (a 
     pub entry_has : (P : State → Type 0) → P kernel → P (world launch (log ++ e ∷ [])).state
     entry_has P there = subst P (state_next launch log e kernel entry_state) there
 
+    -- the other threads of the process are what the kernel has of them
+    pub entry_keeps : (x : ℕ) → ((u : ℕ) → u ≢ x → thread_of kernel p u ≡ thread_of w.state p u) → KeepsBut launch log (log ++ e ∷ []) p x
+    entry_keeps x keeps u apart = entry_has (λ S. thread_of S p u ≡ thread_of w.state p u) (keeps u apart)
+
+    -- one thread more runs, if the kernel has one more
+    pub entry_starts : (x : ℕ) → thread_of w.state p x ≡ None → x ≡ next_number w.state p → IsRunnable kernel p x
+        → ((u : ℕ) → u ≢ x → thread_of kernel p u ≡ thread_of w.state p u) → HasStarted launch log (log ++ e ∷ []) p x
+    entry_starts x absent numbered runs keeps = record {
+      absent = absent;
+      numbered = numbered;
+      runs = entry_has (λ S. IsRunnable S p x) runs;
+      others = entry_keeps x keeps;
+    }
+
     -- the process has ended, if it isn't live
     pub entry_dead : ¬ (get kernel.statuses p ≡ Some Live) → IsDead launch (log ++ e ∷ []) p
     entry_dead dead = entry_has (λ S. ¬ (get S.statuses p ≡ Some Live)) dead
@@ -130,6 +146,15 @@ module _ (launch : Launch) (log : List Entry) (p t : ℕ) (turns : List ℕ) (a 
         guest_is = is ∙ sym entry_guest;
       }
 
+      -- it is gone, if the kernel has it no more
+      pub entry_left : (after : Guest) → after ≡ called_guest guest t call answered → get kernel.statuses p ≡ Some Live → thread_of kernel p t ≡ None
+          → HasLeft launch (log ++ e ∷ []) p t after
+      entry_left after is live gone = record {
+        live = entry_has (λ S. get S.statuses p ≡ Some Live) live;
+        gone = entry_has (λ S. thread_of S p t ≡ None) gone;
+        guest_is = is ∙ sym entry_guest;
+      }
+
 -- ---- a call
 
 -- some answer, by which what is asked whatever the answer is can be read
@@ -153,6 +178,16 @@ caller_waits : (waits : Thread) (given : Answer) (before after : Option Thread) 
     → before ≡ Some Runnable → after ≡ Some waits
 caller_waits waits (answer.Parked writes) before after parks is runs = is ∙ ap (option_map (λ (thread : Thread). waits)) runs
 caller_waits waits (answer.Reply reply) before after parks is runs = absurd (not_true parks)
+
+-- a thread that was not there comes only where one is made
+still_none : (o before : Option Thread) → before ≡ None → (IsSome o → ⊥) → o ≡ before
+still_none None before none never = sym none
+still_none (Some thread) before none never = absurd (never refl)
+
+-- what a thread was, or that there was none
+kept_or_none : (before after : Option Thread) → (IsSome before → after ≡ before) → (before ≡ None → IsSome after → ⊥) → after ≡ before
+kept_or_none None after there never = still_none after None refl (never refl)
+kept_or_none (Some thread) after there never = there refl
 
 module _ (launch : Launch) (log : List Entry) (p t : ℕ) (turns : List ℕ) (call : Call) (given : Answer) (guest : Guest) (kernel : State)
     (a : AsksCall (world launch log) p t turns guest call)
@@ -181,17 +216,38 @@ module _ (launch : Launch) (log : List Entry) (p t : ℕ) (turns : List ℕ) (ca
   pub call_answered : FitsAct launch.constants before.state who (guest_of before p) turns (act.Call call given)
   call_answered = (a.asks given, subst (IsStep launch.constants before.state who call given) call_is call_step)
 
-  -- after a reply the thread runs on, if its process is live
-  pub call_runs : is_parked given ≡ false → get kernel.statuses p ≡ Some Live → IsRunnable kernel p t
-  call_runs replies live = runs_on launch.constants before.state who call given kernel t call_step replies live (call_runnable before p t turns guest call a)
+  -- after a reply the thread runs on, if its process is live and the call doesn't end it
+  pub call_runs : is_parked given ≡ false → ends_caller call given ≡ false → get kernel.statuses p ≡ Some Live → IsRunnable kernel p t
+  call_runs replies lasts live =
+      runs_on launch.constants before.state who call given kernel t call_step replies (λ _. lasts) live (call_runnable before p t turns guest call a)
+
+  -- what the call leaves of the threads
+  left_threads : get kernel.statuses p ≡ Some Live → LeavesThreads launch.constants before.state who call given kernel
+  left_threads live = (step_moves_only launch.constants before.state who call given kernel call_step).threads live
+
+  -- a thread that the call ends is there no more
+  pub call_left : ends_caller call given ≡ true → get kernel.statuses p ≡ Some Live → thread_of kernel p t ≡ None
+  call_left ends live = (left_threads live).ended ends
+
+  -- each other thread is what it was, and only the one comes that the call makes
+  pub call_keeps : get kernel.statuses p ≡ Some Live → (u : ℕ) → u ≢ t → (makes_thread call given ≡ true → u ≢ next_number before.state p)
+      → thread_of kernel p u ≡ thread_of before.state p u
+  call_keeps live u apart old =
+      kept_or_none (thread_of before.state p u) (thread_of kernel p u)
+      (λ there. (left_threads live).others u apart there (keeps_others launch.constants before.state who call given kernel call_step))
+      (λ none there. let made = (left_threads live).made u none there in old made.0 made.1)
+
+  -- that one has the next number, which none had, and runs
+  pub call_makes : makes_thread call given ≡ true → get kernel.statuses p ≡ Some Live
+      → (thread_of before.state p (next_number before.state p) ≡ None) × IsRunnable kernel p (next_number before.state p)
+  call_makes makes live = (left_threads live).makes makes
 
   -- where it is to wait, it does so
   pub call_waits : is_parked given ≡ true → get kernel.statuses p ≡ Some Live → (thread : Thread) × HasThread kernel p t thread × IsParked thread
   call_waits parks live = (
     waiting launch.constants call who.since,
     caller_waits (waiting launch.constants call who.since) given (thread_of before.state p t) (thread_of kernel p t) parks
-        (((step_moves_only launch.constants before.state who call given kernel call_step).threads live).caller
-        (keeps_caller launch.constants before.state who call given kernel call_step))
+        ((left_threads live).caller (let writes = parked_is given parks in ap (ends_caller call) writes.1 ∙ parked_ends call writes.0))
         (call_runnable before p t turns guest call a),
     tt,
   )
@@ -238,7 +294,15 @@ module _ (launch : Launch) (log : List Entry) (p t : ℕ) (turns : List ℕ) (ca
   pub wake_runs : get kernel.statuses p ≡ Some Live → IsRunnable kernel p t
   wake_runs live =
       (wake_moves_only launch.constants start.state sleeper call given answered kernel woken).runs live (subst IsSome (sym waits.1) refl)
-      (wake_makes_none launch.constants start.state sleeper call given answered kernel woken).0
+      (wake_keeps start.state sleeper call answered valid waits).0
+
+  -- the others are what they were, and none comes
+  pub wake_stays : get kernel.statuses p ≡ Some Live → (u : ℕ) → u ≢ t → thread_of kernel p u ≡ thread_of start.state p u
+  wake_stays live u apart =
+      let moves = wake_moves_only launch.constants start.state sleeper call given answered kernel woken in
+      let keeps = wake_keeps start.state sleeper call answered valid waits in
+      kept_or_none (thread_of start.state p u) (thread_of kernel p u) (λ there. moves.threads live u apart there keeps.1)
+      (λ none there. not_true (sym keeps.2 ∙ (moves.made live u none there).0))
 
 -- ---- an end from outside
 

@@ -10,14 +10,14 @@ use Rattle.run_types.specs.declared.history.Act.{Act}
 use Rattle.run_types.specs.declared.history.Act.TheVariants as act
 use Rattle.run_types.specs.declared.history.Entry.{Entry}
 use Rattle.run_types.specs.declared.launch.Launch.{Launch}
-use Rattle.kernel_model.specs.State.{State, thread_in}
+use Rattle.kernel_model.specs.State.{State, counts_in, thread_in, thread_of}
 use Rattle.run_model.specs.Legal.{AreWhole, Asks, Legal}
 use Rattle.run_model.specs.Own.{is_idle, own, Made, IsLiveIn, Same}
 use Rattle.run_model.specs.World.{Guest, made_since as since_made, thread_at, world, guest_of, turned_guest_by}
 use Rattle.run_model.proofs.Histories.{legal_more}
 use Rattle.run_model.proofs.Asks.{asks_stay, whole_there}
 use Rattle.run_model.proofs.Own.{made_later, same_threads, left_alone}
-use Rattle.kernel_cell.specs.Acting.{AsksCall, AsksEnd, AsksFor, AsksWake, Added, AddedCall, AddedEnd, AddedWake, Looked, Appends, AppendsCall, AppendsEnd, AppendsWake, IsActed, IsActedOn, IsNotReady, IsStopped, IsStoppedOn, IsWoken, IsWokenOn, act_of}
+use Rattle.kernel_cell.specs.Acting.{AsksCall, AsksEnd, AsksFor, AsksWake, Added, AddedCall, AddedEnd, AddedWake, HasStarted, KeepsBut, Looked, Appends, AppendsCall, AppendsEnd, AppendsWake, IsActed, IsActedOn, IsNotReady, IsStopped, IsStoppedOn, IsWoken, IsWokenOn, act_of}
 use Rattle.shared_history.specs.Entries.{head_of, entry_of}
 use Rattle.shared_history.specs.Passes.{Passing, IsSeen, Later}
 use Rattle.shared_history.specs.Rule.{tail_of}
@@ -162,17 +162,48 @@ module _ (launch : Launch) (v : Passing) (t : ℕ) (turns : List ℕ) (log : Lis
   still : (after : List Entry) (P : List Entry → Type 0) → after ≡ log → P log → P after
   still after P same here = subst P (sym same) here
 
+  -- the threads were at the history before the entry what they were where the pass was last here
+  threads_then : (moment : ℕ) (a : Act) (after : List Entry) → is_idle a ≡ false → Appends launch log (entry_of (head_of moment v.pid t turns) a) after
+      → (u : ℕ) → thread_of (world launch log).state v.pid u ≡ thread_of (world launch v.seen).state v.pid u
+  threads_then moment a after busy came u =
+      ap (λ o. thread_in o u)
+      (same_threads (world launch log) (world launch v.seen) v.pid (same_since launch v.pid v.seen log legal later seen.made (came.fits.live busy)))
+
+  keeps_then : (moment : ℕ) (a : Act) (after : List Entry) (x : ℕ) → is_idle a ≡ false
+      → Appends launch log (entry_of (head_of moment v.pid t turns) a) after → KeepsBut launch log after v.pid x → KeepsBut launch v.seen after v.pid x
+  keeps_then moment a after x busy came keeps u apart = keeps u apart ∙ threads_then moment a after busy came u
+
+  keeps_call : (call : Call) (after : List Entry) (x : ℕ) → AppendsCall launch log v.pid t turns call after → KeepsBut launch log after v.pid x
+      → KeepsBut launch v.seen after v.pid x
+  keeps_call call after x c keeps = keeps_then c.moment (act.Call call c.given) after x refl c.came keeps
+
+  starts_call : (call : Call) (after : List Entry) (u : ℕ) → AppendsCall launch log v.pid t turns call after → HasStarted launch log after v.pid u
+      → HasStarted launch v.seen after v.pid u
+  starts_call call after u c starts = record {
+    absent = sym (threads_then c.moment (act.Call call c.given) after refl c.came u) ∙ starts.absent;
+    numbered = starts.numbered
+        ∙ ap (λ o. (counts_in o).threads + 1) (same_since launch v.pid v.seen log legal later seen.made (c.came.fits.live refl)).rest;
+    runs = starts.runs;
+    others = keeps_call call after u c starts.others;
+  }
+
   pub acted_tells : (call : Call) (guest : Guest) (after : List Entry) (result : Acted) → IsActedOn launch log v.pid t turns call guest after result
       → IsActed launch v t turns call guest (now after) result
-  acted_tells call guest after acted.Runs on = (added_call call after on.0, on.1)
-  acted_tells call guest after acted.Parks on = (added_call call after on.0, on.1)
+  acted_tells call guest after acted.Runs on = (added_call call after on.0, on.1, keeps_call call after t on.0 on.2)
+  acted_tells call guest after (acted.Starts u) on = (added_call call after on.0, on.1, starts_call call after u on.0 on.2)
+  acted_tells call guest after acted.Parks on = (added_call call after on.0, on.1, keeps_call call after t on.0 on.2)
+  acted_tells call guest after acted.Leaves on = (added_call call after on.0, on.1, keeps_call call after t on.0 on.2)
   acted_tells call guest after acted.Ends on = (added_call call after on.0, on.1)
   acted_tells call guest after acted.Gone on = (looked after on.0, still after (λ h. ¬ IsLiveIn (world launch h) v.pid) on.0 on.1)
   acted_tells call guest after acted.NoMemory on = (looked after on.0, still after (λ h. IsLiveIn (world launch h) v.pid) on.0 on.1)
 
   pub woken_tells : (guest : Guest) (after : List Entry) (result : Woken) → IsWokenOn launch log v.pid t turns guest after result
       → IsWoken launch v t turns guest (now after) result
-  woken_tells guest after woken.Runs on = (added_wake after on.0, on.1)
+  woken_tells guest after woken.Runs on = (
+    added_wake after on.0,
+    on.1,
+    keeps_then on.0.moment (act.Wake on.0.call on.0.given on.0.answered) after t refl on.0.came on.2,
+  )
   woken_tells guest after woken.Ends on = (added_wake after on.0, on.1)
   woken_tells guest after woken.NotReady on = (looked after on.0, still after (λ h. IsNotReady launch h v.pid t) on.0 on.1)
   woken_tells guest after woken.Gone on = (looked after on.0, still after (λ h. ¬ IsLiveIn (world launch h) v.pid) on.0 on.1)
@@ -188,7 +219,9 @@ module _ (launch : Launch) (v : Passing) (t : ℕ) (turns : List ℕ) (log : Lis
   pub acted_seen : (call : Call) (guest : Guest) (after : List Entry) (result : Acted)
       → IsActed launch v t turns call guest (now after) result → IsSeen launch v.pid after
   acted_seen call guest after acted.Runs tells = tells.0.added.seen
+  acted_seen call guest after (acted.Starts u) tells = tells.0.added.seen
   acted_seen call guest after acted.Parks tells = tells.0.added.seen
+  acted_seen call guest after acted.Leaves tells = tells.0.added.seen
   acted_seen call guest after acted.Ends tells = tells.0.added.seen
   acted_seen call guest after acted.Gone tells = tells.0.seen
   acted_seen call guest after acted.NoMemory tells = tells.0.seen

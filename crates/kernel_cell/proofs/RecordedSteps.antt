@@ -1,14 +1,17 @@
 -- What stands behind the lock as an entry is added, read off the kernel, the keeper and what is kept.
 --     kernel_early, log_short, live_there, valid_there      the bounds, who is live, and that the state is valid
 --     recorded_same      what stands there where no entry came
---     call_runs_there, fits_call, recorded_call, acted_there      a call
+--     few_there      the number of the next thread is small
+--     call_runs_there, other_there, number_there, fits_call, recorded_call, acted_there      a call
 --     waits_there, wake_can, wake_few, same_given, fits_wake, recorded_wake, woken_runs, woken_ends, woken_not, woken_none      a wake
 --     fits_end, recorded_end, stopped_done      an end from outside
 --     fits_jump, recorded_jump, appends_jump, busy_there, stalled_there      an idle jump
-use Rattle.std.proofs.Common.{◌≡◌, ◌^◌, ◌<◌, ◌≤◌, ℕ, Bool, true, false, List, [], ◌∷◌, ◌++◌, length, Option, None, Some, IsTrue, ◌↔◌, refl, sym, ap, subst, ◌∙◌}
+use Rattle.std.proofs.Common.{◌≡◌, ◌≢◌, inl, inr, ◌+◌, ◌-◌, ◌^◌, ◌<◌, ◌≤◌, ℕ, Bool, true, false, List, [], ◌∷◌, ◌++◌, length, Option, None, Some, IsSome, IsTrue, ◌↔◌, refl, sym, ap, subst, ◌∙◌, arith}
+use Rattle.std.proofs.lemmas.Bool.Decides.{eqb_tells}
 use Rattle.std.specs.FinMap.{get}
 use Rattle.abi_types.specs.declared.reply.Answer.{Answer}
 use Rattle.abi_types.specs.declared.call.Call.{Call}
+use Rattle.abi_types.specs.declared.call.Call.TheVariants.{ThreadCreate}
 use Rattle.abi_types.specs.declared.constants.Constants.{Constants}
 use Rattle.abi_types.specs.declared.status.Status.{Status}
 use Rattle.abi_types.specs.declared.status.Status.TheVariants.{Live}
@@ -27,31 +30,39 @@ use Rattle.call_codec.proofs.Puts.{few_ranges}
 use Rattle.kernel_core.specs.Waiting.{caller, kept_call, waiter}
 use Rattle.kernel_model.specs.Deadlines.{idle_state}
 use Rattle.kernel_model.specs.Outcome.{is_parked}
-use Rattle.kernel_model.specs.State.{State, thread_of}
+use Rattle.kernel_model.specs.State.{ProcessState, State, counts_in, thread_of}
 use Rattle.kernel_model.specs.Step.{IsStep, end_state}
+use Rattle.kernel_model.specs.Threads.{ends_caller, first_result, makes_thread, next_number}
 use Rattle.kernel_model.specs.Valid.{IsValid}
 use Rattle.kernel_model.specs.Waits.{WaitsIn}
 use Rattle.kernel_model.specs.Wakes.{is_ready, is_ready_as, IsStalled, IsWake, MayJump}
 use Rattle.kernel_model.proofs.Tests.{not_true}
+use Rattle.kernel_model.proofs.ThreadLaws.{create_number}
+use Rattle.guest_process.specs.Room.{HasNumber, HasOther}
+use Rattle.guest_process.specs.declared.room.NewThread.{NewThread}
 use Rattle.run_model.specs.Ends.{Stalled}
 use Rattle.run_model.specs.Legal.{FitsAct, Fits, IsRunnable}
 use Rattle.run_model.specs.Own.{is_idle, IsLiveIn}
 use Rattle.run_model.specs.World.{World, Guest, world, apply, acted, thread_at, turned, guest_of, registers_of, called_guest}
 use Rattle.run_model.proofs.Bounds.{early, short}
 use Rattle.run_model.proofs.Histories.{world_constants}
+use Rattle.run_model.proofs.ThreadLaws.{numbers_suffice}
+use Rattle.run_model.proofs.ThreadRegisters.{parked_makes}
+use Rattle.run_model.proofs.Waited.{parked_is}
 use Rattle.run_model.proofs.WaitingRegisters.{may_can, waits_are_encoded, whole_keeps}
 use Rattle.run_model.proofs.Worlds.{world_is_valid}
-use Rattle.kernel_cell.specs.Acting.{AsksCall, AsksEnd, AsksWake, Appends, AppendsWake, GoesOn, IsDead, IsActedOn, IsIdledOn, IsStoppedOn, IsWokenOn, WaitsOn, act_of, acted_so, status_of}
+use Rattle.kernel_cell.specs.Acting.{AsksCall, AsksEnd, AsksWake, Appends, AppendsCall, AppendsWake, GoesOn, HasLeft, HasStarted, IsDead, IsActedOn, IsIdledOn, IsStoppedOn, IsWokenOn, KeepsBut, WaitsOn, act_of, acted_so, call_end, end_of, status_of}
 use Rattle.shared_history.specs.Entries.{head_of, entry_of, answered_call, idled}
 use Rattle.shared_history.specs.Kept.{Takes}
 use Rattle.kernel_cell.specs.Recorded.{IsRecorded}
 use Rattle.shared_history.specs.declared.kept.Kept.{Kept}
 use Rattle.kernel_cell.specs.declared.results.Acted.{Acted}
+use Rattle.kernel_cell.specs.declared.results.CallEnd.{CallEnd}
 use Rattle.kernel_cell.specs.declared.results.EndBy.{EndBy}
 use Rattle.kernel_cell.specs.declared.results.Idled.TheVariants as idle
 use Rattle.kernel_cell.specs.declared.results.Stopped.TheVariants as stopped
 use Rattle.kernel_cell.specs.declared.results.Woken.TheVariants as woken
-use Rattle.kernel_cell.proofs.EntryEffects.{recorded_next, entry_state, entry_fits, entry_dead, entry_goes, entry_waits, call_runnable, call_leaves, call_answered, call_runs, call_waits, kept_waits, waits_may, wake_leaves, wake_answered, wake_runs, end_leaves, end_answered, end_dead}
+use Rattle.kernel_cell.proofs.EntryEffects.{recorded_next, entry_state, entry_fits, entry_dead, entry_goes, entry_keeps, entry_left, entry_starts, entry_waits, call_runnable, call_leaves, call_answered, call_runs, call_waits, call_left, call_keeps, call_makes, kept_waits, waits_may, wake_leaves, wake_answered, wake_runs, wake_stays, end_leaves, end_answered, end_dead}
 
 -- a thread of which no call is kept isn't ready
 none_ready : (constants : Constants) (S : State) (p t : ℕ) (o : Option Thread) → None ≡ kept_call o → is_ready_as constants S p t o ≡ false
@@ -65,6 +76,21 @@ pub same_given : (guest : Guest) (t : ℕ) (seen call : Call) (o : Option Call) 
 same_given guest t seen call o given here there is =
     let same : seen ≡ call = cc in
     is ∙ ap (given_of guest.memory (registers_of guest t)) same
+
+-- a call doesn't both make a thread and end one
+makes_lasts : (call : Call) (given : Answer) → makes_thread call given ≡ true → ends_caller call given ≡ false
+makes_lasts (ThreadCreate attributes) given makes = refl
+makes_lasts _ given makes = absurd (not_true makes)
+
+-- the number of a process's next thread is small, if it is where the process was made
+few_numbers : (o : Option ProcessState) → ((own : ProcessState) → o ≡ Some own → own.counts.threads + 1 < 2 ^ 30 - 1) → (counts_in o).threads + 1 < 2 ^ 32
+few_numbers None few = omega arith
+few_numbers (Some own) few = let small = few own refl in omega (arith, small)
+
+-- the thread that there is room for has not the number t, if the next thread hasn't
+other_number : (t next : ℕ) (thread : Option NewThread) → HasNumber next thread → t ≢ next → HasOther t thread
+other_number t next None number apart = tt
+other_number t next (Some new) number apart = λ same. apart (same ∙ number)
 
 module _ (launch : Launch) (all : Bool) (log : List Entry) (before : State) (constants : Constants) (kept : Kept)
     (r : IsRecorded launch all log before constants kept) where
@@ -92,6 +118,22 @@ module _ (launch : Launch) (all : Bool) (log : List Entry) (before : State) (con
 
   valid_there : IsValid w.state
   valid_there = world_is_valid launch log r.bounded.begins r.legal
+
+  -- the number of a process's next thread
+  pub few_there : (p : ℕ) → next_number before p < 2 ^ 32
+  few_there p =
+      subst (λ (S : State). next_number S p < 2 ^ 32) (sym r.state)
+      (few_numbers (get w.state.processes p) (λ own there. (numbers_suffice launch log p 0 own r.bounded r.legal there (omega arith)).0))
+
+  numbered_there : (p next : ℕ) → next ≡ next_number before p → next ≡ next_number w.state p
+  numbered_there p next is = is ∙ ap (λ (S : State). next_number S p) r.state
+
+  -- no thread that is there has it
+  next_there : (p t next : ℕ) → next ≡ next_number before p → IsSome (thread_of w.state p t) → t ≢ next
+  next_there p t next is there same =
+      let counted : t ≤ (counts_in (get w.state.processes p)).threads = valid_there.nearly.numbered p t there in
+      let number : next ≡ (counts_in (get w.state.processes p)).threads + 1 = numbered_there p next is in
+      omega (arith, counted, number, same)
 
   -- nothing changed but that room was made
   pub recorded_same : (kernel : State) (kept' : Kept) → kernel ≡ before → kept'.all ≡ kept.all → kept'.entries.items ≡ kept.entries.items
@@ -142,6 +184,17 @@ module _ (launch : Launch) (all : Bool) (log : List Entry) (before : State) (con
     pub call_runs_there : IsRunnable before p t
     call_runs_there = subst (λ (S : State). IsRunnable S p t) (sym r.state) (call_runnable w p t turns guest call a)
 
+    -- the thread that there is room for is another
+    pub other_there : (next : ℕ) (thread : Option NewThread) → next ≡ next_number before p → HasNumber next thread → HasOther t thread
+    other_there next thread is number =
+        other_number t next thread number (next_there p t next is (subst IsSome (sym (call_runnable w p t turns guest call a)) refl))
+
+    -- and the one that is made, if one is
+    pub number_there : (given : Answer) (kernel : State) (next : ℕ) (thread : Option NewThread)
+        → IsStep constants before (caller before p t) call given kernel → next ≡ next_number before p → HasNumber next thread → makes_thread call given ≡ true → HasNumber (first_result given) thread
+    number_there given kernel next thread step is number makes =
+        subst (λ n. HasNumber n thread) (is ∙ sym (create_number constants before (caller before p t) call given kernel step makes).0) number
+
     module _ (given : Answer) (kernel : State) (moment : ℕ) (moment_is : moment ≡ kernel.clock)
         (step : IsStep constants before (caller before p t) call given kernel) (live : IsLiveIn w p) where
       step_there : IsStep launch.constants w.state (caller w.state p t) call given kernel
@@ -165,30 +218,83 @@ module _ (launch : Launch) (all : Bool) (log : List Entry) (before : State) (con
         recorded_call kept' took = recorded_entry p t turns call_act kernel moment moment_is leaves_call (λ _. live) answered_there after last kept' took
 
         module _ (guest' : Guest) (is : guest' ≡ called_guest guest t call given) where
-          acted_by : (lives parks : Bool) → parks ≡ is_parked given → (IsTrue lives ↔ (get kernel.statuses p ≡ Some Live))
-              → IsActedOn launch log p t turns call guest' after (acted_so lives parks)
-          acted_by true false replies on = (
-            record { moment = moment; given = given; came = appends_entry p t turns call_act kernel moment moment_is leaves_call (λ _. live) answered_there after last },
-            entry_there p t turns call_act kernel moment moment_is leaves_call (λ _. live) answered_there after last (λ h. GoesOn launch h p t guest')
-                (entry_goes launch log p t turns call_act kernel leaves_call call given guest a.guest_is refl guest' is (on.0 refl)
-                (call_runs launch log p t turns call given guest kernel a step_there (sym replies) (on.0 refl))),
-          )
-          acted_by true true parks on =
-              let thread = call_waits launch log p t turns call given guest kernel a step_there (sym parks) (on.0 refl) in (
-                record { moment = moment; given = given; came = appends_entry p t turns call_act kernel moment moment_is leaves_call (λ _. live) answered_there after last },
-                entry_there p t turns call_act kernel moment moment_is leaves_call (λ _. live) answered_there after last (λ h. WaitsOn launch h p t guest')
-                    (entry_waits launch log p t turns call_act kernel leaves_call call given guest a.guest_is refl guest' is (on.0 refl) thread.0 thread.1 thread.2),
-              )
-          acted_by false parks same on = (
-            record { moment = moment; given = given; came = appends_entry p t turns call_act kernel moment moment_is leaves_call (λ _. live) answered_there after last },
-            entry_there p t turns call_act kernel moment moment_is leaves_call (λ _. live) answered_there after last (λ h. IsDead launch h p)
-                (entry_dead launch log p t turns call_act kernel leaves_call (λ alive. not_true (on.1 alive))),
-          )
+          came_call : AppendsCall launch log p t turns call after
+          came_call = record {
+            moment = moment;
+            given = given;
+            came = appends_entry p t turns call_act kernel moment moment_is leaves_call (λ _. live) answered_there after last;
+          }
 
-          pub acted_there : (result : Acted) (lives parks : Bool) → result ≡ acted_so lives parks → parks ≡ is_parked given
-              → (IsTrue lives ↔ (get kernel.statuses p ≡ Some Live)) → IsActedOn launch log p t turns call guest' after result
-          acted_there result lives parks so same on =
-              subst (IsActedOn launch log p t turns call guest' after) (sym so) (acted_by lives parks same on)
+          -- what holds of the history after the call
+          after_call : (P : List Entry → Type 0) → P (log ++ entry_of (head_of kernel.clock p t turns) call_act ∷ []) → P after
+          after_call P here = entry_there p t turns call_act kernel moment moment_is leaves_call (λ _. live) answered_there after last P here
+
+          goes_call : get kernel.statuses p ≡ Some Live → is_parked given ≡ false → ends_caller call given ≡ false → GoesOn launch after p t guest'
+          goes_call on replies lasts =
+              after_call (λ h. GoesOn launch h p t guest')
+              (entry_goes launch log p t turns call_act kernel leaves_call call given guest a.guest_is refl guest' is on
+              (call_runs launch log p t turns call given guest kernel a step_there replies lasts on))
+
+          waits_call : get kernel.statuses p ≡ Some Live → is_parked given ≡ true → WaitsOn launch after p t guest'
+          waits_call on parks =
+              let thread = call_waits launch log p t turns call given guest kernel a step_there parks on in
+              after_call (λ h. WaitsOn launch h p t guest')
+              (entry_waits launch log p t turns call_act kernel leaves_call call given guest a.guest_is refl guest' is on thread.0 thread.1 thread.2)
+
+          leaves_caller : get kernel.statuses p ≡ Some Live → ends_caller call given ≡ true → HasLeft launch after p t guest'
+          leaves_caller on ends =
+              after_call (λ h. HasLeft launch h p t guest')
+              (entry_left launch log p t turns call_act kernel leaves_call call given guest a.guest_is refl guest' is on
+              (call_left launch log p t turns call given guest kernel a step_there ends on))
+
+          keeps_call : get kernel.statuses p ≡ Some Live → makes_thread call given ≡ false → KeepsBut launch log after p t
+          keeps_call on makes =
+              after_call (λ h. KeepsBut launch log h p t)
+              (entry_keeps launch log p t turns call_act kernel leaves_call t
+              (λ u apart. call_keeps launch log p t turns call given guest kernel a step_there on u apart
+              (λ does. absurd (not_true (sym makes ∙ does)))))
+
+          -- where a thread is made the one that made it is what it was too
+          keeps_maker : get kernel.statuses p ≡ Some Live → is_parked given ≡ false → ends_caller call given ≡ false → (u : ℕ)
+              → u ≢ next_number w.state p → thread_of kernel p u ≡ thread_of w.state p u
+          keeps_maker on replies lasts u old =
+              elim (eqb_tells u t) [
+                | inl same ↦ subst (λ k. thread_of kernel p k ≡ thread_of w.state p k) (sym same.1)
+                    (call_runs launch log p t turns call given guest kernel a step_there replies lasts on ∙ sym (call_runnable w p t turns guest call a))
+                | inr apart ↦ call_keeps launch log p t turns call given guest kernel a step_there on u apart.1 (λ _. old)
+              ]
+
+          starts_call : (next : ℕ) → next ≡ next_number before p → get kernel.statuses p ≡ Some Live → is_parked given ≡ false
+              → makes_thread call given ≡ true → HasStarted launch log after p next
+          starts_call next number on replies makes =
+              let made = call_makes launch log p t turns call given guest kernel a step_there makes on in
+              subst (HasStarted launch log after p) (sym (numbered_there p next number))
+              (after_call (λ h. HasStarted launch log h p (next_number w.state p))
+              (entry_starts launch log p t turns call_act kernel leaves_call (next_number w.state p) made.0 refl made.1
+              (keeps_maker on replies (makes_lasts call given makes))))
+
+          acted_by : (next : ℕ) → next ≡ next_number before p → (lives parks makes ends : Bool) → is_parked given ≡ parks → makes_thread call given ≡ makes
+              → ends_caller call given ≡ ends → (IsTrue lives ↔ (get kernel.statuses p ≡ Some Live))
+              → IsActedOn launch log p t turns call guest' after (acted_so lives (end_of parks makes ends) next)
+          acted_by next number false parks makes ends waits made left on = (
+            came_call,
+            after_call (λ h. IsDead launch h p) (entry_dead launch log p t turns call_act kernel leaves_call (λ alive. not_true (on.1 alive))),
+          )
+          acted_by next number true true makes ends waits made left on =
+              let writes = parked_is given waits in
+              (came_call, waits_call (on.0 refl) waits, keeps_call (on.0 refl) (ap (makes_thread call) writes.1 ∙ parked_makes call writes.0))
+          acted_by next number true false true ends waits made left on =
+              (came_call, goes_call (on.0 refl) waits (makes_lasts call given made), starts_call next number (on.0 refl) waits made)
+          acted_by next number true false false true waits made left on =
+              (came_call, leaves_caller (on.0 refl) left, keeps_call (on.0 refl) made)
+          acted_by next number true false false false waits made left on =
+              (came_call, goes_call (on.0 refl) waits left, keeps_call (on.0 refl) made)
+
+          pub acted_there : (result : Acted) (lives : Bool) (end : CallEnd) (next : ℕ) → result ≡ acted_so lives end next → end ≡ call_end call given
+              → next ≡ next_number before p → (IsTrue lives ↔ (get kernel.statuses p ≡ Some Live)) → IsActedOn launch log p t turns call guest' after result
+          acted_there result lives end next so same number on =
+              subst (IsActedOn launch log p t turns call guest' after) (sym (so ∙ ap (λ x. acted_so lives x next) same))
+              (acted_by next number lives (is_parked given) (makes_thread call given) (ends_caller call given) refl refl refl on)
 
   -- ---- a wake
 
@@ -256,6 +362,9 @@ module _ (launch : Launch) (all : Bool) (log : List Entry) (before : State) (con
           entry_there p t turns wake_act kernel moment moment_is leaves_wake (λ _. live) answered_wake after last (λ h. GoesOn launch h p t guest')
               (entry_goes launch log p t turns wake_act kernel leaves_wake call answered guest a.guest_is refl guest' is on
               (wake_runs launch log p t turns call given answered guest kernel a valid_there waits_there given_is ready_there wake_there on)),
+          entry_there p t turns wake_act kernel moment moment_is leaves_wake (λ _. live) answered_wake after last (λ h. KeepsBut launch log h p t)
+              (entry_keeps launch log p t turns wake_act kernel leaves_wake t
+              (wake_stays launch log p t turns call given answered guest kernel a valid_there waits_there given_is ready_there wake_there on)),
         )
 
         pub woken_ends : (guest' : Guest) → ¬ (get kernel.statuses p ≡ Some Live) → IsWokenOn launch log p t turns guest' after woken.Ends

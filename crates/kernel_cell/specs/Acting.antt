@@ -1,11 +1,13 @@
 -- What the calls on the locked kernel ask of a process, and what they tell it.
 --     AsksCall, AsksWake, AsksEnd      what a thread's call asks, its wake, and an end from outside
 --     Added, Looked      what a pass tells after a call that added an entry, and after one that didn't
---     GoesOn, WaitsOn, IsDead      what became of a thread
+--     GoesOn, WaitsOn, HasLeft, HasStarted, KeepsBut, IsDead      what became of threads
 --     IsActed, IsWoken, IsStopped, ..      what the calls tell by a pass
 --     IsActedOn, IsWokenOn, IsStoppedOn, IsIdledOn, ..      the same of the whole history, which is behind the lock
+--     IsNextThread      the number of the process's next thread
+--     AreTimes      the moment, and until when a thread waits
 --     KeepsGuest, KeepsTurns      what is left of the guest and of its turns where no entry came
-use Rattle.std.specs.Prelude.{◌≡◌, ℕ, Bool, true, false, List, [], ◌∷◌, ◌++◌, None, Some, IsSome}
+use Rattle.std.specs.Prelude.{◌≡◌, ◌≢◌, ℕ, Bool, true, false, List, [], ◌∷◌, ◌++◌, None, Some, IsSome}
 use Rattle.std.specs.FinMap.{get}
 use Rattle.abi_base.specs.declared.signal.Signal.TheVariants.{Xcpu}
 use Rattle.abi_types.specs.declared.reply.Answer.{Answer}
@@ -18,6 +20,10 @@ use Rattle.run_types.specs.declared.history.Act.{Act}
 use Rattle.run_types.specs.declared.history.Act.TheVariants as act
 use Rattle.run_types.specs.declared.history.Entry.{Entry}
 use Rattle.run_types.specs.declared.launch.Launch.{Launch}
+use Rattle.kernel_core.specs.Waiting.{waits_until}
+use Rattle.kernel_model.specs.Outcome.{is_parked}
+use Rattle.kernel_model.specs.State.{thread_of}
+use Rattle.kernel_model.specs.Threads.{ends_caller, makes_thread, next_number}
 use Rattle.kernel_model.specs.Waits.{IsParked}
 use Rattle.kernel_model.specs.Wakes.{is_ready, HasThread, MayJump}
 use Rattle.run_model.specs.Ends.{Stalled}
@@ -28,12 +34,15 @@ use Rattle.shared_history.specs.Entries.{head_of, entry_of, answered_call, idled
 use Rattle.shared_history.specs.Passes.{Passing, IsSeen, Later}
 use Rattle.kernel_cell.specs.declared.results.Acted.{Acted}
 use Rattle.kernel_cell.specs.declared.results.Acted.TheVariants as acted
+use Rattle.kernel_cell.specs.declared.results.CallEnd.{CallEnd}
+use Rattle.kernel_cell.specs.declared.results.CallEnd.TheVariants as ending
 use Rattle.kernel_cell.specs.declared.results.EndBy.{EndBy}
 use Rattle.kernel_cell.specs.declared.results.EndBy.TheVariants as end_by
 use Rattle.kernel_cell.specs.declared.results.Idled.{Idled}
 use Rattle.kernel_cell.specs.declared.results.Idled.TheVariants as idle
 use Rattle.kernel_cell.specs.declared.results.Stopped.{Stopped}
 use Rattle.kernel_cell.specs.declared.results.Stopped.TheVariants as stopped
+use Rattle.kernel_cell.specs.declared.results.Times.{Times}
 use Rattle.kernel_cell.specs.declared.results.Woken.{Woken}
 use Rattle.kernel_cell.specs.declared.results.Woken.TheVariants as woken
 
@@ -108,6 +117,20 @@ pub record AddedWake (launch : Launch) (v : Passing) (t : ℕ) (turns : List ℕ
   pub answered : Answer
   pub added : Added launch v (answered_call (head_of moment v.pid t turns) call (Some given) answered) w
 
+-- ---- what became of threads
+
+-- each thread of the process, but for the one with this number, is what it was before, and there is no other
+abbrev pub KeepsBut : Launch → List Entry → List Entry → ℕ → ℕ → Type 0
+KeepsBut launch before after p t =
+    (u : ℕ) → u ≢ t → thread_of (world launch after).state p u ≡ thread_of (world launch before).state p u
+
+-- the process has one thread more, with the number that was the next, and it takes its turns
+pub record HasStarted (launch : Launch) (before after : List Entry) (p u : ℕ) : Type 0 where
+  pub absent : thread_of (world launch before).state p u ≡ None
+  pub numbered : u ≡ next_number (world launch before).state p
+  pub runs : IsRunnable (world launch after).state p u
+  pub others : KeepsBut launch before after p u
+
 -- the thread takes its turns, and this is its process's guest
 pub record GoesOn (launch : Launch) (history : List Entry) (p t : ℕ) (guest : Guest) : Type 0 where
   pub live : IsLiveIn (world launch history) p
@@ -120,6 +143,12 @@ pub record WaitsOn (launch : Launch) (history : List Entry) (p t : ℕ) (guest :
   pub waits : Waiting (world launch history) p t
   pub guest_is : guest ≡ guest_of (world launch history) p
 
+-- the thread is there no more, its process lives on, and this is the process's guest
+pub record HasLeft (launch : Launch) (history : List Entry) (p t : ℕ) (guest : Guest) : Type 0 where
+  pub live : IsLiveIn (world launch history) p
+  pub gone : thread_of (world launch history).state p t ≡ None
+  pub guest_is : guest ≡ guest_of (world launch history) p
+
 abbrev pub IsDead : Launch → List Entry → ℕ → Type 0
 IsDead launch history p = ¬ IsLiveIn (world launch history) p
 
@@ -128,21 +157,41 @@ abbrev pub IsNotReady : Launch → List Entry → ℕ → ℕ → Type 0
 IsNotReady launch history p t =
     IsLiveIn (world launch history) p × (is_ready launch.constants (world launch history).state p t ≡ false)
 
--- what a call came to, by whether its process is live afterwards and whether its thread waits in it
-abbrev pub acted_so : Bool → Bool → Acted
-acted_so true false = acted.Runs
-acted_so true true = acted.Parks
-acted_so false parks = acted.Ends
+-- what a call did with the thread that made it, by whether this waits, whether the call made a thread, and whether it ended this one
+abbrev pub end_of : Bool → Bool → Bool → CallEnd
+end_of true makes ends = ending.Parks
+end_of false true ends = ending.Starts
+end_of false false true = ending.Leaves
+end_of false false false = ending.Runs
+
+abbrev pub call_end : Call → Answer → CallEnd
+call_end call given = end_of (is_parked given) (makes_thread call given) (ends_caller call given)
+
+-- what a call came to, by whether its process is live afterwards, what it did with the thread that made it, and the number of the thread
+-- that it may have made
+abbrev pub acted_so : Bool → CallEnd → ℕ → Acted
+acted_so false end next = acted.Ends
+acted_so true ending.Runs next = acted.Runs
+acted_so true ending.Starts next = acted.Starts next
+acted_so true ending.Parks next = acted.Parks
+acted_so true ending.Leaves next = acted.Leaves
 
 abbrev pub IsActed : Launch → Passing → ℕ → List ℕ → Call → Guest → Passing → Acted → Type 0
-IsActed launch v t turns call guest w acted.Runs = AddedCall launch v t turns call w × GoesOn launch w.seen v.pid t guest
-IsActed launch v t turns call guest w acted.Parks = AddedCall launch v t turns call w × WaitsOn launch w.seen v.pid t guest
+IsActed launch v t turns call guest w acted.Runs =
+    AddedCall launch v t turns call w × GoesOn launch w.seen v.pid t guest × KeepsBut launch v.seen w.seen v.pid t
+IsActed launch v t turns call guest w (acted.Starts u) =
+    AddedCall launch v t turns call w × GoesOn launch w.seen v.pid t guest × HasStarted launch v.seen w.seen v.pid u
+IsActed launch v t turns call guest w acted.Parks =
+    AddedCall launch v t turns call w × WaitsOn launch w.seen v.pid t guest × KeepsBut launch v.seen w.seen v.pid t
+IsActed launch v t turns call guest w acted.Leaves =
+    AddedCall launch v t turns call w × HasLeft launch w.seen v.pid t guest × KeepsBut launch v.seen w.seen v.pid t
 IsActed launch v t turns call guest w acted.Ends = AddedCall launch v t turns call w × IsDead launch w.seen v.pid
 IsActed launch v t turns call guest w acted.Gone = Looked launch v w × IsDead launch w.seen v.pid
 IsActed launch v t turns call guest w acted.NoMemory = Looked launch v w × IsLiveIn (world launch w.seen) v.pid
 
 abbrev pub IsWoken : Launch → Passing → ℕ → List ℕ → Guest → Passing → Woken → Type 0
-IsWoken launch v t turns guest w woken.Runs = AddedWake launch v t turns w × GoesOn launch w.seen v.pid t guest
+IsWoken launch v t turns guest w woken.Runs =
+    AddedWake launch v t turns w × GoesOn launch w.seen v.pid t guest × KeepsBut launch v.seen w.seen v.pid t
 IsWoken launch v t turns guest w woken.Ends = AddedWake launch v t turns w × IsDead launch w.seen v.pid
 IsWoken launch v t turns guest w woken.NotReady = Looked launch v w × IsNotReady launch w.seen v.pid t
 IsWoken launch v t turns guest w woken.Gone = Looked launch v w × IsDead launch w.seen v.pid
@@ -172,8 +221,14 @@ pub record AppendsCall (launch : Launch) (log : List Entry) (p t : ℕ) (turns :
   pub came : Appends launch log (answered_call (head_of moment p t turns) call None given) after
 
 abbrev pub IsActedOn : Launch → List Entry → ℕ → ℕ → List ℕ → Call → Guest → List Entry → Acted → Type 0
-IsActedOn launch log p t turns call guest after acted.Runs = AppendsCall launch log p t turns call after × GoesOn launch after p t guest
-IsActedOn launch log p t turns call guest after acted.Parks = AppendsCall launch log p t turns call after × WaitsOn launch after p t guest
+IsActedOn launch log p t turns call guest after acted.Runs =
+    AppendsCall launch log p t turns call after × GoesOn launch after p t guest × KeepsBut launch log after p t
+IsActedOn launch log p t turns call guest after (acted.Starts u) =
+    AppendsCall launch log p t turns call after × GoesOn launch after p t guest × HasStarted launch log after p u
+IsActedOn launch log p t turns call guest after acted.Parks =
+    AppendsCall launch log p t turns call after × WaitsOn launch after p t guest × KeepsBut launch log after p t
+IsActedOn launch log p t turns call guest after acted.Leaves =
+    AppendsCall launch log p t turns call after × HasLeft launch after p t guest × KeepsBut launch log after p t
 IsActedOn launch log p t turns call guest after acted.Ends = AppendsCall launch log p t turns call after × IsDead launch after p
 IsActedOn launch log p t turns call guest after acted.Gone = (after ≡ log) × IsDead launch log p
 IsActedOn launch log p t turns call guest after acted.NoMemory = (after ≡ log) × IsLiveIn (world launch log) p
@@ -187,7 +242,8 @@ pub record AppendsWake (launch : Launch) (log : List Entry) (p t : ℕ) (turns :
   pub came : Appends launch log (answered_call (head_of moment p t turns) call (Some given) answered) after
 
 abbrev pub IsWokenOn : Launch → List Entry → ℕ → ℕ → List ℕ → Guest → List Entry → Woken → Type 0
-IsWokenOn launch log p t turns guest after woken.Runs = AppendsWake launch log p t turns after × GoesOn launch after p t guest
+IsWokenOn launch log p t turns guest after woken.Runs =
+    AppendsWake launch log p t turns after × GoesOn launch after p t guest × KeepsBut launch log after p t
 IsWokenOn launch log p t turns guest after woken.Ends = AppendsWake launch log p t turns after × IsDead launch after p
 IsWokenOn launch log p t turns guest after woken.NotReady = (after ≡ log) × IsNotReady launch log p t
 IsWokenOn launch log p t turns guest after woken.Gone = (after ≡ log) × IsDead launch log p
@@ -229,3 +285,17 @@ IsIdledOn launch log after idle.Jumped = AppendsJump launch log after
 IsIdledOn launch log after idle.Busy = (after ≡ log) × ¬ MayJumpAfter launch log × ¬ Stalled launch log
 IsIdledOn launch log after idle.Stalled = (after ≡ log) × Stalled launch log
 IsIdledOn launch log after idle.NoMemory = after ≡ log
+
+-- ---- what is told beforehand
+
+-- the process is live after this history, and its next thread gets this number
+pub record IsNextThread (launch : Launch) (history : List Entry) (p next : ℕ) : Type 0 where
+  pub live : IsLiveIn (world launch history) p
+  pub number : next ≡ next_number (world launch history).state p
+
+-- ---- times
+
+-- the moment of the history, and until when the thread waits after it
+pub record AreTimes (launch : Launch) (history : List Entry) (p t : ℕ) (times : Times) : Type 0 where
+  pub moment : times.moment ≡ (world launch history).state.clock
+  pub until : times.until ≡ waits_until (thread_of (world launch history).state p t)

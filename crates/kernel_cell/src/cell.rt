@@ -1,14 +1,14 @@
 //! The kernel behind its lock, as threads share it, from the begin of a run to its book.
-ghost use Rattle.std.specs.Prelude.{◌≡◌, ◌↔◌, [], IfOk, IsTrue};
+ghost use Rattle.std.specs.Prelude.{◌≡◌, ◌↔◌, [], IfOk, IfSome, IsNone, IsTrue};
 ghost use Rattle.call_codec.specs.Bounded.{IsBounded};
 ghost use Rattle.run_model.specs.Own.{IsLiveIn};
 ghost use Rattle.run_model.specs.World.{world};
-ghost use Rattle.kernel_cell.specs.Acting.{AsksCall, AsksEnd, AsksWake, Looked, IsActed, IsStopped, IsWoken, KeepsTurns};
+ghost use Rattle.kernel_cell.specs.Acting.{AsksCall, AsksEnd, AsksWake, Looked, IsActed, IsNextThread, IsStopped, IsWoken, KeepsTurns};
 ghost use Rattle.kernel_cell.specs.Cell.{IsBookOf};
 
 use crate::locked::Locked;
-use crate::results::{Acted, EndBy, Idled, Stopped, Woken};
-use abi_types::{Call, Tid, TidList};
+use crate::results::{Acted, EndBy, Idled, Stopped, Times, Woken};
+use abi_types::{Call, Pid, Tid, TidList};
 use atomic_table::{Seat, Table};
 use guest_process::{FIRST, Guest};
 use kernel_core::Kernel;
@@ -180,6 +180,25 @@ impl<J: Naming> Cell<J> {
         ensures live { IsTrue result ↔ IsLiveIn (world J.launch pass.new.seen) pass.old.pid }
     {
         self.locked.lock(rt).look(&self.passes, pass)
+    }
+
+    /// The number that the next thread of the pass's process gets. `None` where the process has ended.
+    pub fn next_thread<R: Wait>(&self, rt: &R, pass: &mut Pass<J>) -> Option<Tid>
+        ensures pass { Looked J.launch pass.old pass.new }
+        ensures some { IfSome result (λ next. IsNextThread J.launch pass.new.seen pass.old.pid next) }
+        ensures none { IsNone result → ¬ IsLiveIn (world J.launch pass.new.seen) pass.old.pid }
+    {
+        self.locked.lock(rt).next_thread(&self.passes, pass)
+    }
+
+    /// The moment now, in nanoseconds since the run began.
+    pub fn moment<R: Wait>(&self, rt: &R) -> u64 {
+        self.locked.lock(rt).moment()
+    }
+
+    /// The moment now, and until when a thread waits.
+    pub fn times<R: Wait>(&self, rt: &R, pid: Pid, tid: Tid) -> Times {
+        self.locked.lock(rt).times(pid, tid)
     }
 
     /// Takes back the pass of a process that needs it no more.

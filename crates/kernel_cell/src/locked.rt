@@ -1,14 +1,14 @@
 //! What stands behind the kernel lock. Each call here takes a process's pass in, does what it does, and hands the pass out
 //! again.
-ghost use Rattle.std.specs.Prelude.{◌≡◌, ◌↔◌, IsTrue};
+ghost use Rattle.std.specs.Prelude.{◌≡◌, ◌↔◌, IfSome, IsNone, IsTrue};
 ghost use Rattle.run_model.specs.Own.{IsLiveIn};
 ghost use Rattle.run_model.specs.World.{world};
 ghost use Rattle.kernel_cell.specs.Recorded.{IsRecorded};
-ghost use Rattle.kernel_cell.specs.Acting.{AsksCall, AsksEnd, AsksWake, Looked, IsActed, IsActedOn, IsIdledOn, IsStopped, IsStoppedOn, IsWoken, IsWokenOn, KeepsGuest, KeepsTurns};
+ghost use Rattle.kernel_cell.specs.Acting.{AreTimes, AsksCall, AsksEnd, AsksWake, Looked, IsActed, IsActedOn, IsIdledOn, IsNextThread, IsStopped, IsStoppedOn, IsWoken, IsWokenOn, KeepsGuest, KeepsTurns};
 
 use crate::recorded::Recorded;
-use crate::results::{Acted, EndBy, Idled, Stopped, Woken};
-use abi_types::{Call, Constants, Tid, TidList};
+use crate::results::{Acted, EndBy, Idled, Stopped, Times, Woken};
+use abi_types::{Call, Constants, Pid, Tid, TidList};
 use guest_process::Guest;
 use kernel_core::Kernel;
 use shared_history::{Keeper, Kept, Naming, Pass, Passes, Past};
@@ -165,6 +165,37 @@ impl<J: Naming> Locked<J> {
             .take_in(passes, Pass::lent(pid, &mut pass.badge));
         *pass = self.recorded.keeper.hand_out(passes, pid);
         self.recorded.kernel.live(pid)
+    }
+
+    /// The number that the next thread of the pass's process gets. `None` where the process has ended.
+    pub fn next_thread(&mut self, passes: &Passes<J>, pass: &mut Pass<J>) -> Option<Tid>
+        ensures pass { Looked J.launch pass.old pass.new }
+        ensures some { IfSome result (λ next. IsNextThread J.launch pass.new.seen pass.old.pid next) }
+        ensures none { IsNone result → ¬ IsLiveIn (world J.launch pass.new.seen) pass.old.pid }
+        ensures history { self.new ≡ self.old }
+        ensures seen { pass.new.seen ≡ self.new }
+    {
+        if !self.look(passes, pass) {
+            return None;
+        }
+        Some(self.recorded.kernel.next_thread(pass.pid))
+    }
+
+    /// The moment now, in nanoseconds since the run began.
+    pub fn moment(&self) -> u64
+        ensures { result ≡ (world J.launch self.now).state.clock }
+    {
+        self.recorded.kernel.moment()
+    }
+
+    /// The moment now, and until when a thread waits.
+    pub fn times(&self, pid: Pid, tid: Tid) -> Times
+        ensures { AreTimes J.launch self.now pid tid result }
+    {
+        Times {
+            moment: self.moment(),
+            until: self.recorded.kernel.until(pid, tid),
+        }
     }
 
     /// Takes back the pass of a process that needs it no more.

@@ -3,12 +3,12 @@ ghost use Rattle.std.specs.Prelude.{◌≡◌, [], ◌∷◌};
 ghost use Rattle.run_model.specs.Own.{IsLiveIn};
 ghost use Rattle.run_model.specs.World.{world};
 ghost use Rattle.kernel_model.specs.Outcome.{is_parked};
-ghost use Rattle.kernel_cell.specs.Acting.{AsksCall, AsksEnd, AsksWake, act_of, acted_so, status_of, IsActedOn, IsIdledOn, IsStoppedOn, IsWokenOn, KeepsGuest, KeepsTurns};
+ghost use Rattle.kernel_cell.specs.Acting.{AsksCall, AsksEnd, AsksWake, act_of, acted_so, call_end, end_of, status_of, IsActedOn, IsIdledOn, IsStoppedOn, IsWokenOn, KeepsGuest, KeepsTurns};
 ghost use Rattle.kernel_cell.specs.Recorded.{IsRecorded};
 
-use crate::results::{Acted, EndBy, Idled, Stopped, Woken};
+use crate::results::{Acted, CallEnd, EndBy, Idled, Stopped, Woken};
 use abi_types::{Answer, Call, Constants, Pid, Signal, Status, Tid, TidList};
-use guest_process::Guest;
+use guest_process::{Guest, ends_caller, makes_thread};
 use kernel_core::Kernel;
 use run_types::Act;
 use shared_history::{EntryHead, Keeper, Kept, Naming, Passes, idle_entry};
@@ -51,14 +51,39 @@ fn is_parked(answer: &Answer) -> bool
     matches!(answer, Answer::Parked(_))
 }
 
-// What a call came to, by whether its process is live afterwards and whether its thread waits in it.
-fn acted(live: bool, parks: bool) -> Acted
-    ensures { result ≡ acted_so live parks }
+// What a call did with the thread that made it, by whether this waits, whether the call made a thread, and whether it ended this one.
+fn end_of(parks: bool, makes: bool, ends: bool) -> CallEnd
+    ensures { result ≡ end_of parks makes ends }
 {
-    match (live, parks) {
-        (true, false) => Acted::Runs,
-        (true, true) => Acted::Parks,
+    match (parks, makes, ends) {
+        (true, _, _) => CallEnd::Parks,
+        (false, true, _) => CallEnd::Starts,
+        (false, false, true) => CallEnd::Leaves,
+        (false, false, false) => CallEnd::Runs,
+    }
+}
+
+// What a call that was answered so did with its thread.
+fn call_end(call: &Call, answer: &Answer) -> CallEnd
+    ensures { result ≡ call_end call.now answer.now }
+{
+    end_of(
+        is_parked(answer),
+        makes_thread(call, answer),
+        ends_caller(call, answer),
+    )
+}
+
+// What a call that did this came to, by whether its process is live afterwards. A thread that it made has the number `next`.
+fn acted(live: bool, end: CallEnd, next: Tid) -> Acted
+    ensures { result ≡ acted_so live end next }
+{
+    match (live, end) {
         (false, _) => Acted::Ends,
+        (true, CallEnd::Runs) => Acted::Runs,
+        (true, CallEnd::Starts) => Acted::Starts(next),
+        (true, CallEnd::Parks) => Acted::Parks,
+        (true, CallEnd::Leaves) => Acted::Leaves,
     }
 }
 
@@ -89,12 +114,13 @@ impl<J: Naming> Recorded<J> {
         let Ok(()) = self.kept.reserve() else {
             return Acted::NoMemory;
         };
-        let Ok(room) = guest.make_room(alloc, &call) else {
+        let next = self.kernel.next_thread(pid);
+        let Ok(room) = guest.make_room(alloc, &call, next) else {
             return Acted::NoMemory;
         };
         let answer = self.kernel.step(&self.constants, pid, tid, &call);
         guest.answer(tid, &call, &answer, room);
-        let parks = is_parked(&answer);
+        let end = call_end(&call, &answer);
         let head = EntryHead {
             moment: self.kernel.moment(),
             pid,
@@ -103,7 +129,7 @@ impl<J: Naming> Recorded<J> {
         };
         self.keeper.append_call(passes, &head, &call, None, &answer);
         self.kept.take_call(head, call, None, answer);
-        acted(self.kernel.live(pid), parks)
+        acted(self.kernel.live(pid), end, next)
     }
 
     /// The wake of a thread after these turns of its process, whose guest gets the answer to the call that the thread waited in. The

@@ -1,19 +1,36 @@
 //! What the calls on the locked kernel answer, and how a process is ended from outside.
-use abi_types::Signal;
+use abi_types::{Signal, Tid};
 
 /// What a thread's call came to.
 #[derive(Clone, Copy)]
 pub enum Acted {
     /// It is an entry, and the thread goes on, with its answer.
     Runs,
+    /// It is an entry, and the thread goes on, beside the one with this number, which it made.
+    Starts(Tid),
     /// It is an entry, and the thread waits in it.
     Parks,
+    /// It is an entry, by which the thread ended. Its process lives on.
+    Leaves,
     /// It is an entry, by which the thread's process ended.
     Ends,
     /// The process had ended before, and no entry was added.
     Gone,
     /// Memory ran out before the call was made, and no entry was added.
     NoMemory,
+}
+
+/// What a call did with the thread that made it, where the thread's process lives on.
+#[derive(Clone, Copy)]
+pub enum CallEnd {
+    /// It goes on.
+    Runs,
+    /// It goes on, and a thread was made.
+    Starts,
+    /// It waits.
+    Parks,
+    /// It ended.
+    Leaves,
 }
 
 /// What the wake of a thread that waited came to.
@@ -42,6 +59,14 @@ pub enum Idled {
     Stalled,
     /// Memory ran out, and no entry was added.
     NoMemory,
+}
+
+/// The moment of the run, and until when a thread waits, both in nanoseconds since the run began.
+#[derive(Clone, Copy)]
+pub struct Times {
+    pub moment: u64,
+    /// `None` where the thread doesn't wait, and where there is no such moment.
+    pub until: Option<u64>,
 }
 
 /// How a process is ended from outside.

@@ -1,5 +1,6 @@
 -- What a call means, by the part of the kernel that does it.
---     change_is, state_is, file_is, offset_is, entries_is, open_is, exit_is, poll_is, zeros_is, answered_is, unbuilt_is      the call of a view
+--     change_is, state_is, file_is, offset_is, entries_is, open_is, exit_is, poll_is, zeros_is, answered_is, unbuilt_is,
+--     resolution_is, time_is, random_is, new_thread_is, thread_exit_is      the call of a view
 --     file_on, offset_on, entries_on      the descriptors of a view are those on whose opens its call works
 --     change_does, poll_does, zeros_does, answered_does, unbuilt_does      what such a call does
 --     change_replaces, change_takes_memory      a number that is replaced is there;  memory may run out for a new number
@@ -11,6 +12,7 @@ use Rattle.abi_base.specs.declared.errno.Errno.TheVariants.{Badf, Nosys, Success
 use Rattle.abi_structures.specs.declared.events.Subscription.{Subscription}
 use Rattle.abi_structures.specs.declared.events.What.{What}
 use Rattle.abi_structures.specs.declared.events.What.TheVariants.{Clock}
+use Rattle.abi_structures.specs.declared.structures.ThreadAttr.{ThreadAttr}
 use Rattle.abi_types.specs.Families.{HasFile, IsOf, answer_of, call_of_change, call_of_entry, call_of_file, call_of_offset, call_of_open, fd_of_file, fd_of_offset, fds_of_entry, is_anonymous, is_unbuilt, zeros_of}
 use Rattle.abi_types.specs.declared.call.Call.{Call}
 use Rattle.abi_types.specs.declared.call.Call.TheVariants as call
@@ -89,6 +91,26 @@ module _ (c : Call) (f : Family) (of : IsOf c f) where
   unfolding IsOf
   poll_is subscriptions is = subst (IsOf c) is of
 
+  pub resolution_is : (clock : ℕ) → f ≡ family.ClockResolution clock → c ≡ call.ClockResGet clock
+  unfolding IsOf
+  resolution_is clock is = subst (IsOf c) is of
+
+  pub time_is : (clock precision : ℕ) → f ≡ family.ClockTime clock precision → c ≡ call.ClockTimeGet clock precision
+  unfolding IsOf
+  time_is clock precision is = subst (IsOf c) is of
+
+  pub random_is : (length : ℕ) → f ≡ family.Random length → c ≡ call.RandomGet length
+  unfolding IsOf
+  random_is length is = subst (IsOf c) is of
+
+  pub new_thread_is : (attributes : ThreadAttr) → f ≡ family.NewThread attributes → c ≡ call.ThreadCreate attributes
+  unfolding IsOf
+  new_thread_is attributes is = subst (IsOf c) is of
+
+  pub thread_exit_is : (lock word scope : ℕ) → f ≡ family.ThreadExit lock word scope → c ≡ call.ThreadExit lock word scope
+  unfolding IsOf
+  thread_exit_is lock word scope is = subst (IsOf c) is of
+
   pub answered_is : (errno : Errno) → f ≡ family.Answered errno → answer_of c ≡ Some errno
   unfolding IsOf
   answered_is errno is = subst (IsOf c) is of
@@ -165,6 +187,7 @@ pub answered_does : (c : Call) (errno : Errno) (constants : Constants) (v : View
 answered_does (call.FdDatasync fd) errno constants v who table is = replied_with Success errno is
 answered_does (call.FdSync fd) errno constants v who table is = replied_with Success errno is
 answered_does (call.FileAdvise fd offset length advice) errno constants v who table is = replied_with Success errno is
+answered_does call.ThreadYield errno constants v who table is = replied_with Success errno is
 answered_does (call.Memory number had) errno constants v who table is = replied_with had errno is
 answered_does (call.Refused number had) errno constants v who table is = replied_with had errno is
 answered_does (call.Unknown number) errno constants v who table is = replied_with Nosys errno is
@@ -172,8 +195,6 @@ answered_does other errno constants v who table is = absurd (none_is_no errno is
 
 pub unbuilt_does : (c : Call) (constants : Constants) (v : View) (who : Who) (table : Table) → is_unbuilt c ≡ true
     → (meaning_of c).effect constants v who table ≡ replies (refused Nosys)
-unbuilt_does (call.ClockResGet clock) constants v who table is = refl
-unbuilt_does (call.ClockTimeGet clock precision) constants v who table is = refl
 unbuilt_does (call.CondvarSignal condvar word scope n) constants v who table is = refl
 unbuilt_does (call.FdCreate1 kind) constants v who table is = refl
 unbuilt_does (call.FdCreate2 kind) constants v who table is = refl
@@ -181,13 +202,9 @@ unbuilt_does (call.LockUnlock lock word scope) constants v who table is = refl
 unbuilt_does (call.ProcExec fd bytes fds) constants v who table is = refl
 unbuilt_does (call.ProcFork left) constants v who table is = refl
 unbuilt_does (call.ProcRaise signal) constants v who table is = refl
-unbuilt_does (call.RandomGet length) constants v who table is = refl
 unbuilt_does (call.SockRecv fd length fds flags) constants v who table is = refl
 unbuilt_does (call.SockSend fd bytes fds flags) constants v who table is = refl
 unbuilt_does (call.SockShutdown fd how) constants v who table is = refl
-unbuilt_does (call.ThreadCreate attributes) constants v who table is = refl
-unbuilt_does (call.ThreadExit lock word scope) constants v who table is = refl
-unbuilt_does call.ThreadYield constants v who table is = refl
 unbuilt_does other constants v who table is = absurd (cc)
 
 -- ---- polls

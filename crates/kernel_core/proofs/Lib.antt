@@ -15,3 +15,4 @@ pub mod Families
 pub mod Opens
 pub mod Parks
 pub mod Waiters
+pub mod OwnCalls

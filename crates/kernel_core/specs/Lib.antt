@@ -4,3 +4,4 @@ pub mod OffsetCalls
 pub mod Entries
 pub mod Opening
 pub mod Waiting
+pub mod Threads

@@ -25,6 +25,12 @@ kept_call None = None
 kept_call (Some Runnable) = None
 kept_call (Some (Waits call since until)) = Some call
 
+-- until when the thread waits, if there is such a moment
+abbrev pub waits_until : Option Thread → Option ℕ
+waits_until None = None
+waits_until (Some Runnable) = None
+waits_until (Some (Waits call since until)) = until
+
 -- The threads of all processes do this: there is none; or one runs or is ready; or nothing can happen before the least deadline, or
 -- nothing any more where there is none.
 abbrev pub ThreadsDo : Constants → State → Activity → Type 0

@@ -10,7 +10,7 @@ ghost use Rattle.kernel_model.specs.View.{whole};
 
 use crate::kernel::Kernel;
 use abi_types::{Answer, Call, Constants, Errno, Family, Status, Who};
-use kernel_parts::{placed, poll};
+use kernel_parts::{CLOCK_RESOLUTION, placed, poll};
 use right_rules::{refusal, refused, success};
 use std::alloc::AllocError;
 
@@ -56,6 +56,15 @@ impl Kernel {
                 self.clock,
                 subscriptions,
             ),
+            Family::ClockResolution { .. } => Ok(Answer::Reply(success(CLOCK_RESOLUTION, 0))),
+            Family::ClockTime { clock, .. } => {
+                Ok(Answer::Reply(self.clock_time(constants, clock)))
+            }
+            Family::Random { length } => self.random_get(constants, who.pid, length),
+            Family::NewThread(_) => self.thread_create(who),
+            Family::ThreadExit { lock, word, .. } => {
+                Ok(Answer::Reply(self.thread_exit(who, lock, word)))
+            }
             Family::Zeros(place) => Ok(Answer::Reply(placed(place))),
             Family::Answered(errno) => Ok(Answer::Reply(refused(errno))),
             Family::NotBuilt => Ok(Answer::Reply(refused(Errno::Nosys))),

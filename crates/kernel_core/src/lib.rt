@@ -5,6 +5,7 @@ pub use kernel::Kernel;
 pub use kernel_parts::Activity;
 pub use run_types::{Act, Entry, Launch};
 
+mod clocks;
 mod descriptors;
 mod dispatch;
 mod entries;
@@ -12,4 +13,7 @@ mod files;
 mod kernel;
 mod offset_calls;
 mod opening;
+mod random;
+mod thread_numbers;
+mod threads;
 mod waiting;

@@ -1,5 +1,6 @@
 -- The meanings of calls that only answer, and of those that aren't built yet, are proper.
 use Rattle.std.proofs.Common.{◌≡◌, ◌⊎◌, inl, inr, ℕ, List, [], ◌∷◌, None, refl}
+use Rattle.std.specs.FinMap.{get}
 use Rattle.std.specs.List.{AllByRecursion}
 use Rattle.abi_base.specs.declared.errno.Errno.{Errno}
 use Rattle.abi_base.specs.declared.errno.Errno.TheVariants.{Success, Nosys}
@@ -13,6 +14,7 @@ use Rattle.abi_base.specs.declared.rights.Rights.{Rights}
 use Rattle.kernel_model.specs.Reply.{refused, success}
 use Rattle.kernel_model.specs.Families.WaitCalls.{fds_of}
 use Rattle.kernel_model.proofs.Lists.{all_weaker, in_more}
+use Rattle.kernel_model.proofs.Parts.{own_stays}
 use Rattle.kernel_model.proofs.Tests.{not_true}
 
 -- the rows' descriptors are named, and a right is needed of each that is seen
@@ -37,7 +39,8 @@ replying_is_proper named need seen errors reply names sees plain listed = record
   waits = λ h. absurd (not_true h);
   lacks = λ h. absurd (not_true h);
   others = λ constants v who table q apart. (refl, refl);
-  threads = λ constants S who table live. refl;
+  own = λ constants S who table. inl (own_stays (get S.processes who.pid));
+  allows = λ constants S who table. tt;
   valid = λ constants S who table there nearly. nearly;
 }
 

@@ -67,6 +67,8 @@ takes_none (call.FileStatGet lookup path) listed = absurd (not_true listed)
 takes_none (call.FileStatPut lookup path stat flags) listed = absurd (not_true listed)
 takes_none (call.FileSymlink text fd path) listed = absurd (not_true listed)
 takes_none (call.FileUnlink fd path flags) listed = absurd (not_true listed)
+takes_none (call.RandomGet length) listed = absurd (not_true listed)
+takes_none (call.ThreadCreate attributes) listed = absurd (not_true listed)
 takes_none (call.MemMap place length prot flags fd offset) listed = absurd (not_true listed)
 takes_none _ listed = refl
 

@@ -1,13 +1,16 @@
 -- The meaning of each call is proper.
-use Rattle.std.proofs.Common.{[]}
+use Rattle.std.proofs.Common.{[], inl, refl}
 use Rattle.abi_base.specs.declared.errno.Errno.TheVariants.{Nosys}
 use Rattle.abi_types.specs.declared.call.Call.{Call}
 use Rattle.abi_types.specs.declared.call.Call.TheVariants as call
 use Rattle.kernel_model.specs.Calls.{meaning_of}
 use Rattle.kernel_model.specs.Proper.{IsProper}
-use Rattle.kernel_model.proofs.Answering.{listing_is_proper, naming_is_proper, needing_is_proper, row_is_proper}
+use Rattle.kernel_model.specs.Reply.{success}
+use Rattle.kernel_model.proofs.Answering.{answering_is_proper, listing_is_proper, naming_is_proper, needing_is_proper, row_is_proper}
 use Rattle.kernel_model.proofs.MemoryCalls.{decided_is_proper, mem_map_is_proper}
+use Rattle.kernel_model.proofs.ClockCalls.{clock_time_get_is_proper, random_get_is_proper}
 use Rattle.kernel_model.proofs.ProcessCalls.{proc_exit_is_proper}
+use Rattle.kernel_model.proofs.ThreadCalls.{thread_create_is_proper, thread_exit_is_proper}
 use Rattle.kernel_model.proofs.DescriptorCalls.{fd_close_is_proper, fd_dup_is_proper, fd_replace_is_proper, fd_stat_get_is_proper, fd_stat_put_is_proper}
 use Rattle.kernel_model.proofs.FileBytes.{fd_pread_is_proper, fd_pwrite_is_proper}
 use Rattle.kernel_model.proofs.FileChanges.{file_allocate_is_proper, file_stat_fput_is_proper, file_stat_put_is_proper}
@@ -21,8 +24,8 @@ use Rattle.kernel_model.proofs.StreamCalls.{fd_read_is_proper, fd_seek_is_proper
 use Rattle.kernel_model.proofs.WaitCalls.{poll_is_proper}
 
 pub proper : (call : Call) → IsProper (meaning_of call)
-proper (call.ClockResGet clock) = naming_is_proper []
-proper (call.ClockTimeGet clock precision) = naming_is_proper []
+proper (call.ClockResGet clock) = answering_is_proper [] (success 1000 0) refl (inl refl)
+proper (call.ClockTimeGet clock precision) = clock_time_get_is_proper clock
 proper (call.CondvarSignal condvar word scope n) = naming_is_proper []
 proper (call.FdClose fd) = fd_close_is_proper fd
 proper (call.FdCreate1 kind) = naming_is_proper []
@@ -60,12 +63,12 @@ proper (call.ProcExec fd bytes fds) = listing_is_proper _ fds
 proper (call.ProcExit code) = proc_exit_is_proper code
 proper (call.ProcFork left) = naming_is_proper []
 proper (call.ProcRaise signal) = naming_is_proper []
-proper (call.RandomGet length) = naming_is_proper []
+proper (call.RandomGet length) = random_get_is_proper length
 proper (call.SockRecv fd length fds flags) = row_is_proper _
 proper (call.SockSend fd bytes fds flags) = listing_is_proper _ fds
 proper (call.SockShutdown fd how) = row_is_proper _
-proper (call.ThreadCreate attributes) = naming_is_proper []
-proper (call.ThreadExit lock word scope) = naming_is_proper []
-proper call.ThreadYield = naming_is_proper []
+proper (call.ThreadCreate attributes) = thread_create_is_proper
+proper (call.ThreadExit lock word scope) = thread_exit_is_proper lock word
+proper call.ThreadYield = answering_is_proper [] (success 0 0) refl (inl refl)
 proper (call.Refused number errno) = decided_is_proper errno
 proper (call.Unknown number) = decided_is_proper Nosys

@@ -17,6 +17,7 @@ use Rattle.abi_types.specs.declared.open_kind.OpenKind.TheVariants.{File, Direct
 use Rattle.maps.specs.Maps.{get-insert-same, get-insert-other, get-remove-same, get-remove-other}
 use Rattle.kernel_model.specs.Families.DescriptorCalls.{with_table, fd_close, free_from, lowest_free, dup_at, dup_of, fd_dup, replaced_by, fd_replace, stat_open, stat_get, fd_stat_get, stat_put_row, with_flags, lowered_to, stat_set, stat_put, open_part, fd_stat_put}
 use Rattle.kernel_model.specs.Outcome.{Outcome, replies}
+use Rattle.kernel_model.specs.OwnChanges.{keeps_own}
 use Rattle.kernel_model.specs.Proper.{IsIn, IsUnset, IsPlain, IsProper}
 use Rattle.kernel_model.specs.Reply.{refused}
 use Rattle.kernel_model.specs.Sight.{process_parts, behind, reached_by}
@@ -24,7 +25,7 @@ use Rattle.kernel_model.specs.State.{State, Table, Part, Update, at_clock, at_pr
 use Rattle.kernel_model.specs.Step.{tick}
 use Rattle.kernel_model.specs.Valid.{IsNearlyValid}
 use Rattle.kernel_model.specs.View.{View, restrict, whole}
-use Rattle.kernel_model.proofs.Parts.{KeepsThreads, outside_cons, has_of_both, beyond_process, number_apart}
+use Rattle.kernel_model.proofs.Parts.{KeepsOwn, own_stays, outside_cons, has_of_both, beyond_process, number_apart}
 use Rattle.kernel_model.proofs.Sights.{open_seen}
 use Rattle.kernel_model.proofs.Tests.{not_true, none_is_no, or_false, same_some}
 use Rattle.kernel_model.proofs.Valids.{IsWithin, ComesFromTable, IsSameBehind, set_open_nearly_valid, set_table_nearly_valid}
@@ -102,6 +103,7 @@ setting_is_proper : (named : List ℕ) (errors : List Errno) (takes : Bool) (f :
       outside = λ v table. None;
       touched = λ S table. [];
       numbers = 0;
+      own = keeps_own;
       errors = errors;
       takes_memory = takes;
       may_wait = false;
@@ -123,7 +125,10 @@ setting_is_proper named errors takes f is lacks = record {
   others = λ constants v who table q apart.
       of_table (λ o. IsUnset o (at_proc q) × IsUnset o (at_status q)) errors who.pid table (f who.pid table) (is who.pid table) (λ errno _. (refl, refl))
       (λ result new _. (other_table who.pid q apart, refl));
-  threads = λ constants S who table. of_table (KeepsThreads S who.pid) errors who.pid table (f who.pid table) (is who.pid table) (λ errno _ _. refl) (λ result new _ _. refl);
+  own = λ constants S who table.
+      inl (of_table (KeepsOwn S who.pid) errors who.pid table (f who.pid table) (is who.pid table) (λ errno _. own_stays (get S.processes who.pid))
+      (λ result new _. own_stays (get S.processes who.pid)));
+  allows = λ constants S who table. tt;
   valid = λ constants S who table there nearly. setting_valid errors S who.pid table (f who.pid table) (is who.pid table) there nearly;
 }
 
@@ -208,7 +213,9 @@ fd_stat_get_is_proper fd = record {
     stat_holds (λ o. IsUnset o (at_proc q)) v (get table fd) refl (λ d kind. refl),
     stat_holds (λ o. IsUnset o (at_status q)) v (get table fd) refl (λ d kind. refl),
   );
-  threads = λ constants S who table. stat_holds (KeepsThreads S who.pid) (whole S) (get table fd) (λ _. refl) (λ d kind _. refl);
+  own = λ constants S who table.
+      inl (stat_holds (KeepsOwn S who.pid) (whole S) (get table fd) (own_stays (get S.processes who.pid)) (λ d kind. own_stays (get S.processes who.pid)));
+  allows = λ constants S who table. tt;
   valid = λ constants S who table there nearly. stat_holds (λ (o : Outcome). IsNearlyValid (put_all o.updates S)) (whole S) (get table fd) nearly (λ d kind. nearly);
 }
 
@@ -277,12 +284,13 @@ put_others v p table fd stat flags o q apart =
     (bit_and flags 1 == 0) (bit_and flags 2 == 0) (set_open d.id (with_flags kind stat.flags)) (set_table p (insert table fd (lowered_to d stat)))
     (refl, refl) (refl, refl) (other_table p q apart, refl) (other_table p q apart, refl))
 
-put_threads : (S : State) (v : View) (p : ℕ) (table : Table) (fd : ℕ) (stat : FdStat) (flags : ℕ) (o : Option Descriptor) → KeepsThreads S p (stat_put v p table fd stat flags o)
-put_threads S v p table fd stat flags o =
-    put_holds (KeepsThreads S p) v p table fd stat flags o (λ _. refl)
-    (λ d kind _ _. either_set (λ us. KeepsThreads S p (record { answer = (stat_set p table fd stat flags d (Some kind)).answer; updates = us }))
+put_own : (S : State) (v : View) (p : ℕ) (table : Table) (fd : ℕ) (stat : FdStat) (flags : ℕ) (o : Option Descriptor) → KeepsOwn S p (stat_put v p table fd stat flags o)
+put_own S v p table fd stat flags o =
+    let same = own_stays (get S.processes p) in
+    put_holds (KeepsOwn S p) v p table fd stat flags o same
+    (λ d kind _ _. either_set (λ us. KeepsOwn S p (record { answer = (stat_set p table fd stat flags d (Some kind)).answer; updates = us }))
     (bit_and flags 1 == 0) (bit_and flags 2 == 0) (set_open d.id (with_flags kind stat.flags)) (set_table p (insert table fd (lowered_to d stat)))
-    (λ _. refl) (λ _. refl) (λ _. refl) (λ _. refl))
+    same same same same)
 
 pub put_valid : (S : State) (p : ℕ) (table : Table) (fd : ℕ) (stat : FdStat) (flags : ℕ) → get S.tables p ≡ Some table → IsNearlyValid S
     → IsNearlyValid (put_all (stat_put (whole S) p table fd stat flags (get table fd)).updates S)
@@ -308,6 +316,7 @@ fd_stat_put_is_proper fd stat flags = record {
   waits = λ h. absurd (not_true h);
   lacks = λ h. absurd (not_true h);
   others = λ constants v who table q apart. put_others v who.pid table fd stat flags (get table fd) q apart;
-  threads = λ constants S who table. put_threads S (whole S) who.pid table fd stat flags (get table fd);
+  own = λ constants S who table. inl (put_own S (whole S) who.pid table fd stat flags (get table fd));
+  allows = λ constants S who table. tt;
   valid = λ constants S who table there nearly. put_valid S who.pid table fd stat flags there nearly;
 }

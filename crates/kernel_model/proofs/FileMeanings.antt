@@ -1,6 +1,6 @@
 -- What a meaning on the open of one descriptor keeps to, and that it is then proper.
---     IsOfTree, SetsTree, tree_unset, tree_threads, tree_tables      updates of the file tree alone set nothing of a process, and keep
---         its threads and its descriptors
+--     IsOfTree, SetsTree, tree_unset, tree_processes, tree_tables      updates of the file tree alone set nothing of a process, and keep
+--         what it has of its own and its descriptors
 --     KeepsWell m      what is shown of each such meaning
 --     file_is_proper      it is proper
 use Rattle.std.proofs.Common.{◌≡◌, ◌≢◌, inl, ℕ, ◌||◌, true, false, List, [], ◌∷◌, ◌++◌, map, Option, Some, None, refl, ap, ◌∙◌}
@@ -16,12 +16,12 @@ use Rattle.kernel_model.specs.Families.FileMeaning.{FileMeaning, open_of, on_ope
 use Rattle.kernel_model.specs.Outcome.{Outcome}
 use Rattle.kernel_model.specs.Proper.{IsDeniedOutside, IsProper, IsUnset}
 use Rattle.kernel_model.specs.Sight.{process_parts, behind, reached_by}
-use Rattle.kernel_model.specs.State.{State, Tree, tree_of, Part, Update, at_proc, at_status, at_open, same_part, has_part, part_of, put_all, put_one, set_node, set_names, threads_of}
+use Rattle.kernel_model.specs.State.{State, Tree, tree_of, Part, Update, at_proc, at_status, at_open, same_part, has_part, part_of, put_all, put_one, set_node, set_names}
 use Rattle.kernel_model.specs.Step.{tick}
 use Rattle.kernel_model.specs.Valid.{HasBehind, IsNearlyValid}
 use Rattle.kernel_model.specs.View.{restrict, whole}
 use Rattle.kernel_model.proofs.Branches.{IsSeen, behind_is_seen}
-use Rattle.kernel_model.proofs.Parts.{beyond_process, has_of_both}
+use Rattle.kernel_model.proofs.Parts.{own_same, beyond_process, has_of_both}
 use Rattle.kernel_model.proofs.Sights.{open_seen}
 use Rattle.kernel_model.proofs.Tests.{none_is_no, not_true, or_false, or_true}
 
@@ -53,14 +53,14 @@ tree_unset (u ∷ us) q h =
       ap (λ b. b || has_part (map part_of us) (at_status q)) one.1 ∙ rest.1,
     )
 
-one_threads : (u : Update) (S : State) (p : ℕ) → IsOfTree u → threads_of (put_one u S) p ≡ threads_of S p
-one_threads (set_node n node) S p h = refl
-one_threads (set_names n names) S p h = refl
-one_threads u S p h = absurd h
+one_processes : (u : Update) (S : State) → IsOfTree u → (put_one u S).processes ≡ S.processes
+one_processes (set_node n node) S h = refl
+one_processes (set_names n names) S h = refl
+one_processes u S h = absurd h
 
-pub tree_threads : (us : List Update) (S : State) (p : ℕ) → AllByRecursion IsOfTree us → threads_of (put_all us S) p ≡ threads_of S p
-tree_threads [] S p h = refl
-tree_threads (u ∷ us) S p h = tree_threads us (put_one u S) p h.1 ∙ one_threads u S p h.0
+pub tree_processes : (us : List Update) (S : State) → AllByRecursion IsOfTree us → (put_all us S).processes ≡ S.processes
+tree_processes [] S h = refl
+tree_processes (u ∷ us) S h = tree_processes us (put_one u S) h.1 ∙ one_processes u S h.0
 
 one_tables : (u : Update) (S : State) → IsOfTree u → (put_one u S).tables ≡ S.tables
 one_tables (set_node n node) S h = refl
@@ -135,9 +135,12 @@ module _ (m : FileMeaning) (well : KeepsWell m) where
     others = λ constants v who table q apart.
         tree_unset (m.effect (real_time constants v.clock) v.branch (open_of v (get table row.fd))).updates q
         (well.tree (real_time constants v.clock) v.branch (open_of v (get table row.fd)));
-    threads = λ constants S who table live.
-        tree_threads (m.effect (real_time constants S.clock) (tree_of S) (open_of (whole S) (get table row.fd))).updates S who.pid
-        (well.tree (real_time constants S.clock) (tree_of S) (open_of (whole S) (get table row.fd)));
+    own = λ constants S who table.
+        inl (own_same (get S.processes who.pid) _
+        (ap (λ processes. get processes who.pid)
+        (tree_processes (m.effect (real_time constants S.clock) (tree_of S) (open_of (whole S) (get table row.fd))).updates S
+        (well.tree (real_time constants S.clock) (tree_of S) (open_of (whole S) (get table row.fd))))));
+    allows = λ constants S who table. tt;
     valid = λ constants S who table there nearly.
         well.valid (real_time constants S.clock) S (open_of (whole S) (get table row.fd)) (open_has_behind S (get table row.fd) nearly) nearly;
   }

@@ -15,6 +15,7 @@ use Rattle.abi_types.specs.declared.reply.Reply.{Reply}
 use Rattle.abi_types.specs.declared.who.Who.{Who}
 use Rattle.kernel_model.specs.CallBounds.{BadfIsAbsent, IsAbsentIn, IsBadfBefore}
 use Rattle.kernel_model.specs.Calls.{meaning_of, named, need, refusal, refusal_of}
+use Rattle.kernel_model.specs.Families.LockWords.{unlocked}
 use Rattle.kernel_model.specs.Laws.{HasAll}
 use Rattle.kernel_model.specs.Need.{denied_by, first_lack, some_absent}
 use Rattle.kernel_model.specs.Outcome.{Outcome, WhereReply}
@@ -29,12 +30,14 @@ use Rattle.kernel_model.proofs.FoundNames.{file_create_found, file_link_found, f
 use Rattle.kernel_model.proofs.FoundOpens.{NeverBadf, OnlyWhere}
 use Rattle.kernel_model.proofs.WaitCalls.{poll_holds}
 use Rattle.kernel_model.proofs.FoundStreams.{fd_read_found, fd_seek_found, fd_write_found, mem_map_found}
+use Rattle.kernel_model.proofs.ClockCalls.{drawn_holds}
 use Rattle.kernel_model.proofs.Lacks.{all_present}
 use Rattle.kernel_model.proofs.Lists.{in_more}
 use Rattle.kernel_model.proofs.Outcomes.{outcome_by_cases}
 use Rattle.kernel_model.proofs.Reaches.{all_met}
 use Rattle.kernel_model.proofs.Refusals.{same_reply, where_reply}
 use Rattle.kernel_model.proofs.Tests.{none_is_no, not_true, same_some}
+use Rattle.kernel_model.proofs.ThreadCalls.{left_holds, made_holds}
 
 -- ---- each call
 
@@ -68,7 +71,14 @@ module _ (S : State) (nearly : IsNearlyValid S) where
   found (call.Memory number errno) = λ constants who table own all met e. e
   found (call.Poll subscriptions) = λ constants who table own all met.
       poll_holds (OnlyWhere (IsBadfBefore (call.Poll subscriptions))) (λ e. cc) (λ userdata e. cc) tt subscriptions constants (whole (tick S)) who table
+  found (call.RandomGet length) = λ constants who table own all met.
+      drawn_holds (OnlyWhere (IsBadfBefore (call.RandomGet length))) constants who.pid (get S.processes who.pid) length (λ e. cc) (λ x _ e. cc)
   found (call.Refused number errno) = λ constants who table own all met e. e
+  found (call.ThreadCreate attributes) = λ constants who table own all met.
+      made_holds (OnlyWhere (IsBadfBefore (call.ThreadCreate attributes))) who.pid who.tid (get S.processes who.pid) (λ e. cc) (λ x _ _ e. cc)
+  found (call.ThreadExit lock word scope) = λ constants who table own all met.
+      left_holds (OnlyWhere (IsBadfBefore (call.ThreadExit lock word scope))) who.pid who.tid (get S.processes who.pid) lock (unlocked who.tid word)
+      (λ e. cc) (λ new _ e. cc) (λ new x _ _ e. cc)
   found _ = λ constants who table own all met e. cc
 
 -- ---- refusals

@@ -7,6 +7,7 @@ pub mod Ending
 pub mod SoleOpens
 pub mod Children
 pub mod Valids
+pub mod OwnChanges
 pub mod Sights
 pub mod ObjectNumbers
 pub mod Answering
@@ -32,6 +33,8 @@ pub mod StreamCalls
 pub mod MemoryCalls
 pub mod FileCalls
 pub mod ProcessCalls
+pub mod ThreadCalls
+pub mod ClockCalls
 pub mod Deadlines
 pub mod WaitCalls
 pub mod NewOpens
@@ -49,6 +52,7 @@ pub mod Parking
 pub mod Touches
 pub mod Threads
 pub mod Steps
+pub mod ThreadLaws
 pub mod Decisions
 pub mod Lacks
 pub mod Refusals

@@ -15,20 +15,21 @@ use Rattle.kernel_model.specs.Outcome.{Outcome, replies}
 use Rattle.kernel_model.specs.Proper.{IsDeniedOutside, IsIn, IsProper, IsUnset}
 use Rattle.kernel_model.specs.Reply.{refused, success}
 use Rattle.kernel_model.specs.Sight.{process_parts, behind, reached_by}
-use Rattle.kernel_model.specs.State.{State, ProcessState, Part, tree_of, at_open, at_proc, at_status, has_part, part_of, put_all, threads_of}
+use Rattle.kernel_model.specs.OwnChanges.{IsChangedBy}
+use Rattle.kernel_model.specs.State.{State, ProcessState, Part, tree_of, at_open, at_proc, at_status, has_part, part_of, put_all}
 use Rattle.kernel_model.specs.Step.{tick}
 use Rattle.kernel_model.specs.Families.TreeUpdates.{Change, change_updates}
 use Rattle.kernel_model.specs.Valid.{IsNearlyValid}
 use Rattle.kernel_model.specs.View.{only, restrict, whole}
 use Rattle.kernel_model.proofs.Branches.{IsSeen, all_behind_is_seen}
 use Rattle.kernel_model.proofs.DescriptorCalls.{other_table, process_table}
-use Rattle.kernel_model.proofs.FileMeanings.{open_has_behind, tree_tables, tree_threads, tree_unset}
+use Rattle.kernel_model.proofs.FileMeanings.{open_has_behind, tree_processes, tree_tables, tree_unset}
 use Rattle.kernel_model.proofs.NameMeanings.{IsGood, IsPlainly, IsUnsetBy, NamesWell, SetsAlike, new_node_parts}
 use Rattle.kernel_model.proofs.ObjectNumbers.{fewer_fit, next_is_absent}
-use Rattle.kernel_model.proofs.Parts.{beyond_process, has_left, has_of_both, has_right}
+use Rattle.kernel_model.proofs.Parts.{KeepsOwn, own_stays, beyond_process, has_left, has_of_both, has_right}
 use Rattle.kernel_model.proofs.Sights.{first_seen}
 use Rattle.kernel_model.proofs.Tests.{either_false, either_true, not_true}
-use Rattle.kernel_model.proofs.TreeUpdates.{both_unset, change_nearly_valid, change_of_tree, counted, counted_threads, put_both, put_counted}
+use Rattle.kernel_model.proofs.TreeUpdates.{both_unset, change_nearly_valid, change_of_tree, counted, counted_own, put_both, put_counted}
 
 -- ---- what is seen of opens
 
@@ -120,13 +121,15 @@ outcome_others p new_nodes own (Changes c) q apart =
       both_unset (process_updates p new_nodes own) (change_updates c) (at_status q) mine.1 tree.1,
     ))
 
-outcome_threads : (S : State) (p new_nodes : ℕ) (comes : NameOutcome) → threads_of (put_all (outcome_of p (get S.processes p) new_nodes comes).updates S) p ≡ threads_of S p
-outcome_threads S p new_nodes (Refuses errno) = refl
-outcome_threads S p new_nodes (LeadsOut component) = refl
-outcome_threads S p new_nodes (Changes c) =
-    change_holds (λ (o : Outcome). threads_of (put_all o.updates S) p ≡ threads_of S p) p new_nodes (get S.processes p) c (λ _. refl)
-    (λ _. ap (λ (T : State). threads_of T p) (put_both (process_updates p new_nodes (get S.processes p)) (change_updates c) S)
-    ∙ tree_threads (change_updates c) (counted p new_nodes S) p (change_of_tree c) ∙ counted_threads S p new_nodes p)
+outcome_own : (S : State) (p new_nodes : ℕ) (comes : NameOutcome) → KeepsOwn S p (outcome_of p (get S.processes p) new_nodes comes)
+outcome_own S p new_nodes (Refuses errno) = own_stays (get S.processes p)
+outcome_own S p new_nodes (LeadsOut component) = own_stays (get S.processes p)
+outcome_own S p new_nodes (Changes c) =
+    change_holds (KeepsOwn S p) p new_nodes (get S.processes p) c (λ _. own_stays (get S.processes p))
+    (λ _. subst (IsChangedBy (λ own. own) (get S.processes p))
+    (sym (ap (λ (T : State). get T.processes p) (put_both (process_updates p new_nodes (get S.processes p)) (change_updates c) S)
+    ∙ ap (λ processes. get processes p) (tree_processes (change_updates c) (counted p new_nodes S) (change_of_tree c))))
+    (counted_own S p new_nodes))
 
 process_tables : (S : State) (p count : ℕ) (own : Option ProcessState) → (put_all (process_updates p count own) S).tables ≡ S.tables
 process_tables S p zero own = refl
@@ -261,7 +264,8 @@ module _ (m : NameMeaning) (well : NamesWell m) where
     waits = λ h. absurd (not_true h);
     lacks = λ _. well.lacks;
     others = λ constants v who table q apart. outcome_others who.pid m.new_nodes (v.process who.pid) _ q apart;
-    threads = λ constants S who table live. outcome_threads S who.pid m.new_nodes (comes_to (real_time constants S.clock) S who.pid (get table row.fd) None);
+    own = λ constants S who table. inl (outcome_own S who.pid m.new_nodes (comes_to (real_time constants S.clock) S who.pid (get table row.fd) None));
+    allows = λ constants S who table. tt;
     valid = λ constants S who table there nearly. both_valid (real_time constants S.clock) S who.pid (get table row.fd) None nearly;
   }
 
@@ -307,8 +311,9 @@ module _ (m : NameMeaning) (well : NamesWell m) where
     waits = λ h. absurd (not_true h);
     lacks = λ _. well.lacks;
     others = λ constants v who table q apart. outcome_others who.pid m.new_nodes (v.process who.pid) _ q apart;
-    threads = λ constants S who table live.
-        outcome_threads S who.pid m.new_nodes (comes_to (real_time constants S.clock) S who.pid (get table first.fd) (get table second.fd));
+    own = λ constants S who table.
+        inl (outcome_own S who.pid m.new_nodes (comes_to (real_time constants S.clock) S who.pid (get table first.fd) (get table second.fd)));
+    allows = λ constants S who table. tt;
     valid = λ constants S who table there nearly.
         both_valid (real_time constants S.clock) S who.pid (get table first.fd) (get table second.fd) nearly;
   }

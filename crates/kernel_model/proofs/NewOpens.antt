@@ -80,6 +80,7 @@ module _ (S : State) (o : ℕ) (kind : OpenKind) (none : get S.opens o ≡ None)
     tree = v.tree;
     waits = v.waits;
     silent = v.silent;
+    nobody = v.nobody;
   }
 
 -- ---- one descriptor more
@@ -134,4 +135,5 @@ module _ (S : State) (p : ℕ) (table : Table) (there : get S.tables p ≡ Some 
     tree = v.tree;
     waits = v.waits;
     silent = v.silent;
+    nobody = v.nobody;
   }

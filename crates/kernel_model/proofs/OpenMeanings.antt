@@ -1,6 +1,6 @@
 -- What a meaning on the open of one descriptor keeps to that may make another one of it, and that it is then proper.
---     IsOfNoProcess, apart_unset, apart_threads, apart_tables      updates of opens, of the tree and of streams set nothing of a
---         process, and keep its threads and its descriptors
+--     IsOfNoProcess, apart_unset, apart_processes, apart_tables      updates of opens, of the tree and of streams set nothing of a
+--         process, and keep what it has of its own and its descriptors
 --     OpensWell m      what is shown of each such meaning
 --     by_open_is_proper      it is proper
 use Rattle.std.proofs.Common.{◌≡◌, ◌≢◌, inl, inr, ℕ, ◌||◌, true, false, List, [], ◌∷◌, ◌++◌, map, Option, Some, None, refl, ap, ◌∙◌}
@@ -17,12 +17,12 @@ use Rattle.kernel_model.specs.Families.FileMeaning.{open_of}
 use Rattle.kernel_model.specs.Families.OpenMeaning.{OpenMeaning, at_descriptor, by_open}
 use Rattle.kernel_model.specs.Proper.{IsIn, IsPlain, IsProper, IsUnset}
 use Rattle.kernel_model.specs.Sight.{process_parts, behind, reached_by}
-use Rattle.kernel_model.specs.State.{State, Part, Update, at_proc, at_status, at_open, same_part, has_part, part_of, put_all, put_one, threads_of, set_table, set_process, set_status}
+use Rattle.kernel_model.specs.State.{State, Part, Update, at_proc, at_status, at_open, same_part, has_part, part_of, put_all, put_one, set_table, set_process, set_status}
 use Rattle.kernel_model.specs.Step.{tick}
 use Rattle.kernel_model.specs.Valid.{IsNearlyValid}
 use Rattle.kernel_model.specs.View.{View, restrict, whole}
 use Rattle.kernel_model.proofs.Branches.{seen_parts}
-use Rattle.kernel_model.proofs.Parts.{beyond_process, has_left}
+use Rattle.kernel_model.proofs.Parts.{own_same, beyond_process, has_left}
 use Rattle.kernel_model.proofs.Sights.{open_seen}
 use Rattle.kernel_model.proofs.Tests.{either_true, not_true, or_true}
 
@@ -54,13 +54,13 @@ apart_unset (u ∷ us) q h =
       ap (λ b. b || has_part (map part_of us) (at_status q)) one.1 ∙ rest.1,
     )
 
-one_threads : (u : Update) (S : State) (p : ℕ) → IsOfNoProcess u → threads_of (put_one u S) p ≡ threads_of S p
-one_threads (set_process q own) S p h = absurd h
-one_threads u S p h = refl
+one_processes : (u : Update) (S : State) → IsOfNoProcess u → (put_one u S).processes ≡ S.processes
+one_processes (set_process q own) S h = absurd h
+one_processes u S h = refl
 
-pub apart_threads : (us : List Update) (S : State) (p : ℕ) → AreOfNoProcess us → threads_of (put_all us S) p ≡ threads_of S p
-apart_threads [] S p h = refl
-apart_threads (u ∷ us) S p h = apart_threads us (put_one u S) p h.1 ∙ one_threads u S p h.0
+pub apart_processes : (us : List Update) (S : State) → AreOfNoProcess us → (put_all us S).processes ≡ S.processes
+apart_processes [] S h = refl
+apart_processes (u ∷ us) S h = apart_processes us (put_one u S) h.1 ∙ one_processes u S h.0
 
 one_tables : (u : Update) (S : State) → IsOfNoProcess u → (put_one u S).tables ≡ S.tables
 one_tables (set_table p table) S h = absurd h
@@ -142,8 +142,11 @@ module _ (m : OpenMeaning) (well : OpensWell m) where
     others = λ constants v who table q other.
         apart_unset (at_descriptor (m.effect (real_time constants v.clock) v) v (get table row.fd)).updates q
         (apart_descriptor (real_time constants v.clock) v (get table row.fd));
-    threads = λ constants S who table live.
-        apart_threads (at_descriptor (m.effect (real_time constants S.clock) (whole S)) (whole S) (get table row.fd)).updates S who.pid
-        (apart_descriptor (real_time constants S.clock) (whole S) (get table row.fd));
+    own = λ constants S who table.
+        inl (own_same (get S.processes who.pid) _
+        (ap (λ processes. get processes who.pid)
+        (apart_processes (at_descriptor (m.effect (real_time constants S.clock) (whole S)) (whole S) (get table row.fd)).updates S
+        (apart_descriptor (real_time constants S.clock) (whole S) (get table row.fd)))));
+    allows = λ constants S who table. tt;
     valid = λ constants S who table there nearly. valid_descriptor (real_time constants S.clock) S (get table row.fd) nearly;
   }

@@ -34,6 +34,7 @@ use Rattle.kernel_model.specs.Families.FileCalls.{file_fd, file_meaning}
 use Rattle.kernel_model.specs.Families.FileMeaning.{on_open, open_of}
 use Rattle.kernel_model.specs.Families.FileOffsets.{OffsetOutcome, seek_to, sought, stays, with_offset, write_from, write_place}
 use Rattle.kernel_model.specs.Families.FilePaths.{walked}
+use Rattle.kernel_model.specs.Families.LockWords.{unlocked}
 use Rattle.kernel_model.specs.Families.MemoryCalls.{map_row, map_zeros, mapping}
 use Rattle.kernel_model.specs.Families.NameMaking.{making, making_unless, text_error}
 use Rattle.kernel_model.specs.Families.NameMeaning.{NameOutcome, Refuses, LeadsOut, Changes, outcome_of}
@@ -53,11 +54,13 @@ use Rattle.kernel_model.specs.Step.{end_unreleased, outcome, step_answer, tick, 
 use Rattle.kernel_model.specs.Valid.{IsNearlyValid}
 use Rattle.kernel_model.specs.View.{View, whole}
 use Rattle.kernel_model.specs.Waits.{waiting}
+use Rattle.kernel_model.proofs.ClockCalls.{drawn_holds}
 use Rattle.kernel_model.proofs.FileCalls.{on_open_of}
 use Rattle.kernel_model.proofs.FileMeanings.{IsOfTree}
 use Rattle.kernel_model.proofs.NameProper.{change_holds}
 use Rattle.kernel_model.proofs.ObjectNumbers.{fewer_fit, next_is_absent}
 use Rattle.kernel_model.proofs.Outcomes.{outcome_holds}
+use Rattle.kernel_model.proofs.ThreadCalls.{left_holds, made_holds}
 use Rattle.kernel_model.proofs.Threading.{waits_if_same}
 use Rattle.kernel_model.proofs.WaitCalls.{poll_holds}
 use Rattle.kernel_model.proofs.Tests.{none_is_no}
@@ -363,12 +366,16 @@ keeps (call.ProcExec fd bytes fds) constants S who table nearly = tt
 keeps (call.ProcExit code) constants S who table nearly = (tt, (tt, (tt, tt)))
 keeps (call.ProcFork left) constants S who table nearly = tt
 keeps (call.ProcRaise signal) constants S who table nearly = tt
-keeps (call.RandomGet length) constants S who table nearly = tt
+keeps (call.RandomGet length) constants S who table nearly =
+    drawn_holds (λ (o : Outcome). AllKeep S o.updates) constants who.pid (get S.processes who.pid) length tt (λ own _. (tt, tt))
 keeps (call.SockRecv fd length fds flags) constants S who table nearly = tt
 keeps (call.SockSend fd bytes fds flags) constants S who table nearly = tt
 keeps (call.SockShutdown fd how) constants S who table nearly = tt
-keeps (call.ThreadCreate attributes) constants S who table nearly = tt
-keeps (call.ThreadExit lock word scope) constants S who table nearly = tt
+keeps (call.ThreadCreate attributes) constants S who table nearly =
+    made_holds (λ (o : Outcome). AllKeep S o.updates) who.pid who.tid (get S.processes who.pid) tt (λ own _ _. (tt, tt))
+keeps (call.ThreadExit lock word scope) constants S who table nearly =
+    left_holds (λ (o : Outcome). AllKeep S o.updates) who.pid who.tid (get S.processes who.pid) lock (unlocked who.tid word) tt
+    (λ new _. (tt, (tt, (tt, tt)))) (λ new own _ _. (tt, tt))
 keeps call.ThreadYield constants S who table nearly = tt
 keeps (call.Refused number errno) constants S who table nearly = tt
 keeps (call.Unknown number) constants S who table nearly = tt

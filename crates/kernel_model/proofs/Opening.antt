@@ -3,7 +3,7 @@
 --     at_alike, at_plain      the outcome hangs on what is opened;  its reply is plain
 --     open_unset, open_others, changes_reached      what it sets, and that it sees what it changes
 --     open_reads, walk_seen      what it sees
---     open_threads, open_valid      the state after it
+--     open_own, open_valid      the state after it
 --     file_open_is_proper      all of it
 use Rattle.std.proofs.Common.{◌≡◌, ◌≢◌, inl, inr, ℕ, zero, suc, ◌+◌, ◌^◌, ◌<◌, ◌||◌, Bool, true, false, cond, List, [], ◌∷◌, ◌++◌, map, Option, Some, None, refl, sym, ap, subst, ◌∙◌, arith}
 use Rattle.std.specs.FinMap.{FinMap, get, insert}
@@ -30,10 +30,11 @@ use Rattle.kernel_model.specs.Families.LastNames.{StandsIn}
 use Rattle.kernel_model.specs.Families.Numbers.{can_number, next_object, new_parts, object_of, object_parts, process_updates}
 use Rattle.kernel_model.specs.Families.Opening.{Opened, NotOpened, OpenedOutside, Opens, absent_end_parts, absent_parts, creates, file_open, open_at, open_mode, open_row, open_walked, opened_descriptor, opened_outcome, parts_where, truncates, where_free}
 use Rattle.kernel_model.specs.Outcome.{Outcome, replies}
+use Rattle.kernel_model.specs.OwnChanges.{IsChangedBy}
 use Rattle.kernel_model.specs.Proper.{IsDeniedOutside, IsPlain, IsProper, IsUnset}
 use Rattle.kernel_model.specs.Reply.{refused, success}
 use Rattle.kernel_model.specs.Sight.{process_parts, behind, reached_by}
-use Rattle.kernel_model.specs.State.{State, ProcessState, Part, Table, Tree, Update, at_clock, at_node, at_names, at_open, at_proc, at_status, counts_in, has_part, part_of, put_all, put_one, same_part, set_names, set_node, set_open, set_table, threads_of, tree_of}
+use Rattle.kernel_model.specs.State.{State, ProcessState, Part, Table, Tree, Update, at_clock, at_node, at_names, at_open, at_proc, at_status, counts_in, has_part, part_of, put_all, put_one, same_part, set_names, set_node, set_open, set_table, tree_of}
 use Rattle.kernel_model.specs.Step.{tick}
 use Rattle.kernel_model.specs.Families.TreeUpdates.{Change, change_updates}
 use Rattle.kernel_model.specs.Fits.{fits, fits_inheriting}
@@ -41,7 +42,7 @@ use Rattle.kernel_model.specs.Valid.{AreSole, HasBehind, IsNamed, IsNearlyValid}
 use Rattle.kernel_model.specs.View.{View, restrict, whole}
 use Rattle.kernel_model.proofs.Branches.{IsSeen}
 use Rattle.kernel_model.proofs.DescriptorCalls.{met_within}
-use Rattle.kernel_model.proofs.FileMeanings.{IsOfTree, tree_threads, tree_unset}
+use Rattle.kernel_model.proofs.FileMeanings.{IsOfTree, tree_processes, tree_unset}
 use Rattle.kernel_model.proofs.FilePaths.{FailsPlainly, found_is_seen, path_errors_lack, walked_plainly, walked_reads}
 use Rattle.kernel_model.proofs.LastNames.{EndsBelow, WalksBelow, all_both, directory_seen, walks_below}
 use Rattle.kernel_model.proofs.Lists.{all_weaker}
@@ -51,10 +52,10 @@ use Rattle.kernel_model.proofs.SoleOpens.{more_sole}
 use Rattle.kernel_model.proofs.NewOpens.{IsBeside, new_descriptor_nearly_valid, new_open_nearly_valid, put_last}
 use Rattle.kernel_model.proofs.ObjectNumbers.{fewer_fit, next_is_absent}
 use Rattle.kernel_model.proofs.Opened.{IsFew, IsThere, OpensAlike, OpensBeside, OpensPlainly, OpensWell, Unset, again_among, mfile_among, open_errors, opens_alike, opens_beside, opens_plainly, opens_well, path_among}
-use Rattle.kernel_model.proofs.Parts.{KeepsThreads, beyond_process, has_left, has_of_both, has_right, number_apart, of_first, of_second, outside_cons}
+use Rattle.kernel_model.proofs.Parts.{KeepsOwn, own_stays, beyond_process, has_left, has_of_both, has_right, number_apart, of_first, of_second, outside_cons}
 use Rattle.kernel_model.proofs.Sights.{first_seen}
 use Rattle.kernel_model.proofs.Tests.{either_true, not_true}
-use Rattle.kernel_model.proofs.TreeUpdates.{both_unset, change_nearly_valid, change_of_tree, counted, counted_holds, counted_more, counted_threads, one_object, put_both, put_counted, with_tree}
+use Rattle.kernel_model.proofs.TreeUpdates.{both_unset, change_nearly_valid, change_of_tree, counted, counted_holds, counted_more, counted_own, one_object, put_both, put_counted, with_tree}
 
 -- ---- the outcome where something is opened
 
@@ -295,15 +296,17 @@ rest_beside p count own c =
     all_both IsBeside (process_updates p count own) (change_updates c) (process_beside p count own)
     (all_weaker IsOfTree IsBeside tree_beside (change_updates c) (change_of_tree c))
 
-open_threads : (S : State) (p : ℕ) (table : Table) (stat : FdStat) (free : Option ℕ) (o : Opened)
-    → KeepsThreads S p (open_at p (get S.processes p) table stat o free)
-open_threads S p table stat free o =
-    open_by p (get S.processes p) table stat (KeepsThreads S p) (λ reply _. refl) free o
-    (λ fd kind c new_nodes is can _. (
+open_own : (S : State) (p : ℕ) (table : Table) (stat : FdStat) (free : Option ℕ) (o : Opened)
+    → KeepsOwn S p (open_at p (get S.processes p) table stat o free)
+open_own S p table stat free o =
+    open_by p (get S.processes p) table stat (KeepsOwn S p) (λ reply. own_stays (get S.processes p)) free o
+    (λ fd kind c new_nodes is can. (
     let us : List Update = process_updates p (new_nodes + 1) (get S.processes p) ++ change_updates c in
-    ap (λ (T : State). threads_of T p) (put_last (next_object p (get S.processes p) (new_nodes + 1)) kind p _ us S (rest_beside p (new_nodes + 1) (get S.processes p) c))
-    ∙ ap (λ (T : State). threads_of T p) (put_both (process_updates p (new_nodes + 1) (get S.processes p)) (change_updates c) S)
-    ∙ tree_threads (change_updates c) (counted p (new_nodes + 1) S) p (change_of_tree c) ∙ counted_threads S p (new_nodes + 1) p))
+    subst (IsChangedBy (λ own. own) (get S.processes p))
+    (sym (ap (λ (T : State). get T.processes p) (put_last (next_object p (get S.processes p) (new_nodes + 1)) kind p _ us S (rest_beside p (new_nodes + 1) (get S.processes p) c))
+    ∙ ap (λ (T : State). get T.processes p) (put_both (process_updates p (new_nodes + 1) (get S.processes p)) (change_updates c) S)
+    ∙ ap (λ processes. get processes p) (tree_processes (change_updates c) (counted p (new_nodes + 1) S) (change_of_tree c))))
+    (counted_own S p (new_nodes + 1))))
 
 there_behind : (S : State) (u : Tree) (kind : OpenKind) → IsThere u kind → HasBehind (with_tree u S) kind
 there_behind S u (File n offset flags) h = h
@@ -434,10 +437,11 @@ file_open_is_proper lookup path oflags stat = record {
       (opened_from who.pid stat oflags (open_mode oflags lookup.flags) path (real_time constants v.clock) (v.process who.pid) v.branch
       (open_of v (get table lookup.fd)))
       q apart;
-  threads = λ constants S who table.
-      open_threads S who.pid table stat (lowest_free table)
+  own = λ constants S who table.
+      inl (open_own S who.pid table stat (lowest_free table)
       (opened_from who.pid stat oflags (open_mode oflags lookup.flags) path (real_time constants S.clock) (get S.processes who.pid) (tree_of S)
-      (open_of (whole S) (get table lookup.fd)));
+      (open_of (whole S) (get table lookup.fd))));
+  allows = λ constants S who table. tt;
   valid = λ constants S who table there nearly.
       open_valid S who.pid table stat oflags (open_mode oflags lookup.flags) path (real_time constants S.clock) (lowest_free table) lookup.fd
       (get table lookup.fd) there refl nearly;

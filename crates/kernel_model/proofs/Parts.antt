@@ -1,13 +1,16 @@
 -- Parts of states, and what updates leave of them.
-use Rattle.std.proofs.Common.{◌≡◌, ◌≢◌, ℕ, ◌==◌, ◌||◌, Bool, true, false, T, List, [], ◌∷◌, ◌++◌, map, Some, inl, inr, refl, sym, ap, subst, ◌∙◌}
+use Rattle.std.proofs.Common.{◌≡◌, ◌≢◌, ℕ, ◌==◌, ◌||◌, Bool, true, false, T, List, [], ◌∷◌, ◌++◌, map, Some, inl, inr, Option, None, refl, sym, ap, subst, ◌∙◌, arith}
 use Rattle.std.proofs.lemmas.Bool.Decides.{eqb_tells}
 use Rattle.std.specs.Ordering.{nat_cmp}
+use Rattle.std.specs.Option.{option_map}
+use Rattle.std.specs.Prelude.{◌+◌}
 use Rattle.std.specs.FinMap.{FinMap, get, insert}
 use Rattle.maps.specs.Maps.{get-insert-same, get-insert-other}
-use Rattle.abi_types.specs.declared.status.Status.TheVariants.{Live}
+use Rattle.kernel_model.specs.Families.Numbers.{made_more}
 use Rattle.kernel_model.specs.Outcome.{Outcome}
+use Rattle.kernel_model.specs.OwnChanges.{IsChangedBy}
 use Rattle.kernel_model.specs.Sight.{process_parts}
-use Rattle.kernel_model.specs.State.{State, Part, at_clock, at_proc, at_status, at_open, at_node, at_names, at_term, at_chan, same_part, has_part, Agree, AgreeOn, Update, set_table, set_process, set_status, set_open, set_node, set_names, set_term, set_chan, part_of, put_one, put_all, threads_of}
+use Rattle.kernel_model.specs.State.{State, Part, at_clock, at_proc, at_status, at_open, at_node, at_names, at_term, at_chan, same_part, has_part, Agree, AgreeOn, Update, set_table, set_process, set_status, set_open, set_node, set_names, set_term, set_chan, part_of, put_one, put_all, ProcessState}
 use Rattle.kernel_model.proofs.Tests.{not_true, either_false, either_true, or_true}
 
 -- ---- lists of parts
@@ -129,8 +132,26 @@ pub put_same : (us : List Update) (S T : State) (q : Part) → Agree S T q → A
 put_same [] S T q h = h
 put_same (u ∷ us) S T q h = put_same us (put_one u S) (put_one u T) q (put_one_same u S T q h)
 
--- ---- threads
+-- ---- what a process has of its own
 
--- a process that is live after the outcome has the threads that it had
-abbrev pub KeepsThreads : State → ℕ → Outcome → Type 0
-KeepsThreads S p o = get (put_all o.updates S).statuses p ≡ Some Live → threads_of (put_all o.updates S) p ≡ threads_of S p
+more_none : (own : ProcessState) → made_more 0 own ≡ own
+more_none own =
+    let same : own.counts.objects + 0 ≡ own.counts.objects = omega arith in
+    λ i. record own { counts = record own.counts { objects = same i } }
+
+-- nothing of it has changed
+pub own_stays : (o : Option ProcessState) → IsChangedBy (λ own. own) o o
+own_stays None = (0, refl)
+own_stays (Some own) = (0, ap Some (sym (more_none own)))
+
+pub own_same : (before after : Option ProcessState) → after ≡ before → IsChangedBy (λ own. own) before after
+own_same before after same = subst (IsChangedBy (λ own. own) before) (sym same) (own_stays before)
+
+-- it has changed so, and no object was made
+pub own_becomes : (f : ProcessState → ProcessState) (before after : Option ProcessState) (own : ProcessState) → before ≡ Some own → after ≡ Some (f own)
+    → IsChangedBy f before after
+own_becomes f before after own was is = (0, is ∙ ap Some (sym (more_none (f own))) ∙ sym (ap (option_map (λ x. made_more 0 (f x))) was))
+
+-- after the outcome the process has what it had of its own, and perhaps more objects made
+abbrev pub KeepsOwn : State → ℕ → Outcome → Type 0
+KeepsOwn S p o = IsChangedBy (λ own. own) (get S.processes p) (get (put_all o.updates S).processes p)

@@ -1,13 +1,16 @@
 -- The meanings of the calls on processes are proper.
-use Rattle.std.proofs.Common.{◌≡◌, ◌≢◌, inl, ℕ, ◌||◌, false, [], ◌∷◌, map, Option, Some, is_some, refl, sym, ap, ◌∙◌}
-use Rattle.std.specs.FinMap.{get}
+use Rattle.std.proofs.Common.{◌≡◌, ◌≢◌, inl, inr, ℕ, ◌||◌, false, [], ◌∷◌, map, Option, None, Some, is_some, refl, sym, ap, ◌∙◌}
+use Rattle.std.specs.FinMap.{FinMap, empty, get, insert}
+use Rattle.std.specs.Option.{option_map}
+use Rattle.std.specs.Ordering.{nat_cmp}
 use Rattle.abi_types.specs.declared.status.Status.{Status}
 use Rattle.abi_types.specs.declared.status.Status.TheVariants.{Live, Exit}
 use Rattle.maps.specs.Maps.{get-insert-same}
 use Rattle.kernel_model.specs.Families.ProcessCalls.{end_updates, exit_of, proc_exit}
+use Rattle.kernel_model.specs.OwnChanges.{ended_process, HasEndedBy}
 use Rattle.kernel_model.specs.Proper.{IsProper}
 use Rattle.kernel_model.specs.Sight.{process_parts}
-use Rattle.kernel_model.specs.State.{ProcessState, Part, at_clock, at_proc, at_status, same_part, has_part, part_of}
+use Rattle.kernel_model.specs.State.{ProcessState, Part, no_locks, at_clock, at_proc, at_status, same_part, has_part, part_of}
 use Rattle.kernel_model.proofs.Parts.{outside_cons, beyond_process, number_apart}
 use Rattle.kernel_model.proofs.Sights.{first_seen}
 use Rattle.kernel_model.proofs.Tests.{not_true}
@@ -38,6 +41,22 @@ end_others p own status q apart =
 exit_is_not_live : (code : ℕ) → Some (Exit code) ≢ Some Live
 exit_is_not_live code e = cc
 
+-- so it isn't live
+pub ended_live : (statuses : FinMap nat_cmp Status) (p code : ℕ) → get (insert statuses p (Exit code)) p ≢ Some Live
+ended_live statuses p code live = exit_is_not_live code (sym (get-insert-same statuses p (Exit code)) ∙ live)
+
+-- what has ended is left of what the call made of it
+ended_same : (f : ProcessState → ProcessState) → ((own : ProcessState) → (f own).counts ≡ own.counts) → ((own : ProcessState) → (f own).depth ≡ own.depth)
+    → (o : Option ProcessState) → ended_process o ≡ ended_process (option_map f o)
+ended_same f counts depth None = refl
+ended_same f counts depth (Some own) = λ i. record { threads = empty; counts = sym (counts own) i; locks = no_locks; depth = sym (depth own) i }
+
+pub ends_own : (f : ProcessState → ProcessState) → ((own : ProcessState) → (f own).counts ≡ own.counts) → ((own : ProcessState) → (f own).depth ≡ own.depth)
+    → (p : ℕ) (processes : FinMap nat_cmp ProcessState)
+    → HasEndedBy f (get processes p) (get (insert processes p (ended_process (get processes p))) p)
+ends_own f counts depth p processes =
+    get-insert-same processes p (ended_process (get processes p)) ∙ ap Some (ended_same f counts depth (get processes p))
+
 pub proc_exit_is_proper : (code : ℕ) → IsProper (proc_exit code)
 proc_exit_is_proper code = record {
   names = tt;
@@ -50,6 +69,8 @@ proc_exit_is_proper code = record {
   waits = λ h. absurd (not_true h);
   lacks = λ h. absurd (not_true h);
   others = λ constants v who table q apart. end_others who.pid (v.process who.pid) (Exit code) q apart;
-  threads = λ constants S who table live. absurd (exit_is_not_live code (sym (get-insert-same S.statuses who.pid (Exit code)) ∙ live));
+  own = λ constants S who table.
+      inr (ended_live S.statuses who.pid code, ends_own (λ own. own) (λ _. refl) (λ _. refl) who.pid S.processes);
+  allows = λ constants S who table. tt;
   valid = λ constants S who table there nearly. end_nearly_valid S who.pid (Exit code) (sym (nearly.tables who.pid) ∙ ap is_some there) nearly;
 }

@@ -178,4 +178,5 @@ module _ (S : State) (n : ℕ) (node : Node) (u : Tree) (works : Reworks (tree_o
     tree = subst IsTree (sym put_tree) (works.tree v.tree);
     waits = v.waits;
     silent = v.silent;
+    nobody = v.nobody;
   }

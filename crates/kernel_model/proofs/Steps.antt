@@ -5,7 +5,9 @@ use Rattle.std.proofs.lemmas.Bool.Decides.{eqb_tells}
 use Rattle.std.specs.Ordering.{nat_cmp}
 use Rattle.std.specs.Option.{option_map}
 use Rattle.std.specs.FinMap.{FinMap, get, empty, insert}
+use Rattle.abi_base.specs.declared.errno.Errno.TheVariants.{Nomem}
 use Rattle.abi_types.specs.declared.reply.Answer.{Answer}
+use Rattle.abi_types.specs.declared.reply.Answer.TheVariants as answer
 use Rattle.abi_types.specs.declared.call.Call.{Call}
 use Rattle.abi_types.specs.declared.constants.Constants.{Constants}
 use Rattle.abi_types.specs.declared.status.Status.{Status}
@@ -13,12 +15,16 @@ use Rattle.abi_types.specs.declared.status.Status.TheVariants.{Live}
 use Rattle.abi_types.specs.declared.who.Who.{Who}
 use Rattle.maps.specs.Maps.{get-insert-same, get-insert-other}
 use Rattle.kernel_model.specs.Laws.{HasSameProcess, IsKilled, MovesOnly, EndsOnly}
+use Rattle.kernel_model.specs.Calls.{meaning_of}
 use Rattle.kernel_model.specs.Outcome.{Outcome}
+use Rattle.kernel_model.specs.OwnChanges.{own_by, AllowsChange, IsChangedBy, LeavesOwn}
 use Rattle.kernel_model.specs.Families.ProcessCalls.{ended_process, end_updates}
 use Rattle.kernel_model.specs.Proper.{IsUnset}
+use Rattle.kernel_model.specs.Reply.{refused}
 use Rattle.kernel_model.specs.Release.{ends, is_killed, release, status_left}
-use Rattle.kernel_model.specs.State.{State, Table, ProcessState, Update, set_table, set_status, at_proc, at_status, has_part, part_of, put_one, put_all, threads_of}
+use Rattle.kernel_model.specs.State.{State, Table, ProcessState, Update, set_table, set_status, at_proc, at_status, has_part, part_of, put_one, put_all, counts_in, threads_of}
 use Rattle.kernel_model.specs.Step.{tick, outcome, unreleased, step_answer, step_state, IsStep, end_unreleased, end_state}
+use Rattle.kernel_model.specs.Threads.{LeavesCounts, LeavesThreads}
 use Rattle.kernel_model.specs.Valid.{IsNearlyValid, IsValid}
 use Rattle.kernel_model.specs.View.{whole}
 use Rattle.kernel_model.specs.Waits.{waiting}
@@ -26,13 +32,13 @@ use Rattle.kernel_model.proofs.Calls.{proper}
 use Rattle.kernel_model.proofs.Ends.{killed_by, process_spared, status_after, status_spared}
 use Rattle.kernel_model.proofs.Outcomes.{outcome_holds}
 use Rattle.kernel_model.proofs.Parking.{parks_only}
-use Rattle.kernel_model.proofs.Parts.{KeepsThreads, put_keeps}
+use Rattle.kernel_model.proofs.Parts.{put_keeps}
 use Rattle.kernel_model.proofs.ProcessCalls.{end_others}
 use Rattle.kernel_model.proofs.Tests.{same_some}
-use Rattle.kernel_model.proofs.Threading.{waits_apart, waits_if_holds, waits_if_same, with_nearly_valid}
-use Rattle.kernel_model.proofs.Threads.{IsThreadsAfter, leaves_threads, threads_after}
+use Rattle.kernel_model.proofs.Threading.{waits_apart, waits_if_holds, waits_if_same, with_counts, with_nearly_valid}
+use Rattle.kernel_model.proofs.Threads.{IsOwnAfter, leaves_counts, leaves_threads, refusal_of_fails, undone_allows, undone_stays}
 use Rattle.kernel_model.proofs.Touches.{killed_is_not_live, live_spared, release_ends, release_keeps}
-use Rattle.kernel_model.proofs.Valids.{release_restores, some_mapped, tick_nearly_valid, tick_valid, end_nearly_valid}
+use Rattle.kernel_model.proofs.Valids.{counts_stay, left_counts, release_restores, some_mapped, tick_nearly_valid, tick_valid, end_nearly_valid}
 
 -- ---- valid states
 
@@ -174,57 +180,83 @@ end_keeps_made S p status q made = release_made (end_unreleased S p status) q (p
 
 -- ---- threads
 
-outcome_threads : (constants : Constants) (S : State) (who : Who) (call : Call) → KeepsThreads (tick S) who.pid (outcome constants S who call)
-outcome_threads constants S who call =
-    outcome_holds (KeepsThreads (tick S) who.pid) constants S who call (λ reply _ _. refl)
-    (λ table _. (proper call).threads constants (tick S) who table)
+-- what a call does of what its process has of its own, and what that asks
+outcome_own : (constants : Constants) (S : State) (who : Who) (call : Call)
+    → LeavesOwn (meaning_of call).own who.pid who.tid (step_answer constants S who call) (tick S) (put_all (outcome constants S who call).updates (tick S))
+outcome_own constants S who call =
+    outcome_holds (λ o. LeavesOwn (meaning_of call).own who.pid who.tid o.answer (tick S) (put_all o.updates (tick S))) constants S who call
+    (λ reply refuses. inl (undone_stays (meaning_of call).own who.tid (answer.Reply reply) (refusal_of_fails call (get S.tables who.pid) reply refuses)
+    (get S.processes who.pid)))
+    (λ table _. (proper call).own constants (tick S) who table)
+
+outcome_allows : (constants : Constants) (S : State) (who : Who) (call : Call)
+    → AllowsChange (meaning_of call).own who.tid (step_answer constants S who call) (get S.processes who.pid)
+outcome_allows constants S who call =
+    outcome_holds (λ o. AllowsChange (meaning_of call).own who.tid o.answer (get S.processes who.pid)) constants S who call
+    (λ reply refuses. undone_allows (meaning_of call).own who.tid (answer.Reply reply) (get S.processes who.pid)
+    (refusal_of_fails call (get S.tables who.pid) reply refuses))
+    (λ table _. (proper call).allows constants (tick S) who table)
 
 -- a process that lives after the release has the threads that it had
-released_threads : (U : State) (p : ℕ) → get (release U).statuses p ≡ Some Live → (get U.statuses p ≡ Some Live) × (threads_of (release U) p ≡ threads_of U p)
+pub released_threads : (U : State) (p : ℕ) → get (release U).statuses p ≡ Some Live → (get U.statuses p ≡ Some Live) × (threads_of (release U) p ≡ threads_of U p)
 released_threads U p live =
     let spared = live_spared U p live in (
       sym (status_spared U (ends U) p spared) ∙ live,
       ap (option_map (λ (own : ProcessState). own.threads)) (process_spared U (ends U) p spared),
     )
 
--- before the release a process that lives has the threads that it had, but for a caller that waits
-unreleased_threads : (constants : Constants) (S : State) (who : Who) (call : Call) → get (unreleased constants S who call).statuses who.pid ≡ Some Live
-    → IsThreadsAfter constants S who call (step_answer constants S who call) (threads_of (unreleased constants S who call) who.pid)
-unreleased_threads constants S who call live =
-    let after = put_all (outcome constants S who call).updates (tick S) in
+-- of a process that lives after it a call leaves what it says
+step_leaves : (constants : Constants) (S : State) (who : Who) (call : Call) → get (step_state constants S who call).statuses who.pid ≡ Some Live
+    → LeavesThreads constants S who call (step_answer constants S who call) (step_state constants S who call)
+step_leaves constants S who call live =
     let a = step_answer constants S who call in
     let thread = waiting constants call who.since in
-    threads_after constants S who call a after
-    (outcome_threads constants S who call
-    (waits_if_same (λ U. get U.statuses who.pid ≡ Some Live → get after.statuses who.pid ≡ Some Live) a who thread after (λ h. h) (λ h. h) live))
-
-step_threads : (constants : Constants) (S : State) (who : Who) (call : Call) → get (step_state constants S who call).statuses who.pid ≡ Some Live
-    → IsThreadsAfter constants S who call (step_answer constants S who call) (threads_of (step_state constants S who call) who.pid)
-step_threads constants S who call live =
+    let after = put_all (outcome constants S who call).updates (tick S) in
     let both = released_threads (unreleased constants S who call) who.pid live in
-    subst (IsThreadsAfter constants S who call (step_answer constants S who call)) (sym both.1) (unreleased_threads constants S who call both.0)
+    let lives : get after.statuses who.pid ≡ Some Live =
+    waits_if_same (λ U. get U.statuses who.pid ≡ Some Live → get after.statuses who.pid ≡ Some Live) a who thread after (λ h. h) (λ h. h) both.0 in
+    let changed : IsChangedBy (own_by (meaning_of call).own who.tid a) (get S.processes who.pid) (get after.processes who.pid) =
+    elim (outcome_own constants S who call) [ inl is ↦ is | inr ended ↦ absurd (ended.0 lives) ] in
+    leaves_threads constants S who call a after (step_state constants S who call) (outcome_allows constants S who call, changed) both.1
+
+-- what it has made, whether it lives or not
+step_counts : (constants : Constants) (S : State) (who : Who) (call : Call)
+    → LeavesCounts call (step_answer constants S who call) (counts_in (get S.processes who.pid)) (counts_in (get (step_state constants S who call).processes who.pid))
+step_counts constants S who call =
+    let a = step_answer constants S who call in
+    let thread = waiting constants call who.since in
+    let after = put_all (outcome constants S who call).updates (tick S) in
+    let waits : counts_in (get (unreleased constants S who call).processes who.pid) ≡ counts_in (get after.processes who.pid) =
+    waits_if_same (λ U. counts_in (get U.processes who.pid) ≡ counts_in (get after.processes who.pid)) a who thread after
+    (λ _. with_counts after who.pid who.tid thread who.pid) refl in
+    subst (LeavesCounts call a (counts_in (get S.processes who.pid))) (sym (left_counts (unreleased constants S who call) who.pid ∙ waits))
+    (leaves_counts call a who.pid who.tid (tick S) after (outcome_allows constants S who call) (outcome_own constants S who call))
+
+-- a call that lacks memory leaves all
+lacking_own : (S : State) (who : Who) (call : Call) → IsOwnAfter S who call (answer.Reply (refused Nomem)) (tick S)
+lacking_own S who call = (
+  undone_allows (meaning_of call).own who.tid (answer.Reply (refused Nomem)) (get S.processes who.pid) refl,
+  undone_stays (meaning_of call).own who.tid (answer.Reply (refused Nomem)) refl (get S.processes who.pid),
+)
 
 -- ---- all of them
 
 pub step_moves_only : (constants : Constants) (S : State) (who : Who) (call : Call) (given : Answer) (T : State)
     → IsStep constants S who call given T → MovesOnly constants S who call given T
 step_moves_only constants S who call given T (inl done) =
-    subst (MovesOnly constants S who call given) (sym done.1) (record {
+    subst (MovesOnly constants S who call given) (sym done.1) (subst (λ a. MovesOnly constants S who call a (step_state constants S who call)) (sym done.0) (record {
       clock = unreleased_clock constants S who call;
       others = λ q apart. step_others constants S who call q apart;
-      threads = λ live.
-          leaves_threads constants S who call given (step_state constants S who call)
-          (subst (λ a. IsThreadsAfter constants S who call a (threads_of (step_state constants S who call) who.pid)) (sym done.0)
-          (step_threads constants S who call live));
-    })
+      threads = step_leaves constants S who call;
+      counts = step_counts constants S who call;
+    }))
 step_moves_only constants S who call given T (inr lacking) =
-    subst (MovesOnly constants S who call given) (sym lacking.2) (record {
+    subst (MovesOnly constants S who call given) (sym lacking.2) (subst (λ a. MovesOnly constants S who call a (tick S)) (sym lacking.1) (record {
       clock = refl;
       others = λ q apart. inl (refl, refl, refl);
-      threads = λ live.
-          leaves_threads constants S who call given (tick S)
-          (subst (λ a. IsThreadsAfter constants S who call a (threads_of S who.pid)) (sym lacking.1) refl);
-    })
+      threads = λ live. leaves_threads constants S who call (answer.Reply (refused Nomem)) (tick S) (tick S) (lacking_own S who call) refl;
+      counts = leaves_counts call (answer.Reply (refused Nomem)) who.pid who.tid S (tick S) (lacking_own S who call).0 (inl (lacking_own S who call).1);
+    }))
 
 end_spared : (S : State) (p : ℕ) (status : Status) → status ≢ Live → is_killed (end_unreleased S p status) (ends (end_unreleased S p status)) p ≡ false
 end_spared S p status ends_it =
@@ -233,6 +265,11 @@ end_spared S p status ends_it =
       | true ↦ λ e. absurd (ends_it (same_some status Live (sym (get-insert-same S.statuses p status) ∙ (killed_by U (ends U) p e).3)))
       | false ↦ λ e. refl
     ] refl
+
+-- and has counted what it had
+pub end_counts : (S : State) (p : ℕ) (status : Status) → counts_in (get (end_state S p status).processes p) ≡ counts_in (get S.processes p)
+unfolding end_state
+end_counts S p status = left_counts (end_unreleased S p status) p ∙ counts_stay (tick S) p status p
 
 pub end_ends_only : (S : State) (p : ℕ) (status : Status) → status ≢ Live → EndsOnly S p status (end_state S p status)
 unfolding end_state

@@ -21,7 +21,7 @@ use Rattle.abi_types.specs.declared.who.Who.{Who}
 use Rattle.maps.specs.Maps.{get-insert-same, get-insert-other, same_around}
 use Rattle.maps.specs.Closure.{changed, changed-empty, get-changed}
 use Rattle.kernel_model.specs.Outcome.{is_parked}
-use Rattle.kernel_model.specs.State.{State, Threads, ProcessState, Part, at_proc, same_part, Agree, thread_in, thread_of, counts_in}
+use Rattle.kernel_model.specs.State.{State, Threads, ProcessState, Part, at_proc, same_part, Agree, thread_in, thread_of, counts_in, locks_in}
 use Rattle.kernel_model.specs.Valid.{IsNearlyValid, IsValid}
 use Rattle.kernel_model.specs.Waits.{thread_set, with_thread, waits_if, MayWait}
 use Rattle.kernel_model.proofs.Children.{all_born, same_keeps, KeepsChildren}
@@ -55,6 +55,11 @@ counts_where : (b : Bool) (t : ℕ) (thread : Thread) (o : Option ProcessState) 
 counts_where b t thread None = refl
 counts_where true t thread (Some own) = refl
 counts_where false t thread (Some own) = refl
+
+locks_where : (b : Bool) (t : ℕ) (thread : Thread) (o : Option ProcessState) → locks_in (option_map (set_where b t thread) o) ≡ locks_in o
+locks_where b t thread None = refl
+locks_where true t thread (Some own) = refl
+locks_where false t thread (Some own) = refl
 
 children_where : (b : Bool) (t : ℕ) (thread : Thread) (o : Option ProcessState) → KeepsChildren o (option_map (set_where b t thread) o)
 children_where b t thread None = tt
@@ -128,8 +133,8 @@ module _ (S : State) (p t : ℕ) (thread : Thread) where
       subst P (sym (with_thread_of q u)) (either_value P ((q == p) && (u == t)) thread (thread_of S q u) new (old q u))
 
   -- no thread comes
-  thread_was : (q u : ℕ) → IsSome (thread_of (with_thread S p t thread) q u) → IsSome (thread_of S q u)
-  thread_was q u there =
+  pub thread_still : (q u : ℕ) → IsSome (thread_of (with_thread S p t thread) q u) → IsSome (thread_of S q u)
+  thread_still q u there =
       sym (some_mapped (λ before. if ((q == p) && (u == t)) then thread else before) (thread_of S q u)) ∙ sym (ap is_some (with_thread_of q u)) ∙ there
 
   -- ---- the other parts
@@ -151,13 +156,14 @@ module _ (S : State) (p t : ℕ) (thread : Thread) where
       (v.ended q status is ends).0,
       ap threads_in (with_processes q) ∙ bare_where (q == p) t thread (get S.processes q) (v.ended q status is ends).1,
     );
-    numbered = λ q u there. subst (λ (c : Counts). u ≤ c.threads) (sym (with_counts q)) (v.numbered q u (thread_was q u there));
+    numbered = λ q u there. subst (λ (c : Counts). u ≤ c.threads) (sym (with_counts q)) (v.numbered q u (thread_still q u there));
     made = λ q k small beyond fits. v.made q k small (subst (λ (c : Counts). c.objects < k) (with_counts q) beyond) fits;
     made_nodes = λ q k small beyond fits. v.made_nodes q k small (subst (λ (c : Counts). c.objects < k) (with_counts q) beyond) fits;
     born = all_born S.processes (with_thread S p t thread).processes with_children v.born;
     tree = v.tree;
     waits = each_thread MayWait may v.waits;
     silent = v.silent;
+    nobody = λ q. ap locks_in (with_processes q) ∙ locks_where (q == p) t thread (get S.processes q) ∙ v.nobody q;
   }
 
   pub with_valid : MayWait (Some thread) → IsValid S → IsValid (with_thread S p t thread)

@@ -1,108 +1,440 @@
--- What a call leaves of its process's threads, and that none makes or ends one yet.
---     leaves_threads      a call that keeps all threads leaves them as its answer says
---     keeps_caller, keeps_others, makes_none      no step ends a thread or makes one, since none of the three calls that may succeeds
-use Rattle.std.proofs.Common.{◌≡◌, ◌≢◌, ℕ, ◌==◌, Bool, true, false, cond, List, Option, Some, None, IsSome, inl, inr, refl, sym, ap, subst, ◌∙◌}
+-- What a call leaves of its process's threads, and of what the process has made.
+--     undone_stays, made_where, ended_where      what a call that is not done, that makes no thread, and that ends none leaves
+--     leaves_threads      the law of threads, by what the call does to its process
+--     leaves_counts      the law of counts
+--     keeps_others      no step ends the other threads of its process, since proc_exec isn't built yet
+--     waited_draws, waited_keeps      a call in which a thread may wait draws no words, and makes and ends no thread
+use Rattle.std.proofs.Common.{◌≡◌, ◌≢◌, ◌⊎◌, ℕ, ◌+◌, ◌==◌, ◌≤◌, Bool, true, false, cond, List, Option, Some, None, IsSome, inl, inr, refl, sym, ap, subst, ◌∙◌, arith}
 use Rattle.std.proofs.lemmas.Bool.{eq-eqb}
+use Rattle.std.proofs.lemmas.Bool.Decides.{eqb_tells}
 use Rattle.std.specs.Prelude.{if◌then◌else◌}
 use Rattle.std.specs.Option.{option_map}
-use Rattle.std.specs.FinMap.{get}
+use Rattle.std.specs.FinMap.{get, remove}
+use Rattle.abi_types.specs.Families.{is_anonymous}
 use Rattle.abi_types.specs.declared.reply.Answer.{Answer}
 use Rattle.abi_types.specs.declared.reply.Answer.TheVariants as answer
 use Rattle.abi_types.specs.declared.call.Call.{Call}
 use Rattle.abi_types.specs.declared.call.Call.TheVariants as call
+use Rattle.abi_types.specs.declared.counts.Counts.{Counts}
 use Rattle.abi_types.specs.declared.reply.Reply.{Reply}
+use Rattle.abi_types.specs.declared.reply.WordWrites.{WordWrites}
 use Rattle.abi_types.specs.declared.constants.Constants.{Constants}
 use Rattle.abi_types.specs.declared.descriptor.Denial.{Denial}
-use Rattle.abi_base.specs.declared.errno.Errno.TheVariants.{Badf, Nosys}
-use Rattle.abi_structures.specs.declared.structures.ThreadAttr.{ThreadAttr}
+use Rattle.abi_base.specs.declared.errno.Errno.TheVariants.{Badf}
 use Rattle.abi_types.specs.declared.thread.Thread.{Thread}
+use Rattle.abi_types.specs.declared.thread.Thread.TheVariants.{Runnable}
 use Rattle.abi_types.specs.declared.who.Who.{Who}
 use Rattle.maps.specs.Closure.{changed, get-changed}
+use Rattle.maps.specs.Maps.{get-insert-same, get-insert-other, get-remove-same, get-remove-other}
 use Rattle.kernel_model.specs.Calls.{meaning_of, named, need, refusal_of}
+use Rattle.kernel_model.specs.Families.FileMeaning.{on_open}
+use Rattle.kernel_model.specs.Families.MemoryCalls.{map_row, map_zeros, mapping}
+use Rattle.kernel_model.specs.Families.Numbers.{made_more}
+use Rattle.kernel_model.specs.Meaning.{Meaning}
 use Rattle.kernel_model.specs.Need.{some_absent, first_lack, denied_by}
-use Rattle.kernel_model.specs.Outcome.{Outcome, OnReply, replies}
+use Rattle.kernel_model.specs.Outcome.{Outcome, OnReply}
+use Rattle.kernel_model.specs.OwnChanges.{OwnChange, keeps_own, makes_one, ends_one, draws_words, drawn_more, is_done, is_success, next_thread, own_by, with_next_thread, without_thread, IsChangedBy, HasEndedBy, AllowsChange, LeavesOwn}
 use Rattle.kernel_model.specs.Reply.{refused, denied}
-use Rattle.kernel_model.specs.State.{State, Table, Threads, ProcessState, threads_of, thread_in, thread_of}
-use Rattle.kernel_model.specs.Step.{tick, step_answer, IsStep}
-use Rattle.kernel_model.specs.Threads.{is_success, ends_caller, ends_others, makes_thread, IsCallerAfter, LeavesThreads}
-use Rattle.kernel_model.specs.View.{whole}
-use Rattle.kernel_model.specs.Waits.{thread_set, waiting, waits_if}
+use Rattle.kernel_model.specs.State.{State, Table, Threads, ProcessState, no_counts, counts_in, threads_of, thread_in, thread_of}
+use Rattle.kernel_model.specs.Step.{step_answer, IsStep}
+use Rattle.kernel_model.specs.Threads.{ends_caller, ends_others, makes_thread, next_number, words_drawn, LeavesCounts, LeavesThreads}
+use Rattle.kernel_model.specs.Waits.{may_wait, thread_set, waiting, waits_if}
 use Rattle.kernel_model.proofs.Outcomes.{outcome_holds}
-use Rattle.kernel_model.proofs.Parts.{number_apart}
+use Rattle.kernel_model.proofs.Parts.{number_apart, own_stays}
 use Rattle.kernel_model.proofs.Threading.{with_here}
 use Rattle.kernel_model.proofs.Tests.{not_true, none_is_no, same_some}
 
--- ---- threads that stay
+-- ---- what a call does to its process, by its name and by its meaning
 
--- The threads of the caller's process, which had these before: the same after a reply, and the caller waits where the answer is that.
-abbrev pub threads_by : Answer → ℕ → Thread → Option Threads → Option Threads
-threads_by (answer.Parked writes) t thread before = option_map (λ (threads : Threads). changed (λ k was. if k == t then thread else was) threads) before
-threads_by (answer.Reply reply) t thread before = before
+-- whether a call that does this and was answered so makes a thread, or ends the one that made it; and the words that it draws
+abbrev makes_by : OwnChange → Answer → Bool
+makes_by makes_one given = is_done given
+makes_by _ given = false
 
-abbrev pub IsThreadsAfter : Constants → State → Who → Call → Answer → Option Threads → Type 0
-IsThreadsAfter constants S who call given after = after ≡ threads_by given who.tid (waiting constants call who.since) (threads_of S who.pid)
+abbrev ends_by : OwnChange → Answer → Bool
+ends_by ends_one given = is_done given
+ends_by _ given = false
 
-threads_set : (t : ℕ) (thread : Thread) (o : Option ProcessState)
-    → option_map (λ (own : ProcessState). own.threads) (option_map (thread_set t thread) o)
-    ≡ option_map (λ (threads : Threads). changed (λ k was. if k == t then thread else was) threads) (option_map (λ (own : ProcessState). own.threads) o)
-threads_set t thread None = refl
-threads_set t thread (Some own) = refl
+abbrev draws_by : OwnChange → Answer → ℕ
+draws_by (draws_words words) given = if is_done given then words else 0
+draws_by _ given = 0
 
--- so they are where the call keeps all threads, and then the caller waits or not
-pub threads_after : (constants : Constants) (S : State) (who : Who) (call : Call) (given : Answer) (U : State) → threads_of U who.pid ≡ threads_of S who.pid
-    → IsThreadsAfter constants S who call given (threads_of (waits_if given who (waiting constants call who.since) U) who.pid)
-threads_after constants S who call (answer.Parked writes) U same =
-    let thread = waiting constants call who.since in
-    ap (option_map (λ (own : ProcessState). own.threads)) (with_here U who.pid who.tid thread) ∙ threads_set who.tid thread (get U.processes who.pid)
-    ∙ ap (option_map (λ (threads : Threads). changed (λ k was. if k == who.tid then thread else was) threads)) same
-threads_after constants S who call (answer.Reply reply) U same = same
+either_keeps : (b : Bool) (one other : Meaning) → one.own ≡ keeps_own → other.own ≡ keeps_own → (if b then one else other).own ≡ keeps_own
+either_keeps true one other first second = first
+either_keeps false one other first second = second
 
-thread_by : (t : ℕ) (thread : Thread) (before : Option Threads) (u : ℕ)
-    → thread_in (option_map (λ (threads : Threads). changed (λ k was. if k == t then thread else was) threads) before) u
-    ≡ option_map (λ was. if u == t then thread else was) (thread_in before u)
+-- a mapping keeps its process
+map_keeps_own : (b : Bool) (one other : Meaning) → one.own ≡ keeps_own → other.own ≡ keeps_own → keeps_own ≡ (if b then one else other).own
+map_keeps_own b one other first second = sym (either_keeps b one other first second)
+
+makes_is : (call : Call) (given : Answer) → makes_thread call given ≡ makes_by (meaning_of call).own given
+makes_is (call.MemMap place length prot flags fd offset) given =
+    ap (λ change. makes_by change given)
+    (map_keeps_own (is_anonymous flags) (map_zeros place) (on_open (map_row fd prot) (mapping place length offset)) refl refl)
+makes_is _ given = refl
+
+ends_is : (call : Call) (given : Answer) → ends_caller call given ≡ ends_by (meaning_of call).own given
+ends_is (call.MemMap place length prot flags fd offset) given =
+    ap (λ change. ends_by change given)
+    (map_keeps_own (is_anonymous flags) (map_zeros place) (on_open (map_row fd prot) (mapping place length offset)) refl refl)
+ends_is _ given = refl
+
+draws_is : (call : Call) (given : Answer) → words_drawn call given ≡ draws_by (meaning_of call).own given
+draws_is (call.MemMap place length prot flags fd offset) given =
+    ap (λ change. draws_by change given)
+    (map_keeps_own (is_anonymous flags) (map_zeros place) (on_open (map_row fd prot) (mapping place length offset)) refl refl)
+draws_is _ given = refl
+
+-- ---- the process by what was done
+
+-- a call that is not done leaves all
+undone : (change : OwnChange) (t : ℕ) (given : Answer) → is_done given ≡ false → (own : ProcessState) → own_by change t given own ≡ own
+undone keeps_own t given isnt own = refl
+undone makes_one t given isnt own = ap (λ b. if b then with_next_thread own else own) isnt
+undone ends_one t given isnt own = ap (λ b. if b then without_thread t own else own) isnt
+undone (draws_words words) t given isnt own = ap (λ b. if b then drawn_more words own else own) isnt
+
+pub undone_stays : (change : OwnChange) (t : ℕ) (given : Answer) → is_done given ≡ false → (o : Option ProcessState) → IsChangedBy (own_by change t given) o o
+undone_stays change t given isnt None = (0, refl)
+undone_stays change t given isnt (Some own) =
+    let same = own_stays (Some own) in
+    (same.0, same.1 ∙ ap (λ x. Some (made_more same.0 x)) (sym (undone change t given isnt own)))
+
+-- a call whose thread waits makes none and ends none
+parked_makes : (change : OwnChange) (writes : WordWrites) → makes_by change (answer.Parked writes) ≡ false
+parked_makes keeps_own writes = refl
+parked_makes makes_one writes = refl
+parked_makes ends_one writes = refl
+parked_makes (draws_words words) writes = refl
+
+parked_ends : (change : OwnChange) (writes : WordWrites) → ends_by change (answer.Parked writes) ≡ false
+parked_ends keeps_own writes = refl
+parked_ends makes_one writes = refl
+parked_ends ends_one writes = refl
+parked_ends (draws_words words) writes = refl
+
+-- ---- one thread
+
+-- the threads of a process that is changed by the call
+abbrev threads_after : OwnChange → ℕ → Answer → ProcessState → Threads
+threads_after change t given own = (own_by change t given own).threads
+
+-- one that the call doesn't end is what it was, where it was there; that the number of the next was free is known
+kept_thread : (change : OwnChange) (t : ℕ) (given : Answer) (own : ProcessState) (u : ℕ) → AllowsChange change t given (Some own)
+    → (u ≡ t → ends_by change given ≡ false) → (IsSome (get own.threads u) ⊎ (makes_by change given ≡ false))
+    → get (threads_after change t given own) u ≡ get own.threads u
+kept_thread keeps_own t given own u fresh lasts there = refl
+kept_thread (draws_words words) t given own u fresh lasts there =
+    elim (is_done given) as (λ b. get (if b then drawn_more words own else own).threads u ≡ get own.threads u) [ true ↦ refl | false ↦ refl ]
+kept_thread makes_one t given own u fresh lasts there =
+    elim (is_done given) as (λ b. is_done given ≡ b → get (if b then with_next_thread own else own).threads u ≡ get own.threads u) [
+      | true ↦ λ done. (
+          elim (eqb_tells u (next_thread own)) [
+            | inl is ↦ absurd (elim there [
+              | inl some ↦ not_true (subst IsSome (ap (get own.threads) is.1 ∙ (fresh done).1) some)
+              | inr none ↦ not_true (sym none ∙ done)
+            ])
+            | inr apart ↦ get-insert-other own.threads (next_thread own) Runnable u apart.1
+          ])
+      | false ↦ λ _. refl
+    ] refl
+kept_thread ends_one t given own u fresh lasts there =
+    elim (is_done given) as (λ b. is_done given ≡ b → get (if b then without_thread t own else own).threads u ≡ get own.threads u) [
+      | true ↦ λ done. (
+          elim (eqb_tells u t) [
+            | inl is ↦ absurd (not_true (sym (lasts is.1) ∙ done))
+            | inr apart ↦ get-remove-other own.threads t u apart.1
+          ])
+      | false ↦ λ _. refl
+    ] refl
+
+-- the one that it ends is there no more
+ended_here : (change : OwnChange) (t : ℕ) (given : Answer) (own : ProcessState) → ends_by change given ≡ true → get (threads_after change t given own) t ≡ None
+ended_here keeps_own t given own ends = absurd (not_true ends)
+ended_here makes_one t given own ends = absurd (not_true ends)
+ended_here (draws_words words) t given own ends = absurd (not_true ends)
+ended_here ends_one t given own ends =
+    ap (λ b. get (if b then without_thread t own else own).threads t) ends ∙ get-remove-same own.threads t
+
+-- the one that it makes runs
+made_here : (change : OwnChange) (t : ℕ) (given : Answer) (own : ProcessState) → makes_by change given ≡ true
+    → get (threads_after change t given own) (next_thread own) ≡ Some Runnable
+made_here keeps_own t given own makes = absurd (not_true makes)
+made_here ends_one t given own makes = absurd (not_true makes)
+made_here (draws_words words) t given own makes = absurd (not_true makes)
+made_here makes_one t given own makes =
+    ap (λ b. get (if b then with_next_thread own else own).threads (next_thread own)) makes ∙ get-insert-same own.threads (next_thread own) Runnable
+
+free_here : (change : OwnChange) (t : ℕ) (given : Answer) (own : ProcessState) → AllowsChange change t given (Some own) → makes_by change given ≡ true
+    → get own.threads (next_thread own) ≡ None
+free_here keeps_own t given own fresh makes = absurd (not_true makes)
+free_here ends_one t given own fresh makes = absurd (not_true makes)
+free_here (draws_words words) t given own fresh makes = absurd (not_true makes)
+free_here makes_one t given own fresh makes = (fresh makes).1
+
+-- the thread whose call makes one is there
+maker_here : (change : OwnChange) (t : ℕ) (given : Answer) (own : ProcessState) → AllowsChange change t given (Some own) → makes_by change given ≡ true
+    → IsSome (get own.threads t)
+maker_here keeps_own t given own fresh makes = absurd (not_true makes)
+maker_here ends_one t given own fresh makes = absurd (not_true makes)
+maker_here (draws_words words) t given own fresh makes = absurd (not_true makes)
+maker_here makes_one t given own fresh makes = (fresh makes).0
+
+-- one that was not there is the one that it makes
+come_here : (change : OwnChange) (t : ℕ) (given : Answer) (own : ProcessState) (u : ℕ) → get own.threads u ≡ None → IsSome (get (threads_after change t given own) u)
+    → (makes_by change given ≡ true) × (u ≡ next_thread own)
+come_here keeps_own t given own u none some = absurd (not_true (subst IsSome none some))
+come_here (draws_words words) t given own u none some =
+    elim (is_done given) as (λ b. IsSome (get (if b then drawn_more words own else own).threads u) → (false ≡ true) × (u ≡ next_thread own)) [
+      | true ↦ λ there. absurd (not_true (subst IsSome none there))
+      | false ↦ λ there. absurd (not_true (subst IsSome none there))
+    ] some
+come_here makes_one t given own u none some =
+    elim (is_done given) as (λ b. IsSome (get (if b then with_next_thread own else own).threads u) → (b ≡ true) × (u ≡ next_thread own)) [
+      | true ↦ λ there. elim (eqb_tells u (next_thread own)) [
+        | inl is ↦ (refl, is.1)
+        | inr apart ↦ absurd (not_true (subst IsSome (get-insert-other own.threads (next_thread own) Runnable u apart.1 ∙ none) there))
+      ]
+      | false ↦ λ there. absurd (not_true (subst IsSome none there))
+    ] some
+come_here ends_one t given own u none some =
+    elim (is_done given) as (λ b. IsSome (get (if b then without_thread t own else own).threads u) → (false ≡ true) × (u ≡ next_thread own)) [
+      | true ↦ λ there. elim (eqb_tells u t) [
+        | inl is ↦ absurd (not_true (subst IsSome (ap (get (remove own.threads t)) is.1 ∙ get-remove-same own.threads t) there))
+        | inr apart ↦ absurd (not_true (subst IsSome (get-remove-other own.threads t u apart.1 ∙ none) there))
+      ]
+      | false ↦ λ there. absurd (not_true (subst IsSome none there))
+    ] some
+
+-- ---- the threads of the state
+
+-- what the process has of its own, and its threads
+abbrev threads_in : Option ProcessState → Option Threads
+threads_in own = option_map (λ (x : ProcessState). x.threads) own
+
+some_is_none : (o : Option Thread) → o ≡ None → IsSome o → ⊥
+some_is_none o none some = not_true (subst IsSome none some)
+
+no_process : (c : OwnChange) (t : ℕ) (given : Answer) → AllowsChange c t given None → makes_by c given ≡ true → ⊥
+no_process keeps_own t given free makes = not_true makes
+no_process ends_one t given free makes = not_true makes
+no_process (draws_words words) t given free makes = not_true makes
+no_process makes_one t given free makes = free makes
+
+-- The threads that are there before and after, where the call has changed the process so and no thread waits.
+module _ (change : OwnChange) (t : ℕ) (given : Answer) where
+  abbrev After : Option ProcessState → Option ProcessState → Type 0
+  After before after = IsChangedBy (own_by change t given) before after
+
+  thread_kept : (before after : Option ProcessState) (u : ℕ) → AllowsChange change t given before → After before after → (u ≡ t → ends_by change given ≡ false)
+      → (IsSome (thread_in (threads_in before) u) ⊎ (makes_by change given ≡ false)) → thread_in (threads_in after) u ≡ thread_in (threads_in before) u
+  thread_kept None after u fresh is lasts there = ap (λ o. thread_in (threads_in o) u) is.1
+  thread_kept (Some own) after u fresh is lasts there =
+      ap (λ o. thread_in (threads_in o) u) is.1 ∙ kept_thread change t given own u fresh lasts there
+
+  -- the thread that made the call
+  caller_kept : (before after : Option ProcessState) → AllowsChange change t given before → After before after → ends_by change given ≡ false
+      → thread_in (threads_in after) t ≡ thread_in (threads_in before) t
+  caller_kept None after fresh is lasts = ap (λ o. thread_in (threads_in o) t) is.1
+  caller_kept (Some own) after fresh is lasts =
+      ap (λ o. thread_in (threads_in o) t) is.1
+      ∙ kept_thread change t given own t fresh (λ _. lasts)
+      (elim (makes_by change given) as (λ b. makes_by change given ≡ b → IsSome (get own.threads t) ⊎ (makes_by change given ≡ false)) [
+        | true ↦ λ makes. inl (maker_here change t given own fresh makes)
+        | false ↦ λ none. inr none
+      ] refl)
+
+  thread_ended : (before after : Option ProcessState) → After before after → ends_by change given ≡ true → thread_in (threads_in after) t ≡ None
+  thread_ended None after is ends = ap (λ o. thread_in (threads_in o) t) is.1
+  thread_ended (Some own) after is ends = ap (λ o. thread_in (threads_in o) t) is.1 ∙ ended_here change t given own ends
+
+  thread_made : (before after : Option ProcessState) → AllowsChange change t given before → After before after → makes_by change given ≡ true
+      → (thread_in (threads_in before) ((counts_in before).threads + 1) ≡ None)
+      × (thread_in (threads_in after) ((counts_in before).threads + 1) ≡ Some Runnable)
+  thread_made None after fresh is makes = absurd (no_process change t given fresh makes)
+  thread_made (Some own) after fresh is makes = (
+    free_here change t given own fresh makes,
+    ap (λ o. thread_in (threads_in o) (next_thread own)) is.1 ∙ made_here change t given own makes,
+  )
+
+  thread_come : (before after : Option ProcessState) (u : ℕ) → After before after → thread_in (threads_in before) u ≡ None → IsSome (thread_in (threads_in after) u)
+      → (makes_by change given ≡ true) × (u ≡ (counts_in before).threads + 1)
+  thread_come None after u is none some = absurd (some_is_none (thread_in (threads_in after) u) (ap (λ o. thread_in (threads_in o) u) is.1) some)
+  thread_come (Some own) after u is none some =
+      come_here change t given own u none (subst IsSome (ap (λ o. thread_in (threads_in o) u) is.1) some)
+
+-- ---- a call in which the thread waits
+
+thread_by : (t : ℕ) (thread : Thread) (own : Option ProcessState) (u : ℕ)
+    → thread_in (threads_in (option_map (thread_set t thread) own)) u ≡ option_map (λ was. if u == t then thread else was) (thread_in (threads_in own) u)
 thread_by t thread None u = refl
-thread_by t thread (Some threads) u = get-changed (λ k was. if k == t then thread else was) threads u
+thread_by t thread (Some own) u = get-changed (λ k was. if k == t then thread else was) own.threads u
 
 unchanged : (thread : Thread) (o : Option Thread) → option_map (λ was. if false then thread else was) o ≡ o
 unchanged thread None = refl
 unchanged thread (Some was) = refl
 
--- the caller, and each other thread
-caller_by : (given : Answer) (t : ℕ) (thread : Thread) (before : Option Threads) → IsCallerAfter thread given (thread_in before t) (thread_in (threads_by given t thread before) t)
-caller_by (answer.Parked writes) t thread before =
-    thread_by t thread before t ∙ ap (λ b. option_map (λ was. if b then thread else was) (thread_in before t)) (eq-eqb t t refl)
-caller_by (answer.Reply reply) t thread before = refl
+module _ (constants : Constants) (S : State) (who : Who) (call : Call) (U : State) (writes : WordWrites) where
+  abbrev waits : Thread
+  waits = waiting constants call who.since
 
-other_by : (given : Answer) (t : ℕ) (thread : Thread) (before : Option Threads) (u : ℕ) → u ≢ t
-    → thread_in (threads_by given t thread before) u ≡ thread_in before u
-other_by (answer.Parked writes) t thread before u apart =
-    thread_by t thread before u ∙ ap (λ b. option_map (λ was. if b then thread else was) (thread_in before u)) (number_apart u t (λ e. apart (sym e)))
-    ∙ unchanged thread (thread_in before u)
-other_by (answer.Reply reply) t thread before u apart = refl
+  abbrev parked_state : State
+  parked_state = waits_if (answer.Parked writes) who waits U
 
-none_by : (given : Answer) (t : ℕ) (thread : Thread) (before : Option Threads) (u : ℕ) → thread_in before u ≡ None
-    → thread_in (threads_by given t thread before) u ≡ None
-none_by (answer.Parked writes) t thread before u none =
-    thread_by t thread before u ∙ ap (option_map (λ was. if u == t then thread else was)) none
-none_by (answer.Reply reply) t thread before u none = none
+  parked_by : (u : ℕ) → thread_of parked_state who.pid u ≡ option_map (λ was. if u == who.tid then waits else was) (thread_of U who.pid u)
+  parked_by u =
+      ap (λ o. thread_in (threads_in o) u) (with_here U who.pid who.tid waits) ∙ thread_by who.tid waits (get U.processes who.pid) u
 
-some_is_none : (o : Option Thread) → o ≡ None → IsSome o → ⊥
-some_is_none o none some = not_true (subst IsSome none some)
+  parked_here : thread_of parked_state who.pid who.tid ≡ option_map (λ (was : Thread). waits) (thread_of U who.pid who.tid)
+  parked_here = parked_by who.tid ∙ ap (λ b. option_map (λ was. if b then waits else was) (thread_of U who.pid who.tid)) (eq-eqb who.tid who.tid refl)
 
--- a call that keeps all threads leaves them as its answer says
-pub leaves_threads : (constants : Constants) (S : State) (who : Who) (call : Call) (given : Answer) (T : State)
-    → IsThreadsAfter constants S who call given (threads_of T who.pid) → LeavesThreads constants S who call given T
-leaves_threads constants S who call given T same =
-    let thread = waiting constants call who.since in
-    let before = threads_of S who.pid in
-    let at : (t : ℕ) → thread_of T who.pid t ≡ thread_in (threads_by given who.tid thread before) t = λ t. ap (λ (o : Option Threads). thread_in o t) same in
+  parked_apart : (u : ℕ) → u ≢ who.tid → thread_of parked_state who.pid u ≡ thread_of U who.pid u
+  parked_apart u apart =
+      parked_by u ∙ ap (λ b. option_map (λ was. if b then waits else was) (thread_of U who.pid u)) (number_apart u who.tid (λ e. apart (sym e)))
+      ∙ unchanged waits (thread_of U who.pid u)
+
+  parked_none : (u : ℕ) → thread_of U who.pid u ≡ None → thread_of parked_state who.pid u ≡ None
+  parked_none u none = parked_by u ∙ ap (option_map (λ was. if u == who.tid then waits else was)) none
+
+-- ---- the law of threads
+
+-- the state before the caller waits, if it does
+abbrev pub IsOwnAfter : State → Who → Call → Answer → State → Type 0
+IsOwnAfter S who call given U =
+    AllowsChange (meaning_of call).own who.tid given (get S.processes who.pid)
+    × IsChangedBy (own_by (meaning_of call).own who.tid given) (get S.processes who.pid) (get U.processes who.pid)
+
+pub leaves_threads : (constants : Constants) (S : State) (who : Who) (call : Call) (given : Answer) (U T : State) → IsOwnAfter S who call given U
+    → threads_of T who.pid ≡ threads_of (waits_if given who (waiting constants call who.since) U) who.pid → LeavesThreads constants S who call given T
+leaves_threads constants S who call (answer.Reply reply) U T is same =
+    let given : Answer = answer.Reply reply in
+    let change : OwnChange = (meaning_of call).own in
+    let before : Option ProcessState = get S.processes who.pid in
+    let after : Option ProcessState = get U.processes who.pid in
+    let at : (u : ℕ) → thread_of T who.pid u ≡ thread_of U who.pid u = λ u. ap (λ o. thread_in o u) same in
     record {
-      caller = λ _. subst (IsCallerAfter thread given (thread_of S who.pid who.tid)) (sym (at who.tid)) (caller_by given who.tid thread before);
-      others = λ t apart _ _. at t ∙ other_by given who.tid thread before t apart;
-      made = λ t none some. absurd (some_is_none (thread_of T who.pid t) (at t ∙ none_by given who.tid thread before t none) some);
+      caller = λ lasts. at who.tid ∙ caller_kept change who.tid given before after is.0 is.1 (sym (ends_is call given) ∙ lasts);
+      ended = λ ends. at who.tid ∙ thread_ended change who.tid given before after is.1 (sym (ends_is call given) ∙ ends);
+      others = λ u apart there _. at u ∙ thread_kept change who.tid given before after u is.0 is.1 (λ e. absurd (apart e)) (inl there);
+      made = λ u none some. (
+          let come = thread_come change who.tid given before after u is.1 none (subst IsSome (at u) some) in
+          (makes_is call given ∙ come.0, come.1, at u ∙ ap (thread_of U who.pid) come.1 ∙ (thread_made change who.tid given before after is.0 is.1 come.0).1));
+      makes = λ makes. (
+          let made = thread_made change who.tid given before after is.0 is.1 (sym (makes_is call given) ∙ makes) in
+          (made.0, at (next_number S who.pid) ∙ made.1));
+    }
+leaves_threads constants S who call (answer.Parked writes) U T is same =
+    let given : Answer = answer.Parked writes in
+    let change : OwnChange = (meaning_of call).own in
+    let before : Option ProcessState = get S.processes who.pid in
+    let after : Option ProcessState = get U.processes who.pid in
+    let thread : Thread = waiting constants call who.since in
+    let at : (u : ℕ) → thread_of T who.pid u ≡ thread_of (waits_if given who thread U) who.pid u = λ u. ap (λ o. thread_in o u) same in
+    let kept : (u : ℕ) → thread_of U who.pid u ≡ thread_of S who.pid u =
+    λ u. thread_kept change who.tid given before after u is.0 is.1 (λ _. parked_ends change writes) (inr (parked_makes change writes)) in
+    record {
+      caller = λ _. at who.tid ∙ parked_here constants S who call U writes ∙ ap (option_map (λ (was : Thread). thread)) (kept who.tid);
+      ended = λ ends. absurd (not_true (sym (parked_ends change writes) ∙ sym (ends_is call given) ∙ ends));
+      others = λ u apart there _. at u ∙ parked_apart constants S who call U writes u apart ∙ kept u;
+      made = λ u none some. absurd (some_is_none (thread_of T who.pid u) (at u ∙ parked_none constants S who call U writes u (kept u ∙ none)) some);
+      makes = λ makes. absurd (not_true (sym (parked_makes change writes) ∙ sym (makes_is call given) ∙ makes));
     }
 
--- ---- calls that aren't built yet
+-- ---- the law of counts
+
+-- the number where the test says so, else 0
+abbrev number_if : Bool → ℕ → ℕ
+number_if b n = if b then n else 0
+
+-- as the law of counts says it, for a call that does this
+record CountsAfter (change : OwnChange) (given : Answer) (before after : Counts) : Type 0 where
+  threads : after.threads ≡ before.threads + number_if (makes_by change given) 1
+  words : after.words ≡ before.words + draws_by change given
+  forks : after.forks ≡ before.forks
+  objects : before.objects ≤ after.objects
+
+counts_done : (change : OwnChange) (t : ℕ) (given : Answer) (own : ProcessState) → CountsAfter change given own.counts (own_by change t given own).counts
+counts_done keeps_own t given own = record { threads = omega arith; words = omega arith; forks = refl; objects = omega arith }
+counts_done makes_one t given own =
+    elim (is_done given) as (λ b. is_done given ≡ b → CountsAfter makes_one given own.counts (if b then with_next_thread own else own).counts) [
+      | true ↦ λ done. (
+          let one : number_if (is_done given) 1 ≡ 1 = ap (λ b. number_if b 1) done in
+          record { threads = omega (arith, one); words = omega arith; forks = refl; objects = omega arith })
+      | false ↦ λ isnt. (
+          let none : number_if (is_done given) 1 ≡ 0 = ap (λ b. number_if b 1) isnt in
+          record { threads = omega (arith, none); words = omega arith; forks = refl; objects = omega arith })
+    ] refl
+counts_done ends_one t given own =
+    elim (is_done given) as (λ b. CountsAfter ends_one given own.counts (if b then without_thread t own else own).counts) [
+      | true ↦ record { threads = omega arith; words = omega arith; forks = refl; objects = omega arith }
+      | false ↦ record { threads = omega arith; words = omega arith; forks = refl; objects = omega arith }
+    ]
+counts_done (draws_words words) t given own =
+    elim (is_done given) as (λ b. is_done given ≡ b → CountsAfter (draws_words words) given own.counts (if b then drawn_more words own else own).counts) [
+      | true ↦ λ done. (
+          let all : number_if (is_done given) words ≡ words = ap (λ b. number_if b words) done in
+          record { threads = omega arith; words = omega (arith, all); forks = refl; objects = omega arith })
+      | false ↦ λ isnt. (
+          let none : number_if (is_done given) words ≡ 0 = ap (λ b. number_if b words) isnt in
+          record { threads = omega arith; words = omega (arith, none); forks = refl; objects = omega arith })
+    ] refl
+
+-- a call of no process makes and draws nothing
+counts_of_none : (change : OwnChange) (t : ℕ) (given : Answer) → AllowsChange change t given None → CountsAfter change given no_counts no_counts
+counts_of_none keeps_own t given allows = record { threads = refl; words = refl; forks = refl; objects = omega arith }
+counts_of_none ends_one t given allows = record { threads = refl; words = refl; forks = refl; objects = omega arith }
+counts_of_none makes_one t given allows =
+    elim (is_done given) as (λ b. is_done given ≡ b → CountsAfter makes_one given no_counts no_counts) [
+      | true ↦ λ done. absurd (allows done)
+      | false ↦ λ isnt. (
+          let none : number_if (is_done given) 1 ≡ 0 = ap (λ b. number_if b 1) isnt in
+          record { threads = omega (arith, none); words = refl; forks = refl; objects = omega arith })
+    ] refl
+counts_of_none (draws_words words) t given allows =
+    elim (is_done given) as (λ b. is_done given ≡ b → CountsAfter (draws_words words) given no_counts no_counts) [
+      | true ↦ λ done. absurd (not_true (allows done))
+      | false ↦ λ isnt. (
+          let none : number_if (is_done given) words ≡ 0 = ap (λ b. number_if b words) isnt in
+          record { threads = refl; words = omega (arith, none); forks = refl; objects = omega arith })
+    ] refl
+
+counts_changed : (change : OwnChange) (t : ℕ) (given : Answer) (before after : Option ProcessState) → AllowsChange change t given before
+    → IsChangedBy (own_by change t given) before after → CountsAfter change given (counts_in before) (counts_in after)
+counts_changed change t given None after allows is =
+    subst (λ o. CountsAfter change given no_counts (counts_in o)) (sym is.1) (counts_of_none change t given allows)
+counts_changed change t given (Some own) after allows is =
+    let done = counts_done change t given own in
+    let more : own.counts.objects ≤ (own_by change t given own).counts.objects = done.objects in
+    subst (λ o. CountsAfter change given own.counts (counts_in o)) (sym is.1)
+    (record { threads = done.threads; words = done.words; forks = done.forks; objects = omega (arith, more) })
+
+counts_ended : (change : OwnChange) (t : ℕ) (given : Answer) (before after : Option ProcessState) → AllowsChange change t given before
+    → HasEndedBy (own_by change t given) before after → CountsAfter change given (counts_in before) (counts_in after)
+counts_ended change t given None after allows is =
+    subst (λ o. CountsAfter change given no_counts (counts_in o)) (sym is) (counts_of_none change t given allows)
+counts_ended change t given (Some own) after allows is =
+    subst (λ o. CountsAfter change given own.counts (counts_in o)) (sym is) (counts_done change t given own)
+
+-- the law, for a call whose process was left so
+pub leaves_counts : (call : Call) (given : Answer) (p t : ℕ) (S T : State) → AllowsChange (meaning_of call).own t given (get S.processes p)
+    → LeavesOwn (meaning_of call).own p t given S T → LeavesCounts call given (counts_in (get S.processes p)) (counts_in (get T.processes p))
+leaves_counts call given p t S T allows left =
+    let change : OwnChange = (meaning_of call).own in
+    let before : Option ProcessState = get S.processes p in
+    let after : Option ProcessState = get T.processes p in
+    let is : CountsAfter change given (counts_in before) (counts_in after) =
+    elim left [
+      | inl changed ↦ counts_changed change t given before after allows changed
+      | inr ended ↦ counts_ended change t given before after allows ended.1
+    ] in
+    record {
+      threads = is.threads ∙ ap (λ b. (counts_in before).threads + number_if b 1) (sym (makes_is call given));
+      words = is.words ∙ ap (λ n. (counts_in before).words + n) (sym (draws_is call given));
+      forks = is.forks;
+      objects = is.objects;
+    }
+
+-- ---- refusals and errors
 
 -- the reply is no success
 abbrev Fails : Answer → Type 0
@@ -114,51 +446,51 @@ refusal_fails true lack reply is = ap (λ (r : Reply). is_success r.errno) (sym 
 refusal_fails false None reply is = absurd (none_is_no reply is)
 refusal_fails false (Some denial) reply is = ap (λ (r : Reply). is_success r.errno) (sym (same_some (denied denial) reply is))
 
-refusal_of_fails : (call : Call) (table : Option Table) (reply : Reply) → refusal_of call table ≡ Some reply → is_success reply.errno ≡ false
+pub refusal_of_fails : (call : Call) (table : Option Table) (reply : Reply) → refusal_of call table ≡ Some reply → is_success reply.errno ≡ false
 refusal_of_fails call None reply is = ap (λ (r : Reply). is_success r.errno) (sym (same_some (refused Badf) reply is))
 refusal_of_fails call (Some table) reply is = refusal_fails (some_absent table (named call)) (first_lack table (need call)) reply is
 
--- the call answers NOSYS where it isn't refused
-abbrev IsUnbuilt : Call → Type 0
-IsUnbuilt call = (constants : Constants) (S : State) (who : Who) (table : Table) → (meaning_of call).effect constants (whole S) who table ≡ replies (refused Nosys)
+-- a call that is not done asks nothing of its process
+pub undone_allows : (change : OwnChange) (t : ℕ) (given : Answer) (before : Option ProcessState) → is_done given ≡ false → AllowsChange change t given before
+undone_allows keeps_own t given before isnt = tt
+undone_allows ends_one t given before isnt = tt
+undone_allows makes_one t given before isnt = λ done. absurd (not_true (sym isnt ∙ done))
+undone_allows (draws_words words) t given before isnt = λ done. absurd (not_true (sym isnt ∙ done))
 
-answer_fails : (constants : Constants) (S : State) (who : Who) (call : Call) → IsUnbuilt call → Fails (step_answer constants S who call)
-answer_fails constants S who call unbuilt =
-    outcome_holds (λ (o : Outcome). Fails o.answer) constants S who call (λ reply refuses. refusal_of_fails call (get S.tables who.pid) reply refuses)
-    (λ table _. subst (λ (o : Outcome). Fails o.answer) (sym (unbuilt constants (tick S) who table)) refl)
+-- ---- proc_exec isn't built yet
 
--- no step of it succeeds, whether memory runs out or not
-step_fails : (constants : Constants) (S : State) (who : Who) (call : Call) (given : Answer) (T : State) → IsUnbuilt call → IsStep constants S who call given T → Fails given
-step_fails constants S who call given T unbuilt (inl done) = subst Fails (sym done.0) (answer_fails constants S who call unbuilt)
-step_fails constants S who call given T unbuilt (inr lacking) = subst Fails (sym lacking.1) refl
+exec_fails : (constants : Constants) (S : State) (who : Who) (fd : ℕ) (bytes fds : List ℕ) → Fails (step_answer constants S who (call.ProcExec fd bytes fds))
+exec_fails constants S who fd bytes fds =
+    outcome_holds (λ (o : Outcome). Fails o.answer) constants S who (call.ProcExec fd bytes fds)
+    (λ reply refuses. refusal_of_fails (call.ProcExec fd bytes fds) (get S.tables who.pid) reply refuses) (λ table _. refl)
 
--- what holds of the reply of an answer that fails holds of the test of the call
-exit_fails : (lock word scope : ℕ) (given : Answer) → Fails given → ends_caller (call.ThreadExit lock word scope) given ≡ false
-exit_fails lock word scope (answer.Parked writes) fails = absurd fails
-exit_fails lock word scope (answer.Reply reply) fails = fails
+exec_step_fails : (constants : Constants) (S : State) (who : Who) (fd : ℕ) (bytes fds : List ℕ) (given : Answer) (T : State)
+    → IsStep constants S who (call.ProcExec fd bytes fds) given T → Fails given
+exec_step_fails constants S who fd bytes fds given T (inl done) = subst Fails (sym done.0) (exec_fails constants S who fd bytes fds)
+exec_step_fails constants S who fd bytes fds given T (inr lacking) = subst Fails (sym lacking.1) refl
 
-exec_fails : (fd : ℕ) (bytes fds : List ℕ) (given : Answer) → Fails given → ends_others (call.ProcExec fd bytes fds) given ≡ false
-exec_fails fd bytes fds (answer.Parked writes) fails = absurd fails
-exec_fails fd bytes fds (answer.Reply reply) fails = fails
-
-pub keeps_caller : (constants : Constants) (S : State) (who : Who) (call : Call) (given : Answer) (T : State) → IsStep constants S who call given T
-    → ends_caller call given ≡ false
-keeps_caller constants S who (call.ThreadExit lock word scope) given T step =
-    exit_fails lock word scope given (step_fails constants S who (call.ThreadExit lock word scope) given T (λ _ _ _ _. refl) step)
-keeps_caller constants S who _ given T step = refl
+not_done : (given : Answer) → Fails given → is_done given ≡ false
+not_done (answer.Parked writes) fails = absurd fails
+not_done (answer.Reply reply) fails = fails
 
 pub keeps_others : (constants : Constants) (S : State) (who : Who) (call : Call) (given : Answer) (T : State) → IsStep constants S who call given T
     → ends_others call given ≡ false
-keeps_others constants S who (call.ProcExec fd bytes fds) given T step =
-    exec_fails fd bytes fds given (step_fails constants S who (call.ProcExec fd bytes fds) given T (λ _ _ _ _. refl) step)
+keeps_others constants S who (call.ProcExec fd bytes fds) given T step = not_done given (exec_step_fails constants S who fd bytes fds given T step)
 keeps_others constants S who _ given T step = refl
 
-create_fails : (attributes : ThreadAttr) (given : Answer) → Fails given → makes_thread (call.ThreadCreate attributes) given ≡ false
-create_fails attributes (answer.Parked writes) fails = absurd fails
-create_fails attributes (answer.Reply reply) fails = fails
+-- ---- calls in which a thread may wait
 
-pub makes_none : (constants : Constants) (S : State) (who : Who) (call : Call) (given : Answer) (T : State) → IsStep constants S who call given T
-    → makes_thread call given ≡ false
-makes_none constants S who (call.ThreadCreate attributes) given T step =
-    create_fails attributes given (step_fails constants S who (call.ThreadCreate attributes) given T (λ _ _ _ _. refl) step)
-makes_none constants S who _ given T step = refl
+-- such a call draws no random words
+pub waited_draws : (call : Call) (given : Answer) → may_wait call ≡ true → words_drawn call given ≡ 0
+waited_draws (call.RandomGet length) given may = absurd (not_true may)
+waited_draws _ given may = refl
+
+-- and makes and ends no thread
+pub waited_keeps : (call : Call) (given : Answer) → may_wait call ≡ true
+    → (ends_caller call given ≡ false) × (ends_others call given ≡ false) × (makes_thread call given ≡ false)
+waited_keeps (call.Poll subscriptions) given may = (refl, refl, refl)
+waited_keeps (call.MemMap place length prot flags fd offset) given may = (refl, refl, refl)
+waited_keeps (call.ThreadCreate attributes) given may = absurd (not_true may)
+waited_keeps (call.ThreadExit lock word scope) given may = absurd (not_true may)
+waited_keeps (call.ProcExec fd bytes fds) given may = absurd (not_true may)
+waited_keeps _ given may = (refl, refl, refl)

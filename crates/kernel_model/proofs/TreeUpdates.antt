@@ -3,7 +3,7 @@
 --         the tree alone;  updates after others
 --     with_tree u S, tree_same      the state S with the tree u;  updates of the tree lead to such a state
 --     put_change      the updates of a change of the state's tree give it the tree that the change leads to
---     process_nearly_valid      a nearly valid state in which a process has made more is so
+--     counted_nearly_valid      a nearly valid state in which a process has made more is so
 --     with_tree_nearly_valid      and so is one with another tree in which no file and no directory is missing
 --     change_nearly_valid      and so is one where a call has made so many nodes and changed the tree
 use Rattle.std.proofs.Common.{◌≡◌, ◌≢◌, ℕ, zero, suc, ◌+◌, ◌^◌, ◌<◌, ◌≤◌, true, false, List, [], ◌∷◌, ◌++◌, map, Option, Some, None, IsSome, is_some, refl, sym, ap, subst, ◌∙◌, arith}
@@ -21,17 +21,16 @@ use Rattle.tree_model.specs.Changes.{is_file}
 use Rattle.tree_model.specs.Entries.{here_or_other}
 use Rattle.tree_model.specs.Tree.{IsTree, is_directory}
 use Rattle.kernel_model.specs.Families.Numbers.{can_number, next_object, object_of, made_more, process_updates}
-use Rattle.kernel_model.specs.State.{State, Names, ProcessState, Tree, tree_of, Part, Update, counts_in, has_part, part_of, put_all, put_one, set_node, set_names, set_process, thread_in, threads_of}
+use Rattle.kernel_model.specs.OwnChanges.{IsChangedBy}
+use Rattle.kernel_model.specs.State.{State, Names, ProcessState, Tree, tree_of, Part, Update, counts_in, has_part, part_of, put_all, put_one, set_node, set_names, set_process}
 use Rattle.kernel_model.specs.Families.TreeUpdates.{Change, change_updates, names_update, names_updates, node_update, nodes_updates}
 use Rattle.kernel_model.specs.Valid.{HasBehind, IsNearlyValid}
-use Rattle.kernel_model.proofs.Children.{all_born, one_keeps, KeepsChildren}
-use Rattle.kernel_model.specs.Waits.{MayWait}
 use Rattle.kernel_model.proofs.FileMeanings.{IsOfTree}
 use Rattle.kernel_model.proofs.NameMeanings.{IsChangeOf}
 use Rattle.kernel_model.proofs.ObjectNumbers.{fewer_fit}
-use Rattle.kernel_model.proofs.Parts.{number_apart, outside_cons}
+use Rattle.kernel_model.proofs.OwnChanges.{more_grows, set_process_nearly_valid}
+use Rattle.kernel_model.proofs.Parts.{number_apart, outside_cons, own_stays}
 use Rattle.kernel_model.proofs.Tests.{none_is_no, not_true}
-use Rattle.kernel_model.proofs.Valids.{some_again}
 
 -- ---- lists of updates
 
@@ -192,64 +191,10 @@ with_tree_nearly_valid S u after v = record {
   tree = after.tree;
   waits = v.waits;
   silent = v.silent;
+  nobody = v.nobody;
 }
 
 -- ---- a process that has made more
-
--- the process has as many threads, and has made no less, and no fewer children
-record Grows (own new : ProcessState) : Type 0 where
-  threads : new.threads ≡ own.threads
-  numbered : new.counts.threads ≡ own.counts.threads
-  more : own.counts.objects ≤ new.counts.objects
-  children : KeepsChildren (Some own) (Some new)
-
-module _ (S : State) (p : ℕ) (own new : ProcessState) (there : get S.processes p ≡ Some own) (grows : Grows own new) where
-  same_threads : (q : ℕ) → threads_of (put_one (set_process p new) S) q ≡ threads_of S q
-  same_threads q =
-      here_or_other (λ k. threads_of (put_one (set_process p new) S) k ≡ threads_of S k) p q
-      (ap (option_map (λ (o : ProcessState). o.threads)) (get-insert-same S.processes p new) ∙ ap Some grows.threads ∙ sym (ap (option_map (λ (o : ProcessState). o.threads)) there))
-      (λ other. ap (option_map (λ (o : ProcessState). o.threads)) (get-insert-other S.processes p new q other))
-
-  same_numbered : (q : ℕ) → (counts_in (get (insert S.processes p new) q)).threads ≡ (counts_in (get S.processes q)).threads
-  same_numbered q =
-      here_or_other (λ k. (counts_in (get (insert S.processes p new) k)).threads ≡ (counts_in (get S.processes k)).threads) p q
-      (ap (λ o. (counts_in o).threads) (get-insert-same S.processes p new) ∙ grows.numbered ∙ sym (ap (λ o. (counts_in o).threads) there))
-      (λ other. ap (λ o. (counts_in o).threads) (get-insert-other S.processes p new q other))
-
-  more_made : (q : ℕ) → (counts_in (get S.processes q)).objects ≤ (counts_in (get (insert S.processes p new) q)).objects
-  more_made q =
-      here_or_other (λ k. (counts_in (get S.processes k)).objects ≤ (counts_in (get (insert S.processes p new) k)).objects) p q
-      (let after : (counts_in (get (insert S.processes p new) p)).objects ≡ new.counts.objects = ap (λ o. (counts_in o).objects) (get-insert-same S.processes p new) in
-      let before : (counts_in (get S.processes p)).objects ≡ own.counts.objects = ap (λ o. (counts_in o).objects) there in
-      omega (arith, after, before, grows.more))
-      (λ other. let same : (counts_in (get (insert S.processes p new) q)).objects ≡ (counts_in (get S.processes q)).objects =
-      ap (λ o. (counts_in o).objects) (get-insert-other S.processes p new q other) in omega (arith, same))
-
-  set_process_nearly_valid : IsNearlyValid S → IsNearlyValid (put_one (set_process p new) S)
-  set_process_nearly_valid v = record {
-    named = v.named;
-    behind = λ o kind e. behind_process kind (v.behind o kind e);
-    sole = v.sole;
-    tables = v.tables;
-    owns = λ q. some_again S.processes p own new q there ∙ v.owns q;
-    ended = λ q status is ends. ((v.ended q status is ends).0, same_threads q ∙ (v.ended q status is ends).1);
-    numbered = λ q t here.
-        subst (λ n. t ≤ n) (sym (same_numbered q)) (v.numbered q t (subst (λ o. IsSome (thread_in o t)) (same_threads q) here));
-    made = λ q k small beyond fits.
-        v.made q k small (let more = more_made q in omega (arith, more, beyond)) fits;
-    made_nodes = λ q k small beyond fits.
-        v.made_nodes q k small (let more = more_made q in omega (arith, more, beyond)) fits;
-    born = all_born S.processes (insert S.processes p new) (one_keeps S.processes p own new there grows.children) v.born;
-    tree = v.tree;
-    waits = λ q t. subst (λ o. MayWait (thread_in o t)) (sym (same_threads q)) (v.waits q t);
-    silent = v.silent;
-  } where
-    behind_process : (kind : OpenKind) → HasBehind S kind → HasBehind (put_one (set_process p new) S) kind
-    behind_process (File q offset flags) h = h
-    behind_process (Directory q flags) h = h
-    behind_process (End reads writes flags) h = h
-    behind_process (Terminal which flags) h = h
-    behind_process (Process q) h = h
 
 -- the state in which the process has made so many more
 abbrev pub counted : ℕ → ℕ → State → State
@@ -271,12 +216,13 @@ counted_tree S p count = counted_holds (λ (T : State). tree_of T ≡ tree_of S)
 pub counted_nearly_valid : (S : State) (p count : ℕ) → IsNearlyValid S → IsNearlyValid (counted p count S)
 counted_nearly_valid S p count v =
     counted_holds IsNearlyValid S p count v (λ own there.
-    set_process_nearly_valid S p own (made_more count own) there (record { threads = refl; numbered = refl; more = omega arith; children = (refl, omega arith) }) v)
+    set_process_nearly_valid S p own (made_more count own) there (more_grows count own) v)
 
-pub counted_threads : (S : State) (p count q : ℕ) → threads_of (counted p count S) q ≡ threads_of S q
-counted_threads S p count q =
-    counted_holds (λ (T : State). threads_of T q ≡ threads_of S q) S p count refl (λ own there.
-    same_threads S p own (made_more count own) there (record { threads = refl; numbered = refl; more = omega arith; children = (refl, omega arith) }) q)
+-- the process has made so many more objects, and else what it had of its own
+pub counted_own : (S : State) (p count : ℕ) → IsChangedBy (λ own. own) (get S.processes p) (get (counted p count S).processes p)
+counted_own S p count =
+    counted_holds (λ (T : State). IsChangedBy (λ own. own) (get S.processes p) (get T.processes p)) S p count (own_stays (get S.processes p)) (λ own there.
+    (count, get-insert-same S.processes p (made_more count own) ∙ sym (ap (option_map (made_more count)) there)))
 
 pub counted_more : (S : State) (p count : ℕ) → can_number p count (get S.processes p) ≡ true
     → (counts_in (get (counted p count S).processes p)).objects ≡ (counts_in (get S.processes p)).objects + count

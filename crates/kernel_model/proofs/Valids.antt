@@ -28,7 +28,7 @@ use Rattle.tree_model.specs.Retained.{retained, retained-node, retained-no_node,
 use Rattle.tree_model.specs.Tree.{IsTree, is_directory_node, links_in, links_of}
 use Rattle.kernel_model.specs.Channels.{Channel, channel_left}
 use Rattle.kernel_model.specs.Release.{names_open, count_in, holders, carriers, is_of_process, is_reader, is_writer, loses_reader, loses_writer, is_killed, table_left, process_left, status_left, without, ends, release, is_ending, is_node_kept, without_ended, without_nodes}
-use Rattle.kernel_model.specs.State.{State, Table, Threads, ProcessState, tree_of, put_one, put_all, set_open, set_table, set_term, threads_of, thread_in, thread_of, counts_in}
+use Rattle.kernel_model.specs.State.{State, Table, Threads, ProcessState, tree_of, put_one, put_all, set_open, set_table, set_term, threads_of, thread_in, thread_of, counts_in, locks_in, no_locks}
 use Rattle.kernel_model.specs.Step.{tick}
 use Rattle.kernel_model.specs.Families.Numbers.{object_of}
 use Rattle.kernel_model.specs.Fits.{fits, fits_inheriting}
@@ -200,6 +200,12 @@ left_waits S p t h =
     subst (λ (own : Option ProcessState). MayWait (thread_in (threads_in own) t)) (sym (process_after S (ends S) p))
     (kept_waits (is_killed S (ends S) p) (get S.processes p) t h)
 
+-- nobody waits in a process that was killed
+left_nobody : (killed : Bool) (own : Option ProcessState) → locks_in own ≡ no_locks → locks_in (option_map (process_left killed) own) ≡ no_locks
+left_nobody killed None h = refl
+left_nobody true (Some own) h = refl
+left_nobody false (Some own) h = h
+
 -- what stands behind an open does not depend on the parts that aren't behind any
 reader_same : (before after : FinMap nat_cmp Channel) → ((c : ℕ) → get after c ≡ get before c) → (reads : Option ℕ) → HasReader before reads → HasReader after reads
 reader_same before after same None h = h
@@ -362,6 +368,7 @@ release_restores S v = record {
     waits = λ p t. left_waits S p t (v.waits p t);
     silent = λ c.
         channel_after S (ends S) c ∙ ap (option_map (channel_left (loses_reader S (ends S) c) (loses_writer S (ends S) c))) (v.silent c);
+    nobody = λ p. ap locks_in (process_after S (ends S) p) ∙ left_nobody (is_killed S (ends S) p) (get S.processes p) (v.nobody p);
   };
   held = left_is_held S;
   kept = released_kept S;
@@ -399,6 +406,7 @@ moment_nearly_valid S moment v = record {
   tree = v.tree;
   waits = v.waits;
   silent = v.silent;
+  nobody = v.nobody;
 }
 
 pub tick_nearly_valid : (S : State) → IsNearlyValid S → IsNearlyValid (tick S)
@@ -447,6 +455,7 @@ streams_nearly_valid S terms more v = record {
   tree = v.tree;
   waits = v.waits;
   silent = v.silent;
+  nobody = v.nobody;
 }
 
 pub set_term_nearly_valid : (S : State) (k : ℕ) (stream : Stream) → IsNearlyValid S → IsNearlyValid (put_one (set_term k stream) S)
@@ -503,7 +512,7 @@ threads_ended S p status v q s e ends =
           ∙ (v.ended q s (sym (get-insert-other S.statuses p status q other.1) ∙ e) ends).1
     ]
 
-counts_stay : (S : State) (p : ℕ) (status : Status) (q : ℕ) → counts_in (get (put_all (end_updates p (get S.processes p) status) S).processes q) ≡ counts_in (get S.processes q)
+pub counts_stay : (S : State) (p : ℕ) (status : Status) (q : ℕ) → counts_in (get (put_all (end_updates p (get S.processes p) status) S).processes q) ≡ counts_in (get S.processes q)
 counts_stay S p status q =
     elim (eqb_tells q p) [
       | inl is ↦ subst (λ j. counts_in (get (put_all (end_updates p (get S.processes p) status) S).processes j) ≡ counts_in (get S.processes j)) (sym is.1)
@@ -528,6 +537,15 @@ ended_waits S p status v q t =
       | inr other ↦ subst (λ o. MayWait (thread_in (option_map (λ (own : ProcessState). own.threads) o) t)) (sym (process_apart S p status q other.1)) (v.waits q t)
     ]
 
+ended_nobody : (S : State) (p : ℕ) (status : Status) → IsNearlyValid S → (q : ℕ)
+    → locks_in (get (put_all (end_updates p (get S.processes p) status) S).processes q) ≡ no_locks
+ended_nobody S p status v q =
+    elim (eqb_tells q p) [
+      | inl is ↦ subst (λ j. locks_in (get (put_all (end_updates p (get S.processes p) status) S).processes j) ≡ no_locks) (sym is.1)
+          (ap locks_in (process_at S.processes p))
+      | inr other ↦ ap locks_in (process_apart S p status q other.1) ∙ v.nobody q
+    ]
+
 -- a process that was made may end
 pub end_nearly_valid : (S : State) (p : ℕ) (status : Status) → IsSome (get S.statuses p) → IsNearlyValid S
     → IsNearlyValid (put_all (end_updates p (get S.processes p) status) S)
@@ -550,6 +568,7 @@ end_nearly_valid S p status made v = record {
   born = all_born S.processes _ (end_keeps S.processes p (v.owns p ∙ made)) v.born;
   tree = v.tree;
   silent = v.silent;
+  nobody = ended_nobody S p status v;
 }
 
 -- ---- another table
@@ -632,6 +651,7 @@ set_table_nearly_valid S p old new there from v = record {
   tree = v.tree;
   waits = v.waits;
   silent = v.silent;
+  nobody = v.nobody;
 }
 
 -- ---- another value of an open
@@ -703,4 +723,5 @@ set_open_nearly_valid S o kind new there same v = record {
   tree = v.tree;
   waits = v.waits;
   silent = v.silent;
+  nobody = v.nobody;
 }

@@ -1,5 +1,6 @@
 -- The meaning of each poll is proper.
 use Rattle.std.proofs.Common.{◌≡◌, ℕ, ◌+◌, Bool, true, false, not, inl, inr, List, [], ◌∷◌, None, Some, refl, sym, ap, ◌∙◌}
+use Rattle.std.specs.FinMap.{get}
 use Rattle.abi_base.specs.declared.errno.Errno.TheVariants.{Nosys}
 use Rattle.abi_structures.specs.declared.events.Subscription.{Subscription}
 use Rattle.abi_structures.specs.declared.events.What.{What}
@@ -10,6 +11,7 @@ use Rattle.abi_types.specs.declared.who.Who.{Who}
 use Rattle.kernel_model.specs.Deadlines.{is_due, soon}
 use Rattle.kernel_model.specs.Families.WaitCalls.{clock_deadline, clock_event, clock_poll, clock_poll_at, events_reply, fds_of, lone_poll, poll, wait_row, wait_rows}
 use Rattle.kernel_model.specs.Outcome.{Outcome, is_parked, parks, replies}
+use Rattle.kernel_model.specs.OwnChanges.{LeavesOwn, keeps_own}
 use Rattle.kernel_model.specs.Proper.{IsDeniedOutside, IsPatient, IsProper, IsUnset, OrWaits}
 use Rattle.kernel_model.specs.Reply.{refused}
 use Rattle.kernel_model.specs.State.{Table, at_proc, at_status, put_all}
@@ -17,7 +19,7 @@ use Rattle.kernel_model.specs.Valid.{IsNearlyValid}
 use Rattle.kernel_model.specs.View.{View}
 use Rattle.kernel_model.proofs.Answering.{each_row_is_proper}
 use Rattle.kernel_model.proofs.Deadlines.{due_later}
-use Rattle.kernel_model.proofs.Parts.{KeepsThreads}
+use Rattle.kernel_model.proofs.Parts.{own_stays}
 use Rattle.kernel_model.proofs.Tests.{not_true}
 
 -- ---- a poll of one clock
@@ -71,8 +73,11 @@ clock_poll_is_proper userdata clock timeout flags = record {
   others = λ constants v who table q apart.
       clock_holds (λ o. IsUnset o (at_proc q) × IsUnset o (at_status q)) (is_due v.clock (soon (Some (clock_deadline constants who.since clock timeout flags)))) userdata
       (refl, refl) (refl, refl);
-  threads = λ constants S who table.
-      clock_holds (KeepsThreads S who.pid) (is_due S.clock (soon (Some (clock_deadline constants who.since clock timeout flags)))) userdata (λ _. refl) (λ _. refl);
+  own = λ constants S who table.
+      clock_holds (λ o. LeavesOwn keeps_own who.pid who.tid o.answer S (put_all o.updates S))
+      (is_due S.clock (soon (Some (clock_deadline constants who.since clock timeout flags)))) userdata (inl (own_stays (get S.processes who.pid)))
+      (inl (own_stays (get S.processes who.pid)));
+  allows = λ constants S who table. tt;
   valid = λ constants S who table there nearly.
       clock_holds (λ o. IsNearlyValid (put_all o.updates S)) (is_due S.clock (soon (Some (clock_deadline constants who.since clock timeout flags)))) userdata nearly nearly;
 }
@@ -87,6 +92,7 @@ lone_is_proper : (userdata : ℕ) (what : What)
       outside = λ v table. None;
       touched = λ S table. [];
       numbers = 0;
+      own = keeps_own;
     })
 lone_is_proper userdata (Clock clock timeout precision flags) = clock_poll_is_proper userdata clock timeout flags
 lone_is_proper userdata (Condvar condvar condvar_word lock lock_word condvar_scope lock_scope) = each_row_is_proper []

@@ -1,10 +1,11 @@
 -- What wakes do, and what steps, wakes and ends leave of the deadlines until which threads wait.
 --     ready_has_wake, wake_ends_wait      a ready thread has a wake, and its wakes end its wait
 --     wake_moves_only, wake_error_keeps, wake_others_stay      what a wake changes
+--     wake_keeps      it makes and ends no thread
 --     wake_keeps_valid, wake_keeps_made      what it leaves
 --     step_each, wake_each, end_each      what holds of each thread
 --     step_deadlines, wake_deadlines, end_deadlines      deadlines are kept
-use Rattle.std.proofs.Common.{◌≡◌, ◌≢◌, ◌⊎◌, ℕ, ◌+◌, ◌<◌, Bool, true, false, not, inl, inr, Option, Some, None, IsSome, is_some, refl, sym, ap, subst, ◌∙◌, arith}
+use Rattle.std.proofs.Common.{◌≡◌, ◌≢◌, ◌⊎◌, ℕ, ◌+◌, Bool, true, false, not, inl, inr, Option, Some, None, IsSome, is_some, refl, sym, ap, subst, ◌∙◌, arith}
 use Rattle.std.proofs.lemmas.Bool.Decides.{eqb_tells}
 use Rattle.std.specs.Option.{option_map}
 use Rattle.std.specs.Ordering.{nat_cmp}
@@ -24,17 +25,18 @@ use Rattle.abi_types.specs.declared.thread.Thread.TheVariants.{Runnable}
 use Rattle.abi_types.specs.declared.wake.WakeIn.{WakeIn}
 use Rattle.abi_types.specs.declared.wake.WakeIn.TheVariants as wake
 use Rattle.abi_types.specs.declared.who.Who.{Who}
+use Rattle.kernel_model.specs.Calls.{meaning_of}
 use Rattle.kernel_model.specs.Families.ProcessCalls.{ended_process}
 use Rattle.kernel_model.specs.Laws.{HasSameProcess, IsKilled, MovesOnly}
 use Rattle.kernel_model.specs.Outcome.{is_parked}
 use Rattle.kernel_model.specs.Reply.{refused}
-use Rattle.kernel_model.specs.State.{State, ProcessState, Part, Threads, has_part, Agree, threads_of, thread_in, thread_of}
+use Rattle.kernel_model.specs.State.{State, ProcessState, Part, Threads, counts_in, has_part, Agree, threads_of, thread_in, thread_of}
 use Rattle.kernel_model.specs.Release.{ends, is_killed, process_left}
 use Rattle.kernel_model.specs.Step.{tick, end_state, end_unreleased, step_answer, step_state, touch, IsStep, IsUntouched}
-use Rattle.kernel_model.specs.Threads.{ends_caller, ends_others, makes_thread, IsCallerAfter}
+use Rattle.kernel_model.specs.Threads.{ends_caller, ends_others, makes_thread, IsCallerAfter, LeavesCounts, LeavesThreads}
 use Rattle.kernel_model.specs.Valid.{IsValid}
 use Rattle.kernel_model.specs.WaitLaws.{ResumesOnly, WakesOnly}
-use Rattle.kernel_model.specs.Waits.{resumed, waiting, HasDeadline, HasDeadlines, WaitsIn}
+use Rattle.kernel_model.specs.Waits.{resumed, waiting, HasDeadline, HasDeadlines, MayWait, WaitsIn}
 use Rattle.kernel_model.specs.Wakes.{answer_now, is_done_now, is_ready, IsWake}
 use Rattle.kernel_model.proofs.Ends.{process_after}
 use Rattle.kernel_model.proofs.Outcomes.{outcome_reads}
@@ -44,7 +46,7 @@ use Rattle.kernel_model.proofs.Refusals.{error_keeps}
 use Rattle.kernel_model.proofs.Steps.{end_ends_only, step_keeps_made, step_keeps_valid, step_moves_only}
 use Rattle.kernel_model.proofs.Tests.{none_is_no, not_true}
 use Rattle.kernel_model.proofs.Threading.{each_of, thread_apart, thread_here, with_apart, with_counts, with_keeps, with_valid}
-use Rattle.kernel_model.proofs.Threads.{keeps_caller, keeps_others, makes_none}
+use Rattle.kernel_model.proofs.Threads.{keeps_others, leaves_counts, undone_allows, undone_stays, waited_keeps}
 use Rattle.kernel_model.proofs.Touches.{others_stay, outside_own, tick_keeps, outside_clock}
 use Rattle.kernel_model.proofs.Valids.{threads_at, tick_valid}
 
@@ -131,8 +133,25 @@ resumed_moves constants S who call answered T replied moves = record {
       (moves.threads live).others t apart (subst IsSome (sym same) there) lasts ∙ same);
   made = λ live t none there. (
       let makes = (moves.threads live).made t (none_resumed S who t none) there in
-      (makes.0, subst (λ (c : Counts). c.threads < t) (with_counts S who.pid who.tid Runnable who.pid) makes.1));
+      (makes.0, makes.1 ∙ ap (λ (c : Counts). c.threads + 1) (with_counts S who.pid who.tid Runnable who.pid), makes.2));
+  counts = subst (λ (c : Counts). LeavesCounts call answered c (counts_in (get T.processes who.pid))) (with_counts S who.pid who.tid Runnable who.pid) moves.counts;
 }
+
+-- a call that is refused with FAULT does not end its thread
+pub fault_ends : (call : Call) → ends_caller call (answer.Reply (refused Fault)) ≡ false
+fault_ends (call.ThreadExit lock word scope) = refl
+fault_ends _ = refl
+
+-- a wake that is refused with FAULT counts nothing
+fault_counts : (S : State) (who : Who) (call : Call) (answered : Answer) → answered ≡ answer.Reply (refused Fault)
+    → LeavesCounts call answered (counts_in (get S.processes who.pid)) (counts_in (get (tick (resumed S who)).processes who.pid))
+fault_counts S who call answered is =
+    let change = (meaning_of call).own in
+    subst (λ a. LeavesCounts call a (counts_in (get S.processes who.pid)) (counts_in (get (resumed S who).processes who.pid))) (sym is)
+    (subst (λ c. LeavesCounts call (answer.Reply (refused Fault)) c (counts_in (get (resumed S who).processes who.pid))) (with_counts S who.pid who.tid Runnable who.pid)
+    (leaves_counts call (answer.Reply (refused Fault)) who.pid who.tid (resumed S who) (tick (resumed S who))
+    (undone_allows change who.tid (answer.Reply (refused Fault)) (get (resumed S who).processes who.pid) refl)
+    (inl (undone_stays change who.tid (answer.Reply (refused Fault)) refl (get (resumed S who).processes who.pid)))))
 
 pub wake_moves_only : (constants : Constants) (S : State) (who : Who) (call : Call) (given : WakeIn) (answered : Answer) (T : State)
     → IsWake constants S who call given answered T → WakesOnly S who call answered T
@@ -145,34 +164,13 @@ wake_moves_only constants S who call wake.Fault answered T is =
       runs = λ live there lasts. runs_there S who there;
       threads = λ live t apart there lasts. thread_apart S who.pid who.tid Runnable t apart;
       made = λ live t none there. absurd (not_true (subst IsSome (none_resumed S who t none) there));
+      counts = fault_counts S who call answered is.0;
     })
 
--- no wake makes or ends a thread yet
-fault_makes : (call : Call) → makes_thread call (answer.Reply (refused Fault)) ≡ false
-fault_makes (call.ThreadCreate attributes) = refl
-fault_makes _ = refl
-
-fault_ends : (call : Call) → ends_caller call (answer.Reply (refused Fault)) ≡ false
-fault_ends (call.ThreadExit lock word scope) = refl
-fault_ends _ = refl
-
-fault_ends_others : (call : Call) → ends_others call (answer.Reply (refused Fault)) ≡ false
-fault_ends_others (call.ProcExec fd bytes fds) = refl
-fault_ends_others _ = refl
-
-pub wake_makes_none : (constants : Constants) (S : State) (who : Who) (call : Call) (given : WakeIn) (answered : Answer) (T : State)
-    → IsWake constants S who call given answered T
+-- what waits waits in a call in which it may, so its wake makes and ends no thread
+pub wake_keeps : (S : State) (who : Who) (call : Call) (answered : Answer) → IsValid S → WaitsIn S who call
     → (ends_caller call answered ≡ false) × (ends_others call answered ≡ false) × (makes_thread call answered ≡ false)
-wake_makes_none constants S who call (wake.Plain word) answered T is = (
-  keeps_caller constants (resumed S who) who call answered T is.0,
-  keeps_others constants (resumed S who) who call answered T is.0,
-  makes_none constants (resumed S who) who call answered T is.0,
-)
-wake_makes_none constants S who call wake.Fault answered T is = (
-  ap (ends_caller call) is.0 ∙ fault_ends call,
-  ap (ends_others call) is.0 ∙ fault_ends_others call,
-  ap (makes_thread call) is.0 ∙ fault_makes call,
-)
+wake_keeps S who call answered valid kept = waited_keeps call answered (subst MayWait kept.1 (valid.nearly.waits who.pid who.tid))
 
 pub resumed_valid : (S : State) (who : Who) → IsValid S → IsValid (resumed S who)
 resumed_valid S who valid = with_valid S who.pid who.tid Runnable tt valid
@@ -238,23 +236,27 @@ killed_threads : (o : Option ProcessState) (t : ℕ) → thread_in (threads_in (
 killed_threads None t = refl
 killed_threads (Some own) t = get-empty nat_cmp t
 
--- a thread that the step of another has left is what it was, and no thread comes
+-- a thread that comes with the step of another runs
+comes_or_not : (constants : Constants) (S : State) (who : Who) (call : Call) (given : Answer) (T : State) → LeavesThreads constants S who call given T
+    → (t : ℕ) → thread_of S who.pid t ≡ None → (o : Option Thread) → thread_of T who.pid t ≡ o → (o ≡ None) ⊎ (o ≡ Some Runnable)
+comes_or_not constants S who call given T leaves t none None is = inl refl
+comes_or_not constants S who call given T leaves t none (Some thread) is = inr (sym is ∙ (leaves.made t none (ap is_some is)).2)
+
+-- a thread that the step of another has left is what it was, unless it is there no more or was made by that and runs
 pub other_after : (constants : Constants) (S : State) (who : Who) (call : Call) (given : Answer) (T : State) → IsStep constants S who call given T → IsValid T
-    → (t : ℕ) → t ≢ who.tid → (thread_of T who.pid t ≡ None) ⊎ (thread_of T who.pid t ≡ thread_of S who.pid t)
+    → (t : ℕ) → t ≢ who.tid
+    → ((thread_of T who.pid t ≡ None) ⊎ (thread_of T who.pid t ≡ Some Runnable)) ⊎ (thread_of T who.pid t ≡ thread_of S who.pid t)
 other_after constants S who call given T step valid t apart =
     elim (live_or_dead (get T.statuses who.pid)) [
       | inl live ↦ (
           let leaves = (step_moves_only constants S who call given T step).threads live in
           elim (thread_of S who.pid t) as (λ o. thread_of S who.pid t ≡ o
-          → (thread_of T who.pid t ≡ None) ⊎ (thread_of T who.pid t ≡ thread_of S who.pid t)) [
-            | None ↦ λ e. inl (none_comes (thread_of T who.pid t) (λ there. not_true (sym (makes_none constants S who call given T step) ∙ (leaves.made t e there).0)))
+          → ((thread_of T who.pid t ≡ None) ⊎ (thread_of T who.pid t ≡ Some Runnable)) ⊎ (thread_of T who.pid t ≡ thread_of S who.pid t)) [
+            | None ↦ λ e. inl (comes_or_not constants S who call given T leaves t e (thread_of T who.pid t) refl)
             | Some thread ↦ λ e. inr (leaves.others t apart (ap is_some e) (keeps_others constants S who call given T step))
           ] refl)
-      | inr dead ↦ inl (ended_thread T who.pid t (get T.statuses who.pid) valid refl dead)
-    ] where
-      none_comes : (o : Option Thread) → (IsSome o → ⊥) → o ≡ None
-      none_comes None none = refl
-      none_comes (Some thread) none = absurd (none refl)
+      | inr dead ↦ inl (inl (ended_thread T who.pid t (get T.statuses who.pid) valid refl dead))
+    ]
 
 -- what the caller does after its step: nothing, or what its answer says
 pub caller_after : (constants : Constants) (S : State) (who : Who) (call : Call) (given : Answer) (T : State) → IsStep constants S who call given T → IsValid T
@@ -262,7 +264,13 @@ pub caller_after : (constants : Constants) (S : State) (who : Who) (call : Call)
     ⊎ IsCallerAfter (waiting constants call who.since) given (thread_of S who.pid who.tid) (thread_of T who.pid who.tid)
 caller_after constants S who call given T step valid =
     elim (live_or_dead (get T.statuses who.pid)) [
-      | inl live ↦ inr (((step_moves_only constants S who call given T step).threads live).caller (keeps_caller constants S who call given T step))
+      | inl live ↦ (
+          let leaves = (step_moves_only constants S who call given T step).threads live in
+          elim (ends_caller call given) as (λ b. ends_caller call given ≡ b → (thread_of T who.pid who.tid ≡ None)
+          ⊎ IsCallerAfter (waiting constants call who.since) given (thread_of S who.pid who.tid) (thread_of T who.pid who.tid)) [
+            | true ↦ λ ends. inl (leaves.ended ends)
+            | false ↦ λ lasts. inr (leaves.caller lasts)
+          ] refl)
       | inr dead ↦ inl (ended_thread T who.pid who.tid (get T.statuses who.pid) valid refl dead)
     ]
 
@@ -292,11 +300,11 @@ module _ (P : ℕ → ℕ → Option Thread → Type 0) (none : (p t : ℕ) → 
   caller_thread p t thread (answer.Parked writes) (Some before) after waits is h = subst (P p t) (sym is) (waits refl)
   caller_thread p t thread (answer.Reply reply) before after waits is h = subst (P p t) (sym is) h
 
-  -- what holds of each thread, and of one that waits in the call where it does, holds of each after a step
-  pub step_each : (constants : Constants) (S : State) (who : Who) (call : Call) (given : Answer) (T : State) → IsStep constants S who call given T → IsValid T
+  -- what holds of each thread, of one that runs, and of one that waits in the call where it does, holds of each after a step
+  pub step_each : ((p t : ℕ) → P p t (Some Runnable)) → (constants : Constants) (S : State) (who : Who) (call : Call) (given : Answer) (T : State) → IsStep constants S who call given T → IsValid T
       → (is_parked given ≡ true → P who.pid who.tid (Some (waiting constants call who.since))) → ((p t : ℕ) → P p t (thread_of S p t))
       → (p t : ℕ) → P p t (thread_of T p t)
-  step_each constants S who call given T step valid waits before p t =
+  step_each runs constants S who call given T step valid waits before p t =
       elim (eqb_tells p who.pid) [
         | inl is ↦ subst (λ q. P q t (thread_of T q t)) (sym is.1) (elim (eqb_tells t who.tid) [
           | inl same ↦ subst (λ u. P who.pid u (thread_of T who.pid u)) (sym same.1)
@@ -306,7 +314,8 @@ module _ (P : ℕ → ℕ → Option Thread → Type 0) (none : (p t : ℕ) → 
                     (thread_of T who.pid who.tid) waits is_after (before who.pid who.tid)
               ])
           | inr other ↦ elim (other_after constants S who call given T step valid t other.1) [
-            | inl gone ↦ subst (P who.pid t) (sym gone) (none who.pid t)
+            | inl (inl gone) ↦ subst (P who.pid t) (sym gone) (none who.pid t)
+            | inl (inr made) ↦ subst (P who.pid t) (sym made) (runs who.pid t)
             | inr stays ↦ subst (P who.pid t) (sym stays) (before who.pid t)
           ]
         ])
@@ -328,7 +337,7 @@ pub wake_each : (P : ℕ → ℕ → Option Thread → Type 0) → ((p t : ℕ) 
     (who : Who) (call : Call) (given : WakeIn) (answered : Answer) (T : State) → IsWake constants S who call given answered T → IsValid S
     → ((p t : ℕ) → P p t (thread_of S p t)) → (p t : ℕ) → P p t (thread_of T p t)
 wake_each P none runs constants S who call (wake.Plain word) answered T is valid before =
-    step_each P none constants (resumed S who) who call answered T is.0
+    step_each P none runs constants (resumed S who) who call answered T is.0
     (step_keeps_valid constants (resumed S who) who call answered T is.0 (resumed_valid S who valid))
     (λ parked. absurd (not_true (sym is.1 ∙ parked)))
     (each_of who.pid who.tid Runnable S P (runs who.pid who.tid) before)
@@ -340,7 +349,7 @@ wake_each P none runs constants S who call wake.Fault answered T is valid before
 pub step_deadlines : (constants : Constants) (S : State) (who : Who) (call : Call) (given : Answer) (T : State) → IsStep constants S who call given T
     → IsValid S → HasDeadlines constants S → HasDeadlines constants T
 step_deadlines constants S who call given T step valid before =
-    step_each (λ p t. HasDeadline constants) (λ p t. tt) constants S who call given T step (step_keeps_valid constants S who call given T step valid)
+    step_each (λ p t. HasDeadline constants) (λ p t. tt) (λ p t. tt) constants S who call given T step (step_keeps_valid constants S who call given T step valid)
     (λ _. refl) before
 
 pub wake_deadlines : (constants : Constants) (S : State) (who : Who) (call : Call) (given : WakeIn) (answered : Answer) (T : State)

@@ -27,7 +27,7 @@ use Rattle.kernel_model.specs.State.{Table}
 
 abbrev pub meaning_of : Call → Meaning
 meaning_of (call.ClockResGet clock) = clock_res_get
-meaning_of (call.ClockTimeGet clock precision) = clock_time_get
+meaning_of (call.ClockTimeGet clock precision) = clock_time_get clock
 meaning_of (call.CondvarSignal condvar word scope n) = condvar_signal
 meaning_of (call.FdClose fd) = fd_close fd
 meaning_of (call.FdCreate1 kind) = fd_create1
@@ -65,12 +65,12 @@ meaning_of (call.ProcExec fd bytes fds) = proc_exec fd fds
 meaning_of (call.ProcExit code) = proc_exit code
 meaning_of (call.ProcFork left) = proc_fork
 meaning_of (call.ProcRaise signal) = proc_raise
-meaning_of (call.RandomGet length) = random_get
+meaning_of (call.RandomGet length) = random_get length
 meaning_of (call.SockRecv fd length fds flags) = sock_recv fd
 meaning_of (call.SockSend fd bytes fds flags) = sock_send fd fds
 meaning_of (call.SockShutdown fd how) = sock_shutdown fd
 meaning_of (call.ThreadCreate attributes) = thread_create
-meaning_of (call.ThreadExit lock word scope) = thread_exit
+meaning_of (call.ThreadExit lock word scope) = thread_exit lock word
 meaning_of call.ThreadYield = thread_yield
 meaning_of (call.Refused number errno) = decided errno
 meaning_of (call.Unknown number) = decided Nosys

@@ -1,6 +1,7 @@
 -- What each family of calls means.
 
 pub mod ClockCalls
+pub mod LockWords
 pub mod FileTypes
 pub mod DescriptorCalls
 pub mod FileMeaning

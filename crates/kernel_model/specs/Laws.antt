@@ -28,11 +28,12 @@ use Rattle.kernel_model.specs.Reply.{refused, denied}
 use Rattle.kernel_model.specs.Sight.{process_parts, behind}
 use Rattle.tree_model.specs.Grants.{MayBegin}
 use Rattle.kernel_model.specs.Start.{start_state}
-use Rattle.kernel_model.specs.State.{State, Tree, Table, Part, at_proc, at_status, at_open, at_node, at_names, at_chan, has_part, Agree, AgreeOn}
+use Rattle.kernel_model.specs.State.{State, Tree, Table, Part, at_proc, at_status, at_open, at_node, at_names, at_chan, counts_in, has_part, Agree, AgreeOn}
 use Rattle.kernel_model.specs.Step.{made_by, tick, sight, touch, outcome_by, outcome, outside, outside_by, unreleased, step_answer, step_state, failed, MayLackMemory, IsStep, IsUntouched, end_unreleased, end_state}
-use Rattle.kernel_model.specs.Threads.{LeavesThreads, ends_caller, ends_others, makes_thread}
+use Rattle.kernel_model.specs.Threads.{LeavesCounts, LeavesThreads, ends_caller, ends_others, makes_thread}
 use Rattle.kernel_model.specs.Valid.{IsValid}
 use Rattle.kernel_model.specs.View.{whole}
+use Rattle.kernel_model.specs.Waits.{may_wait}
 
 -- ---- meanings
 
@@ -163,22 +164,29 @@ HasSameProcess S T q = (get S.tables q ≡ get T.tables q) × (get S.processes q
 abbrev pub IsKilled : State → State → ℕ → Type 0
 IsKilled S T q = IsEnded S T (at_proc q) × IsEnded S T (at_status q)
 
--- A step takes 1000 nanoseconds, changes nothing of other processes but of those that the release after it kills, and changes the
--- threads of a process that lives on as its call and its answer say.
+-- A step takes 1000 nanoseconds, changes nothing of other processes but of those that the release after it kills, changes the threads of
+-- a process that lives on as its call and its answer say, and counts what the call makes.
 pub record MovesOnly (constants : Constants) (S : State) (who : Who) (call : Call) (given : Answer) (T : State) : Type 0 where
   pub clock : T.clock ≡ S.clock + 1000
   pub others : (q : ℕ) → q ≢ who.pid → HasSameProcess T S q ⊎ IsKilled S T q
   pub threads : get T.statuses who.pid ≡ Some Live → LeavesThreads constants S who call given T
+  pub counts : LeavesCounts call given (counts_in (get S.processes who.pid)) (counts_in (get T.processes who.pid))
 
 abbrev pub StepMovesOnly : Type 0
 StepMovesOnly =
     (constants : Constants) (S : State) (who : Who) (call : Call) (given : Answer) (T : State) → IsStep constants S who call given T
     → MovesOnly constants S who call given T
 
--- No call makes or ends a thread yet: none of the three calls that may succeeds.
-abbrev pub NoThreadIsMadeOrEnded : Type 0
-NoThreadIsMadeOrEnded =
+-- No call ends the other threads of its process while that lives on, since proc_exec does not succeed yet.
+abbrev pub OtherThreadsGoOn : Type 0
+OtherThreadsGoOn =
     (constants : Constants) (S : State) (who : Who) (call : Call) (given : Answer) (T : State) → IsStep constants S who call given T
+    → ends_others call given ≡ false
+
+-- A call in which a thread may wait makes no thread and ends none, whatever it answers.
+abbrev pub WaitedKeepsThreads : Type 0
+WaitedKeepsThreads =
+    (call : Call) (given : Answer) → may_wait call ≡ true
     → (ends_caller call given ≡ false) × (ends_others call given ≡ false) × (makes_thread call given ≡ false)
 
 -- The end of a process from outside takes as long, changes nothing of other processes but of those that the release after it kills,

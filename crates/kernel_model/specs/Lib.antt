@@ -13,6 +13,7 @@ pub mod Outcome
 pub mod Need
 pub mod Sight
 pub mod Rows
+pub mod OwnChanges
 pub mod Meaning
 pub mod Families
 pub mod Calls
@@ -26,6 +27,7 @@ pub mod Laws
 pub mod ChildLaws
 pub mod WaitLaws
 pub mod PollLaws
+pub mod ThreadLaws
 pub mod OpenLaws
 pub mod OpenConditions
 pub mod CallBounds

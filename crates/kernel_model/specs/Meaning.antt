@@ -7,6 +7,7 @@ use Rattle.abi_types.specs.declared.constants.Constants.{Constants}
 use Rattle.abi_types.specs.declared.needed.Needed.{Needed}
 use Rattle.abi_types.specs.declared.who.Who.{Who}
 use Rattle.kernel_model.specs.Outcome.{Outcome, replies}
+use Rattle.kernel_model.specs.OwnChanges.{OwnChange, keeps_own}
 use Rattle.kernel_model.specs.Reply.{refused}
 use Rattle.kernel_model.specs.State.{State, Table, Part}
 use Rattle.kernel_model.specs.View.{View}
@@ -28,6 +29,8 @@ pub record Meaning : Type 0 where
   pub touched : State → Table → List Part
   -- how many objects it makes at most
   pub numbers : ℕ
+  -- what else it does to what its process has of its own beside its descriptors, where it succeeds
+  pub own : OwnChange
   -- the errors that it answers of its own, with nothing changed
   pub errors : List Errno
   -- whether memory may run out
@@ -47,6 +50,7 @@ answering errors reply = record {
   outside = λ v table. None;
   touched = λ S table. [];
   numbers = 0;
+  own = keeps_own;
   errors = errors;
   takes_memory = false;
   may_wait = false;

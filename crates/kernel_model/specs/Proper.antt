@@ -9,15 +9,15 @@ use Rattle.abi_types.specs.declared.reply.Reply.{Reply}
 use Rattle.abi_types.specs.declared.constants.Constants.{Constants}
 use Rattle.abi_types.specs.declared.descriptor.Denial.TheVariants.{Outside}
 use Rattle.abi_types.specs.declared.needed.Needed.{Needed}
-use Rattle.abi_types.specs.declared.status.Status.TheVariants.{Live}
 use Rattle.abi_types.specs.declared.who.Who.{Who}
 use Rattle.kernel_model.specs.Deadlines.{is_due, soon}
 use Rattle.kernel_model.specs.Meaning.{Meaning}
 use Rattle.kernel_model.specs.Families.Numbers.{new_parts}
 use Rattle.kernel_model.specs.Outcome.{Outcome, OnReply, is_parked, replies}
+use Rattle.kernel_model.specs.OwnChanges.{AllowsChange, LeavesOwn}
 use Rattle.kernel_model.specs.Reply.{denied}
 use Rattle.kernel_model.specs.Sight.{process_parts, reached}
-use Rattle.kernel_model.specs.State.{State, Table, Part, at_proc, at_status, has_part, part_of, put_all, threads_of}
+use Rattle.kernel_model.specs.State.{State, Table, Part, at_proc, at_status, has_part, part_of, put_all}
 use Rattle.kernel_model.specs.Step.{tick}
 use Rattle.kernel_model.specs.Valid.{IsNearlyValid}
 use Rattle.kernel_model.specs.View.{View, restrict, whole}
@@ -92,10 +92,12 @@ pub record IsProper (m : Meaning) : Type 0 where
   -- it sets nothing that another process has of its own
   pub others : (constants : Constants) (v : View) (who : Who) (table : Table) (q : ℕ) → q ≢ who.pid
       → IsUnset (m.effect constants v who table) (at_proc q) × IsUnset (m.effect constants v who table) (at_status q)
-  -- where its process lives on, that has the threads that it had
-  pub threads : (constants : Constants) (S : State) (who : Who) (table : Table)
-      → get (put_all (m.effect constants (whole S) who table).updates S).statuses who.pid ≡ Some Live
-      → threads_of (put_all (m.effect constants (whole S) who table).updates S) who.pid ≡ threads_of S who.pid
+  -- of what its process has of its own beside its descriptors it changes what it says; it may number objects, and end
+  -- the process; and that allows it.
+  pub own : (constants : Constants) (S : State) (who : Who) (table : Table)
+      → LeavesOwn m.own who.pid who.tid (m.effect constants (whole S) who table).answer S (put_all (m.effect constants (whole S) who table).updates S)
+  pub allows : (constants : Constants) (S : State) (who : Who) (table : Table)
+      → AllowsChange m.own who.tid (m.effect constants (whole S) who table).answer (get S.processes who.pid)
   -- a state that is nearly valid, and in which its process has this table, it leaves so
   pub valid : (constants : Constants) (S : State) (who : Who) (table : Table) → get S.tables who.pid ≡ Some table → IsNearlyValid S
       → IsNearlyValid (put_all (m.effect constants (whole S) who table).updates S)

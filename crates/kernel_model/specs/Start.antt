@@ -49,9 +49,15 @@ granted_open tree n grant = open_of tree grant.target
 abbrev pub granted_table : Tree → List Grant → Table
 granted_table tree grants = from_entries (numbered (granted_descriptor tree) 0 grants)
 
--- what process 0 starts with beside its descriptors: thread 1, the one thread that it has numbered, nobody who waits, and depth 0
+-- how many random words process 0 has drawn as it starts: those of the 64 bytes of its canary
+abbrev pub canary_words : ℕ
+canary_words = 16
+
+-- What process 0 starts with beside its descriptors: thread 1, the one thread that it has numbered, the words that it has drawn, nobody who
+-- waits, and depth 0.
 abbrev pub first_process : ProcessState
-first_process = record { threads = insert empty 1 Runnable; counts = record { objects = 0; threads = 1; forks = 0; words = 0 }; locks = no_locks; depth = 0 }
+first_process =
+    record { threads = insert empty 1 Runnable; counts = record { objects = 0; threads = 1; forks = 0; words = canary_words }; locks = no_locks; depth = 0 }
 
 -- a standard stream of which so much can be read
 abbrev pub unwritten : List ℕ → Stream

@@ -100,6 +100,11 @@ abbrev pub counts_in : Option ProcessState → Counts
 counts_in None = no_counts
 counts_in (Some own) = own.counts
 
+-- who waits in it; in one that was never made nobody does
+abbrev pub locks_in : Option ProcessState → Locks
+locks_in None = no_locks
+locks_in (Some own) = own.locks
+
 -- its depth; one that was never made has none, and 0 stands for that
 abbrev pub depth_in : Option ProcessState → ℕ
 depth_in None = 0

@@ -1,52 +1,83 @@
--- What a call leaves of the threads of its process.
-use Rattle.std.specs.Prelude.{◌≡◌, ◌≢◌, ℕ, ◌<◌, Bool, true, false, Option, None, IsSome}
+-- What a call leaves of the threads of its process, and of what the process has made.
+use Rattle.std.specs.Prelude.{◌≡◌, ◌≢◌, ℕ, ◌+◌, ◌≤◌, Bool, true, false, Option, None, Some, IsSome, if◌then◌else◌}
 use Rattle.std.specs.FinMap.{get}
 use Rattle.std.specs.Option.{option_map}
+use Rattle.clock_random.specs.Random.{words_of}
 use Rattle.abi_types.specs.declared.reply.Answer.{Answer}
 use Rattle.abi_types.specs.declared.reply.Answer.TheVariants as answer
 use Rattle.abi_types.specs.declared.call.Call.{Call}
 use Rattle.abi_types.specs.declared.call.Call.TheVariants as call
-use Rattle.abi_base.specs.declared.errno.Errno.{Errno}
-use Rattle.abi_base.specs.declared.errno.Errno.TheVariants.{Success}
 use Rattle.abi_types.specs.declared.constants.Constants.{Constants}
+use Rattle.abi_types.specs.declared.counts.Counts.{Counts}
 use Rattle.abi_types.specs.declared.thread.Thread.{Thread}
+use Rattle.abi_types.specs.declared.thread.Thread.TheVariants.{Runnable}
 use Rattle.abi_types.specs.declared.who.Who.{Who}
+pub use Rattle.kernel_model.specs.OwnChanges.{is_success, is_done}
 use Rattle.kernel_model.specs.State.{State, thread_of, counts_in}
 use Rattle.kernel_model.specs.Waits.{waiting}
 
--- ---- which calls make and end threads
-
-abbrev pub is_success : Errno → Bool
-is_success Success = true
-is_success _ = false
+-- ---- which calls make and end threads, and draw random words
 
 -- whether the thread that made the call is ended by it: by a thread_exit that succeeds
 abbrev pub ends_caller : Call → Answer → Bool
-ends_caller (call.ThreadExit lock word scope) (answer.Reply reply) = is_success reply.errno
+ends_caller (call.ThreadExit lock word scope) given = is_done given
 ends_caller _ given = false
 
 -- whether the other threads of the process are ended by the call: by a proc_exec that succeeds
 abbrev pub ends_others : Call → Answer → Bool
-ends_others (call.ProcExec fd bytes fds) (answer.Reply reply) = is_success reply.errno
+ends_others (call.ProcExec fd bytes fds) given = is_done given
 ends_others _ given = false
 
 -- whether the call makes a thread: a thread_create that succeeds does
 abbrev pub makes_thread : Call → Answer → Bool
-makes_thread (call.ThreadCreate attributes) (answer.Reply reply) = is_success reply.errno
+makes_thread (call.ThreadCreate attributes) given = is_done given
 makes_thread _ given = false
 
+-- how many random words the call draws: a random_get that succeeds draws some
+abbrev pub words_drawn : Call → Answer → ℕ
+words_drawn (call.RandomGet length) given = if is_done given then words_of length else 0
+words_drawn _ given = 0
+
 -- ---- the threads after a call
+
+-- the first result of an answer; where the thread waits there is none, and 0 stands for that
+abbrev pub first_result : Answer → ℕ
+first_result (answer.Parked writes) = 0
+first_result (answer.Reply reply) = reply.r1
+
+-- the number of the next thread of a process
+abbrev pub next_number : State → ℕ → ℕ
+next_number S p = (counts_in (get S.processes p)).threads + 1
 
 -- What a thread that its call doesn't end is after the call, by the answer: a reply leaves it what it was, and else it waits so.
 abbrev pub IsCallerAfter : Thread → Answer → Option Thread → Option Thread → Type 0
 IsCallerAfter waits (answer.Parked writes) before after = after ≡ option_map (λ (thread : Thread). waits) before
 IsCallerAfter waits (answer.Reply reply) before after = after ≡ before
 
--- The thread that made the call is what its answer says, unless the call ends it. Each other thread that was there is
--- what it was, unless the call ends the others. A thread that was not there was made by the call, and its number is above
--- the count of the threads that the process had numbered.
+-- What a call that was answered so leaves of the threads of its process, if that lives on.
 pub record LeavesThreads (constants : Constants) (S : State) (who : Who) (call : Call) (given : Answer) (T : State) : Type 0 where
+  -- the thread that made the call is what its answer says, unless the call ends it; then it is there no more
   pub caller : ends_caller call given ≡ false → IsCallerAfter (waiting constants call who.since) given (thread_of S who.pid who.tid) (thread_of T who.pid who.tid)
+  pub ended : ends_caller call given ≡ true → thread_of T who.pid who.tid ≡ None
+  -- each other thread that was there is what it was, unless the call ends the others
   pub others : (t : ℕ) → t ≢ who.tid → IsSome (thread_of S who.pid t) → ends_others call given ≡ false → thread_of T who.pid t ≡ thread_of S who.pid t
+  -- a thread that was not there was made by the call: it has the next number, and runs
   pub made : (t : ℕ) → thread_of S who.pid t ≡ None → IsSome (thread_of T who.pid t)
-      → (makes_thread call given ≡ true) × ((counts_in (get S.processes who.pid)).threads < t)
+      → (makes_thread call given ≡ true) × (t ≡ next_number S who.pid) × (thread_of T who.pid t ≡ Some Runnable)
+  -- and a call that makes one makes this one, whose number none had
+  pub makes : makes_thread call given ≡ true
+      → (thread_of S who.pid (next_number S who.pid) ≡ None) × (thread_of T who.pid (next_number S who.pid) ≡ Some Runnable)
+
+-- ---- the counts after a call
+
+-- 1 where the call makes a thread, else 0
+abbrev pub threads_made : Call → Answer → ℕ
+threads_made call given = if makes_thread call given then 1 else 0
+
+-- A process has numbered as many threads more as its call makes, and drawn as many random words more as the call draws. It has as many
+-- children, and no fewer objects. That it has ended with the call changes none of that.
+pub record LeavesCounts (call : Call) (given : Answer) (before after : Counts) : Type 0 where
+  pub threads : after.threads ≡ before.threads + threads_made call given
+  pub words : after.words ≡ before.words + words_drawn call given
+  pub forks : after.forks ≡ before.forks
+  pub objects : before.objects ≤ after.objects

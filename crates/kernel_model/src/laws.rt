@@ -2,7 +2,7 @@
 //! and call.
 ghost use Rattle.kernel_model.specs.ChildLaws.{ChildNumbersAreUnique, DeepestHasNoChild, NextChildIsUnmade, ProcessNumbersAreSmall, ProcessZeroHasDepthZero};
 ghost use Rattle.kernel_model.specs.Laws.{MeaningsAreProper, ReadsSight, SightDecides, StepDecided, SightIsReached, TouchIsSeen, MadeIsNew};
-ghost use Rattle.kernel_model.specs.Laws.{OthersStay, EndKeeps, ErrorKeeps, StepMovesOnly, NoThreadIsMadeOrEnded, EndStateEndsOnly, EndsAreLeast, EndsInAnyOrder, KilledByLastOpen};
+ghost use Rattle.kernel_model.specs.Laws.{OthersStay, EndKeeps, ErrorKeeps, StepMovesOnly, OtherThreadsGoOn, WaitedKeepsThreads, EndStateEndsOnly, EndsAreLeast, EndsInAnyOrder, KilledByLastOpen};
 ghost use Rattle.kernel_model.specs.Laws.{HungUpByEnd, ReleaseEnds, ChannelsAreLeft, NothingUnheldIsLeft};
 ghost use Rattle.kernel_model.specs.Laws.{FirstLackIsNamed, DenialIsOfFirstLack, NotcapableIsDenied, OutsideIsDenied, OutsideReadsSight};
 ghost use Rattle.kernel_model.specs.Laws.{RepliesAreListed, NoMemoryIsExact, ErrorsAreExact, AbsentIsBadf, LackIsDenied, LeavingIsDenied};
@@ -55,7 +55,8 @@ pub fn end_keeps()
 {}
 
 /// A step takes 1000 nanoseconds and changes nothing that another process has of its own, unless the release after it kills that
-/// process. A process that lives on keeps its threads, but for those that its call makes or ends (`specs/Threads.antt`). The end
+/// process. A process that lives on keeps its threads, but for those that its call makes or ends (`specs/Threads.antt`), and counts what
+/// the call makes. The end
 /// of a process from outside takes as long, changes nothing of other processes either but of those that the release kills, and
 /// leaves the process the status that it was given.
 pub fn steps_move_only()
@@ -63,9 +64,11 @@ pub fn steps_move_only()
     ensures end { EndStateEndsOnly }
 {}
 
-/// No call makes or ends a thread yet, since neither thread_create nor thread_exit nor proc_exec succeeds.
-pub fn no_thread_is_made_or_ended()
-    ensures { NoThreadIsMadeOrEnded }
+/// No call ends the other threads of its process while that lives on, since proc_exec does not succeed yet. A call in which a thread
+/// may wait makes no thread and ends none.
+pub fn other_threads_go_on()
+    ensures others { OtherThreadsGoOn }
+    ensures waited { WaitedKeepsThreads }
 {}
 
 /// The opens that a release ends are the least set that has each open which nothing holds once the set has ended. With an open

@@ -6,18 +6,22 @@ mod call_bounds;
 pub mod laws;
 mod open_laws;
 mod poll_laws;
+mod thread_laws;
 mod wait_laws;
 
 pub use call_bounds::calls_keep_bounds;
 pub use laws::{
     child_numbers_are_unique, end_keeps, end_keeps_valid, ends_are_least, error_keeps,
-    errors_are_exact, meanings_are_proper, next_child_is_unmade, no_thread_is_made_or_ended,
-    others_stay, process_numbers_are_small, reads_sight, refusal_names_lack, refusals_come_first,
+    errors_are_exact, meanings_are_proper, next_child_is_unmade, other_threads_go_on, others_stay,
+    process_numbers_are_small, reads_sight, refusal_names_lack, refusals_come_first,
     replies_are_listed, sight_decides, sight_is_reached, start_is_valid, step_decided,
     step_keeps_valid, steps_move_only,
 };
 pub use open_laws::{open_is_listed, opens_lead_below};
 pub use poll_laws::polls_await_clocks;
+pub use thread_laws::{
+    clocks_show_time, random_bytes_are_drawn, threads_are_numbered, threads_end_alone,
+};
 pub use wait_laws::{
     jumps_reach_deadlines, parking_changes_thread, ready_stays_ready, waits_stay_valid,
     wakes_end_waits, wakes_move_only,

@@ -1,7 +1,7 @@
 //! Laws of threads that wait, of their wakes and of idle jumps. The statements are in `specs/WaitLaws.antt`, and each holds of
 //! every state, process and call.
 ghost use Rattle.kernel_model.specs.WaitLaws.{ParkingIsAllowed, ParkingKeeps, ReadyStays, DueIsReady, ReadyDecided, ReadyHasWake, WakeEndsWait};
-ghost use Rattle.kernel_model.specs.WaitLaws.{ResumedRuns, ResumedSeesSame, WakeMovesOnly, WakeErrorKeeps, WakeOthersStay, WakeKeepsValid, IdleKeepsValid, DeadlinesAreKept};
+ghost use Rattle.kernel_model.specs.WaitLaws.{ResumedRuns, ResumedSeesSame, WakeKeepsThreads, WakeMovesOnly, WakeErrorKeeps, WakeOthersStay, WakeKeepsValid, IdleKeepsValid, DeadlinesAreKept};
 ghost use Rattle.kernel_model.specs.WaitLaws.{LeastIsLeast, LeastIsSoon, IdleJumps, JumpReadies};
 
 /// A thread waits only in a call in which it may, that is not refused and of which no path leads outside. A call in which its
@@ -27,12 +27,13 @@ pub fn wakes_end_waits()
 
 /// A wake is a step of the call from the state in which its thread runs, which differs from the state before in nothing else. It
 /// takes 1000 nanoseconds and changes nothing of other processes, unless the release after it kills them. Its thread runs, and each
-/// other thread of a process that lives on is what it was, as far as the call allows. One that answers an error changes only the
-/// clock, and that the thread runs. Each part that the call does not touch and that the release does not end stays.
+/// other thread of a process that lives on is what it was: no wake of a valid state makes or ends a thread. One that answers an error
+/// changes only the clock, and that the thread runs. Each part that the call does not touch and that the release does not end stays.
 pub fn wakes_move_only()
     ensures resumed { ResumedRuns }
     ensures sees { ResumedSeesSame }
     ensures moves { WakeMovesOnly }
+    ensures keeps { WakeKeepsThreads }
     ensures error { WakeErrorKeeps }
     ensures others { WakeOthersStay }
 {}

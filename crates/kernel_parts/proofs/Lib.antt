@@ -9,3 +9,4 @@ pub mod Naming
 pub mod Activities
 pub mod Polling
 pub mod Threads
+pub mod OwnCalls

@@ -6,3 +6,4 @@ pub mod Released
 pub mod Polls
 pub mod Waiting
 pub mod Activity
+pub mod OwnCalls

@@ -3,7 +3,9 @@
 #![tactic(auto)]
 
 pub use activity::Activity;
+pub use clocks::{CLOCK_RESOLUTION, time_of};
 pub use entries::{Caller, EntryReply, change_entries};
+pub use locks::unlocked;
 pub use numbers::next_number;
 pub use opens::{Opening, kind_of, open_of, put_opening};
 pub use places::placed;
@@ -18,7 +20,9 @@ pub use terminal::Terminal;
 pub use waiting::{deadline_of, is_over};
 
 mod activity;
+mod clocks;
 mod entries;
+mod locks;
 mod numbers;
 mod opens;
 mod places;

@@ -5,14 +5,12 @@ ghost use Rattle.kernel_model.specs.Families.WaitCalls as model;
 ghost use Rattle.kernel_model.specs.Outcome.{is_parked, IsSuccess};
 ghost use Rattle.kernel_parts.specs.Polls.{poll_outcome, poll_deadline};
 
+use crate::clocks::REAL_TIME;
 use abi_types::{
     Answer, Constants, Errno, Event, EventList, Payload, Reply, Subscription, What, WordWrites,
 };
 use right_rules::{refused, success_with};
 use std::alloc::{AllocError, Global};
-
-// The clock that is the time since 1970.
-const REAL_TIME: u32 = 3;
 
 // The flag of a time that is one of the clock, and not counted from the call on.
 const ABSOLUTE: u16 = 1;

@@ -1,22 +1,45 @@
 //! What the kernel keeps of a process beside its descriptors and its status.
-ghost use Rattle.std.specs.Prelude.{◌≡◌, ◌+◌, ◌<◌, ◌^◌, ⊤, IfOk, OnOk, OnErr, IfSome, IsSome, Some, option_copied};
+ghost use Rattle.std.specs.Prelude.{◌≡◌, ◌+◌, ◌<◌, ◌^◌, ℕ, ⊤, IfOk, OnOk, OnErr, IfSome, IsSome, Some, option_copied};
 ghost use Rattle.std.specs.FinMap as map;
 ghost use Rattle.kernel_parts.specs.Activity.{activity_at, IsActivity};
 ghost use Rattle.kernel_parts.specs.Entries.{number_of};
+ghost use Rattle.kernel_parts.specs.OwnCalls.{new_thread, words_after, IsOwnStep};
 ghost use Rattle.kernel_parts.specs.Waiting.{kept_in};
+ghost use Rattle.kernel_model.specs.Families.ClockCalls.{drawn_by};
 ghost use Rattle.kernel_model.specs.Families.Numbers.{made_more};
-ghost use Rattle.kernel_model.specs.Families.ProcessCalls.{ended_process};
+ghost use Rattle.kernel_model.specs.Families.ProcessCalls.{ended_process, is_last_thread, made_in};
+ghost use Rattle.kernel_model.specs.Outcome.{IsSuccess};
+ghost use Rattle.kernel_model.specs.OwnChanges.{without_thread};
 ghost use Rattle.kernel_model.specs.Start.{first_process};
 ghost use Rattle.kernel_model.specs.Waits.{thread_set};
 
 use crate::activity::Activity;
 use crate::numbers::next_number;
 use crate::start::{LAUNCH_PROCESS, single};
-use abi_types::{Call, Constants, Counts, ObjId, Pid, Thread, Tid, TryClone};
+use abi_types::{
+    Answer, Call, Constants, Counts, Errno, ObjId, Payload, Pid, Thread, Tid, TryClone,
+};
+use clock_random::random_bytes;
 use fd_table::FdTable;
 use maps::NumMap;
+use right_rules::{refused, success, success_with};
 use std::alloc::{AllocError, Global};
 use std::marker::Model;
+
+// How many live threads a process may have.
+const MOST_THREADS: usize = 64;
+
+// Each thread's number is less than this one, so that the words of locks have room for it.
+const THREAD_LIMIT: u32 = (1 << 30) - 1;
+
+// How many random words process 0 has drawn as it starts: those of its canary.
+const CANARY_WORDS: u64 = 16;
+
+// A process draws fewer random words than this.
+const WORD_LIMIT: u64 = 1 << 63;
+
+// How many bytes a random word has.
+const WORD_SIZE: u64 = 4;
 
 /// What a process has of its own beside its descriptors: its live threads by number, each with the call that it waits in, what it has
 /// made so far, and its depth, which is how many forks lie between it and process 0. No thread waits for a lock or a condition variable
@@ -40,7 +63,7 @@ impl Model for ProcessState {
 }
 
 impl ProcessState {
-    /// What the launched process starts with: thread 1, the one thread that it has numbered, and depth 0.
+    /// What the launched process starts with: thread 1, the one thread that it has numbered, the random words of its canary, and depth 0.
     pub fn first(alloc: Global) -> Result<Self, AllocError>
         ensures { IfOk result (λ own. own ≡ first_process) }
     {
@@ -50,7 +73,7 @@ impl ProcessState {
                 objects: 0,
                 threads: 1,
                 forks: 0,
-                words: 0,
+                words: CANARY_WORDS,
             },
             depth: 0,
         })
@@ -63,11 +86,97 @@ impl ProcessState {
         self.threads.clear();
     }
 
+    /// The number that its next thread gets.
+    pub fn next_thread(&self) -> Tid
+        requires few { self.now.counts.threads + 1 < 2 ^ 32 }
+        ensures { result ≡ self.now.counts.threads + 1 }
+    {
+        Tid(self.counts.threads + 1)
+    }
+
     /// What a thread does. `None` exactly where the process has no such live thread.
     pub fn thread(&self, tid: Tid) -> Option<&Thread>
         ensures { option_copied result ≡ map.get self.now.threads tid }
     {
         self.threads.get(u64::from(tid.0))
+    }
+
+    // The number of the next thread, where the thread `tid` can make one: it is one of the process's threads, fewer than 64 are live, and
+    // the number is free and below its limit.
+    fn new_thread(&self, tid: Tid) -> Option<u32>
+        ensures { result ≡ new_thread tid self.now }
+    {
+        let number = self.counts.threads.checked_add(1)?;
+        let can = self.threads.contains(u64::from(tid.0))
+            && self.threads.len() < MOST_THREADS
+            && !self.threads.contains(u64::from(number))
+            && number < THREAD_LIMIT;
+        if can { Some(number) } else { None }
+    }
+
+    /// Makes a thread, which runs, for the thread `tid` of the process: its number is the first result. `Err` comes only where there
+    /// is a number for it, and changes nothing.
+    pub fn make_thread(&mut self, tid: Tid) -> Result<Answer, AllocError>
+        ensures ok { IfOk result (λ given. (p : ℕ) → IsOwnStep self.old self.new given (made_in p tid (Some self.old))) }
+        ensures only { OnErr result ((p : ℕ) → IsSuccess (made_in p tid (Some self.old)).answer) }
+        ensures err { OnErr result (self.new ≡ self.old) }
+    {
+        let Some(number) = self.new_thread(tid) else {
+            return Ok(Answer::Reply(refused(Errno::Again)));
+        };
+        let key = u64::from(number);
+        self.threads.insert(key, Thread::Runnable)?;
+        self.counts.threads = number;
+        Ok(Answer::Reply(success(key, 0)))
+    }
+
+    /// Whether the process has no thread but this one.
+    pub fn is_last_thread(&self, tid: Tid) -> bool
+        ensures { result ≡ is_last_thread tid self.now }
+    {
+        let own = usize::from(self.threads.contains(u64::from(tid.0)));
+        self.threads.len() == own
+    }
+
+    /// Takes the thread away, if there is one of this number. The number isn't given again.
+    pub fn end_thread(&mut self, tid: Tid)
+        ensures { self.new ≡ without_thread tid self.old }
+    {
+        self.threads.remove(u64::from(tid.0));
+    }
+
+    // How many random words the process has drawn once it has drawn so many more, where it can.
+    fn words_after(&self, words: u64) -> Option<u64>
+        ensures { result ≡ words_after words self.now }
+    {
+        let after = self.counts.words.checked_add(words)?;
+        if after < WORD_LIMIT {
+            Some(after)
+        } else {
+            None
+        }
+    }
+
+    /// Draws so many random bytes of the stream that has the process's number, by the run's key. `Err` comes only where the process can
+    /// draw them, and changes nothing.
+    pub fn draw(
+        &mut self,
+        alloc: Global,
+        constants: &Constants,
+        pid: Pid,
+        length: u64,
+    ) -> Result<Answer, AllocError>
+        ensures ok { IfOk result (λ given. IsOwnStep self.old self.new given (drawn_by constants.now pid (Some self.old) length)) }
+        ensures only { OnErr result (IsSuccess (drawn_by constants.now pid (Some self.old) length).answer) }
+        ensures err { OnErr result (self.new ≡ self.old) }
+    {
+        let Some(after) = self.words_after(length.div_ceil(WORD_SIZE)) else {
+            return Ok(Answer::Reply(refused(Errno::Again)));
+        };
+        let place = self.counts.words;
+        let bytes = random_bytes(alloc, &constants.key, pid.0, place, length as usize)?;
+        self.counts.words = after;
+        Ok(Answer::Reply(success_with(0, Payload::Content(bytes))))
     }
 
     /// Makes a thread wait in a copy of a call, which was made at the moment `since`. `Err` changes nothing.

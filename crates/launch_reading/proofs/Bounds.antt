@@ -6,6 +6,7 @@ use Rattle.run_types.specs.declared.launch.Launch.{Launch}
 use Rattle.tree_model.specs.Grants.{MayBegin}
 use Rattle.tree_model.specs.Tree.{Tree}
 use Rattle.abi_base.specs.declared.grant.Grant.{Grant}
+use Rattle.clock_random.proofs.Keystream.{is_whole}
 use Rattle.launch_values.specs.Shape.{Shape}
 use Rattle.launch_lines.specs.declared.fault.Fault.{Fault}
 use Rattle.launch_yaml.specs.Document.{parse_at}
@@ -50,7 +51,7 @@ bounded settings launch within b =
     let image : IsSound launch.elf = subst IsSound (sym b.elf) (image_sound b.program b.sound) in
     record {
       begins = begins settings launch b;
-      start = record { sound = image; short = omega (arith, (text_plan_is launch.tree b.text _ b.planned).0); whole = refl };
+      start = record { sound = image; short = omega (arith, (text_plan_is launch.tree b.text _ b.planned).0); whole = is_whole launch.constants.key 0 0 64 };
       epoch = omega (arith, b.epoch, within.epoch);
       turns = omega (arith, b.turns, within.turns.1);
     }

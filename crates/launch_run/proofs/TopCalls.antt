@@ -22,8 +22,8 @@ use Rattle.kernel_cell.specs.declared.record.Record.{Record}
 use Rattle.launch_run.specs.declared.top.Ending.{Ending}
 use Rattle.launch_run.specs.declared.top.Ending.TheVariants as ending
 use Rattle.launch_run.specs.declared.top.RunEnd.{RunEnd}
-use Rattle.launch_run.specs.declared.top.RunEnd.TheVariants.{Reported, StallReported, Unwritten, Lacking}
-use Rattle.launch_run.specs.TopCall.{IsOver, IsOverSo, IsRecordOf, IsEndOf, recorded, reported_end, state_of, record_report}
+use Rattle.launch_run.specs.declared.top.RunEnd.TheVariants.{Unwritten, Lacking}
+use Rattle.launch_run.specs.TopCall.{IsOver, IsOverSo, IsRecordOf, IsEndOf, recorded, reported_end, record_report}
 
 -- a book of a launch is of its own
 pub of_itself : (launch : Launch) (lines : Bool) (book : Book) → IsBookOf launch lines book → IsBookOf book.launch lines book

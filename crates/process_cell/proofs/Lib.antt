@@ -1,2 +1,3 @@
-pub mod Outcomes
+pub mod Places
 pub mod Ties
+pub mod Outcomes

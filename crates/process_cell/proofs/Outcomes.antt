@@ -1,17 +1,17 @@
 -- What the kernel tells of a call, of a wake or of an end is what contracts see of the process afterwards.
 --     left_by_entry      a call and a wake leave the turns that are left
---     call_same, call_tells, call_lacks      what contracts see after a call
---     finish_same, finish_tells      after a wake
---     end_same, end_tells      after an end from outside
---     steps_turn, steps_expire, steps_call, steps_trap, steps_finish      a step from each phase
-use Rattle.std.proofs.Common.{◌≡◌, ℕ, ◌<◌, false, List, [], ◌∷◌, ◌++◌, Option, None, Some, IsSome, inl, inr, refl, sym, ap, subst, ◌∙◌, arith}
-use Rattle.abi_base.specs.declared.signal.Signal.{Signal}
+--     call_tells      what contracts see after a call
+--     finish_tells      after a wake
+--     end_tells      after an end from outside
+use Rattle.std.proofs.Common.{◌≡◌, ℕ, false, List, [], ◌∷◌, ◌++◌, Option, None, Some, IsSome, inl, inr, refl, sym, ap, subst, ◌∙◌}
+use Rattle.std.specs.FinMap.{get, insert, remove}
 use Rattle.abi_types.specs.declared.reply.Answer.{Answer}
 use Rattle.abi_types.specs.declared.call.Call.{Call}
 use Rattle.abi_types.specs.declared.wake.WakeIn.{WakeIn}
 use Rattle.run_types.specs.declared.history.Entry.{Entry}
 use Rattle.run_types.specs.declared.launch.Launch.{Launch}
 use Rattle.maps.specs.Maps.{get-insert-same}
+use Rattle.kernel_model.specs.State.{thread_of}
 use Rattle.run_model.specs.Legal.{Fits, Legal}
 use Rattle.run_model.specs.Own.{is_idle, own, IsLiveIn, Same}
 use Rattle.run_model.specs.World.{World, Guest, world, apply, turned, or_no_guest, guest_of, turned_guest_by, called_guest}
@@ -23,19 +23,21 @@ use Rattle.shared_history.specs.Passes.{Passing}
 use Rattle.kernel_cell.specs.declared.results.Acted.{Acted}
 use Rattle.kernel_cell.specs.declared.results.Acted.TheVariants as acted
 use Rattle.kernel_cell.specs.declared.results.EndBy.{EndBy}
-use Rattle.kernel_cell.specs.declared.results.EndBy.TheVariants as end_by
 use Rattle.kernel_cell.specs.declared.results.Stopped.{Stopped}
 use Rattle.kernel_cell.specs.declared.results.Stopped.TheVariants as stopped
 use Rattle.kernel_cell.specs.declared.results.Woken.{Woken}
 use Rattle.kernel_cell.specs.declared.results.Woken.TheVariants as woken
-use Rattle.process_cell.specs.Phases.{phase_after_act, phase_after_wake, phase_after_end, did_in, did_after_wake}
-use Rattle.process_cell.specs.Process.{Stands, StandsParked, Tied, standing_of}
+use Rattle.process_cell.specs.Phases.{Threads, phase_after, did_after_act, did_after_end, did_after_wake, threads_after_act, threads_after_wake}
+use Rattle.process_cell.specs.Places.{Moved}
+use Rattle.process_cell.specs.Process.{Stands, Tied, WaitsIn, standing_of}
 use Rattle.process_cell.specs.Standing.{Standing}
-use Rattle.process_cell.specs.Steps.{IsSameThread, Enters, EntersCall, EntersWake, IsTurned, IsCalled, IsFinished, IsEnded, StepsFrom, IsStepped}
+use Rattle.process_cell.specs.Steps.{Enters, EntersCall, EntersWake, IsCalled, IsFinished, IsEnded, LivesOn}
 use Rattle.process_cell.specs.declared.results.Did.{Did}
 use Rattle.process_cell.specs.declared.results.Did.TheVariants as did
+use Rattle.process_cell.specs.declared.results.Doing.TheVariants as doing
 use Rattle.process_cell.specs.declared.results.Phase.{Phase}
 use Rattle.process_cell.specs.declared.results.Phase.TheVariants as phase
+use Rattle.process_cell.proofs.Ties.{does_none}
 
 -- ---- a call and a wake leave the turns that are left
 
@@ -84,27 +86,15 @@ own_none launch v w looked = ap (λ (p : ℕ). own p w.seen) looked.pid ∙ sym 
 
 -- ---- a call
 
-module _ (launch : Launch) (v w : Passing) (t : ℕ) (turns : List ℕ) (call : Call) (was guest : Guest) (now : Phase) where
-  same_acted : (outcome : Acted) → IsActed launch v t turns call guest w outcome → w.pid ≡ v.pid
-  same_acted acted.Runs told = told.0.added.pid
-  same_acted acted.Parks told = told.0.added.pid
-  same_acted acted.Ends told = told.0.added.pid
-  same_acted acted.Gone told = told.0.pid
-  same_acted acted.NoMemory told = told.0.pid
-
+module _ (launch : Launch) (v w : Passing) (t : ℕ) (threads : Threads) (turns : List ℕ) (call : Call) (was guest : Guest) (now : Phase) where
   -- the turns that were taken out for the entry are those of the process
   acted_by : (taken : List ℕ) (outcome : Acted) → taken ≡ turns → IsActed launch v t taken call guest w outcome
       → IsActed launch v t turns call guest w outcome
   acted_by taken outcome all told = subst (λ (ts : List ℕ). IsActed launch v t ts call guest w outcome) all told
 
-  pub call_same : (taken none : List ℕ) (later : Phase) (outcome : Acted) (old : Standing) → taken ≡ turns
-      → IsActed launch v t taken call guest w outcome → standing_of v t turns was now ≡ old → IsSameThread old (standing_of w t none guest later)
-  call_same taken none later outcome old all told is =
-      subst (λ (s : Standing). IsSameThread s (standing_of w t none guest later)) is
-      (record { pid = same_acted outcome (acted_by taken outcome all told); tid = refl })
-
-  enters_call : (later : Phase) → AddedCall launch v t turns call w → EntersCall (standing_of v t turns was now) (standing_of w t [] guest later)
-  enters_call later told = record {
+  enters_call : (threads' : Threads) (later : Phase) → AddedCall launch v t turns call w
+      → EntersCall t (standing_of v threads turns was now) (standing_of w threads' [] guest later)
+  enters_call threads' later told = record {
     call = call;
     given = told.given;
     entry = record {
@@ -114,50 +104,95 @@ module _ (launch : Launch) (v w : Passing) (t : ℕ) (turns : List ℕ) (call : 
     };
   }
 
-  call_left : Stands (world launch v.seen) v.pid t turns was → AddedCall launch v t turns call w → guest ≡ guest_of (world launch w.seen) v.pid
+  call_left : Stands (world launch v.seen) v.pid threads turns was → AddedCall launch v t turns call w → guest ≡ guest_of (world launch w.seen) v.pid
       → guest.left ≡ was.left
   call_left stands told = left_by_entry launch v w told.moment t turns call None told.given was guest stands.live stands.guest_is told.added
 
-  call_by : (outcome : Acted) → Stands (world launch v.seen) v.pid t turns was → IsActed launch v t turns call guest w outcome
-      → IsCalled (standing_of v t turns was now) (standing_of w t [] guest (phase_after_act outcome)) (did_in (phase_after_act outcome))
-  call_by acted.Runs stands told = (refl, call_left stands told.0 told.1.guest_is, enters_call phase.Runs told.0)
-  call_by acted.Parks stands told = (refl, call_left stands told.0 told.1.guest_is, enters_call phase.Parks told.0)
-  call_by acted.Ends stands told = (refl, inl (enters_call phase.Gone told.0))
+  -- the process lives on with these threads
+  call_lives : (threads' : Threads) → Stands (world launch v.seen) v.pid threads turns was → AddedCall launch v t turns call w
+      → guest ≡ guest_of (world launch w.seen) v.pid
+      → LivesOn (standing_of v threads turns was now) (standing_of w threads' [] guest phase.Lives) threads'
+  call_lives threads' stands told guest_is = record { lives = refl; left = call_left stands told guest_is; threads_are = refl }
+
+  call_by : (outcome : Acted) → Stands (world launch v.seen) v.pid threads turns was → IsActed launch v t turns call guest w outcome
+      → IsCalled t (standing_of v threads turns was now) (standing_of w (threads_after_act threads t outcome) [] guest (phase_after (did_after_act outcome)))
+      (did_after_act outcome)
+  call_by acted.Runs stands told = (call_lives threads stands told.0 told.1.guest_is, enters_call threads phase.Lives told.0)
+  call_by (acted.Starts u) stands told = (
+    call_lives (insert threads u doing.Runs) stands told.0 told.1.guest_is,
+    does_none (get threads u) (thread_of (world launch v.seen).state v.pid u) (stands.are u) told.2.absent,
+    enters_call (insert threads u doing.Runs) phase.Lives told.0,
+  )
+  call_by acted.Parks stands told = (
+    call_lives (insert threads t doing.Waits) stands told.0 told.1.guest_is,
+    enters_call (insert threads t doing.Waits) phase.Lives told.0,
+  )
+  call_by acted.Leaves stands told = (call_lives (remove threads t) stands told.0 told.1.guest_is, enters_call (remove threads t) phase.Lives told.0)
+  call_by acted.Ends stands told = (refl, inl (enters_call threads phase.Gone told.0))
   call_by acted.Gone stands told = (refl, inr (own_none launch v w told.0))
   call_by acted.NoMemory stands told = (refl, own_none launch v w told.0)
 
-  pub call_tells : (taken none : List ℕ) (later : Phase) (done : Did) (outcome : Acted) (old : Standing) → Tied launch v t turns was now
-      → old.phase ≡ phase.Calls → taken ≡ turns → IsActed launch v t taken call guest w outcome → none ≡ [] → later ≡ phase_after_act outcome
-      → done ≡ did_in later → standing_of v t turns was now ≡ old → IsCalled old (standing_of w t none guest later) done
-  call_tells taken none later done outcome old tied calls all told empty after is_done is =
-      let there : Tied launch v t turns was phase.Calls = subst (Tied launch v t turns was) (ap (λ (s : Standing). s.phase) is ∙ calls) tied in
-      let comes : did_in (phase_after_act outcome) ≡ done = sym (is_done ∙ ap did_in after) in
-      subst (λ (x : Standing × List ℕ × Phase × Did). IsCalled x.0 (standing_of w t x.1 guest x.2) x.3)
-      (λ i. (is i, sym empty i, sym after i, comes i)) (call_by outcome there.0 (acted_by taken outcome all told))
+  call_made : (threads' : Threads) (taken none : List ℕ) (later : Phase) (done : Did) (outcome : Acted) → Stands (world launch v.seen) v.pid threads turns was
+      → taken ≡ turns → IsActed launch v t taken call guest w outcome → none ≡ [] → threads' ≡ threads_after_act threads t outcome
+      → done ≡ did_after_act outcome → later ≡ phase_after done
+      → IsCalled t (standing_of v threads turns was now) (standing_of w threads' none guest later) done
+  call_made threads' taken none later done outcome stands all told no_turns threads_are done_is after =
+      subst (λ (x : Threads × List ℕ × Phase × Did). IsCalled t (standing_of v threads turns was now) (standing_of w x.0 x.1 guest x.2) x.3)
+      (λ i. (sym threads_are i, sym no_turns i, sym (after ∙ ap phase_after done_is) i, sym done_is i))
+      (call_by outcome stands (acted_by taken outcome all told))
 
--- memory ran out before the call was made
-pub call_lacks : (v : Passing) (t : ℕ) (turns : List ℕ) (guest : Guest) (now : Phase) (old : Standing) → standing_of v t turns guest now ≡ old
-    → IsCalled old (standing_of v t turns guest phase.Lost) did.NoMemory
-call_lacks v t turns guest now old is = subst (λ (s : Standing). IsCalled s (standing_of v t turns guest phase.Lost) did.NoMemory) is (refl, refl)
+-- the history that was seen before a call doesn't matter
+module _ (t : ℕ) (before after : Standing) (seen : List Entry) where
+  abbrev earlier : Standing
+  earlier = record before { seen = seen }
+
+  enters_earlier : EntersCall t before after → EntersCall t earlier after
+  enters_earlier e = record {
+    call = e.call;
+    given = e.given;
+    entry = record { moment = e.entry.moment; own = e.entry.own; turns = e.entry.turns };
+  }
+
+  lives_earlier : (threads : Threads) → LivesOn before after threads → LivesOn earlier after threads
+  lives_earlier threads made = record { lives = made.lives; left = made.left; threads_are = made.threads_are }
+
+  called_earlier : (done : Did) → IsCalled t before after done → IsCalled t earlier after done
+  called_earlier did.Runs made = (lives_earlier before.threads made.0, enters_earlier made.1)
+  called_earlier (did.Started u) made = (lives_earlier (insert before.threads u doing.Runs) made.0, made.1, enters_earlier made.2)
+  called_earlier did.Parks made = (lives_earlier (insert before.threads t doing.Waits) made.0, enters_earlier made.1)
+  called_earlier did.NotReady made = absurd made
+  called_earlier did.ThreadGone made = (lives_earlier (remove before.threads t) made.0, enters_earlier made.1)
+  called_earlier did.ProcessGone made =
+      (made.0, elim made.1 [ inl entered ↦ inl (enters_earlier entered) | inr none ↦ inr none ])
+  called_earlier did.NoMemory made = made
+
+module _ (launch : Launch) (v w : Passing) (t : ℕ) (threads : Threads) (turns : List ℕ) (was : Guest) (now : Phase) where
+  -- a pass that moved before the call has seen no entry of its process more
+  called_moved : (after : Standing) (done : Did) → Moved launch v w → IsCalled t (standing_of w threads turns was now) after done
+      → IsCalled t (standing_of v threads turns was now) after done
+  called_moved after done (inl same) made =
+      subst (λ (x : Passing). IsCalled t (standing_of x threads turns was now) after done) same made
+  called_moved after done (inr looked) made =
+      called_earlier t (record (standing_of v threads turns was now) { seen = w.seen }) after v.seen done
+      (subst (λ (x : ℕ × List Entry). IsCalled t (record (standing_of w threads turns was now) { pid = x.0; own = x.1 }) after done)
+      (λ i. (looked.0.pid i, own_none launch v w looked.0 i)) made)
+
+  module _ (x : Passing) (call : Call) (guest : Guest) where
+    pub call_tells : (threads' : Threads) (taken none : List ℕ) (later : Phase) (done : Did) (outcome : Acted) (old : Standing) → Moved launch v w
+        → Tied launch w threads turns was (phase.Calls t) → taken ≡ turns → IsActed launch w t taken call guest x outcome → none ≡ []
+        → threads' ≡ threads_after_act threads t outcome → done ≡ did_after_act outcome → later ≡ phase_after done
+        → standing_of v threads turns was now ≡ old → IsCalled t old (standing_of x threads' none guest later) done
+    call_tells threads' taken none later done outcome old moved tied all told no_turns threads_are done_is after is =
+        subst (λ (s : Standing). IsCalled t s (standing_of x threads' none guest later) done) is
+        (called_moved (standing_of x threads' none guest later) done moved
+        (call_made launch w x t threads turns call was guest now threads' taken none later done outcome tied.0 all told no_turns threads_are done_is after))
 
 -- ---- a wake
 
-module _ (launch : Launch) (v w : Passing) (t : ℕ) (turns turns' : List ℕ) (was guest : Guest) (now later : Phase) where
-  same_woken : (outcome : Woken) → IsWoken launch v t turns guest w outcome → w.pid ≡ v.pid
-  same_woken woken.Runs told = told.0.added.pid
-  same_woken woken.Ends told = told.0.added.pid
-  same_woken woken.NotReady told = told.0.pid
-  same_woken woken.Gone told = told.0.pid
-  same_woken woken.NoMemory told = told.0.pid
-
-  pub finish_same : (outcome : Woken) (old : Standing) → IsWoken launch v t turns guest w outcome → standing_of v t turns was now ≡ old
-      → IsSameThread old (standing_of w t turns' guest later)
-  finish_same outcome old told is =
-      subst (λ (s : Standing). IsSameThread s (standing_of w t turns' guest later)) is (record { pid = same_woken outcome told; tid = refl })
-
-  enters_wake : (after : Phase) → AddedWake launch v t turns w → turns' ≡ []
-      → EntersWake (standing_of v t turns was phase.Parks) (standing_of w t turns' guest after)
-  enters_wake after told none = record {
+module _ (launch : Launch) (v w : Passing) (t : ℕ) (threads : Threads) (turns turns' : List ℕ) (was guest : Guest) (now : Phase) where
+  enters_wake : (threads' : Threads) (after : Phase) → AddedWake launch v t turns w → turns' ≡ []
+      → EntersWake t (standing_of v threads turns was phase.Lives) (standing_of w threads' turns' guest after)
+  enters_wake threads' after told none = record {
     call = told.call;
     given = told.given;
     answered = told.answered;
@@ -168,20 +203,25 @@ module _ (launch : Launch) (v w : Passing) (t : ℕ) (turns turns' : List ℕ) (
     };
   }
 
-  finish_by : (outcome : Woken) → StandsParked (world launch v.seen) v.pid t turns was → IsWoken launch v t turns guest w outcome
+  finish_by : (outcome : Woken) → Tied launch v threads turns was phase.Lives → IsWoken launch v t turns guest w outcome
       → KeepsTurns was guest turns turns' outcome
-      → IsFinished launch (standing_of v t turns was phase.Parks) (standing_of w t turns' guest (phase_after_wake outcome)) (did_after_wake outcome)
+      → IsFinished launch t (standing_of v threads turns was phase.Lives)
+      (standing_of w (threads_after_wake threads t outcome) turns' guest (phase_after (did_after_wake outcome))) (did_after_wake outcome)
   finish_by woken.Runs tied told kept = (
-    refl,
-    left_by_entry launch v w told.0.moment t turns told.0.call (Some told.0.given) told.0.answered was guest tied.0 tied.1.guest_is told.0.added told.1.guest_is,
-    enters_wake phase.Runs told.0 kept,
+    record {
+      lives = refl;
+      left = left_by_entry launch v w told.0.moment t turns told.0.call (Some told.0.given) told.0.answered was guest tied.0.live tied.0.guest_is
+          told.0.added told.1.guest_is;
+      threads_are = refl;
+    },
+    enters_wake (insert threads t doing.Runs) phase.Lives told.0 kept,
   )
-  finish_by woken.Ends tied told kept = (refl, inl (enters_wake phase.Gone told.0 kept))
+  finish_by woken.Ends tied told kept = (refl, inl (enters_wake threads phase.Gone told.0 kept))
   finish_by woken.NotReady tied told kept = (
     (λ i. record {
       pid = told.0.pid i;
-      tid = t;
-      phase = phase.Parks;
+      phase = phase.Lives;
+      threads = threads;
       left = (kept.0 i).left;
       turns = kept.1 i;
       seen = w.seen;
@@ -192,66 +232,38 @@ module _ (launch : Launch) (v w : Passing) (t : ℕ) (turns turns' : List ℕ) (
   finish_by woken.Gone tied told kept = (refl, inr (own_none launch v w told.0))
   finish_by woken.NoMemory tied told kept = (refl, own_none launch v w told.0)
 
-  pub finish_tells : (done : Did) (outcome : Woken) (old : Standing) → Tied launch v t turns was now → old.phase ≡ phase.Parks
-      → IsWoken launch v t turns guest w outcome → KeepsTurns was guest turns turns' outcome → later ≡ phase_after_wake outcome
-      → done ≡ did_after_wake outcome → standing_of v t turns was now ≡ old → IsFinished launch old (standing_of w t turns' guest later) done
-  finish_tells done outcome old tied parks told kept after is_done is =
-      let there : now ≡ phase.Parks = ap (λ (s : Standing). s.phase) is ∙ parks in
-      let from : standing_of v t turns was phase.Parks ≡ old = ap (standing_of v t turns was) (sym there) ∙ is in
-      subst (λ (x : Standing × Phase × Did). IsFinished launch x.0 (standing_of w t turns' guest x.1) x.2)
-      (λ i. (from i, sym after i, sym is_done i)) (finish_by outcome (subst (Tied launch v t turns was) there tied) told kept)
+  pub finish_tells : (threads' : Threads) (later : Phase) (done : Did) (outcome : Woken) (old : Standing) → Tied launch v threads turns was now
+      → WaitsIn t old → IsWoken launch v t turns guest w outcome → KeepsTurns was guest turns turns' outcome
+      → threads' ≡ threads_after_wake threads t outcome → done ≡ did_after_wake outcome → later ≡ phase_after done
+      → standing_of v threads turns was now ≡ old → IsFinished launch t old (standing_of w threads' turns' guest later) done
+  finish_tells threads' later done outcome old tied waits told kept threads_are done_is after is =
+      let there : now ≡ phase.Lives = ap (λ (s : Standing). s.phase) is ∙ waits.0 in
+      let from : standing_of v threads turns was phase.Lives ≡ old = ap (standing_of v threads turns was) (sym there) ∙ is in
+      let so : later ≡ phase_after (did_after_wake outcome) = after ∙ ap phase_after done_is in
+      subst (λ (x : Standing × Threads × Phase × Did). IsFinished launch t x.0 (standing_of w x.1 turns' guest x.2) x.3)
+      (λ i. (from i, sym threads_are i, sym so i, sym done_is i))
+      (finish_by outcome (subst (Tied launch v threads turns was) there tied) told kept)
 
 -- ---- an end from outside
 
-module _ (launch : Launch) (v w : Passing) (t : ℕ) (turns : List ℕ) (how : EndBy) (guest : Guest) (now : Phase) where
-  same_stopped : (outcome : Stopped) → IsStopped launch v t turns how w outcome → w.pid ≡ v.pid
-  same_stopped stopped.Done told = told.0.added.pid
-  same_stopped stopped.Gone told = told.0.pid
-  same_stopped stopped.NoMemory told = told.0.pid
-
+module _ (launch : Launch) (v w : Passing) (t : ℕ) (threads : Threads) (turns : List ℕ) (how : EndBy) (guest : Guest) (now : Phase) where
   stopped_by : (taken : List ℕ) (outcome : Stopped) → taken ≡ turns → IsStopped launch v t taken how w outcome → IsStopped launch v t turns how w outcome
   stopped_by taken outcome all told = subst (λ (ts : List ℕ). IsStopped launch v t ts how w outcome) all told
 
-  pub end_same : (taken none : List ℕ) (later : Phase) (outcome : Stopped) (old : Standing) → taken ≡ turns
-      → IsStopped launch v t taken how w outcome → standing_of v t turns guest now ≡ old → IsSameThread old (standing_of w t none guest later)
-  end_same taken none later outcome old all told is =
-      subst (λ (s : Standing). IsSameThread s (standing_of w t none guest later)) is
-      (record { pid = same_stopped outcome (stopped_by taken outcome all told); tid = refl })
-
   enters_end : AddedEnd launch v t turns how w
-      → Enters (standing_of v t turns guest now) (act_of how) (standing_of w t [] guest phase.Gone)
+      → Enters t (standing_of v threads turns guest now) (act_of how) (standing_of w threads [] guest phase.Gone)
   enters_end told = record { moment = told.moment; own = own_one launch v w _ told.added; turns = refl }
 
   end_by_outcome : (outcome : Stopped) → IsStopped launch v t turns how w outcome
-      → IsEnded how (standing_of v t turns guest now) (standing_of w t [] guest (phase_after_end outcome)) (did_in (phase_after_end outcome))
+      → IsEnded how t (standing_of v threads turns guest now) (standing_of w threads [] guest (phase_after (did_after_end outcome))) (did_after_end outcome)
   end_by_outcome stopped.Done told = (refl, inl (enters_end told.0))
   end_by_outcome stopped.Gone told = (refl, inr (own_none launch v w told.0))
   end_by_outcome stopped.NoMemory told = (refl, own_none launch v w told.0)
 
   pub end_tells : (taken none : List ℕ) (later : Phase) (done : Did) (outcome : Stopped) (old : Standing) → taken ≡ turns
-      → IsStopped launch v t taken how w outcome → none ≡ [] → later ≡ phase_after_end outcome → done ≡ did_in later
-      → standing_of v t turns guest now ≡ old → IsEnded how old (standing_of w t none guest later) done
-  end_tells taken none later done outcome old all told empty after is_done is =
-      let comes : did_in (phase_after_end outcome) ≡ done = sym (is_done ∙ ap did_in after) in
-      subst (λ (x : Standing × List ℕ × Phase × Did). IsEnded how x.0 (standing_of w t x.1 guest x.2) x.3)
-      (λ i. (is i, sym empty i, sym after i, comes i)) (end_by_outcome outcome (stopped_by taken outcome all told))
-
--- ---- a step from each phase
-
-module _ (launch : Launch) (before after : Standing) (done : Did) where
-  pub steps_turn : before.phase ≡ phase.Runs → 0 < before.left → IsTurned before after done → IsStepped launch before after done
-  steps_turn runs some made =
-      subst (λ (now : Phase). StepsFrom launch now before after done) (sym runs) ((λ _. made), (λ none. absurd (omega arith)))
-
-  pub steps_expire : before.phase ≡ phase.Runs → before.left ≡ 0 → IsEnded end_by.Expire before after done → IsStepped launch before after done
-  steps_expire runs none made =
-      subst (λ (now : Phase). StepsFrom launch now before after done) (sym runs) ((λ some. absurd (omega arith)), (λ _. made))
-
-  pub steps_call : before.phase ≡ phase.Calls → IsCalled before after done → IsStepped launch before after done
-  steps_call calls made = subst (λ (now : Phase). StepsFrom launch now before after done) (sym calls) made
-
-  pub steps_trap : (signal : Signal) → before.phase ≡ phase.Traps signal → IsEnded (end_by.Trap signal) before after done → IsStepped launch before after done
-  steps_trap signal traps made = subst (λ (now : Phase). StepsFrom launch now before after done) (sym traps) made
-
-  pub steps_finish : before.phase ≡ phase.Parks → IsFinished launch before after done → IsStepped launch before after done
-  steps_finish parks made = subst (λ (now : Phase). StepsFrom launch now before after done) (sym parks) made
+      → IsStopped launch v t taken how w outcome → none ≡ [] → done ≡ did_after_end outcome → later ≡ phase_after done
+      → standing_of v threads turns guest now ≡ old → IsEnded how t old (standing_of w threads none guest later) done
+  end_tells taken none later done outcome old all told empty done_is after is =
+      let so : later ≡ phase_after (did_after_end outcome) = after ∙ ap phase_after done_is in
+      subst (λ (x : Standing × List ℕ × Phase × Did). IsEnded how t x.0 (standing_of w threads x.1 guest x.2) x.3)
+      (λ i. (is i, sym empty i, sym so i, sym done_is i)) (end_by_outcome outcome (stopped_by taken outcome all told))

@@ -1,71 +1,169 @@
--- A process stays tied to the world of what its pass has seen: at its start, over a turn, over a call, and over a wake.
-use Rattle.std.proofs.Common.{◌≡◌, ℕ, ◌<◌, List, [], ◌∷◌, ◌++◌, IsSome, refl, sym, ap, subst, ◌∙◌}
-use Rattle.std.specs.FinMap.{empty, get}
+-- A process stays tied to its world.
+--     tied_first, tied_turn, tied_moved, tied_act, tied_wake, tied_end      after each of what a process does
+--     asks_call, asks_wake, asks_end      what it asks the kernel for
+use Rattle.std.proofs.Common.{◌≡◌, ◌≢◌, ℕ, ◌<◌, List, [], ◌∷◌, ◌++◌, Option, None, Some, IsSome, inl, inr, refl, sym, ap, subst, ◌∙◌}
+use Rattle.std.proofs.lemmas.Bool.Decides.{eqb_tells}
+use Rattle.std.specs.FinMap.{FinMap, empty, get, insert, remove, get-empty}
+use Rattle.std.specs.Ordering.{nat_cmp}
+use Rattle.abi_base.specs.declared.errno.Errno.TheVariants.{Nosys}
 use Rattle.abi_types.specs.declared.call.Call.{Call}
+use Rattle.abi_types.specs.declared.reply.Answer.{Answer}
+use Rattle.abi_types.specs.declared.reply.Answer.TheVariants as answer
 use Rattle.abi_types.specs.declared.status.Status.TheVariants.{Live}
+use Rattle.abi_types.specs.declared.thread.Thread.{Thread}
+use Rattle.abi_types.specs.declared.thread.Thread.TheVariants.{Runnable}
+use Rattle.run_types.specs.declared.history.Act.TheVariants as act
 use Rattle.run_types.specs.declared.history.Entry.{Entry}
 use Rattle.run_types.specs.declared.launch.Launch.{Launch}
-use Rattle.kernel_model.specs.State.{State}
-use Rattle.maps.specs.Maps.{get-insert-same}
+use Rattle.maps.specs.Maps.{get-insert-same, get-insert-other, get-remove-same, get-remove-other}
+use Rattle.kernel_model.specs.Reply.{refused}
+use Rattle.kernel_model.specs.State.{State, thread_in, thread_of, threads_of}
+use Rattle.kernel_model.proofs.Tests.{none_is_no, not_true}
 use Rattle.rv_interp.specs.declared.turns.TurnEnd.{TurnEnd}
 use Rattle.rv_interp.specs.declared.turns.TurnEnd.TheVariants as turn_end_is
+use Rattle.call_codec.specs.Arguments.{args_of}
 use Rattle.call_codec.specs.Start.{first_registers}
-use Rattle.run_model.specs.Legal.{Legal, MayTurn, LastEnds}
-use Rattle.run_model.specs.Own.{IsLiveIn}
-use Rattle.run_model.specs.World.{World, Guest, world, start_world, guest_of, first_guest, turned_guest, turned_guest_by, turn_end}
-use Rattle.run_model.proofs.Histories.{world_none, first_guest_is, first_state, first_thread, turned_more, whole_more}
+use Rattle.run_model.specs.Legal.{AreWhole, Legal, MayTurn, LastEnds}
+use Rattle.run_model.specs.Own.{IsLiveIn, Same}
+use Rattle.run_model.specs.World.{World, Guest, world, start_world, guest_of, first_guest, registers_of, thread_at, turned_guest, turned_guest_by, turn_end}
+use Rattle.run_model.proofs.Asks.{asks_stay, whole_there}
+use Rattle.run_model.proofs.Histories.{world_none, first_guest_is, first_state, first_threads, turned_more, whole_more}
+use Rattle.run_model.proofs.Own.{left_alone, same_threads}
 use Rattle.run_model.proofs.Registers.{legal_has_registers}
-use Rattle.kernel_cell.specs.Acting.{GoesOn, IsActed, IsWoken, KeepsTurns, Looked, WaitsOn}
-use Rattle.kernel_cell.proofs.PassOutcomes.{asks_wake_since}
+use Rattle.kernel_cell.specs.Acting.{AsksCall, AsksEnd, AsksWake, GoesOn, HasStarted, IsActed, IsStopped, IsWoken, KeepsBut, KeepsTurns, Looked}
 use Rattle.shared_history.specs.Passes.{Passing}
 use Rattle.kernel_cell.specs.declared.results.Acted.{Acted}
 use Rattle.kernel_cell.specs.declared.results.Acted.TheVariants as acted
+use Rattle.kernel_cell.specs.declared.results.EndBy.{EndBy}
+use Rattle.kernel_cell.specs.declared.results.EndBy.TheVariants as end_by
+use Rattle.kernel_cell.specs.declared.results.Stopped.{Stopped}
+use Rattle.kernel_cell.specs.declared.results.Stopped.TheVariants as stopped
 use Rattle.kernel_cell.specs.declared.results.Woken.{Woken}
 use Rattle.kernel_cell.specs.declared.results.Woken.TheVariants as woken
-use Rattle.process_cell.specs.Phases.{phase_after_turn, phase_after_act, phase_after_wake}
-use Rattle.process_cell.specs.Process.{Stands, StandsParked, TiedIn, Tied, new_pass}
+use Rattle.process_cell.specs.Phases.{Threads, phase_after, phase_after_turn, did_after_act, did_after_end, did_after_wake, threads_after_act, threads_after_wake}
+use Rattle.process_cell.specs.Places.{Moved}
+use Rattle.process_cell.specs.Process.{AreThreads, DoesSo, IsDue, RunsIn, Stands, TiedIn, Tied, Waits, WaitsIn, new_pass, standing_of}
+use Rattle.process_cell.specs.Standing.{Standing}
+use Rattle.process_cell.specs.declared.results.Did.{Did}
+use Rattle.process_cell.specs.declared.results.Doing.{Doing}
+use Rattle.process_cell.specs.declared.results.Doing.TheVariants as doing
 use Rattle.process_cell.specs.declared.results.Phase.{Phase}
 use Rattle.process_cell.specs.declared.results.Phase.TheVariants as phase
 
+-- ---- threads
+
+-- a thread that does something is there
+does_there : (o : Option Doing) (o' : Option Thread) → DoesSo o o' → IsSome o → IsSome o'
+does_there None o' is there = absurd (not_true there)
+does_there (Some doing.Runs) o' is there = subst IsSome (sym is) refl
+does_there (Some doing.Waits) o' is there = subst IsSome (sym is.1) refl
+
+-- one that isn't there does nothing
+pub does_none : (o : Option Doing) (o' : Option Thread) → DoesSo o o' → o' ≡ None → o ≡ None
+does_none None o' is none = refl
+does_none (Some doing.Runs) o' is none = absurd (none_is_no Runnable (sym none ∙ is))
+does_none (Some doing.Waits) o' is none = absurd (none_is_no is.0 (sym none ∙ is.1))
+
+-- the threads are those of another world too, where all but one do there what they did, and what that one does is what is said of it
+are_but : (w w' : World) (p x : ℕ) (threads threads' : Threads) → AreThreads w p threads
+    → ((u : ℕ) → u ≢ x → thread_of w'.state p u ≡ thread_of w.state p u) → ((u : ℕ) → u ≢ x → get threads' u ≡ get threads u)
+    → DoesSo (get threads' x) (thread_of w'.state p x) → AreThreads w' p threads'
+are_but w w' p x threads threads' are others same at u =
+    elim (eqb_tells u x) [
+      | inl is ↦ subst (λ (y : ℕ). DoesSo (get threads' y) (thread_of w'.state p y)) (sym is.1) at
+      | inr apart ↦ subst (λ (o : Option Doing × Option Thread). DoesSo o.0 o.1) (λ i. (sym (same u apart.1) i, sym (others u apart.1) i)) (are u)
+    ]
+
+-- ---- a process after an entry of its own
+
+module _ (launch : Launch) (history : List Entry) (p : ℕ) (threads : Threads) (guest : Guest) (legal : Legal launch history)
+    (live : IsLiveIn (world launch history) p) (are : AreThreads (world launch history) p threads) (guest_is : guest ≡ guest_of (world launch history) p) where
+  lives_there : TiedIn (world launch history) p threads [] guest phase.Lives
+  lives_there = (
+    record {
+      live = live;
+      are = are;
+      guest_is = guest_is;
+      registers = λ u there. subst (λ (g : Guest). IsSome (get g.regs u)) (sym guest_is)
+          (legal_has_registers launch history p u legal live
+          (does_there (get threads u) (thread_of (world launch history).state p u) (are u) there));
+    },
+    tt,
+  )
+
 -- ---- the start
+
+abbrev first_doing : Threads
+first_doing = insert empty 1 doing.Runs
+
+abbrev first_made : FinMap nat_cmp Thread
+first_made = insert empty 1 Runnable
 
 first_live : (launch : Launch) → IsLiveIn (start_world launch) 0
 first_live launch = ap (λ (S : State). get S.statuses 0) (first_state launch) ∙ get-insert-same empty 0 Live
 
-stands_first : (launch : Launch) → Stands (start_world launch) 0 1 [] (first_guest launch)
+first_does : (t : ℕ) → DoesSo (get first_doing t) (get first_made t)
+first_does t =
+    elim (eqb_tells t 1) [
+      | inl is ↦ subst (λ (x : ℕ). DoesSo (get first_doing x) (get first_made x)) (sym is.1)
+          (subst (λ (o : Option Doing). DoesSo o (get first_made 1)) (sym (get-insert-same empty 1 doing.Runs)) (get-insert-same empty 1 Runnable))
+      | inr apart ↦ subst (λ (o : Option Doing). DoesSo o (get first_made t)) (sym (get-insert-other empty 1 doing.Runs t apart.1 ∙ get-empty nat_cmp t))
+          (get-insert-other empty 1 Runnable t apart.1 ∙ get-empty nat_cmp t)
+    ]
+
+first_registered : (launch : Launch) (t : ℕ) → IsSome (get first_doing t) → IsSome (get (first_guest launch).regs t)
+first_registered launch t there =
+    elim (eqb_tells t 1) [
+      | inl is ↦ subst (λ (x : ℕ). IsSome (get (first_guest launch).regs x)) (sym is.1)
+          (subst IsSome (sym (get-insert-same empty 1 (first_registers launch.elf.entry))) refl)
+      | inr apart ↦ absurd (not_true (subst IsSome (get-insert-other empty 1 doing.Runs t apart.1 ∙ get-empty nat_cmp t) there))
+    ]
+
+stands_first : (launch : Launch) → Stands (start_world launch) 0 first_doing [] (first_guest launch)
 stands_first launch = record {
   live = first_live launch;
-  runnable = first_thread launch;
+  are = λ t. subst (DoesSo (get first_doing t)) (sym (ap (λ o. thread_in o t) (first_threads launch))) (first_does t);
   guest_is = sym (first_guest_is launch);
-  registers = subst IsSome (sym (get-insert-same empty 1 (first_registers launch.elf.entry))) refl;
+  registers = first_registered launch;
 }
 
-first_at : (launch : Launch) → TiedIn (world launch []) 0 1 [] (first_guest launch) phase.Runs
-first_at launch = subst (λ (w : World). TiedIn w 0 1 [] (first_guest launch) phase.Runs) (sym (world_none launch)) (stands_first launch, tt)
+first_at : (launch : Launch) → TiedIn (world launch []) 0 first_doing [] (first_guest launch) phase.Lives
+first_at launch =
+    subst (λ (w : World). TiedIn w 0 first_doing [] (first_guest launch) phase.Lives) (sym (world_none launch)) (stands_first launch, tt)
 
-pub tied_first : (launch : Launch) (pass : Passing) (turns : List ℕ) (guest : Guest) → pass ≡ new_pass → turns ≡ [] → guest ≡ first_guest launch
-    → Tied launch pass 1 turns guest phase.Runs
-tied_first launch pass turns guest new none is =
-    subst (λ (v : Passing). Tied launch v 1 turns guest phase.Runs) (sym new)
-    (subst (λ (ts : List ℕ). TiedIn (world launch []) 0 1 ts guest phase.Runs) (sym none)
-    (subst (λ (g : Guest). TiedIn (world launch []) 0 1 [] g phase.Runs) (sym is) (first_at launch)))
+pub tied_first : (launch : Launch) (pass : Passing) (threads : Threads) (turns : List ℕ) (guest : Guest) → pass ≡ new_pass
+    → threads ≡ first_doing → turns ≡ [] → guest ≡ first_guest launch → Tied launch pass threads turns guest phase.Lives
+tied_first launch pass threads turns guest new one none is =
+    subst (λ (x : Passing × Threads × List ℕ × Guest). Tied launch x.0 x.1 x.2 x.3 phase.Lives)
+    (λ i. (sym new i, sym one i, sym none i, sym is i)) (first_at launch)
 
 -- ---- a turn
 
-module _ (w : World) (p t : ℕ) (turns : List ℕ) (guest : Guest) (tied : TiedIn w p t turns guest phase.Runs) (some : 0 < guest.left) where
+module _ (w : World) (p t : ℕ) (threads : Threads) (turns : List ℕ) (guest : Guest) (tied : TiedIn w p threads turns guest phase.Lives)
+    (runs : get threads t ≡ Some doing.Runs) (some : 0 < guest.left) where
   -- the guest after the turn
   abbrev after : Guest
   after = turned_guest guest t
 
   may : MayTurn w.state p (turned_guest_by turns (guest_of w p)) t
-  may = (tied.0.runnable, subst (λ (g : Guest). 0 < g.left) tied.0.guest_is some)
+  may = (
+    subst (λ (o : Option Doing). DoesSo o (thread_of w.state p t)) runs (tied.0.are t),
+    subst (λ (g : Guest). 0 < g.left) tied.0.guest_is some,
+  )
 
-  stands_after : Stands w p t (turns ++ t ∷ []) after
+  registers_after : (u : ℕ) → IsSome (get threads u) → IsSome (get after.regs u)
+  registers_after u there =
+      elim (eqb_tells u t) [
+        | inl is ↦ subst (λ (x : ℕ). IsSome (get after.regs x)) (sym is.1) (subst IsSome (sym (get-insert-same guest.regs t _)) refl)
+        | inr apart ↦ subst IsSome (sym (get-insert-other guest.regs t _ u apart.1)) (tied.0.registers u there)
+      ]
+
+  stands_after : Stands w p threads (turns ++ t ∷ []) after
   stands_after = record {
     live = tied.0.live;
-    runnable = tied.0.runnable;
+    are = tied.0.are;
     guest_is = ap (λ (g : Guest). turned_guest g t) tied.0.guest_is ∙ sym (turned_more turns t (guest_of w p));
-    registers = subst IsSome (sym (get-insert-same guest.regs t _)) refl;
+    registers = registers_after;
   }
 
   ends_there : (end : TurnEnd) → end ≡ turn_end guest t → turn_end (turned_guest_by turns (guest_of w p)) t ≡ end
@@ -74,99 +172,238 @@ module _ (w : World) (p t : ℕ) (turns : List ℕ) (guest : Guest) (tied : Tied
   last : (end : TurnEnd) → end ≡ turn_end guest t → LastEnds w.state p (guest_of w p) (turns ++ t ∷ []) t end
   last end is = (turns, refl, tied.1, may, ends_there end is)
 
-  tied_after : (end : TurnEnd) → end ≡ turn_end guest t → TiedIn w p t (turns ++ t ∷ []) after (phase_after_turn end)
+  tied_after : (end : TurnEnd) → end ≡ turn_end guest t → TiedIn w p threads (turns ++ t ∷ []) after (phase_after_turn t end)
   tied_after turn_end_is.Quantum is =
       (stands_after, whole_more w.state p turns t (guest_of w p) tied.1 may (ends_there turn_end_is.Quantum is))
-  tied_after turn_end_is.Ecall is = (stands_after, last turn_end_is.Ecall is)
-  tied_after (turn_end_is.Trap signal) is = (stands_after, last (turn_end_is.Trap signal) is)
+  tied_after turn_end_is.Ecall is = (stands_after, runs, last turn_end_is.Ecall is)
+  tied_after (turn_end_is.Trap signal) is = (stands_after, runs, last (turn_end_is.Trap signal) is)
 
-pub tied_turn : (launch : Launch) (pass : Passing) (t : ℕ) (turns more : List ℕ) (guest after : Guest) (now later : Phase) (end : TurnEnd)
-    → Tied launch pass t turns guest now → now ≡ phase.Runs → 0 < guest.left → more ≡ turns ++ t ∷ [] → after ≡ turned_guest guest t
-    → end ≡ turn_end guest t → later ≡ phase_after_turn end → Tied launch pass t more after later
-tied_turn launch pass t turns more guest after now later end tied runs some one did ends is =
-    let before : Tied launch pass t turns guest phase.Runs = subst (Tied launch pass t turns guest) runs tied in
-    subst (Tied launch pass t more after) (sym is)
-    (subst (λ (ts : List ℕ). Tied launch pass t ts after (phase_after_turn end)) (sym one)
-    (subst (λ (g : Guest). Tied launch pass t (turns ++ t ∷ []) g (phase_after_turn end)) (sym did)
-    (tied_after (world launch pass.seen) pass.pid t turns guest before some end ends)))
+pub tied_turn : (launch : Launch) (pass : Passing) (t : ℕ) (threads : Threads) (turns more : List ℕ) (guest after : Guest) (now later : Phase)
+    (end : TurnEnd) (old : Standing) → Tied launch pass threads turns guest now → standing_of pass threads turns guest now ≡ old → RunsIn t old
+    → 0 < old.left → more ≡ turns ++ t ∷ [] → after ≡ turned_guest guest t → end ≡ turn_end guest t → later ≡ phase_after_turn t end
+    → Tied launch pass threads more after later
+tied_turn launch pass t threads turns more guest turned now later end old tied is runs some one did ends phase_is =
+    let before : Tied launch pass threads turns guest phase.Lives =
+    subst (Tied launch pass threads turns guest) (ap (λ (s : Standing). s.phase) is ∙ runs.0) tied in
+    subst (λ (x : List ℕ × Guest × Phase). Tied launch pass threads x.0 x.1 x.2) (λ i. (sym one i, sym did i, sym phase_is i))
+    (tied_after (world launch pass.seen) pass.pid t threads turns guest before (ap (λ (s : Standing). get s.threads t) is ∙ runs.1)
+    (subst (λ (s : Standing). 0 < s.left) (sym is) some) end ends)
+
+-- ---- what is asked for
+
+module _ (launch : Launch) (v : Passing) (t : ℕ) (threads : Threads) (turns : List ℕ) (guest : Guest) (now : Phase) (old : Standing)
+    (tied : Tied launch v threads turns guest now) (is : standing_of v threads turns guest now ≡ old) where
+  -- the process in the phase that contracts see
+  tied_in : (seen : Phase) → old.phase ≡ seen → Tied launch v threads turns guest seen
+  tied_in seen there = subst (Tied launch v threads turns guest) (ap (λ (s : Standing). s.phase) is ∙ there) tied
+
+  does : (what : Doing) → get old.threads t ≡ Some what → get threads t ≡ Some what
+  does what there = ap (λ (s : Standing). get s.threads t) is ∙ there
+
+  -- its thread has registers
+  pub has_registers : old.phase ≡ phase.Calls t → IsSome (get guest.regs t)
+  has_registers calls = let there = tied_in (phase.Calls t) calls in there.0.registers t (subst IsSome (sym there.1) refl)
+
+  pub has_registers_running : RunsIn t old → IsSome (get guest.regs t)
+  has_registers_running runs = (tied_in phase.Lives runs.0).0.registers t (subst IsSome (sym (does doing.Runs runs.1)) refl)
+
+  pub asks_wake : WaitsIn t old → AsksWake (world launch v.seen) v.pid t turns guest
+  asks_wake waits =
+      let there = tied_in phase.Lives waits.0 in
+      let parks : Waits (thread_of (world launch v.seen).state v.pid t) =
+      subst (λ (o : Option Doing). DoesSo o (thread_of (world launch v.seen).state v.pid t)) (does doing.Waits waits.1) (there.0.are t) in
+      record {
+        guest_is = there.0.guest_is;
+        registers = there.0.registers t (subst IsSome (sym (does doing.Waits waits.1)) refl);
+        whole = there.1;
+        waits = record { thread = parks.0; there = parks.1; waits = parks.2 };
+      }
+
+  pub asks_end : (how : EndBy) → IsDue how t old → AsksEnd (world launch v.seen) v.pid t turns how
+  asks_end (end_by.Trap signal) due = (tied_in (phase.Traps t signal) due).2
+  asks_end end_by.Expire due =
+      let there = tied_in phase.Lives due.0.0 in (
+        there.1,
+        subst (λ (o : Option Doing). DoesSo o (thread_of (world launch v.seen).state v.pid t)) (does doing.Runs due.0.1) (there.0.are t),
+        sym (ap (λ (g : Guest). g.left) there.0.guest_is) ∙ ap (λ (s : Standing). s.left) is ∙ due.1,
+      )
+
+  pub does_wait : WaitsIn t old → IsSome (get threads t)
+  does_wait waits = subst IsSome (sym (does doing.Waits waits.1)) refl
+
+pub asks_call : (launch : Launch) (v : Passing) (t : ℕ) (threads : Threads) (turns taken : List ℕ) (guest : Guest) (call : Call)
+    → Tied launch v threads turns guest (phase.Calls t) → call ≡ args_of guest.memory (registers_of guest t) → taken ≡ turns
+    → AsksCall (world launch v.seen) v.pid t taken guest call
+asks_call launch v t threads turns taken guest call tied encoded all =
+    subst (λ (ts : List ℕ). AsksCall (world launch v.seen) v.pid t ts guest call) (sym all) (record {
+      guest_is = tied.0.guest_is;
+      registers = tied.0.registers t (subst IsSome (sym tied.1) refl);
+      asks = λ given. (tied.2, encoded ∙ ap (λ (g : Guest). args_of g.memory (registers_of g t)) tied.0.guest_is);
+    })
+
+-- ---- a process after entries of others
+
+-- what is said of the pass's process is said of the same process by the pass's number
+at_pass : (launch : Launch) (v : Passing) (p : ℕ) (threads : Threads) (turns : List ℕ) (guest : Guest) (now : Phase) → v.pid ≡ p
+    → TiedIn (world launch v.seen) p threads turns guest now → Tied launch v threads turns guest now
+at_pass launch v p threads turns guest now same tied = subst (λ (q : ℕ). TiedIn (world launch v.seen) q threads turns guest now) (sym same) tied
+
+-- some answer, by which what is asked whatever the answer is can be read
+some_answer : Answer
+some_answer = answer.Reply (refused Nosys)
+
+module _ (launch : Launch) (v w : Passing) (threads : Threads) (turns : List ℕ) (was : Guest) (stands : Stands (world launch v.seen) v.pid threads turns was)
+    (looked : Looked launch v w) (live : IsLiveIn (world launch w.seen) v.pid) where
+  same_since : Same (world launch w.seen) (world launch v.seen) v.pid
+  same_since =
+      left_alone launch v.seen looked.later.beginning.0 w.seen v.pid looked.seen.legal (sym looked.later.beginning.1) looked.later.same
+      (subst IsSome (sym stands.live) refl) live
+
+  threads_since : threads_of (world launch w.seen).state v.pid ≡ threads_of (world launch v.seen).state v.pid
+  threads_since = same_threads (world launch w.seen) (world launch v.seen) v.pid same_since
+
+  stands_still : Stands (world launch w.seen) v.pid threads turns was
+  stands_still = record {
+    live = live;
+    are = λ u. subst (DoesSo (get threads u)) (sym (ap (λ o. thread_in o u) threads_since)) (stands.are u);
+    guest_is = stands.guest_is ∙ ap (turned_guest_by turns) (sym same_since.guest);
+    registers = stands.registers;
+  }
+
+  whole_still : AreWhole (world launch v.seen).state v.pid (guest_of (world launch v.seen) v.pid) turns
+      → AreWhole (world launch w.seen).state v.pid (guest_of (world launch w.seen) v.pid) turns
+  whole_still whole =
+      subst (λ (g : Guest). AreWhole (world launch w.seen).state v.pid g turns) (sym same_since.guest)
+      (whole_there (world launch v.seen).state (world launch w.seen).state v.pid threads_since (guest_of (world launch v.seen) v.pid) turns whole)
+
+  call_still : (t : ℕ) → LastEnds (world launch v.seen).state v.pid (guest_of (world launch v.seen) v.pid) turns t turn_end_is.Ecall
+      → LastEnds (world launch w.seen).state v.pid (guest_of (world launch w.seen) v.pid) turns t turn_end_is.Ecall
+  call_still t last =
+      let guest : Guest = turned_guest_by turns (guest_of (world launch v.seen) v.pid) in
+      (asks_stay (world launch v.seen) (world launch w.seen) (thread_at (world launch v.seen).state v.pid t) turns
+      (act.Call (args_of guest.memory (registers_of guest t)) some_answer) same_since.guest threads_since (last, refl)).0
+
+  -- the process is what it was, if it is live: between two turns, and before a call
+  lives_still : AreWhole (world launch v.seen).state v.pid (guest_of (world launch v.seen) v.pid) turns → Tied launch w threads turns was phase.Lives
+  lives_still whole = at_pass launch w v.pid threads turns was phase.Lives looked.pid (stands_still, whole_still whole)
+
+  calls_still : (t : ℕ) → get threads t ≡ Some doing.Runs
+      → LastEnds (world launch v.seen).state v.pid (guest_of (world launch v.seen) v.pid) turns t turn_end_is.Ecall
+      → Tied launch w threads turns was (phase.Calls t)
+  calls_still t runs last = at_pass launch w v.pid threads turns was (phase.Calls t) looked.pid (stands_still, runs, call_still t last)
+
+calls_moved : (launch : Launch) (v w : Passing) (t : ℕ) (threads : Threads) (turns : List ℕ) (was : Guest) → Tied launch v threads turns was (phase.Calls t)
+    → Moved launch v w → Tied launch w threads turns was (phase.Calls t)
+calls_moved launch v w t threads turns was tied (inl same) = subst (λ (x : Passing). Tied launch x threads turns was (phase.Calls t)) (sym same) tied
+calls_moved launch v w t threads turns was tied (inr looked) =
+    calls_still launch v w threads turns was tied.0 looked.0 looked.1 t tied.1 tied.2
+
+-- the process that is to make a call, where its pass has moved
+pub tied_moved : (launch : Launch) (v w : Passing) (t : ℕ) (threads : Threads) (turns : List ℕ) (was : Guest) (now : Phase) (old : Standing)
+    → Tied launch v threads turns was now → standing_of v threads turns was now ≡ old → old.phase ≡ phase.Calls t → Moved launch v w
+    → Tied launch w threads turns was (phase.Calls t)
+tied_moved launch v w t threads turns was now old tied is calls moved =
+    calls_moved launch v w t threads turns was (subst (Tied launch v threads turns was) (ap (λ (s : Standing). s.phase) is ∙ calls) tied) moved
 
 -- ---- a call
 
--- the thread goes on after an entry of its own
-stands_on : (launch : Launch) (history : List Entry) (p t : ℕ) (guest : Guest) → Legal launch history → GoesOn launch history p t guest
-    → TiedIn (world launch history) p t [] guest phase.Runs
-stands_on launch history p t guest legal goes = (
-  record {
-    live = goes.live;
-    runnable = goes.runnable;
-    guest_is = goes.guest_is;
-    registers = subst (λ (g : Guest). IsSome (get g.regs t)) (sym goes.guest_is)
-        (legal_has_registers launch history p t legal goes.live (subst IsSome (sym goes.runnable) refl));
-  },
-  tt,
-)
+module _ (launch : Launch) (v w : Passing) (t : ℕ) (threads : Threads) (are : AreThreads (world launch v.seen) v.pid threads) where
+  -- nothing changed but what thread t does
+  keeps_do : (threads' : Threads) → KeepsBut launch v.seen w.seen v.pid t → ((u : ℕ) → u ≢ t → get threads' u ≡ get threads u)
+      → DoesSo (get threads' t) (thread_of (world launch w.seen).state v.pid t) → AreThreads (world launch w.seen) v.pid threads'
+  keeps_do threads' keeps same at = are_but (world launch v.seen) (world launch w.seen) v.pid t threads threads' are keeps same at
 
--- the thread waits in its call after the entry of it
-waits_on : (launch : Launch) (history : List Entry) (p t : ℕ) (guest : Guest) → Legal launch history → WaitsOn launch history p t guest
-    → TiedIn (world launch history) p t [] guest phase.Parks
-waits_on launch history p t guest legal waits = (
-  waits.live,
-  record {
-    guest_is = waits.guest_is;
-    registers = subst (λ (g : Guest). IsSome (get g.regs t)) (sym waits.guest_is)
-        (legal_has_registers launch history p t legal waits.live (subst IsSome (sym waits.waits.there) refl));
-    whole = tt;
-    waits = waits.waits;
-  },
-)
+  runs_do : (runs : get threads t ≡ Some doing.Runs) → (guest : Guest) → GoesOn launch w.seen v.pid t guest → KeepsBut launch v.seen w.seen v.pid t
+      → AreThreads (world launch w.seen) v.pid threads
+  runs_do runs guest goes keeps =
+      keeps_do threads keeps (λ u apart. refl)
+      (subst (λ (o : Option Doing). DoesSo o (thread_of (world launch w.seen).state v.pid t)) (sym runs) goes.runnable)
 
--- what is said of the pass's process is said of the same process by the pass's number
-at_pass : (launch : Launch) (v : Passing) (p t : ℕ) (turns : List ℕ) (guest : Guest) (now : Phase) → v.pid ≡ p
-    → TiedIn (world launch v.seen) p t turns guest now → Tied launch v t turns guest now
-at_pass launch v p t turns guest now same tied = subst (λ (q : ℕ). TiedIn (world launch v.seen) q t turns guest now) (sym same) tied
+  put_do : (what : Doing) → KeepsBut launch v.seen w.seen v.pid t → DoesSo (Some what) (thread_of (world launch w.seen).state v.pid t)
+      → AreThreads (world launch w.seen) v.pid (insert threads t what)
+  put_do what keeps at =
+      keeps_do (insert threads t what) keeps (get-insert-other threads t what)
+      (subst (λ (o : Option Doing). DoesSo o (thread_of (world launch w.seen).state v.pid t)) (sym (get-insert-same threads t what)) at)
 
-acted_at : (launch : Launch) (v w : Passing) (t : ℕ) (turns : List ℕ) (call : Call) (guest : Guest) (outcome : Acted)
-    → IsActed launch v t turns call guest w outcome → Tied launch w t [] guest (phase_after_act outcome)
-acted_at launch v w t turns call guest acted.Runs told =
-    at_pass launch w v.pid t [] guest phase.Runs told.0.added.pid
-    (stands_on launch w.seen v.pid t guest told.0.added.seen.legal told.1)
-acted_at launch v w t turns call guest acted.Parks told =
-    at_pass launch w v.pid t [] guest phase.Parks told.0.added.pid
-    (waits_on launch w.seen v.pid t guest told.0.added.seen.legal told.1)
-acted_at launch v w t turns call guest acted.Ends told = at_pass launch w v.pid t [] guest phase.Gone told.0.added.pid told.1
-acted_at launch v w t turns call guest acted.Gone told = at_pass launch w v.pid t [] guest phase.Gone told.0.pid told.1
-acted_at launch v w t turns call guest acted.NoMemory told = tt
+  left_do : KeepsBut launch v.seen w.seen v.pid t → thread_of (world launch w.seen).state v.pid t ≡ None
+      → AreThreads (world launch w.seen) v.pid (remove threads t)
+  left_do keeps at =
+      keeps_do (remove threads t) keeps (get-remove-other threads t)
+      (subst (λ (o : Option Doing). DoesSo o (thread_of (world launch w.seen).state v.pid t)) (sym (get-remove-same threads t)) at)
 
-pub tied_act : (launch : Launch) (v w : Passing) (t : ℕ) (turns none : List ℕ) (call : Call) (guest : Guest) (outcome : Acted) (later : Phase)
-    → IsActed launch v t turns call guest w outcome → none ≡ [] → later ≡ phase_after_act outcome → Tied launch w t none guest later
-tied_act launch v w t turns none call guest outcome later told empty is =
-    subst (Tied launch w t none guest) (sym is)
-    (subst (λ (ts : List ℕ). Tied launch w t ts guest (phase_after_act outcome)) (sym empty) (acted_at launch v w t turns call guest outcome told))
+starts_do : (launch : Launch) (v w : Passing) (u : ℕ) (threads : Threads) → AreThreads (world launch v.seen) v.pid threads
+    → HasStarted launch v.seen w.seen v.pid u → AreThreads (world launch w.seen) v.pid (insert threads u doing.Runs)
+starts_do launch v w u threads are started = put_do launch v w u threads are doing.Runs started.others started.runs
+
+module _ (launch : Launch) (v w : Passing) (t : ℕ) (threads : Threads) (turns : List ℕ) (call : Call) (guest : Guest)
+    (are : AreThreads (world launch v.seen) v.pid threads) (runs : get threads t ≡ Some doing.Runs) where
+  acted_at : (outcome : Acted) → IsActed launch v t turns call guest w outcome
+      → Tied launch w (threads_after_act threads t outcome) [] guest (phase_after (did_after_act outcome))
+  acted_at acted.Runs told =
+      at_pass launch w v.pid threads [] guest phase.Lives told.0.added.pid
+      (lives_there launch w.seen v.pid threads guest told.0.added.seen.legal told.1.live (runs_do launch v w t threads are runs guest told.1 told.2)
+      told.1.guest_is)
+  acted_at (acted.Starts u) told =
+      at_pass launch w v.pid (insert threads u doing.Runs) [] guest phase.Lives told.0.added.pid
+      (lives_there launch w.seen v.pid (insert threads u doing.Runs) guest told.0.added.seen.legal told.1.live
+      (starts_do launch v w u threads are told.2) told.1.guest_is)
+  acted_at acted.Parks told =
+      at_pass launch w v.pid (insert threads t doing.Waits) [] guest phase.Lives told.0.added.pid
+      (lives_there launch w.seen v.pid (insert threads t doing.Waits) guest told.0.added.seen.legal told.1.live
+      (put_do launch v w t threads are doing.Waits told.2 (told.1.waits.thread, told.1.waits.there, told.1.waits.waits)) told.1.guest_is)
+  acted_at acted.Leaves told =
+      at_pass launch w v.pid (remove threads t) [] guest phase.Lives told.0.added.pid
+      (lives_there launch w.seen v.pid (remove threads t) guest told.0.added.seen.legal told.1.live
+      (left_do launch v w t threads are told.2 told.1.gone) told.1.guest_is)
+  acted_at acted.Ends told = at_pass launch w v.pid threads [] guest phase.Gone told.0.added.pid told.1
+  acted_at acted.Gone told = at_pass launch w v.pid threads [] guest phase.Gone told.0.pid told.1
+  acted_at acted.NoMemory told = tt
+
+pub tied_act : (launch : Launch) (v w : Passing) (t : ℕ) (threads threads' : Threads) (turns taken none : List ℕ) (call : Call) (was guest : Guest)
+    (later : Phase) (outcome : Acted) (done : Did) → Tied launch v threads turns was (phase.Calls t) → IsActed launch v t taken call guest w outcome
+    → threads' ≡ threads_after_act threads t outcome → done ≡ did_after_act outcome → none ≡ [] → later ≡ phase_after done
+    → Tied launch w threads' none guest later
+tied_act launch v w t threads threads' turns taken none call was guest later outcome done tied told threads_are done_is no_turns phase_is =
+    subst (λ (x : Threads × List ℕ × Phase). Tied launch w x.0 x.1 guest x.2)
+    (λ i. (sym threads_are i, sym no_turns i, sym (phase_is ∙ ap phase_after done_is) i))
+    (acted_at launch v w t threads taken call guest tied.0.are tied.1 outcome told)
 
 -- ---- a wake
 
-module _ (launch : Launch) (v w : Passing) (t : ℕ) (turns : List ℕ) (was : Guest) where
-  -- the thread waits on after entries of others
-  parked_still : StandsParked (world launch v.seen) v.pid t turns was → Looked launch v w → IsLiveIn (world launch w.seen) v.pid
-      → Tied launch w t turns was phase.Parks
-  parked_still tied looked live =
-      at_pass launch w v.pid t turns was phase.Parks looked.pid
-      (live, asks_wake_since launch v.pid t v.seen w.seen turns was looked.seen.legal looked.later (subst IsSome (sym tied.0) refl) tied.1 live)
-
-  woken_at : (guest : Guest) (turns' : List ℕ) (outcome : Woken) → StandsParked (world launch v.seen) v.pid t turns was
-      → IsWoken launch v t turns guest w outcome → KeepsTurns was guest turns turns' outcome → Tied launch w t turns' guest (phase_after_wake outcome)
+module _ (launch : Launch) (v w : Passing) (t : ℕ) (threads : Threads) (turns : List ℕ) (was : Guest) where
+  woken_at : (guest : Guest) (turns' : List ℕ) (outcome : Woken) → Tied launch v threads turns was phase.Lives
+      → IsWoken launch v t turns guest w outcome → KeepsTurns was guest turns turns' outcome
+      → Tied launch w (threads_after_wake threads t outcome) turns' guest (phase_after (did_after_wake outcome))
   woken_at guest turns' woken.Runs tied told kept =
-      subst (λ (ts : List ℕ). Tied launch w t ts guest phase.Runs) (sym kept)
-      (at_pass launch w v.pid t [] guest phase.Runs told.0.added.pid (stands_on launch w.seen v.pid t guest told.0.added.seen.legal told.1))
-  woken_at guest turns' woken.Ends tied told kept = at_pass launch w v.pid t turns' guest phase.Gone told.0.added.pid told.1
+      subst (λ (ts : List ℕ). Tied launch w (insert threads t doing.Runs) ts guest phase.Lives) (sym kept)
+      (at_pass launch w v.pid (insert threads t doing.Runs) [] guest phase.Lives told.0.added.pid
+      (lives_there launch w.seen v.pid (insert threads t doing.Runs) guest told.0.added.seen.legal told.1.live
+      (put_do launch v w t threads tied.0.are doing.Runs told.2 told.1.runnable) told.1.guest_is))
+  woken_at guest turns' woken.Ends tied told kept = at_pass launch w v.pid threads turns' guest phase.Gone told.0.added.pid told.1
   woken_at guest turns' woken.NotReady tied told kept =
-      subst (λ (x : List ℕ × Guest). Tied launch w t x.0 x.1 phase.Parks) (λ i. (sym kept.1 i, sym kept.0 i)) (parked_still tied told.0 told.1.0)
-  woken_at guest turns' woken.Gone tied told kept = at_pass launch w v.pid t turns' guest phase.Gone told.0.pid told.1
+      subst (λ (x : List ℕ × Guest). Tied launch w threads x.0 x.1 phase.Lives) (λ i. (sym kept.1 i, sym kept.0 i))
+      (lives_still launch v w threads turns was tied.0 told.0 told.1.0 tied.1)
+  woken_at guest turns' woken.Gone tied told kept = at_pass launch w v.pid threads turns' guest phase.Gone told.0.pid told.1
   woken_at guest turns' woken.NoMemory tied told kept = tt
 
-  pub tied_wake : (now later : Phase) (guest : Guest) (turns' : List ℕ) (outcome : Woken) → Tied launch v t turns was now → now ≡ phase.Parks
-      → IsWoken launch v t turns guest w outcome → KeepsTurns was guest turns turns' outcome → later ≡ phase_after_wake outcome
-      → Tied launch w t turns' guest later
-  tied_wake now later guest turns' outcome tied parks told kept is =
-      subst (Tied launch w t turns' guest) (sym is)
-      (woken_at guest turns' outcome (subst (Tied launch v t turns was) parks tied) told kept)
+  pub tied_wake : (threads' : Threads) (now later : Phase) (guest : Guest) (turns' : List ℕ) (outcome : Woken) (done : Did) (old : Standing)
+      → Tied launch v threads turns was now → standing_of v threads turns was now ≡ old → WaitsIn t old → IsWoken launch v t turns guest w outcome
+      → KeepsTurns was guest turns turns' outcome → threads' ≡ threads_after_wake threads t outcome → done ≡ did_after_wake outcome
+      → later ≡ phase_after done → Tied launch w threads' turns' guest later
+  tied_wake threads' now later guest turns' outcome done old tied is waits told kept threads_are done_is phase_is =
+      subst (λ (x : Threads × Phase). Tied launch w x.0 turns' guest x.1)
+      (λ i. (sym threads_are i, sym (phase_is ∙ ap phase_after done_is) i))
+      (woken_at guest turns' outcome (subst (Tied launch v threads turns was) (ap (λ (s : Standing). s.phase) is ∙ waits.0) tied) told kept)
+
+-- ---- an end from outside
+
+pub tied_end : (launch : Launch) (v w : Passing) (t : ℕ) (threads : Threads) (turns none : List ℕ) (how : EndBy) (guest : Guest) (later : Phase)
+    (outcome : Stopped) (done : Did) → IsStopped launch v t turns how w outcome → done ≡ did_after_end outcome → later ≡ phase_after done
+    → Tied launch w threads none guest later
+tied_end launch v w t threads turns none how guest later outcome done told done_is phase_is =
+    subst (Tied launch w threads none guest) (sym (phase_is ∙ ap phase_after done_is)) (stopped_at outcome told)
+  where
+    stopped_at : (outcome : Stopped) → IsStopped launch v t turns how w outcome → Tied launch w threads none guest (phase_after (did_after_end outcome))
+    stopped_at stopped.Done told = at_pass launch w v.pid threads none guest phase.Gone told.0.added.pid told.1
+    stopped_at stopped.Gone told = at_pass launch w v.pid threads none guest phase.Gone told.0.pid told.1
+    stopped_at stopped.NoMemory told = tt

@@ -1,4 +1,7 @@
--- In which phase a process is after a step of it.
+-- In which phase a process is after a step of a thread, what its threads do then, and what came of it.
+use Rattle.std.specs.Prelude.{ℕ}
+use Rattle.std.specs.Ordering.{nat_cmp}
+use Rattle.std.specs.FinMap.{FinMap, insert, remove}
 use Rattle.kernel_cell.specs.declared.results.Acted.{Acted}
 use Rattle.kernel_cell.specs.declared.results.Acted.TheVariants as acted
 use Rattle.kernel_cell.specs.declared.results.Stopped.{Stopped}
@@ -9,50 +12,67 @@ use Rattle.rv_interp.specs.declared.turns.TurnEnd.{TurnEnd}
 use Rattle.rv_interp.specs.declared.turns.TurnEnd.TheVariants as turn_end_is
 use Rattle.process_cell.specs.declared.results.Did.{Did}
 use Rattle.process_cell.specs.declared.results.Did.TheVariants as did
+use Rattle.process_cell.specs.declared.results.Doing.{Doing}
+use Rattle.process_cell.specs.declared.results.Doing.TheVariants as doing
 use Rattle.process_cell.specs.declared.results.Phase.{Phase}
 use Rattle.process_cell.specs.declared.results.Phase.TheVariants as phase
 
--- after a turn that ended so
-abbrev pub phase_after_turn : TurnEnd → Phase
-phase_after_turn turn_end_is.Quantum = phase.Runs
-phase_after_turn turn_end_is.Ecall = phase.Calls
-phase_after_turn (turn_end_is.Trap signal) = phase.Traps signal
+-- what each thread of a process does, by its number
+abbrev pub Threads : Type 0
+Threads = FinMap nat_cmp Doing
 
--- after a call that came to this
-abbrev pub phase_after_act : Acted → Phase
-phase_after_act acted.Runs = phase.Runs
-phase_after_act acted.Parks = phase.Parks
-phase_after_act acted.Ends = phase.Gone
-phase_after_act acted.Gone = phase.Gone
-phase_after_act acted.NoMemory = phase.Lost
+-- after a turn of thread t that ended so
+abbrev pub phase_after_turn : ℕ → TurnEnd → Phase
+phase_after_turn t turn_end_is.Quantum = phase.Lives
+phase_after_turn t turn_end_is.Ecall = phase.Calls t
+phase_after_turn t (turn_end_is.Trap signal) = phase.Traps t signal
 
--- after the wake of a thread that came to this
-abbrev pub phase_after_wake : Woken → Phase
-phase_after_wake woken.Runs = phase.Runs
-phase_after_wake woken.Ends = phase.Gone
-phase_after_wake woken.NotReady = phase.Parks
-phase_after_wake woken.Gone = phase.Gone
-phase_after_wake woken.NoMemory = phase.Lost
+-- after a call, a wake or an end from outside that came to this
+abbrev pub phase_after : Did → Phase
+phase_after did.Runs = phase.Lives
+phase_after (did.Started u) = phase.Lives
+phase_after did.Parks = phase.Lives
+phase_after did.NotReady = phase.Lives
+phase_after did.ThreadGone = phase.Lives
+phase_after did.ProcessGone = phase.Gone
+phase_after did.NoMemory = phase.Lost
 
--- after an end from outside that came to this
-abbrev pub phase_after_end : Stopped → Phase
-phase_after_end stopped.Done = phase.Gone
-phase_after_end stopped.Gone = phase.Gone
-phase_after_end stopped.NoMemory = phase.Lost
+-- what threads do after a call of thread t that came to this
+abbrev pub threads_after_act : Threads → ℕ → Acted → Threads
+threads_after_act threads t acted.Runs = threads
+threads_after_act threads t (acted.Starts u) = insert threads u doing.Runs
+threads_after_act threads t acted.Parks = insert threads t doing.Waits
+threads_after_act threads t acted.Leaves = remove threads t
+threads_after_act threads t acted.Ends = threads
+threads_after_act threads t acted.Gone = threads
+threads_after_act threads t acted.NoMemory = threads
 
--- what a step that left a process in this phase came to
-abbrev pub did_in : Phase → Did
-did_in phase.Runs = did.Runs
-did_in phase.Calls = did.Runs
-did_in (phase.Traps signal) = did.Runs
-did_in phase.Parks = did.Parks
-did_in phase.Gone = did.ProcessGone
-did_in phase.Lost = did.NoMemory
+abbrev pub did_after_act : Acted → Did
+did_after_act acted.Runs = did.Runs
+did_after_act (acted.Starts u) = did.Started u
+did_after_act acted.Parks = did.Parks
+did_after_act acted.Leaves = did.ThreadGone
+did_after_act acted.Ends = did.ProcessGone
+did_after_act acted.Gone = did.ProcessGone
+did_after_act acted.NoMemory = did.NoMemory
 
--- what the wake of a thread came to
+-- what threads do after the wake of thread t that came to this
+abbrev pub threads_after_wake : Threads → ℕ → Woken → Threads
+threads_after_wake threads t woken.Runs = insert threads t doing.Runs
+threads_after_wake threads t woken.Ends = threads
+threads_after_wake threads t woken.NotReady = threads
+threads_after_wake threads t woken.Gone = threads
+threads_after_wake threads t woken.NoMemory = threads
+
 abbrev pub did_after_wake : Woken → Did
 did_after_wake woken.Runs = did.Runs
 did_after_wake woken.Ends = did.ProcessGone
 did_after_wake woken.NotReady = did.NotReady
 did_after_wake woken.Gone = did.ProcessGone
 did_after_wake woken.NoMemory = did.NoMemory
+
+-- what came of an end from outside
+abbrev pub did_after_end : Stopped → Did
+did_after_end stopped.Done = did.ProcessGone
+did_after_end stopped.Gone = did.ProcessGone
+did_after_end stopped.NoMemory = did.NoMemory

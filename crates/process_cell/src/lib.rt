@@ -3,8 +3,9 @@
 
 pub use gate::{Gate, OpenGate};
 pub use process::Process;
-pub use results::{Did, Phase};
+pub use results::{Did, Doing, Phase};
 
 mod gate;
+mod place;
 mod process;
 mod results;

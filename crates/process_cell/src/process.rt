@@ -1,20 +1,22 @@
-//! A process: its guest, its thread, the turns that no entry has yet, and its pass. What it has is always what the world of the
+//! A process: its guest, what its threads do, the turns that no entry has yet, and its pass. What it has is always what the world of the
 //! history that its pass has seen says, after those turns.
 ghost use Rattle.std.specs.Prelude.{◌≡◌, ◌<◌, IfOk, IfErr, OnErr};
+ghost use Rattle.std.specs.FinMap as map;
 ghost use Rattle.call_codec.specs.Bounded.{IsBounded};
 ghost use Rattle.kernel_cell.specs.declared.results.EndBy.TheVariants as end_by;
 ghost use Rattle.process_cell.specs.declared.results.Phase.TheVariants as phase;
-ghost use Rattle.process_cell.specs.Process.{IsDue, new_pass, first_standing};
-ghost use Rattle.process_cell.specs.Steps.{IsSameThread, IsCalled, IsFinished, IsEnded, IsStepped, turned_standing};
+ghost use Rattle.process_cell.specs.Process.{IsDue, RunsIn, WaitsIn, new_pass, first_standing};
+ghost use Rattle.process_cell.specs.Steps.{IsCalled, IsFinished, IsEnded, IsRun, IsStepped, turned_standing};
 
 use crate::gate::Gate;
+use crate::place::{Place, leave_place, make_place};
 use crate::results::{
-    Did, Phase, did_after_wake, did_in, phase_after_act, phase_after_end, phase_after_turn,
-    phase_after_wake,
+    Did, Doing, Phase, did_after_end, phase_after, phase_after_turn, take_acted, take_woken,
 };
 use abi_types::{Pid, Signal, Tid, TidList};
 use guest_process::{FIRST_THREAD, Guest};
 use kernel_cell::{Cell, EndBy, Naming, Pass};
+use maps::NumMap;
 use run_types::Launch;
 use rv_interp::TurnEnd;
 use std::alloc::{AllocError, Global};
@@ -22,12 +24,12 @@ use std::marker::Model;
 use std::mem;
 use std::sync::Wait;
 
-/// A process of a run, with its one thread. Contracts see whose it is, its phase, how many turns it has left, the turns that no entry
-/// has yet, the history as it has seen it, and the entries of it that it did.
+/// A process of a run. Contracts see whose it is, its phase, what each of its threads does, how many turns it has left, the turns that no
+/// entry has yet, the history as it has seen it, and the entries of it that it did.
 #[derive(Drop)]
 pub struct Process<J: Naming> {
     guest: Guest,
-    tid: Tid,
+    threads: NumMap<Doing>,
     turns: TidList,
     phase: Phase,
     pass: Pass<J>,
@@ -35,13 +37,16 @@ pub struct Process<J: Naming> {
 
 impl<J: Naming> Model for Process<J> {
     ghost use Rattle.process_cell.specs.Standing.{Standing};
+    ghost use Rattle.process_cell.specs.Codes.{standing_code};
     ghost use Rattle.process_cell.specs.Process.{standing_of, Tied};
 
     ghost Value = { Standing };
 
-    ghost view = { λ p. standing_of p.pass p.tid p.turns p.guest p.phase };
+    ghost coded = { standing_code };
 
-    ghost invariant = { λ p. Tied J.launch p.pass p.tid p.turns p.guest p.phase };
+    ghost view = { λ p. standing_of p.pass p.threads p.turns p.guest p.phase };
+
+    ghost invariant = { λ p. Tied J.launch p.pass p.threads p.turns p.guest p.phase };
 }
 
 impl<J: Naming> Process<J> {
@@ -56,11 +61,15 @@ impl<J: Naming> Process<J> {
         let Ok(guest) = Guest::start(alloc, launch) else {
             return Err(pass);
         };
+        let mut threads = NumMap::new(alloc);
+        let Ok(_) = threads.insert(u64::from(FIRST_THREAD.0), Doing::Runs) else {
+            return Err(pass);
+        };
         Ok(Process {
             guest,
-            tid: FIRST_THREAD,
+            threads,
             turns: TidList::new(alloc),
-            phase: Phase::Runs,
+            phase: Phase::Lives,
             pass,
         })
     }
@@ -72,18 +81,21 @@ impl<J: Naming> Process<J> {
         self.pass.pid()
     }
 
-    /// Its thread's number.
-    pub fn tid(&self) -> Tid
-        ensures { result ≡ self.now.tid }
-    {
-        self.tid
-    }
-
     /// Its phase.
     pub fn phase(&self) -> Phase
         ensures { result ≡ self.now.phase }
     {
         self.phase
+    }
+
+    /// What a thread does. `None` where there is no such thread.
+    pub fn doing(&self, tid: Tid) -> Option<Doing>
+        ensures { result ≡ map.get self.now.threads tid }
+    {
+        match self.threads.get(u64::from(tid.0)) {
+            Some(doing) => Some(*doing),
+            None => None,
+        }
     }
 
     /// How many turns it has left.
@@ -93,114 +105,175 @@ impl<J: Naming> Process<J> {
         self.guest.left
     }
 
-    /// A turn of its thread, and how it ended. `Err` where memory ran out, and then nothing changed.
-    pub fn turn(&mut self) -> Result<TurnEnd, AllocError>
-        requires runs { self.old.phase ≡ phase.Runs }
+    /// A turn of a thread, and how it ended. `Err` where memory ran out, and then nothing changed.
+    pub fn turn(&mut self, tid: Tid) -> Result<TurnEnd, AllocError>
+        requires runs { RunsIn tid self.old }
         requires left { 0 < self.old.left }
-        ensures ok { IfOk result (λ end. self.new ≡ turned_standing self.old end) }
+        ensures ok { IfOk result (λ end. self.new ≡ turned_standing tid self.old end) }
         ensures err { OnErr result (self.new ≡ self.old) }
     {
-        self.turns.push(self.tid)?;
-        let end = self.guest.turn(self.tid);
-        self.phase = phase_after_turn(&end);
+        self.turns.push(tid)?;
+        let end = self.guest.turn(tid);
+        self.phase = phase_after_turn(tid, &end);
         Ok(end)
     }
 
-    /// The call at which its last turn ended: the kernel answers it, and it is an entry of the history.
-    pub fn call<R: Wait>(&mut self, rt: &R, alloc: Global, cell: &Cell<J>) -> Did
-        requires { self.old.phase ≡ phase.Calls }
-        ensures same { IsSameThread self.old self.new }
-        ensures called { IsCalled self.old self.new result }
+    /// The call at which the last turn, of this thread, ended: the kernel answers it, and it is an entry of the history.
+    pub fn call<R: Wait>(&mut self, rt: &R, alloc: Global, cell: &Cell<J>, tid: Tid) -> Did
+        requires { self.old.phase ≡ phase.Calls tid }
+        ensures same { self.new.pid ≡ self.old.pid }
+        ensures called { IsCalled tid self.old self.new result }
     {
-        let Ok(call) = self.guest.call(alloc, self.tid) else {
+        let Ok(call) = self.guest.call(alloc, tid) else {
             self.phase = Phase::Lost;
             return Did::NoMemory;
         };
+        let made = match make_place(rt, cell, &mut self.pass, &mut self.threads, &call) {
+            Place::Made(made) => made,
+            Place::Gone => {
+                self.phase = Phase::Gone;
+                return Did::ProcessGone;
+            }
+            Place::NoMemory => {
+                self.phase = Phase::Lost;
+                return Did::NoMemory;
+            }
+        };
         let turns = mem::replace(&mut self.turns, TidList::new(alloc));
-        let acted = cell.act(
-            rt,
-            &mut self.pass,
-            alloc,
-            self.tid,
-            turns,
-            call,
-            &mut self.guest,
-        );
-        self.phase = phase_after_act(acted);
-        did_in(self.phase)
+        let acted = cell.act(rt, &mut self.pass, alloc, tid, turns, call, &mut self.guest);
+        leave_place(&mut self.threads, made, &acted);
+        let did = take_acted(&mut self.threads, tid, acted);
+        self.phase = phase_after(&did);
+        did
     }
 
-    /// The wake of its thread, which waits in a call: where the thread is ready, its call is answered, and that is an entry of the
-    /// history. Else the process stays as it is.
-    pub fn finish<R: Wait>(&mut self, rt: &R, alloc: Global, cell: &Cell<J>) -> Did
-        requires { self.old.phase ≡ phase.Parks }
-        ensures same { IsSameThread self.old self.new }
-        ensures finished { IsFinished J.launch self.old self.new result }
+    /// The wake of a thread, which waits in a call: where it is ready, its call is answered, and that is an entry of the history. Else the
+    /// process stays as it is.
+    pub fn finish<R: Wait>(&mut self, rt: &R, alloc: Global, cell: &Cell<J>, tid: Tid) -> Did
+        requires { WaitsIn tid self.old }
+        ensures same { self.new.pid ≡ self.old.pid }
+        ensures finished { IsFinished J.launch tid self.old self.new result }
     {
         let woken = cell.wake(
             rt,
             &mut self.pass,
             alloc,
-            self.tid,
+            tid,
             &mut self.turns,
             &mut self.guest,
         );
-        self.phase = phase_after_wake(woken);
-        did_after_wake(woken)
+        let did = take_woken(&mut self.threads, tid, woken);
+        self.phase = phase_after(&did);
+        did
     }
 
-    // Its end from outside, which is an entry of the history.
-    fn end<R: Wait>(&mut self, rt: &R, alloc: Global, cell: &Cell<J>, how: EndBy) -> Did
-        requires { IsDue how self.old }
-        ensures same { IsSameThread self.old self.new }
+    // Its end from outside, by a thread of it, which is an entry of the history.
+    fn end<R: Wait>(&mut self, rt: &R, alloc: Global, cell: &Cell<J>, tid: Tid, how: EndBy) -> Did
+        requires { IsDue how tid self.old }
+        ensures same { self.new.pid ≡ self.old.pid }
         ensures left { self.new.left ≡ self.old.left }
-        ensures ended { IsEnded how self.old self.new result }
+        ensures ended { IsEnded how tid self.old self.new result }
     {
         let turns = mem::replace(&mut self.turns, TidList::new(alloc));
-        let stopped = cell.end(rt, &mut self.pass, self.tid, turns, how);
-        self.phase = phase_after_end(stopped);
-        did_in(self.phase)
+        let stopped = cell.end(rt, &mut self.pass, tid, turns, how);
+        let did = did_after_end(stopped);
+        self.phase = phase_after(&did);
+        did
     }
 
-    /// The trap by which its last turn ended: it ends the process.
-    pub fn trap<R: Wait>(&mut self, rt: &R, alloc: Global, cell: &Cell<J>, signal: Signal) -> Did
-        requires { self.old.phase ≡ phase.Traps signal }
-        ensures same { IsSameThread self.old self.new }
+    /// The trap by which the last turn, of this thread, ended: it ends the process with all its threads.
+    pub fn trap<R: Wait>(
+        &mut self,
+        rt: &R,
+        alloc: Global,
+        cell: &Cell<J>,
+        tid: Tid,
+        signal: Signal,
+    ) -> Did
+        requires { self.old.phase ≡ phase.Traps tid signal }
+        ensures same { self.new.pid ≡ self.old.pid }
         ensures left { self.new.left ≡ self.old.left }
-        ensures ended { IsEnded (end_by.Trap signal) self.old self.new result }
+        ensures ended { IsEnded (end_by.Trap signal) tid self.old self.new result }
     {
-        self.end(rt, alloc, cell, EndBy::Trap(signal))
+        self.end(rt, alloc, cell, tid, EndBy::Trap(signal))
     }
 
-    /// The end of a process that has no turn left.
-    pub fn expire<R: Wait>(&mut self, rt: &R, alloc: Global, cell: &Cell<J>) -> Did
-        requires runs { self.old.phase ≡ phase.Runs }
+    /// The end of a process that has no turn left for a thread of it that takes turns. Whether others wait doesn't matter.
+    pub fn expire<R: Wait>(&mut self, rt: &R, alloc: Global, cell: &Cell<J>, tid: Tid) -> Did
+        requires runs { RunsIn tid self.old }
         requires left { self.old.left ≡ 0 }
-        ensures same { IsSameThread self.old self.new }
+        ensures same { self.new.pid ≡ self.old.pid }
         ensures left { self.new.left ≡ self.old.left }
-        ensures ended { IsEnded end_by.Expire self.old self.new result }
+        ensures ended { IsEnded end_by.Expire tid self.old self.new result }
     {
-        self.end(rt, alloc, cell, EndBy::Expire)
+        self.end(rt, alloc, cell, tid, EndBy::Expire)
     }
 
-    // What a process that is to take no turn now does in place of it.
-    fn enter<R: Wait>(&mut self, rt: &R, alloc: Global, cell: &Cell<J>) -> Did
-        requires { self.old.phase ≡ phase.Runs → self.old.left ≡ 0 }
-        ensures same { IsSameThread self.old self.new }
-        ensures stepped { IsStepped J.launch self.old self.new result }
+    // What a thread does that is to take no turn now: its last turn's call or trap, its wake, or its process's end.
+    fn enter<R: Wait>(&mut self, rt: &R, alloc: Global, cell: &Cell<J>, tid: Tid) -> Did
+        requires { RunsIn tid self.old → self.old.left ≡ 0 }
+        ensures same { self.new.pid ≡ self.old.pid }
+        ensures stepped { IsStepped J.launch tid self.old self.new result }
     {
         match self.phase() {
-            Phase::Runs => self.expire(rt, alloc, cell),
-            Phase::Calls => self.call(rt, alloc, cell),
-            Phase::Traps(signal) => self.trap(rt, alloc, cell, signal),
-            Phase::Parks => self.finish(rt, alloc, cell),
+            Phase::Lives => match self.doing(tid) {
+                Some(Doing::Runs) => self.expire(rt, alloc, cell, tid),
+                Some(Doing::Waits) => self.finish(rt, alloc, cell, tid),
+                None => Did::ThreadGone,
+            },
+            Phase::Calls(last) => self.call(rt, alloc, cell, last),
+            Phase::Traps(last, signal) => self.trap(rt, alloc, cell, last, signal),
             Phase::Gone => Did::ProcessGone,
             Phase::Lost => Did::NoMemory,
         }
     }
 
-    /// The next step of the process: a turn; or the call or the trap by which its last turn ended; or the wake of its thread, where it
-    /// waits; or its end, where no turn is left. The gate is passed before it and, but for a turn, after it.
+    // The same, at the gate.
+    fn pass_gate<R: Wait, G: Gate>(
+        &mut self,
+        rt: &R,
+        alloc: Global,
+        cell: &Cell<J>,
+        gate: &G,
+        worker: u32,
+        tid: Tid,
+    ) -> Did
+        requires { RunsIn tid self.old → self.old.left ≡ 0 }
+        ensures same { self.new.pid ≡ self.old.pid }
+        ensures stepped { IsStepped J.launch tid self.old self.new result }
+    {
+        gate.before(worker, self.pid(), tid, self.left());
+        let did = self.enter(rt, alloc, cell, tid);
+        gate.after(worker, self.pid(), tid);
+        did
+    }
+
+    // A turn of a thread, and the call or the trap by which it ended.
+    fn run<R: Wait, G: Gate>(
+        &mut self,
+        rt: &R,
+        alloc: Global,
+        cell: &Cell<J>,
+        gate: &G,
+        worker: u32,
+        tid: Tid,
+    ) -> Did
+        requires runs { RunsIn tid self.old }
+        requires left { 0 < self.old.left }
+        ensures same { self.new.pid ≡ self.old.pid }
+        ensures run { IsRun tid self.old self.new result }
+    {
+        gate.turning(worker, self.pid(), tid);
+        match self.turn(tid) {
+            Ok(TurnEnd::Quantum) => Did::Runs,
+            Ok(TurnEnd::Ecall) => self.pass_gate(rt, alloc, cell, gate, worker, tid),
+            Ok(TurnEnd::Trap(_)) => self.pass_gate(rt, alloc, cell, gate, worker, tid),
+            Err(_) => Did::NoMemory,
+        }
+    }
+
+    /// The next step of a thread: a turn, with the call or the trap by which it ended; or its wake, where it waits; or its process's end,
+    /// where no turn is left. The gate is passed before it and, but for a turn, after it.
     pub fn step<R: Wait, G: Gate>(
         &mut self,
         rt: &R,
@@ -208,25 +281,28 @@ impl<J: Naming> Process<J> {
         cell: &Cell<J>,
         gate: &G,
         worker: u32,
+        tid: Tid,
     ) -> Did
-        ensures same { IsSameThread self.old self.new }
-        ensures stepped { IsStepped J.launch self.old self.new result }
+        ensures same { self.new.pid ≡ self.old.pid }
+        ensures stepped { IsStepped J.launch tid self.old self.new result }
     {
         match self.phase() {
-            Phase::Gone => return Did::ProcessGone,
-            Phase::Lost => return Did::NoMemory,
-            Phase::Runs if self.left() > 0 => {
-                gate.turning(worker, self.pid(), self.tid());
-                return match self.turn() {
-                    Ok(_) => Did::Runs,
-                    Err(_) => Did::NoMemory,
-                };
+            Phase::Lives => match self.doing(tid) {
+                Some(Doing::Runs) => {
+                    if self.left() > 0 {
+                        self.run(rt, alloc, cell, gate, worker, tid)
+                    } else {
+                        self.pass_gate(rt, alloc, cell, gate, worker, tid)
+                    }
+                }
+                Some(Doing::Waits) => self.pass_gate(rt, alloc, cell, gate, worker, tid),
+                None => Did::ThreadGone,
+            },
+            Phase::Calls(_) | Phase::Traps(..) => {
+                self.pass_gate(rt, alloc, cell, gate, worker, tid)
             }
-            _ => {}
+            Phase::Gone => Did::ProcessGone,
+            Phase::Lost => Did::NoMemory,
         }
-        gate.before(worker, self.pid(), self.tid(), self.left());
-        let did = self.enter(rt, alloc, cell);
-        gate.after(worker, self.pid(), self.tid());
-        did
     }
 }

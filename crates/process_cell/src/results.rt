@@ -1,108 +1,127 @@
-//! In which phase a process is, and what came of a step of it.
-ghost use Rattle.std.specs.Prelude.{◌≡◌};
-ghost use Rattle.process_cell.specs.Phases.{phase_after_turn, phase_after_act, phase_after_wake, phase_after_end, did_in, did_after_wake};
+//! In which phase a process is, what its threads do, and what came of a step of one.
+ghost use Rattle.std.specs.Prelude.{◌≡◌, IsSome};
+ghost use Rattle.std.specs.FinMap as map;
+ghost use Rattle.process_cell.specs.Phases.{phase_after, phase_after_turn, threads_after_act, threads_after_wake, did_after_act, did_after_wake, did_after_end};
+ghost use Rattle.process_cell.specs.Places.{HasPlaceFor};
 
-use abi_types::Signal;
+use abi_types::{Signal, Tid};
 use kernel_cell::{Acted, Stopped, Woken};
+use maps::NumMap;
 use rv_interp::TurnEnd;
 
 /// In which phase a process is.
 #[derive(Clone, Copy)]
 pub enum Phase {
-    /// Its thread takes turns. Those that no entry has yet did each as many instructions as a turn has.
-    Runs,
-    /// The last turn ended at an ECALL, and the call is to be made.
-    Calls,
-    /// The last turn ended by a trap, which ends the process.
-    Traps(Signal),
-    /// Its thread waits in a call.
-    Parks,
+    /// Each turn that no entry has yet did as many instructions as a turn has. So it is between two steps, while the process lives.
+    Lives,
+    /// The last turn, of this thread, ended at an ECALL, and the call is to be made.
+    Calls(Tid),
+    /// The last turn, of this thread, ended by a trap, which ends the process.
+    Traps(Tid, Signal),
     /// The process has ended.
     Gone,
     /// Memory ran out, and the process is good for nothing more.
     Lost,
 }
 
-/// What came of a step of a process.
+/// What a thread does.
+#[derive(Clone, Copy)]
+pub enum Doing {
+    /// It takes turns.
+    Runs,
+    /// It waits in a call.
+    Waits,
+}
+
+/// What came of a step of a thread.
 #[derive(Clone, Copy)]
 pub enum Did {
-    /// The process goes on.
+    /// It goes on.
     Runs,
-    /// Its thread waits in the call that it made.
+    /// It goes on, and made the thread with this number.
+    Started(Tid),
+    /// It waits in the call that it made.
     Parks,
-    /// Its thread waits on, and nothing was done.
+    /// It waits on, and nothing was done.
     NotReady,
-    /// The process has ended.
+    /// It has ended, and its process lives on.
+    ThreadGone,
+    /// Its process has ended.
     ProcessGone,
     /// Memory ran out.
     NoMemory,
 }
 
-// The phase after a turn that ended so.
-pub(crate) fn phase_after_turn(end: &TurnEnd) -> Phase
-    ensures { result ≡ phase_after_turn end.now }
+// The phase after a turn of a thread that ended so.
+pub(crate) fn phase_after_turn(tid: Tid, end: &TurnEnd) -> Phase
+    ensures { result ≡ phase_after_turn tid end.now }
 {
     match end {
-        TurnEnd::Quantum => Phase::Runs,
-        TurnEnd::Ecall => Phase::Calls,
-        TurnEnd::Trap(signal) => Phase::Traps(*signal),
+        TurnEnd::Quantum => Phase::Lives,
+        TurnEnd::Ecall => Phase::Calls(tid),
+        TurnEnd::Trap(signal) => Phase::Traps(tid, *signal),
     }
 }
 
-// The phase after a call that came to this.
-pub(crate) fn phase_after_act(acted: Acted) -> Phase
-    ensures { result ≡ phase_after_act acted }
+// The phase after a call, a wake or an end from outside that came to this.
+pub(crate) fn phase_after(did: &Did) -> Phase
+    ensures { result ≡ phase_after did.now }
+{
+    match did {
+        Did::Runs | Did::Started(_) | Did::Parks | Did::NotReady | Did::ThreadGone => Phase::Lives,
+        Did::ProcessGone => Phase::Gone,
+        Did::NoMemory => Phase::Lost,
+    }
+}
+
+// What the threads of a process do after a call of one of them, and what came of it. A thread that was made has its place.
+pub(crate) fn take_acted(threads: &mut NumMap<Doing>, tid: Tid, acted: Acted) -> Did
+    requires { HasPlaceFor tid acted threads.old }
+    ensures threads { threads.new ≡ threads_after_act threads.old tid acted }
+    ensures did { result ≡ did_after_act acted }
 {
     match acted {
-        Acted::Runs => Phase::Runs,
-        Acted::Parks => Phase::Parks,
-        Acted::Ends | Acted::Gone => Phase::Gone,
-        Acted::NoMemory => Phase::Lost,
+        Acted::Runs => Did::Runs,
+        Acted::Starts(new) => {
+            threads.replace(u64::from(new.0), Doing::Runs);
+            Did::Started(new)
+        }
+        Acted::Parks => {
+            threads.replace(u64::from(tid.0), Doing::Waits);
+            Did::Parks
+        }
+        Acted::Leaves => {
+            threads.remove(u64::from(tid.0));
+            Did::ThreadGone
+        }
+        Acted::Ends | Acted::Gone => Did::ProcessGone,
+        Acted::NoMemory => Did::NoMemory,
     }
 }
 
-// The phase after the wake of a thread that came to this.
-pub(crate) fn phase_after_wake(woken: Woken) -> Phase
-    ensures { result ≡ phase_after_wake woken }
+// The same after the wake of a thread.
+pub(crate) fn take_woken(threads: &mut NumMap<Doing>, tid: Tid, woken: Woken) -> Did
+    requires { IsSome (map.get threads.old tid) }
+    ensures threads { threads.new ≡ threads_after_wake threads.old tid woken }
+    ensures did { result ≡ did_after_wake woken }
 {
     match woken {
-        Woken::Runs => Phase::Runs,
-        Woken::NotReady => Phase::Parks,
-        Woken::Ends | Woken::Gone => Phase::Gone,
-        Woken::NoMemory => Phase::Lost,
-    }
-}
-
-// The phase after an end from outside that came to this.
-pub(crate) fn phase_after_end(stopped: Stopped) -> Phase
-    ensures { result ≡ phase_after_end stopped }
-{
-    match stopped {
-        Stopped::Done | Stopped::Gone => Phase::Gone,
-        Stopped::NoMemory => Phase::Lost,
-    }
-}
-
-// What a step that left the process in this phase came to.
-pub(crate) fn did_in(phase: Phase) -> Did
-    ensures { result ≡ did_in phase }
-{
-    match phase {
-        Phase::Runs | Phase::Calls | Phase::Traps(_) => Did::Runs,
-        Phase::Parks => Did::Parks,
-        Phase::Gone => Did::ProcessGone,
-        Phase::Lost => Did::NoMemory,
-    }
-}
-
-// What the wake of a thread that waited came to.
-pub(crate) fn did_after_wake(woken: Woken) -> Did
-    ensures { result ≡ did_after_wake woken }
-{
-    match woken {
-        Woken::Runs => Did::Runs,
+        Woken::Runs => {
+            threads.replace(u64::from(tid.0), Doing::Runs);
+            Did::Runs
+        }
         Woken::NotReady => Did::NotReady,
         Woken::Ends | Woken::Gone => Did::ProcessGone,
         Woken::NoMemory => Did::NoMemory,
+    }
+}
+
+// What came of an end from outside.
+pub(crate) fn did_after_end(stopped: Stopped) -> Did
+    ensures { result ≡ did_after_end stopped }
+{
+    match stopped {
+        Stopped::Done | Stopped::Gone => Did::ProcessGone,
+        Stopped::NoMemory => Did::NoMemory,
     }
 }

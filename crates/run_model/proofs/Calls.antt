@@ -1,8 +1,8 @@
 -- What a call leaves of the kernel's state, and the end of a process from outside.
 --     called_is      a step of a call that registers encode leaves what its answer says
 --     woken_is      and so does a wake
---     stays_on      a thread of a process that lives on is there after its call
---     runs_on      a runnable thread of a process that lives on is runnable after a call with a reply
+--     stays_on      a thread of a process that lives on is there after its call, unless that ends it
+--     runs_on      a runnable thread of a process that lives on is runnable after a call with a reply, unless that ends it
 --     ended_by      a process that is ended is not live
 use Rattle.std.proofs.Common.{◌≡◌, ◌≢◌, inl, inr, ℕ, true, false, Option, None, Some, IsSome, is_some, refl, sym, ap, subst, ◌∙◌}
 use Rattle.std.proofs.lemmas.Bool.Decides.{eqb_tells}
@@ -25,13 +25,13 @@ use Rattle.kernel_model.specs.Outcome.{is_parked}
 use Rattle.kernel_model.specs.State.{State, thread_of}
 use Rattle.kernel_model.specs.Step.{failed, step_state, IsStep, end_state}
 use Rattle.kernel_model.proofs.Refusals.{IsNoLackOf, reply_no_lack}
-use Rattle.kernel_model.specs.Threads.{IsCallerAfter}
+use Rattle.kernel_model.specs.Threads.{ends_caller, IsCallerAfter}
 use Rattle.kernel_model.specs.Waits.{may_wait, resumed, waiting}
 use Rattle.kernel_model.specs.Wakes.{IsWake}
 use Rattle.kernel_model.proofs.Tests.{not_true}
 use Rattle.kernel_model.proofs.WaitedCalls.{waited_is_no_lack}
 use Rattle.kernel_model.proofs.Steps.{step_moves_only, end_ends_only}
-use Rattle.kernel_model.proofs.Threads.{keeps_caller, keeps_others}
+use Rattle.kernel_model.proofs.Threads.{keeps_others}
 use Rattle.guest_memory.specs.Page.{Pages}
 use Rattle.call_codec.specs.Arguments.{args_of}
 use Rattle.run_model.specs.Legal.{IsRunnable}
@@ -73,28 +73,29 @@ caller_there waits (answer.Parked writes) None after is there = absurd (not_true
 caller_there waits (answer.Parked writes) (Some thread) after is there = ap is_some is
 caller_there waits (answer.Reply reply) before after is there = subst IsSome (sym is) there
 
--- a thread of a process that is live after its call is there then
+-- a thread of a process that is live after its call, which doesn't end it, is there then
 pub stays_on : (constants : Constants) (S : State) (who : Who) (call : Call) (given : Answer) (T : State) → IsStep constants S who call given T
-    → get T.statuses who.pid ≡ Some Live → IsSome (thread_of S who.pid who.tid) → IsSome (thread_of T who.pid who.tid)
-stays_on constants S who call given T step live there =
+    → ends_caller call given ≡ false → get T.statuses who.pid ≡ Some Live → IsSome (thread_of S who.pid who.tid) → IsSome (thread_of T who.pid who.tid)
+stays_on constants S who call given T step lasts live there =
     let left = (step_moves_only constants S who call given T step).threads live in
     caller_there (waiting constants call who.since) given (thread_of S who.pid who.tid) (thread_of T who.pid who.tid)
-    (left.caller (keeps_caller constants S who call given T step)) there
+    (left.caller lasts) there
 
 caller_runs : (waits : Thread) (given : Answer) (before after : Option Thread) → is_parked given ≡ false → IsCallerAfter waits given before after
     → before ≡ Some Runnable → after ≡ Some Runnable
 caller_runs waits (answer.Parked writes) before after replies same runs = absurd (not_true (sym replies))
 caller_runs waits (answer.Reply reply) before after replies same runs = same ∙ runs
 
--- a runnable thread of a process that is live after a call with a reply is runnable then
+-- a runnable thread of a process that is live after a call with a reply, which doesn't end that thread, is runnable then
 pub runs_on : (constants : Constants) (S : State) (who : Who) (call : Call) (given : Answer) (T : State) (t : ℕ) → IsStep constants S who call given T
-    → is_parked given ≡ false → get T.statuses who.pid ≡ Some Live → IsRunnable S who.pid t → IsRunnable T who.pid t
-runs_on constants S who call given T t step replies live runs =
+    → is_parked given ≡ false → (t ≡ who.tid → ends_caller call given ≡ false) → get T.statuses who.pid ≡ Some Live → IsRunnable S who.pid t
+    → IsRunnable T who.pid t
+runs_on constants S who call given T t step replies lasts live runs =
     let left = (step_moves_only constants S who call given T step).threads live in
     elim (eqb_tells t who.tid) [
       | inl is ↦ subst (IsRunnable T who.pid) (sym is.1)
           (caller_runs (waiting constants call who.since) given (thread_of S who.pid who.tid) (thread_of T who.pid who.tid) replies
-          (left.caller (keeps_caller constants S who call given T step)) (subst (IsRunnable S who.pid) is.1 runs))
+          (left.caller (lasts is.1)) (subst (IsRunnable S who.pid) is.1 runs))
       | inr other ↦ left.others t other.1 (subst IsSome (sym runs) refl) (keeps_others constants S who call given T step) ∙ runs
     ]
 

@@ -28,8 +28,10 @@ use Rattle.kernel_model.specs.Step.{step_answer, step_state}
 use Rattle.kernel_model.specs.Valid.{IsValid}
 use Rattle.kernel_model.specs.Waits.{may_wait, resumed, MayWait, WaitsIn}
 use Rattle.kernel_model.specs.Wakes.{is_ready, is_ready_as, AllParked, IsStalled, IsWake, MayJump, NoneReady}
+use Rattle.kernel_model.specs.Threads.{ends_caller}
 use Rattle.kernel_model.proofs.Tests.{not_true}
-use Rattle.kernel_model.proofs.Waking.{ready_has_wake, wake_makes_none, wake_moves_only}
+use Rattle.kernel_model.proofs.ThreadLaws.{exit_leaves_one}
+use Rattle.kernel_model.proofs.Waking.{ready_has_wake, wake_keeps, wake_moves_only}
 use Rattle.tree_model.specs.Grants.{MayBegin}
 use Rattle.rv_interp.specs.declared.turns.TurnEnd.{TurnEnd}
 use Rattle.rv_interp.specs.declared.turns.TurnEnd.TheVariants as turn_end_is
@@ -44,7 +46,7 @@ use Rattle.run_model.proofs.Calls.{called_is, ended_by, stays_on, woken_is}
 use Rattle.run_model.proofs.Ends.{killed_is_not_live, start_only}
 use Rattle.run_model.proofs.Own.{own_or_left, no_births, same_threads}
 use Rattle.run_model.proofs.Running.{NoneRuns, one_or_none, ready_or_none, some_lives, thread_lives}
-use Rattle.run_model.proofs.Worlds.{world_is_valid}
+use Rattle.run_model.proofs.Worlds.{apply_valid, first_valid, world_is_valid}
 use Rattle.run_model.proofs.Potentials.{history_is_short}
 use Rattle.run_model.proofs.Histories.{apply_is, turned_more, whole_more, legal_none, legal_more, first_thread}
 
@@ -58,27 +60,31 @@ the_thread : (S : State) (p t : ℕ) (o : Option Thread) → thread_of S p t ≡
 the_thread S p t None is there = absurd (not_true there)
 the_thread S p t (Some thread) is there = (t, thread, is)
 
--- the thread that did an act is there after it, if its process lives on
-acted_has : (w : World) (who : Who) (guest : Guest) (ts : List ℕ) (a : Act) → is_idle a ≡ false → FitsAct w.constants w.state who guest ts a
-    → HasThreads (acted w who a).state who.pid
-acted_has w who guest ts (act.Call call given) done fits live =
+-- the thread that did an act is there after it, if its process lives on, or it has ended and another one is there
+acted_has : (w : World) (who : Who) (guest : Guest) (ts : List ℕ) (a : Act) → is_idle a ≡ false → IsValid w.state
+    → FitsAct w.constants w.state who guest ts a → HasThreads (acted w who a).state who.pid
+acted_has w who guest ts (act.Call call given) done valid fits live =
     let T = called_state w.constants w.state who call given in
-    the_thread T who.pid who.tid (thread_of T who.pid who.tid) refl
-    (stays_on w.constants w.state who call given T fits.1 live (ap is_some fits.0.0.3.0))
-acted_has w who guest ts (act.Wake call given answered) done fits live = (
+    elim (ends_caller call given) as (λ b. ends_caller call given ≡ b → (t : ℕ) × (thread : Thread) × HasThread T who.pid t thread) [
+      | true ↦ λ ends. exit_leaves_one w.constants w.state who call given T fits.1 ends live
+      | false ↦ λ lasts.
+          the_thread T who.pid who.tid (thread_of T who.pid who.tid) refl
+          (stays_on w.constants w.state who call given T fits.1 lasts live (ap is_some fits.0.0.3.0))
+    ] refl
+acted_has w who guest ts (act.Wake call given answered) done valid fits live = (
   who.tid,
   Runnable,
   (wake_moves_only w.constants w.state who call given answered (woken_state w.constants w.state who call given answered) fits.1.1).runs live
-      (ap is_some fits.0.1.1) (wake_makes_none w.constants w.state who call given answered (woken_state w.constants w.state who call given answered) fits.1.1).0,
+      (ap is_some fits.0.1.1) (wake_keeps w.state who call answered valid fits.0.1).0,
 )
-acted_has w who guest ts (act.Trap signal) done fits live = absurd (ended_by w.state who.pid (Killed signal) (killed_is_not_live signal) live)
-acted_has w who guest ts act.Expire done fits live = absurd (ended_by w.state who.pid (Killed Xcpu) (killed_is_not_live Xcpu) live)
-acted_has w who guest ts act.Idle done fits live = absurd (not_true (sym done))
+acted_has w who guest ts (act.Trap signal) done valid fits live = absurd (ended_by w.state who.pid (Killed signal) (killed_is_not_live signal) live)
+acted_has w who guest ts act.Expire done valid fits live = absurd (ended_by w.state who.pid (Killed Xcpu) (killed_is_not_live Xcpu) live)
+acted_has w who guest ts act.Idle done valid fits live = absurd (not_true (sym done))
 
-own_has : (w : World) (e : Entry) → is_idle e.act ≡ false → Fits w e → HasThreads (apply w e).state e.pid
-own_has w e done fits =
+own_has : (w : World) (e : Entry) → is_idle e.act ≡ false → IsValid w.state → Fits w e → HasThreads (apply w e).state e.pid
+own_has w e done valid fits =
     subst (λ (v : World). HasThreads v.state e.pid) (sym (apply_is w e))
-    (acted_has (turned w e.pid e.turns) (who_of w.state e) (guest_of w e.pid) e.turns e.act done fits.act)
+    (acted_has (turned w e.pid e.turns) (who_of w.state e) (guest_of w e.pid) e.turns e.act done valid fits.act)
 
 others_have : (w v : World) (a : Act) (q : ℕ) → HasThreads w.state q → IsLeft w v a q → HasThreads v.state q
 others_have w v a q before (is_born there) live = absurd (no_births a q there)
@@ -86,18 +92,19 @@ others_have w v a q before (is_ended was dead) live = absurd (dead live)
 others_have w v a q before (stays same) live =
     let has = before (sym same.status ∙ live) in (has.0, has.1, ap (λ o. thread_in o has.0) (same_threads v w q same) ∙ has.2)
 
-threads_after : (w : World) (e : Entry) → ((p : ℕ) → HasThreads w.state p) → Fits w e → (p : ℕ) → HasThreads (apply w e).state p
-threads_after w e before fits p =
+threads_after : (w : World) (e : Entry) → IsValid w.state → ((p : ℕ) → HasThreads w.state p) → Fits w e → (p : ℕ) → HasThreads (apply w e).state p
+threads_after w e valid before fits p =
     elim (own_or_left w e p fits) [
-      | inl is ↦ subst (HasThreads (apply w e).state) (sym is.0) (own_has w e is.1 fits)
+      | inl is ↦ subst (HasThreads (apply w e).state) (sym is.0) (own_has w e is.1 valid fits)
       | inr left ↦ others_have w (apply w e) e.act p (before p) left
     ]
 
-follows_threads : (w : World) (history : List Entry) → ((p : ℕ) → HasThreads w.state p) → FollowsFrom w history
+follows_threads : (w : World) (history : List Entry) → IsValid w.state → ((p : ℕ) → HasThreads w.state p) → FollowsFrom w history
     → (p : ℕ) → HasThreads (apply_all w history).state p
 unfolding FollowsFrom apply_all
-follows_threads w [] before follows = before
-follows_threads w (e ∷ history) before follows = follows_threads (apply w e) history (threads_after w e before follows.0) follows.1
+follows_threads w [] valid before follows = before
+follows_threads w (e ∷ history) valid before follows =
+    follows_threads (apply w e) history (apply_valid w e follows.0 valid) (threads_after w e valid before follows.0) follows.1
 
 start_threads : (launch : Launch) (p : ℕ) → HasThreads (start_world launch).state p
 start_threads launch p live =
@@ -106,9 +113,9 @@ start_threads launch p live =
       | inr other ↦ absurd (start_only launch p other.1 live)
     ]
 
-legal_threads : (launch : Launch) (history : List Entry) → Legal launch history → (p : ℕ) → HasThreads (world launch history).state p
+legal_threads : (launch : Launch) (history : List Entry) → MayBegin launch.tree launch.grants → Legal launch history → (p : ℕ) → HasThreads (world launch history).state p
 unfolding Legal world
-legal_threads launch history legal = follows_threads (start_world launch) history (start_threads launch) legal
+legal_threads launch history begins legal = follows_threads (start_world launch) history (first_valid launch begins) (start_threads launch) legal
 
 -- ---- an act that follows
 
@@ -245,7 +252,7 @@ world_goes_on w valid threads =
 pub ends_or_goes_on : (launch : Launch) (history : List Entry) → MayBegin launch.tree launch.grants → Legal launch history
     → Ended launch history ⊎ (Stalled launch history ⊎ ((e : Entry) × Fits (world launch history) e))
 ends_or_goes_on launch history begins legal =
-    world_goes_on (world launch history) (world_is_valid launch history begins legal) (legal_threads launch history legal)
+    world_goes_on (world launch history) (world_is_valid launch history begins legal) (legal_threads launch history begins legal)
 
 -- an ended process has no thread, so an ended run isn't stalled
 pub ended_or_stalled : (launch : Launch) (history : List Entry) → MayBegin launch.tree launch.grants → Legal launch history → Ended launch history

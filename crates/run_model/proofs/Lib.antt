@@ -10,9 +10,12 @@ pub mod Encoded
 pub mod Worlds
 pub mod EncodedBadf
 pub mod Own
+pub mod ThreadRegisters
 pub mod Registers
 pub mod Bounds
 pub mod Wakes
 pub mod Waited
 pub mod WaitingRegisters
 pub mod Asks
+pub mod Counts
+pub mod ThreadLaws

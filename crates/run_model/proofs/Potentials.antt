@@ -55,7 +55,7 @@ whole_take S p (t ∷ ts) guest whole =
     let some : 0 < guest.left = whole.0.1 in
     omega arith
 
-last_take : (S : State) (p : ℕ) (guest : Guest) (ts : List ℕ) (t : ℕ) (end : TurnEnd) → LastEnds S p guest ts t end
+pub last_take : (S : State) (p : ℕ) (guest : Guest) (ts : List ℕ) (t : ℕ) (end : TurnEnd) → LastEnds S p guest ts t end
     → ((turned_guest_by ts guest).left + length ts ≡ guest.left) × (0 < length ts)
 last_take S p guest ts t end last =
     let before : (turned_guest_by last.0 guest).left + length last.0 ≡ guest.left = whole_take S p last.0 guest last.2 in

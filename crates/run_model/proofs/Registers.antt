@@ -1,15 +1,21 @@
 -- In the world of a legal history each thread of a live process has registers.
-use Rattle.std.proofs.Common.{◌≡◌, ◌≢◌, ◌⊎◌, ℕ, false, List, [], ◌∷◌, Option, Some, None, IsSome, inl, inr, refl, sym, ap, subst, ◌∙◌}
+use Rattle.std.proofs.Common.{◌≡◌, ◌≢◌, ◌⊎◌, ℕ, Bool, true, false, List, [], ◌∷◌, Option, Some, None, IsSome, is_some, inl, inr, refl, sym, ap, subst, ◌∙◌}
 use Rattle.std.proofs.lemmas.Bool.Decides.{eqb_tells}
 use Rattle.std.specs.Ordering.{nat_cmp}
-use Rattle.std.specs.FinMap.{empty, get, get-empty}
+use Rattle.std.specs.FinMap.{FinMap, empty, get, get-empty, insert}
+use Rattle.std.specs.Prelude.{if◌then◌else◌}
+use Rattle.abi_base.specs.Registers.{Registers}
 use Rattle.abi_types.specs.declared.reply.Answer.{Answer}
+use Rattle.abi_types.specs.declared.reply.Answer.TheVariants as answer
 use Rattle.abi_types.specs.declared.call.Call.{Call}
+use Rattle.abi_types.specs.declared.call.Call.TheVariants.{ThreadCreate}
 use Rattle.abi_types.specs.declared.constants.Constants.{Constants}
 use Rattle.abi_base.specs.declared.signal.Signal.TheVariants.{Xcpu}
 use Rattle.abi_types.specs.declared.status.Status.TheVariants.{Live, Killed}
+use Rattle.abi_types.specs.declared.thread.Thread.{Thread}
 use Rattle.abi_types.specs.declared.thread.Thread.TheVariants.{Runnable}
 use Rattle.abi_types.specs.declared.wake.WakeIn.{WakeIn}
+use Rattle.abi_types.specs.declared.wake.WakeIn.TheVariants as wake
 use Rattle.abi_types.specs.declared.who.Who.{Who}
 use Rattle.run_types.specs.declared.history.Act.{Act}
 use Rattle.run_types.specs.declared.history.Act.TheVariants as act
@@ -19,15 +25,19 @@ use Rattle.kernel_model.specs.State.{State, thread_in, thread_of}
 use Rattle.kernel_model.specs.Step.{IsStep}
 use Rattle.kernel_model.proofs.Steps.{insert_some, step_moves_only}
 use Rattle.kernel_model.proofs.Tests.{not_true}
-use Rattle.kernel_model.proofs.Threads.{makes_none}
-use Rattle.kernel_model.proofs.Waking.{wake_makes_none, wake_moves_only}
+use Rattle.kernel_model.proofs.ThreadLaws.{create_number}
+use Rattle.kernel_model.proofs.Threading.{thread_still}
+use Rattle.kernel_model.proofs.Waking.{fault_ends}
+use Rattle.run_model.proofs.ThreadRegisters.{called_made}
+use Rattle.kernel_model.specs.Threads.{ends_caller, first_result, is_success, makes_thread}
+use Rattle.kernel_model.specs.Waits.{resumed}
 use Rattle.kernel_model.specs.Wakes.{IsWake}
-use Rattle.maps.specs.Maps.{get-insert-same, get-insert-other}
+use Rattle.maps.specs.Maps.{get-insert-same, get-insert-other, get-remove-other}
 use Rattle.call_codec.specs.Put.{answered_of}
-use Rattle.call_codec.specs.Start.{first_registers}
+use Rattle.call_codec.specs.Start.{first_registers, thread_registers}
 use Rattle.run_model.specs.Legal.{FitsAct, Fits, FollowsFrom, Legal}
 use Rattle.run_model.specs.Own.{is_idle, IsLiveIn, IsLeft, is_born, is_ended, stays}
-use Rattle.run_model.specs.World.{World, Guest, start_world, guest_of, registers_of, thread_turn, called_guest, called_state, woken_state, with_guest, turned_guest, turned_guest_by, turned, acted, who_of, apply, apply_all, world}
+use Rattle.run_model.specs.World.{World, Guest, start_world, guest_of, registers_of, thread_turn, left_regs, made_regs, called_guest, called_state, woken_state, with_guest, turned_guest, turned_guest_by, turned, acted, who_of, apply, apply_all, world}
 use Rattle.run_model.proofs.Calls.{ended_by}
 use Rattle.run_model.proofs.Ends.{killed_is_not_live, start_only}
 use Rattle.run_model.proofs.Histories.{apply_is, guest_set, guest_turned, first_guest_is, first_threads}
@@ -47,53 +57,108 @@ turned_registers : (ts : List ℕ) (guest : Guest) (t : ℕ) → HasRegisters gu
 turned_registers [] guest t some = some
 turned_registers (u ∷ ts) guest t some = turned_registers ts (turned_guest guest u) t (insert_some guest.regs u (thread_turn guest u).regs t some)
 
-called_registers : (guest : Guest) (tid : ℕ) (call : Call) (given : Answer) (t : ℕ) → HasRegisters guest t → HasRegisters (called_guest guest tid call given) t
-called_registers guest tid call given t some = insert_some guest.regs tid (answered_of (registers_of guest tid) call given) t some
+-- a call keeps those of a thread that was there, unless it ends it, and gives some to one that it makes
+made_some : (regs : FinMap nat_cmp Registers) (call : Call) (given : Answer) (t : ℕ) → IsSome (get regs t) → IsSome (get (made_regs regs call given) t)
+made_some regs (ThreadCreate attributes) (answer.Parked writes) t some = some
+made_some regs (ThreadCreate attributes) (answer.Reply reply) t some =
+    elim (is_success reply.errno) as (λ b. IsSome (get (if b then insert regs reply.r1 (thread_registers attributes reply.r1) else regs) t)) [
+      | true ↦ insert_some regs reply.r1 (thread_registers attributes reply.r1) t some
+      | false ↦ some
+    ]
+made_some regs _ given t some = some
+
+left_some : (ends : Bool) (regs : FinMap nat_cmp Registers) (tid t : ℕ) → (t ≡ tid → ends ≡ false) → IsSome (get regs t) → IsSome (get (left_regs ends tid regs) t)
+left_some true regs tid t lasts some =
+    elim (eqb_tells t tid) [
+      | inl is ↦ absurd (not_true (sym (lasts is.1)))
+      | inr apart ↦ subst IsSome (sym (get-remove-other regs tid t apart.1)) some
+    ]
+left_some false regs tid t lasts some = some
+
+called_registers : (guest : Guest) (tid : ℕ) (call : Call) (given : Answer) (t : ℕ) → (t ≡ tid → ends_caller call given ≡ false) → HasRegisters guest t
+    → HasRegisters (called_guest guest tid call given) t
+called_registers guest tid call given t lasts some =
+    let own = insert guest.regs tid (answered_of (registers_of guest tid) call given) in
+    left_some (ends_caller call given) (made_regs own call given) tid t lasts
+    (made_some own call given t (insert_some guest.regs tid (answered_of (registers_of guest tid) call given) t some))
+
+new_registers : (guest : Guest) (tid : ℕ) (call : Call) (given : Answer) → makes_thread call given ≡ true
+    → HasRegisters (called_guest guest tid call given) (first_result given)
+new_registers guest tid (ThreadCreate attributes) given makes =
+    ap is_some (called_made (insert guest.regs tid (answered_of (registers_of guest tid) (ThreadCreate attributes) given)) tid attributes given makes)
+new_registers guest tid _ given makes = absurd (not_true makes)
 
 some_or_none : {X : Type 0} (o : Option X) → IsSome o ⊎ (o ≡ None)
 some_or_none None = inr refl
 some_or_none (Some x) = inl refl
 
--- a thread that is there after a call of its process was there before, since no call makes one
+-- A thread that is there after a call of its process was there before, and not ended, or the call has made it.
+abbrev WasThere : State → Who → Call → Answer → ℕ → Type 0
+WasThere S who call given t =
+    (IsSome (thread_of S who.pid t) × (t ≡ who.tid → ends_caller call given ≡ false)) ⊎ ((makes_thread call given ≡ true) × (t ≡ first_result given))
+
+lasts_if_there : (call : Call) (given : Answer) (o : Option Thread) → (ends_caller call given ≡ true → o ≡ None) → IsSome o → ends_caller call given ≡ false
+lasts_if_there call given o gone there =
+    elim (ends_caller call given) as (λ b. ends_caller call given ≡ b → ends_caller call given ≡ false) [
+      | true ↦ λ ends. absurd (not_true (subst IsSome (gone ends) there))
+      | false ↦ λ lasts. lasts
+    ] refl
+
 was_there : (constants : Constants) (S : State) (who : Who) (call : Call) (given : Answer) (T : State) (t : ℕ) → IsStep constants S who call given T
-    → get T.statuses who.pid ≡ Some Live → IsSome (thread_of T who.pid t) → IsSome (thread_of S who.pid t)
+    → get T.statuses who.pid ≡ Some Live → IsSome (thread_of T who.pid t) → WasThere S who call given t
 was_there constants S who call given T t step live here =
     let left = (step_moves_only constants S who call given T step).threads live in
     elim (some_or_none (thread_of S who.pid t)) [
-      | inl there ↦ there
-      | inr none ↦ absurd (not_true (sym (makes_none constants S who call given T step) ∙ (left.made t none here).0))
+      | inl there ↦ inl (
+        there,
+        λ is. lasts_if_there call given (thread_of T who.pid who.tid) left.ended (subst (λ u. IsSome (thread_of T who.pid u)) is here),
+      )
+      | inr none ↦ (
+          let made = left.made t none here in
+          inr (made.0, made.1 ∙ sym (create_number constants S who call given T step made.0).0))
     ]
 
--- nor does a wake
+-- the same of a wake, which is a step from where its thread runs, or is refused
 was_woken : (constants : Constants) (S : State) (who : Who) (call : Call) (given : WakeIn) (answered : Answer) (T : State) (t : ℕ)
-    → IsWake constants S who call given answered T → get T.statuses who.pid ≡ Some Live → IsSome (thread_of T who.pid t) → IsSome (thread_of S who.pid t)
-was_woken constants S who call given answered T t is live here =
-    elim (some_or_none (thread_of S who.pid t)) [
-      | inl there ↦ there
-      | inr none ↦ absurd (not_true (sym (wake_makes_none constants S who call given answered T is).2
-          ∙ ((wake_moves_only constants S who call given answered T is).made live t none here).0))
+    → IsWake constants S who call given answered T → get T.statuses who.pid ≡ Some Live → IsSome (thread_of T who.pid t) → WasThere S who call answered t
+was_woken constants S who call (wake.Plain word) answered T t is live here =
+    elim (was_there constants (resumed S who) who call answered T t is.0 live here) [
+      | inl was ↦ inl (thread_still S who.pid who.tid Runnable who.pid t was.0, was.1)
+      | inr made ↦ inr made
     ]
+was_woken constants S who call wake.Fault answered T t is live here =
+    inl (
+      thread_still S who.pid who.tid Runnable who.pid t (subst (λ (U : State). IsSome (thread_of U who.pid t)) is.1 here),
+      λ _. ap (ends_caller call) is.0 ∙ fault_ends call,
+    )
 
 -- ---- entries
 
--- after turns and an answer to a call each thread that was there has registers
-answered_registers : (w : World) (who : Who) (ts : List ℕ) (call : Call) (given : Answer) (t : ℕ) → HasRegisters (guest_of w who.pid) t
+-- after turns and an answer to a call each thread that was there and each that it made has registers
+answered_registers : (w : World) (who : Who) (ts : List ℕ) (call : Call) (given : Answer) (t : ℕ)
+    → (IsSome (thread_of w.state who.pid t) → HasRegisters (guest_of w who.pid) t) → WasThere w.state who call given t
     → HasRegisters (guest_of (with_guest (turned w who.pid ts) who.pid (called_guest (guest_of (turned w who.pid ts) who.pid) who.tid call given)) who.pid) t
-answered_registers w who ts call given t some =
+answered_registers w who ts call given t before (inr made) =
+    subst (λ (g : Guest). HasRegisters g t)
+    (sym (guest_set (turned w who.pid ts) who.pid (called_guest (guest_of (turned w who.pid ts) who.pid) who.tid call given)))
+    (subst (HasRegisters (called_guest (guest_of (turned w who.pid ts) who.pid) who.tid call given)) (sym made.1)
+    (new_registers (guest_of (turned w who.pid ts) who.pid) who.tid call given made.0))
+answered_registers w who ts call given t before (inl was) =
+    let some = before was.0 in
     let turned_has : HasRegisters (guest_of (turned w who.pid ts) who.pid) t =
     subst (λ (g : Guest). HasRegisters g t) (sym (guest_turned w who.pid ts)) (turned_registers ts (guest_of w who.pid) t some) in
     subst (λ (g : Guest). HasRegisters g t)
     (sym (guest_set (turned w who.pid ts) who.pid (called_guest (guest_of (turned w who.pid ts) who.pid) who.tid call given)))
-    (called_registers (guest_of (turned w who.pid ts) who.pid) who.tid call given t turned_has)
+    (called_registers (guest_of (turned w who.pid ts) who.pid) who.tid call given t was.1 turned_has)
 
 acted_registers : (w : World) (who : Who) (ts : List ℕ) (a : Act) → is_idle a ≡ false → FitsAct w.constants w.state who (guest_of w who.pid) ts a
     → IsLiveIn w who.pid → AllHaveRegisters w who.pid → AllHaveRegisters (acted (turned w who.pid ts) who a) who.pid
 acted_registers w who ts (act.Call call given) done fits alive before live t here =
     let was = was_there w.constants w.state who call given (called_state w.constants w.state who call given) t fits.1 live here in
-    answered_registers w who ts call given t (before alive t was)
+    answered_registers w who ts call given t (before alive t) was
 acted_registers w who ts (act.Wake call given answered) done fits alive before live t here =
     let was = was_woken w.constants w.state who call given answered (woken_state w.constants w.state who call given answered) t fits.1.1 live here in
-    answered_registers w who ts call answered t (before alive t was)
+    answered_registers w who ts call answered t (before alive t) was
 acted_registers w who ts (act.Trap signal) done fits alive before live t here =
     absurd (ended_by w.state who.pid (Killed signal) (killed_is_not_live signal) live)
 acted_registers w who ts act.Expire done fits alive before live t here = absurd (ended_by w.state who.pid (Killed Xcpu) (killed_is_not_live Xcpu) live)

@@ -70,7 +70,7 @@ entry_called : (w : World) (history : List Entry) (e : Entry) (a : Act) → e.ac
 entry_called w history e (act.Call call given) is entry valid fits before =
     let who : Who = who_of w.state e in
     let T = called_state w.constants w.state who call given in
-    step_each (Called (history ++ e ∷ [])) (λ p t. tt) w.constants w.state who call given T fits.1 (step_keeps_valid w.constants w.state who call given T fits.1 valid)
+    step_each (Called (history ++ e ∷ [])) (λ p t. tt) (λ p t. tt) w.constants w.state who call given T fits.1 (step_keeps_valid w.constants w.state who call given T fits.1 valid)
     (λ parked. (
     let writes = parked_is given parked in record {
       front = history;

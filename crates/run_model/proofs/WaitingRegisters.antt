@@ -5,6 +5,7 @@
 use Rattle.std.proofs.Common.{◌≡◌, ◌≢◌, ℕ, Bool, true, false, List, [], ◌∷◌, ◌++◌, Option, None, Some, inl, inr, refl, sym, ap, subst, ◌∙◌, arith}
 use Rattle.std.specs.Prelude.{⊤, if◌then◌else◌}
 use Rattle.std.proofs.lemmas.Bool.Decides.{eqb_tells}
+use Rattle.std.specs.FinMap.{insert}
 use Rattle.abi_base.specs.declared.signal.Signal.TheVariants.{Xcpu}
 use Rattle.abi_types.specs.declared.call.Call.{Call}
 use Rattle.abi_types.specs.declared.call.Call.TheVariants as call
@@ -25,13 +26,15 @@ use Rattle.kernel_model.specs.Families.FileMeaning.{on_open}
 use Rattle.kernel_model.specs.Families.MemoryCalls.{map_row, map_zeros, mapping}
 use Rattle.kernel_model.specs.Meaning.{Meaning}
 use Rattle.kernel_model.specs.State.{State, thread_of}
+use Rattle.kernel_model.specs.Threads.{ends_caller, first_result, makes_thread}
 use Rattle.kernel_model.specs.Waits.{may_wait, IsParked}
 use Rattle.kernel_model.specs.Wakes.{HasThread}
 use Rattle.kernel_model.proofs.Tests.{not_true}
 use Rattle.kernel_model.specs.Valid.{IsValid}
 use Rattle.kernel_model.proofs.Starts.{start_runs}
 use Rattle.kernel_model.proofs.Steps.{step_keeps_valid}
-use Rattle.kernel_model.proofs.Waking.{end_each, step_each, wake_each}
+use Rattle.kernel_model.proofs.ThreadLaws.{create_number}
+use Rattle.kernel_model.proofs.Waking.{end_each, step_each, wake_each, wake_keeps}
 use Rattle.maps.specs.Maps.{get-insert-same, get-insert-other, weight}
 use Rattle.rv_interp.specs.declared.turns.TurnEnd.{TurnEnd}
 use Rattle.call_codec.specs.Arguments.{args_of}
@@ -42,6 +45,7 @@ use Rattle.run_model.specs.Legal.{AreWhole, Asks, FitsAct, FollowsFrom, IsRunnab
 use Rattle.run_model.specs.World.{World, Guest, acted, apply, apply_all, called_guest, called_state, guest_of, or_no_guest, or_no_registers, registers_of, start_world, thread_turn, turned, turned_guest, turned_guest_by, who_of, with_guest, woken_state, world}
 use Rattle.run_model.proofs.Ends.{killed_is_not_live}
 use Rattle.run_model.proofs.Histories.{apply_is, first_state, guest_set, guest_turned}
+use Rattle.run_model.proofs.ThreadRegisters.{called_kept, parked_ends, parked_makes}
 use Rattle.run_model.proofs.Waited.{parked_is}
 use Rattle.run_model.proofs.Wakes.{woken_thread}
 use Rattle.run_model.proofs.Worlds.{apply_valid, first_valid}
@@ -59,6 +63,9 @@ IsEncoded guest t (Some (Waits call since until)) = (m : Pages) × (call ≡ arg
 
 runs_not_waits : (o : Option Thread) → o ≡ Some Runnable → DoesWait o → ⊥
 runs_not_waits o runs waits = subst DoesWait runs waits
+
+none_not_waits : (o : Option Thread) → o ≡ None → DoesWait o → ⊥
+none_not_waits o none waits = subst DoesWait none waits
 
 -- it is so as long as the thread has the same registers
 same_encoded : (guest after : Guest) (t : ℕ) (o : Option Thread) → (DoesWait o → registers_of after t ≡ registers_of guest t) → IsEncoded guest t o
@@ -135,11 +142,14 @@ module _ (w : World) (who : Who) (ts : List ℕ) (run : AreOfRunning w.state who
     answered = called_guest (guest_of turned_world who.pid) who.tid call given
 
     called_keeps : (q t : ℕ) → DoesWait (thread_of w.state q t) → (q ≡ who.pid → t ≢ who.tid)
-        → registers_of (guest_of (with_guest turned_world who.pid answered) q) t ≡ registers_of (guest_of w q) t
-    called_keeps q t waits apart =
+        → (q ≡ who.pid → makes_thread call given ≡ true → t ≢ first_result given) → registers_of (guest_of (with_guest turned_world who.pid answered) q) t ≡ registers_of (guest_of w q) t
+    called_keeps q t waits apart old =
         elim (eqb_tells q who.pid) [
           | inl is ↦ (ap (λ k. registers_of (guest_of (with_guest turned_world who.pid answered) k) t) is.1
               ∙ ap (λ (g : Guest). registers_of g t) (guest_set turned_world who.pid answered)
+              ∙ ap or_no_registers (called_kept (insert (guest_of turned_world who.pid).regs who.tid
+              (answered_of (registers_of (guest_of turned_world who.pid) who.tid) call given)) who.tid call given t
+              (λ same. absurd (apart is.1 same)) (old is.1))
               ∙ ap or_no_registers (get-insert-other (guest_of turned_world who.pid).regs who.tid
               (answered_of (registers_of (guest_of turned_world who.pid) who.tid) call given) t (apart is.1))
               ∙ ap (λ k. registers_of (guest_of turned_world k) t) (sym is.1)
@@ -147,11 +157,14 @@ module _ (w : World) (who : Who) (ts : List ℕ) (run : AreOfRunning w.state who
           | inr other ↦ ap (λ o. registers_of (or_no_guest o) t) (get-insert-other turned_world.guests who.pid answered q other.1) ∙ turned_keeps q t waits
         ]
 
-    -- the thread's own registers after it
-    own_registers : registers_of (guest_of (with_guest turned_world who.pid answered) who.pid) who.tid
+    -- the thread's own registers after it, where it goes on
+    own_registers : ends_caller call given ≡ false → makes_thread call given ≡ false → registers_of (guest_of (with_guest turned_world who.pid answered) who.pid) who.tid
         ≡ answered_of (registers_of (turned_guest_by ts (guest_of w who.pid)) who.tid) call given
-    own_registers =
+    own_registers lasts makes =
         ap (λ (g : Guest). registers_of g who.tid) (guest_set turned_world who.pid answered)
+        ∙ ap or_no_registers (called_kept (insert (guest_of turned_world who.pid).regs who.tid
+        (answered_of (registers_of (guest_of turned_world who.pid) who.tid) call given)) who.tid call given who.tid (λ _. lasts)
+        (λ does. absurd (not_true (sym makes ∙ does))))
         ∙ ap or_no_registers (get-insert-same (guest_of turned_world who.pid).regs who.tid
         (answered_of (registers_of (guest_of turned_world who.pid) who.tid) call given))
         ∙ ap (λ (g : Guest). answered_of (registers_of g who.tid) call given) (guest_turned w who.pid ts)
@@ -172,7 +185,8 @@ wake_others w who ts run call given answered valid fits before q t apart =
     wake_each (λ q t o. (q ≡ who.pid → t ≢ who.tid) → IsEncoded (guest_of v q) t o) (λ q t _. tt) (λ q t _. tt) w.constants w.state who call given answered
     (woken_state w.constants w.state who call given answered) fits.1.1 valid
     (λ q t apart. same_encoded (guest_of w q) (guest_of v q) t (thread_of w.state q t)
-    (λ waits. called_keeps w who ts run call answered q t waits apart) (before q t))
+    (λ waits. called_keeps w who ts run call answered q t waits apart
+    (λ _ makes. absurd (not_true (sym (wake_keeps w.state who call answered valid fits.0.1).2 ∙ makes)))) (before q t))
     q t apart
 
 acted_encoded : (w : World) (who : Who) (ts : List ℕ) (a : Act) → IsValid w.state → FitsAct w.constants w.state who (guest_of w who.pid) ts a → AllEncoded w
@@ -181,17 +195,21 @@ acted_encoded w who ts (act.Call call given) valid fits before =
     let run = asks_run w.state who (guest_of w who.pid) ts (act.Call call given) fits.0 in
     let v : World = acted (turned w who.pid ts) who (act.Call call given) in
     let T = called_state w.constants w.state who call given in
-    step_each (λ q t o. IsEncoded (guest_of v q) t o) (λ q t. tt) w.constants w.state who call given T fits.1
+    step_each (λ q t o. IsEncoded (guest_of v q) t o) (λ q t. tt) (λ q t. tt) w.constants w.state who call given T fits.1
     (step_keeps_valid w.constants w.state who call given T fits.1 valid)
     (λ parked.
     let writes = parked_is given parked in (
       (turned_guest_by ts (guest_of w who.pid)).memory,
       fits.0.1 ∙ ap (args_of (turned_guest_by ts (guest_of w who.pid)).memory)
-          (sym (own_registers w who ts run call given ∙ ap (answered_of (registers_of (turned_guest_by ts (guest_of w who.pid)) who.tid) call) writes.1)),
+          (sym (own_registers w who ts run call given (ap (ends_caller call) writes.1 ∙ parked_ends call writes.0)
+          (ap (makes_thread call) writes.1 ∙ parked_makes call writes.0) ∙ ap (answered_of (registers_of (turned_guest_by ts (guest_of w who.pid)) who.tid) call) writes.1)),
     ))
     (λ q t. same_encoded (guest_of w q) (guest_of v q) t (thread_of w.state q t)
     (λ waits. called_keeps w who ts run call given q t waits
-    (λ is same. runs_not_waits (thread_of w.state q t) ((λ i. thread_of w.state (is i) (same i)) ∙ fits.0.0.3.0) waits))
+    (λ is same. runs_not_waits (thread_of w.state q t) ((λ i. thread_of w.state (is i) (same i)) ∙ fits.0.0.3.0) waits)
+    (λ is makes new. (
+    let number = create_number w.constants w.state who call given T fits.1 makes in
+    none_not_waits (thread_of w.state q t) ((λ i. thread_of w.state (is i) ((new ∙ number.0) i)) ∙ number.1) waits)))
     (before q t))
 acted_encoded w who ts (act.Wake call given answered) valid fits before =
     let run = asks_run w.state who (guest_of w who.pid) ts (act.Wake call given answered) fits.0 in

@@ -120,8 +120,9 @@ wakes_around S T p t processes threads =
 
 -- ---- calls
 
-less_or_same : (a b : Option Thread) → (a ≡ None) ⊎ (a ≡ b) → weight wakes_left a ≤ weight wakes_left b
-less_or_same a b (inl none) = let is = ap (weight wakes_left) none in omega (arith, is)
+less_or_same : (a b : Option Thread) → ((a ≡ None) ⊎ (a ≡ Some Runnable)) ⊎ (a ≡ b) → weight wakes_left a ≤ weight wakes_left b
+less_or_same a b (inl (inl none)) = let is = ap (weight wakes_left) none in omega (arith, is)
+less_or_same a b (inl (inr runs)) = let is = ap (weight wakes_left) runs in omega (arith, is)
 less_or_same a b (inr same) = let is = ap (weight wakes_left) same in omega (arith, is)
 
 step_around : (constants : Constants) (S : State) (who : Who) (call : Call) (given : Answer) (T : State) → IsValid S → IsStep constants S who call given T
@@ -197,7 +198,7 @@ end_wakes S p status dead made valid =
     let T = end_state S p status in
     let gone : (u : ℕ) → thread_of T p u ≡ None =
     λ u. ended_thread T p u (Some status) (end_valid S p status made valid) ends.stands (λ e. dead (same_some status Live e)) in
-    let around = wakes_around S T p 0 ends.others (λ u _. less_or_same (thread_of T p u) (thread_of S p u) (inl (gone u))) in
+    let around = wakes_around S T p 0 ends.others (λ u _. less_or_same (thread_of T p u) (thread_of S p u) (inl (inl (gone u)))) in
     let none : thread_wakes T p 0 ≡ 0 = ap (weight wakes_left) (gone 0) in
     omega (arith, around, none)
 

@@ -140,7 +140,7 @@ pub apply_clock : (w : World) (e : Entry) → Fits w e → TakesTime w (apply w 
 apply_clock w e fits =
     acted_takes w (apply w e) (who_of w.state e) (guest_of w e.pid) e.turns e.act fits.act (ap (λ (v : World). v.state) (apply_is w e))
 
-follows_least : (w : World) (history : List Entry) → FollowsFrom w history → w.state.clock + 1000 * length history ≤ (apply_all w history).state.clock
+pub follows_least : (w : World) (history : List Entry) → FollowsFrom w history → w.state.clock + 1000 * length history ≤ (apply_all w history).state.clock
 unfolding FollowsFrom apply_all
 follows_least w [] follows = omega arith
 follows_least w (e ∷ history) follows =

@@ -5,3 +5,4 @@ pub mod Ends
 pub mod Confined
 pub mod Laws
 pub mod OwnLaws
+pub mod ThreadLaws

@@ -1,10 +1,11 @@
 -- A kernel's state together with its processes' memories, registers and turns, and how an entry changes them.
-use Rattle.std.specs.Prelude.{ℕ, ◌+◌, ◌-◌, List, [], ◌∷◌, Option, None, Some}
+use Rattle.std.specs.Prelude.{ℕ, ◌+◌, ◌-◌, Bool, true, false, List, [], ◌∷◌, Option, None, Some, if◌then◌else◌}
 use Rattle.std.specs.Ordering.{nat_cmp}
-use Rattle.std.specs.FinMap.{FinMap, empty, get, insert}
+use Rattle.std.specs.FinMap.{FinMap, empty, get, insert, remove}
 use Rattle.abi_types.specs.declared.reply.Answer.{Answer}
 use Rattle.abi_types.specs.declared.reply.Answer.TheVariants as answer
 use Rattle.abi_types.specs.declared.call.Call.{Call}
+use Rattle.abi_types.specs.declared.call.Call.TheVariants.{ThreadCreate}
 use Rattle.abi_types.specs.declared.constants.Constants.{Constants}
 use Rattle.abi_base.specs.declared.errno.Errno.{Errno}
 use Rattle.abi_base.specs.declared.errno.Errno.TheVariants.{Nomem}
@@ -25,10 +26,11 @@ use Rattle.kernel_model.specs.Deadlines.{idle_state}
 use Rattle.kernel_model.specs.Start.{start_state}
 use Rattle.kernel_model.specs.State.{State, thread_of}
 use Rattle.kernel_model.specs.Step.{failed, step_state, end_state}
+use Rattle.kernel_model.specs.Threads.{ends_caller, is_success}
 use Rattle.kernel_model.specs.Waits.{resumed}
 use Rattle.rv_interp.specs.declared.turns.TurnEnd.{TurnEnd}
 use Rattle.rv_interp.specs.Turns.{Turn, turn_of}
-use Rattle.call_codec.specs.Start.{canary, first_registers, start_pages}
+use Rattle.call_codec.specs.Start.{canary, first_registers, start_pages, thread_registers}
 use Rattle.call_codec.specs.Put.{answered_memory, answered_of}
 
 -- a process's memory, the registers of its threads, and the turns that it has left
@@ -47,7 +49,7 @@ pub record World : Type 0 where
 
 abbrev pub first_guest : Launch → Guest
 first_guest launch = record {
-  memory = start_pages launch.elf launch.argdata canary 0 1;
+  memory = start_pages launch.elf launch.argdata (canary launch.constants.key 0 0) 0 1;
   regs = insert empty 1 (first_registers launch.elf.entry);
   left = launch.turns;
 }
@@ -127,15 +129,30 @@ abbrev pub woken_state : Constants → State → Who → Call → WakeIn → Ans
 woken_state constants S who call wake.Fault answered = failed (resumed S who) who
 woken_state constants S who call (wake.Plain word) answered = called_state constants (resumed S who) who call answered
 
+-- the registers of threads after a call that was answered so: a thread that it made has those with which it begins
+abbrev pub made_regs : FinMap nat_cmp Registers → Call → Answer → FinMap nat_cmp Registers
+made_regs regs (ThreadCreate attributes) (answer.Reply reply) =
+    if is_success reply.errno then insert regs reply.r1 (thread_registers attributes reply.r1) else regs
+made_regs regs call given = regs
+
+-- a thread that has ended has none
+abbrev pub left_regs : Bool → ℕ → FinMap nat_cmp Registers → FinMap nat_cmp Registers
+left_regs true t regs = remove regs t
+left_regs false t regs = regs
+
+-- those of the threads of a process after a call of its thread t, whose own are as the answer says
+abbrev pub called_regs : FinMap nat_cmp Registers → ℕ → Call → Answer → FinMap nat_cmp Registers
+called_regs regs t call given = left_regs (ends_caller call given) t (made_regs regs call given)
+
 -- the guest after a call of its thread that was answered so
 abbrev pub called_guest : Guest → ℕ → Call → Answer → Guest
 called_guest guest t call given = record {
   memory = answered_memory guest.memory (registers_of guest t) call given;
-  regs = insert guest.regs t (answered_of (registers_of guest t) call given);
+  regs = called_regs (insert guest.regs t (answered_of (registers_of guest t) call given)) t call given;
   left = guest.left;
 }
 
--- The world after an act of a thread. A call of which the thread waits leaves its registers, and a wake is answered as the call is that
+-- The world after an act of a thread. A call in which the thread waits leaves its registers, and a wake is answered as the call is that
 -- its thread waits in. An idle jump moves the clock alone.
 abbrev pub acted : World → Who → Act → World
 acted w who (act.Call call given) = record w {

@@ -3,6 +3,7 @@
 #![tactic(auto)]
 
 pub mod laws;
+mod thread_laws;
 
 pub use laws::{
     asks_stay, clock_counts, encoded_calls_are_plain, ended_is_final, entry_is_one,
@@ -10,3 +11,4 @@ pub use laws::{
     legal_is_confined, made_later, moment_is_early, others_stay, runs_to_its_end,
     waits_were_called, world_is_valid,
 };
+pub use thread_laws::{clocks_go_on, draws_are_apart, numbers_suffice, threads_come_and_go};

@@ -7,6 +7,7 @@ use Rattle.std.proofs.lemmas.List.{get_or-take, length-take}
 use Rattle.std.proofs.lemmas.List.Sums.{fails_before_first, passes_at_first}
 use borrow.Author.Tests.{ltb-true, ltb-false}
 use Rattle.turn_queue.specs.Tickets.{Tickets, Revives, NoneIs, is_ticket_of}
+use Rattle.turn_queue.specs.declared.queue.Parked.{Parked}
 
 found : (test : Bool) (n at : ℕ) → cond test (Some n) None ≡ Some at → (test ≡ true) × (n ≡ at)
 found true n at e = (refl, cc)
@@ -21,6 +22,10 @@ pub none_passes : {X : Type 0} (p : X → Bool) (xs : List X) → position p xs 
 none_passes p xs none k d below =
     let not_below : nat_lt (position_or_len p xs) (length xs) ≡ false = missing _ _ none in
     fails_before_first p xs k d (omega (arith, ltb-false _ _ not_below))
+
+-- the place that is found is one of the list
+pub place_within : {X : Type 0} (p : X → Bool) (xs : List X) (at : ℕ) → position p xs ≡ Some at → at < length xs
+place_within p xs at place = let f = found _ _ at place in omega (arith, ltb-true _ _ f.0)
 
 module _ {X : Type 0} (p : X → Bool) (xs : List X) (at : ℕ) (x : X) (place : position p xs ≡ Some at) (there : x ≡ slice_index_or xs at x) where
   first_is : (nat_lt (position_or_len p xs) (length xs) ≡ true) × (position_or_len p xs ≡ at)
@@ -44,16 +49,16 @@ module _ {X : Type 0} (p : X → Bool) (xs : List X) (at : ℕ) (x : X) (place :
   splits = split_at xs at x below ∙ ap (λ (y : X). take at xs ++ y ∷ drop (suc at) xs) (sym there)
 
 -- the ticket at that place is revived
-pub revives : {T : Type 0} (process thread : T → ℕ) (p t at : ℕ) (ticket : T) (old new : Tickets T)
-    → position (is_ticket_of process thread p t) old.parked ≡ Some at → ticket ≡ slice_index_or old.parked at ticket
-    → new.parked ≡ remove old.parked at → new.ready ≡ old.ready ++ ticket ∷ [] → Revives process thread p t old new
-revives process thread p t at ticket old new place there parked ready = record {
-  ticket = ticket;
+pub revives : {T : Type 0} (process thread : T → ℕ) (p t at : ℕ) (entry : Parked T) (old new : Tickets T)
+    → position (is_ticket_of process thread p t) old.parked ≡ Some at → entry ≡ slice_index_or old.parked at entry
+    → new.parked ≡ remove old.parked at → new.ready ≡ old.ready ++ entry.ticket ∷ [] → Revives process thread p t old new
+revives process thread p t at entry old new place there parked ready = record {
+  entry = entry;
   front = take at old.parked;
   back = drop (suc at) old.parked;
-  was = splits (is_ticket_of process thread p t) old.parked at ticket place there;
-  is = passes (is_ticket_of process thread p t) old.parked at ticket place there;
-  first = front_fails (is_ticket_of process thread p t) old.parked at ticket place there;
+  was = splits (is_ticket_of process thread p t) old.parked at entry place there;
+  is = passes (is_ticket_of process thread p t) old.parked at entry place there;
+  first = front_fails (is_ticket_of process thread p t) old.parked at entry place there;
   parked = parked;
   ready = ready;
 }

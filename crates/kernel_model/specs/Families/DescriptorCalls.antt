@@ -16,6 +16,7 @@ use Rattle.abi_types.specs.declared.reply.Payload.TheVariants as payload
 use Rattle.kernel_model.specs.Families.FileTypes.{character_device, directory, fifo, process, regular_file, stream_socket}
 use Rattle.kernel_model.specs.Meaning.{Meaning, answering}
 use Rattle.kernel_model.specs.Outcome.{Outcome, replies}
+use Rattle.kernel_model.specs.OwnChanges.{keeps_own}
 use Rattle.kernel_model.specs.Reply.{refused, success}
 use Rattle.kernel_model.specs.Rows.{asking_row, base_row, both, where_set}
 use Rattle.kernel_model.specs.State.{Table, Part, Update, at_open, set_open, set_table}
@@ -36,6 +37,7 @@ fd_close fd = record {
   outside = λ v table. None;
   touched = λ S table. [];
   numbers = 0;
+  own = keeps_own;
   errors = [];
   takes_memory = false;
   may_wait = false;
@@ -83,6 +85,7 @@ fd_dup fd = record {
   outside = λ v table. None;
   touched = λ S table. [];
   numbers = 0;
+  own = keeps_own;
   errors = Badf ∷ Mfile ∷ [];
   takes_memory = true;
   may_wait = false;
@@ -105,6 +108,7 @@ fd_replace from to = record {
   outside = λ v table. None;
   touched = λ S table. [];
   numbers = 0;
+  own = keeps_own;
   errors = Badf ∷ [];
   takes_memory = false;
   may_wait = false;
@@ -151,6 +155,7 @@ fd_stat_get fd = record {
   outside = λ v table. None;
   touched = λ S table. [];
   numbers = 0;
+  own = keeps_own;
   errors = Badf ∷ [];
   takes_memory = false;
   may_wait = false;
@@ -211,6 +216,7 @@ fd_stat_put fd stat flags = record {
   outside = λ v table. None;
   touched = λ S table. open_part (get table fd);
   numbers = 0;
+  own = keeps_own;
   errors = Badf ∷ [];
   takes_memory = false;
   may_wait = false;

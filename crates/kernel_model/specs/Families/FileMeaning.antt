@@ -9,6 +9,7 @@ use Rattle.abi_types.specs.declared.open_kind.OpenKind.{OpenKind}
 use Rattle.kernel_model.specs.Families.ClockCalls.{real_time}
 use Rattle.kernel_model.specs.Meaning.{Meaning}
 use Rattle.kernel_model.specs.Outcome.{Outcome}
+use Rattle.kernel_model.specs.OwnChanges.{keeps_own}
 use Rattle.kernel_model.specs.State.{Part, Tree, tree_of}
 use Rattle.kernel_model.specs.View.{View, whole}
 
@@ -37,6 +38,7 @@ on_open row m = record {
   outside = λ v table. m.outside v.branch (open_of v (get table row.fd));
   touched = λ S table. m.touched (tree_of S) (open_of (whole S) (get table row.fd));
   numbers = 0;
+  own = keeps_own;
   errors = m.errors;
   takes_memory = m.takes_memory;
   may_wait = false;

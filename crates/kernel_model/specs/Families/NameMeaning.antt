@@ -14,6 +14,7 @@ use Rattle.kernel_model.specs.Families.LastNames.{LastName, StandsIn, IsNone, Is
 use Rattle.kernel_model.specs.Meaning.{Meaning}
 use Rattle.kernel_model.specs.Families.Numbers.{can_number, next_object, process_updates}
 use Rattle.kernel_model.specs.Outcome.{Outcome, replies}
+use Rattle.kernel_model.specs.OwnChanges.{keeps_own}
 use Rattle.kernel_model.specs.Reply.{denied, refused, success}
 use Rattle.kernel_model.specs.State.{ProcessState, Part, Tree, tree_of}
 use Rattle.kernel_model.specs.Families.TreeUpdates.{Change, change_updates}
@@ -56,6 +57,7 @@ by_name row m = record {
   outside = λ v table. m.outside v.branch (open_of v (get table row.fd)) None;
   touched = λ S table. m.touched (tree_of S) (open_of (whole S) (get table row.fd)) None;
   numbers = m.new_nodes;
+  own = keeps_own;
   errors = m.errors;
   takes_memory = true;
   may_wait = false;
@@ -75,6 +77,7 @@ by_names first second m = record {
   outside = λ v table. m.outside v.branch (open_of v (get table first.fd)) (open_of v (get table second.fd));
   touched = λ S table. m.touched (tree_of S) (open_of (whole S) (get table first.fd)) (open_of (whole S) (get table second.fd));
   numbers = m.new_nodes;
+  own = keeps_own;
   errors = m.errors;
   takes_memory = true;
   may_wait = false;

@@ -12,6 +12,7 @@ use Rattle.kernel_model.specs.Families.DescriptorCalls.{open_part}
 use Rattle.kernel_model.specs.Families.FileMeaning.{open_of}
 use Rattle.kernel_model.specs.Meaning.{Meaning}
 use Rattle.kernel_model.specs.Outcome.{Outcome, replies}
+use Rattle.kernel_model.specs.OwnChanges.{keeps_own}
 use Rattle.kernel_model.specs.Reply.{refused}
 use Rattle.kernel_model.specs.State.{Part}
 use Rattle.kernel_model.specs.View.{View, whole}
@@ -39,6 +40,7 @@ by_open row m = record {
   outside = λ v table. None;
   touched = λ S table. open_part (get table row.fd) ++ m.touched (open_of (whole S) (get table row.fd));
   numbers = 0;
+  own = keeps_own;
   errors = m.errors;
   takes_memory = m.takes_memory;
   may_wait = false;

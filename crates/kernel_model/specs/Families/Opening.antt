@@ -32,6 +32,7 @@ use Rattle.kernel_model.specs.Meaning.{Meaning}
 use Rattle.kernel_model.specs.Families.NameMaking.{errno_of, with_node}
 use Rattle.kernel_model.specs.Families.Numbers.{can_number, next_object, process_updates}
 use Rattle.kernel_model.specs.Outcome.{Outcome, replies}
+use Rattle.kernel_model.specs.OwnChanges.{keeps_own}
 use Rattle.kernel_model.specs.Reply.{denied, refused, success}
 use Rattle.kernel_model.specs.Rows.{asking_row, both, where_set}
 use Rattle.kernel_model.specs.State.{ProcessState, Part, Table, Tree, tree_of, at_node, at_names, set_open, set_table}
@@ -180,6 +181,7 @@ file_open lookup path oflags stat = record {
       parts_where (creates oflags) (absent_parts (walked (tree_of S) (open_mode oflags lookup.flags) path (open_of (whole S) (get table lookup.fd))))
       ++ parts_where (truncates oflags) (found_part (walked (tree_of S) (open_mode oflags lookup.flags) path (open_of (whole S) (get table lookup.fd))));
   numbers = 2;
+  own = keeps_own;
   errors = path_errors ++ Mfile ∷ Exist ∷ Isdir ∷ Again ∷ [];
   takes_memory = true;
   may_wait = false;

@@ -15,8 +15,10 @@ use Rattle.abi_types.specs.declared.reply.Payload.TheVariants.{Events}
 use Rattle.abi_types.specs.declared.reply.Reply.{Reply}
 use Rattle.abi_types.specs.declared.reply.WordWrites.TheVariants.{Zero}
 use Rattle.kernel_model.specs.Deadlines.{is_due, soon}
+use Rattle.kernel_model.specs.Families.ClockCalls.{is_real}
 use Rattle.kernel_model.specs.Meaning.{Meaning, answering, unbuilt_naming}
 use Rattle.kernel_model.specs.Outcome.{Outcome, parks, replies}
+use Rattle.kernel_model.specs.OwnChanges.{keeps_own}
 use Rattle.kernel_model.specs.Reply.{refused, success}
 use Rattle.kernel_model.specs.Rows.{base_row}
 
@@ -45,10 +47,6 @@ abbrev pub fds_of : List Needed → List ℕ
 fds_of rows = map (λ (row : Needed). row.fd) rows
 
 -- ---- a poll of one clock
-
--- whether the clock is REALTIME (3), the time since 1970
-abbrev pub is_real : ℕ → Bool
-is_real clock = clock == 3
 
 -- whether the time is one of the clock (ABSTIME, 1), and not counted from the call on
 abbrev pub is_absolute : ℕ → Bool
@@ -112,4 +110,5 @@ poll subscriptions =
       outside = λ v table. None;
       touched = λ S table. [];
       numbers = 0;
+      own = keeps_own;
     }

@@ -4,7 +4,7 @@
 use crate::kernel::stdout_kernel::{answer_to, bare_kernel};
 use abi_types::{
     Answer, Bytes, Call, CallNumber, Denial, Descriptor, Errno, FdList, ObjId, OpenType, Reply,
-    Rights, Subscription, SubscriptionList, ThreadAttr, What,
+    Rights, Subscription, SubscriptionList, What,
 };
 use fd_table::FdTable;
 use right_rules::{fits, refusal};
@@ -22,29 +22,10 @@ struct Case {
     rows: &'static [Row],
 }
 
-const THREAD: ThreadAttr = ThreadAttr {
-    entry: 0x10000,
-    stack: 0,
-    stacklen: 0,
-    argument: 0,
-};
-
 // How many descriptors the tests' tables have.
 const COUNT: u32 = 3;
 
 const CASES: &[Case] = &[
-    Case {
-        name: "clock_res_get",
-        number: 0,
-        named: &[],
-        rows: &[],
-    },
-    Case {
-        name: "clock_time_get",
-        number: 1,
-        named: &[],
-        rows: &[],
-    },
     Case {
         name: "condvar_signal",
         number: 2,
@@ -99,12 +80,6 @@ const CASES: &[Case] = &[
         rows: &[],
     },
     Case {
-        name: "random_get",
-        number: 42,
-        named: &[],
-        rows: &[],
-    },
-    Case {
         name: "sock_recv",
         number: 43,
         named: &[0],
@@ -121,24 +96,6 @@ const CASES: &[Case] = &[
         number: 45,
         named: &[0],
         rows: &[(0, &[Rights::SOCK_SHUTDOWN])],
-    },
-    Case {
-        name: "thread_create",
-        number: 46,
-        named: &[],
-        rows: &[],
-    },
-    Case {
-        name: "thread_exit",
-        number: 47,
-        named: &[],
-        rows: &[],
-    },
-    Case {
-        name: "thread_yield",
-        number: 48,
-        named: &[],
-        rows: &[],
     },
 ];
 
@@ -182,20 +139,15 @@ fn text(alloc: Global) -> Result<Bytes, AllocError> {
 // The calls of the cases from 0 on.
 fn calls_from_0(place: usize) -> Option<Call> {
     Some(match place {
-        0 => Call::ClockResGet { clock: 1 },
-        1 => Call::ClockTimeGet {
-            clock: 1,
-            precision: 0,
-        },
-        2 => Call::CondvarSignal {
+        0 => Call::CondvarSignal {
             condvar: 0,
             word: 0,
             scope: 4,
             n: 1,
         },
-        3 => Call::FdCreate1 { kind: 48 },
-        4 => Call::FdCreate2 { kind: 48 },
-        5 => Call::LockUnlock {
+        1 => Call::FdCreate1 { kind: 48 },
+        2 => Call::FdCreate2 { kind: 48 },
+        3 => Call::LockUnlock {
             lock: 0,
             word: 0,
             scope: 4,
@@ -204,57 +156,49 @@ fn calls_from_0(place: usize) -> Option<Call> {
     })
 }
 
-// The calls of the cases from 6 on.
-fn calls_from_6(alloc: Global, place: usize) -> Result<Option<Call>, AllocError> {
+// The calls of the cases from 4 on.
+fn calls_from_4(alloc: Global, place: usize) -> Result<Option<Call>, AllocError> {
     Ok(Some(match place {
-        6 => Call::Poll {
+        4 => Call::Poll {
             subscriptions: waits(alloc)?,
         },
-        7 => Call::ProcExec {
+        5 => Call::ProcExec {
             fd: 0,
             bytes: text(alloc)?,
             fds: listed(alloc)?,
         },
-        8 => Call::ProcFork { left: 100 },
-        9 => Call::ProcRaise { signal: 4 },
-        10 => Call::RandomGet { length: 1 },
-        11 => Call::SockRecv {
+        6 => Call::ProcFork { left: 100 },
+        7 => Call::ProcRaise { signal: 4 },
+        _ => return Ok(None),
+    }))
+}
+
+// The calls of the cases from 8 on.
+fn calls_from_8(alloc: Global, place: usize) -> Result<Option<Call>, AllocError> {
+    Ok(Some(match place {
+        8 => Call::SockRecv {
             fd: 0,
             length: 1,
             fds: 0,
             flags: 0,
         },
-        _ => return Ok(None),
-    }))
-}
-
-// The calls of the cases from 12 on.
-fn calls_from_12(alloc: Global, place: usize) -> Result<Option<Call>, AllocError> {
-    Ok(Some(match place {
-        12 => Call::SockSend {
+        9 => Call::SockSend {
             fd: 0,
             bytes: text(alloc)?,
             fds: listed(alloc)?,
             flags: 0,
         },
-        13 => Call::SockShutdown { fd: 0, how: 1 },
-        14 => Call::ThreadCreate { attributes: THREAD },
-        15 => Call::ThreadExit {
-            lock: 0,
-            word: 0,
-            scope: 4,
-        },
-        16 => Call::ThreadYield,
+        10 => Call::SockShutdown { fd: 0, how: 1 },
         _ => return Ok(None),
     }))
 }
 
 // The call of a case.
 fn call_at(alloc: Global, place: usize) -> Result<Option<Call>, AllocError> {
-    match place / 6 {
+    match place / 4 {
         0 => Ok(calls_from_0(place)),
-        1 => calls_from_6(alloc, place),
-        _ => calls_from_12(alloc, place),
+        1 => calls_from_4(alloc, place),
+        _ => calls_from_8(alloc, place),
     }
 }
 

@@ -43,10 +43,13 @@ fn ticket(name: char) -> Named {
 enum Step {
     Put(char),
     Park(char),
+    ParkUntil(char, u64),
     Take(Option<char>),
     // Of the thread that has the ticket.
     Revive(char, bool),
     ReviveAll,
+    // Of the threads whose moment has come by this one.
+    ReviveDue(u64),
 }
 
 // The steps of a queue, in their order, and the names of the tickets that are then ready and parked, longest first.
@@ -126,19 +129,54 @@ const CASES: &[Case] = &[
         ready: "ba",
         parked: "",
     },
+    Case {
+        steps: &[
+            Step::Park('c'),
+            Step::ParkUntil('a', 30),
+            Step::ParkUntil('b', 10),
+            Step::ReviveDue(9),
+        ],
+        ready: "",
+        parked: "bac",
+    },
+    Case {
+        steps: &[
+            Step::Put('c'),
+            Step::ParkUntil('a', 10),
+            Step::ParkUntil('b', 10),
+            Step::ParkUntil('c', 11),
+            Step::ReviveDue(10),
+        ],
+        ready: "cab",
+        parked: "c",
+    },
+    Case {
+        steps: &[
+            Step::ParkUntil('c', 20),
+            Step::Park('b'),
+            Step::ParkUntil('a', 0),
+            Step::ReviveDue(30),
+        ],
+        ready: "ac",
+        parked: "b",
+    },
 ];
 
 // Does a step. Whether its answer is the step's.
 fn follow(queue: &mut Queue<Named>, step: Step) -> Result<bool, AllocError> {
     match step {
         Step::Put(name) => queue.put(ticket(name)).map_err(|_| AllocError)?,
-        Step::Park(name) => queue.park(ticket(name)).map_err(|_| AllocError)?,
+        Step::Park(name) => queue.park(ticket(name), None).map_err(|_| AllocError)?,
+        Step::ParkUntil(name, until) => queue
+            .park(ticket(name), Some(until))
+            .map_err(|_| AllocError)?,
         Step::Take(name) => return Ok(queue.take().map(|ticket| ticket.name) == name),
         Step::Revive(name, answer) => {
             let Named { pid, tid, .. } = ticket(name);
             return Ok(queue.revive(pid, tid) == answer);
         }
         Step::ReviveAll => queue.revive_all(),
+        Step::ReviveDue(now) => queue.revive_due(now),
     }
     Ok(true)
 }

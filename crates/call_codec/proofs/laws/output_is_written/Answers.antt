@@ -1,5 +1,6 @@
 use Rattle.call_codec.proofs.Mappings.{mapping_filled}
 use Rattle.call_codec.proofs.Outputs.{entries_written, found_state_written, link_written, open_state_written, pread_written, read_written, state_written}
+use Rattle.call_codec.proofs.ThreadOutputs.{exit_word_written, random_written}
 use Rattle.call_codec.proofs.WokenOutputs.{events_written, words_written}
 use Rattle.call_codec.proofs.laws.output_is_written.Goals as goal
 
@@ -32,3 +33,9 @@ returns-clause-events c = events_written
 
 pub returns-clause-words : goal.returns-clause-words
 returns-clause-words c = words_written
+
+pub returns-clause-random : goal.returns-clause-random
+returns-clause-random c = random_written
+
+pub returns-clause-exit_word : goal.returns-clause-exit_word
+returns-clause-exit_word c = exit_word_written

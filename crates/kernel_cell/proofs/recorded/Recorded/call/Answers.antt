@@ -4,9 +4,14 @@ use Rattle.call_codec.specs.Arguments.{args_of}
 use Rattle.call_codec.proofs.Puts.{may_map_for}
 use Rattle.shared_history.proofs.KeptEntries.{takes_reserved}
 use Rattle.kernel_cell.proofs.EntryEffects.{call_encoded}
-use Rattle.kernel_cell.proofs.RecordedSteps.{kernel_early, log_short, constants_early, live_there, call_runs_there, fits_call, recorded_call, acted_there}
+use Rattle.kernel_cell.proofs.RecordedSteps.{kernel_early, log_short, constants_early, live_there, few_there, call_runs_there, other_there, number_there, fits_call, recorded_call, acted_there}
 use Rattle.run_model.specs.World.{Guest, world, registers_of, called_guest}
 use Rattle.kernel_cell.proofs.recorded.Recorded.call.Goals as goal
+
+pub next_thread-next-requires : goal.next_thread-next-requires
+next_thread-next-requires g c =
+    let self = c.args.self.now in
+    record { few = few_there g.J.Naming.launch g.J.Naming.keeps_all self.keeper.log self.kernel self.constants self.kept c.requires.recorded c.args.pid }
 
 pub step-answer-requires-clause-runnable : goal.step-answer-requires-clause-runnable
 step-answer-requires-clause-runnable g c =
@@ -45,6 +50,21 @@ answer-requires-clause-encoded g c =
     subst (λ (guest : Guest). c.args.call ≡ args_of guest.memory (registers_of guest c.args.tid)) (sym c.in-Ok-make_room.ensures.without)
     (call_encoded (world g.J.Naming.launch self.keeper.log) c.args.pid c.args.tid c.args.turns c.args.guest.now c.args.call (c.requires.asks live))
 
+pub answer-requires-clause-other : goal.answer-requires-clause-other
+answer-requires-clause-other g c =
+    let self = c.args.self.now in
+    let live = live_there g.J.Naming.launch g.J.Naming.keeps_all self.keeper.log self.kernel self.constants self.kept c.requires.recorded c.args.pid (c.if-not-live.ensures.0 refl) in
+    other_there g.J.Naming.launch g.J.Naming.keeps_all self.keeper.log self.kernel self.constants self.kept c.requires.recorded c.args.pid c.args.tid c.args.turns c.args.call c.args.guest.now
+    (c.requires.asks live) c.next_thread-next.result c.in-Ok-make_room.room.thread c.next_thread-next.ensures c.in-Ok-make_room.ensures.number
+
+pub answer-requires-clause-number : goal.answer-requires-clause-number
+answer-requires-clause-number g c =
+    let self = c.args.self.now in
+    let live = live_there g.J.Naming.launch g.J.Naming.keeps_all self.keeper.log self.kernel self.constants self.kept c.requires.recorded c.args.pid (c.if-not-live.ensures.0 refl) in
+    number_there g.J.Naming.launch g.J.Naming.keeps_all self.keeper.log self.kernel self.constants self.kept c.requires.recorded c.args.pid c.args.tid c.args.turns c.args.call c.args.guest.now
+    (c.requires.asks live) c.step-answer.result c.step-answer.new.self c.next_thread-next.result c.in-Ok-make_room.room.thread c.step-answer.ensures.step c.next_thread-next.ensures
+    c.in-Ok-make_room.ensures.number
+
 pub append_call-requires-clause-covers : goal.append_call-requires-clause-covers
 append_call-requires-clause-covers g c =
     subst (λ (held : List ℕ). (x : ℕ) × (x < length held) × (slice_index_or held x c.args.pid ≡ c.args.pid)) (sym c.requires.held) (0, omega arith, refl)
@@ -79,4 +99,4 @@ returns-clause-acted g c =
     (c.requires.asks live) c.step-answer.result c.step-answer.new.self c.moment.result c.moment.ensures c.step-answer.ensures.step live
     c.append_call.new.self.log (ap (λ k. k.log) c.append_call.ensures) c.answer.new.self
     (c.answer.ensures ∙ ap (λ (guest : Guest). called_guest guest c.args.tid c.args.call c.step-answer.result) c.in-Ok-make_room.ensures.without)
-    c.acted.result c.live-2.result c.is_parked-parks.result c.acted.ensures c.is_parked-parks.ensures c.live-2.ensures
+    c.acted.result c.live-2.result c.call_end-end.result c.next_thread-next.result c.acted.ensures c.call_end-end.ensures c.next_thread-next.ensures c.live-2.ensures

@@ -9,9 +9,10 @@ use Rattle.abi_types.specs.declared.reply.Answer.TheVariants as answer
 use Rattle.abi_types.specs.declared.reply.Reply.{Reply}
 use Rattle.abi_types.specs.declared.who.Who.{Who}
 use Rattle.kernel_model.specs.Calls.{meaning_of, named, refusal, takes_memory}
-use Rattle.kernel_model.specs.Families.ClockCalls.{real_time}
+use Rattle.kernel_model.specs.Families.ClockCalls.{drawn_by, real_time}
 use Rattle.kernel_model.specs.Families.DescriptorCalls.{stat_get}
-use Rattle.kernel_model.specs.Families.ProcessCalls.{exit_of}
+use Rattle.kernel_model.specs.Families.LockWords.{unlocked}
+use Rattle.kernel_model.specs.Families.ProcessCalls.{exit_of, left_with, made_in}
 use Rattle.kernel_model.specs.Laws.{HasAll}
 use Rattle.kernel_model.specs.Outcome.{Outcome, IsSuccess, replies}
 use Rattle.kernel_model.specs.Release.{release}
@@ -28,7 +29,7 @@ use Rattle.kernel_core.specs.OffsetCalls.{offset_outcome}
 use Rattle.kernel_core.specs.Opening.{open_outcome}
 use Rattle.kernel_core.proofs.Acts.{act_allowed, act_refused, by_outcome, stat_get_sets_nothing}
 use Rattle.kernel_core.proofs.EntryCalls.{entries_does, first_is_named}
-use Rattle.kernel_core.proofs.Families.{all_named, answered_does, answered_is, change_does, change_is, change_replaces, change_takes_memory, entries_is, entries_on, exit_is, file_is, file_on, offset_is, offset_on, on_err_all, on_err_both, open_is, poll_does, poll_is, poll_sets_nothing, poll_takes_memory, state_is, unbuilt_does, unbuilt_is, zeros_does, zeros_is}
+use Rattle.kernel_core.proofs.Families.{all_named, answered_does, answered_is, change_does, change_is, change_replaces, change_takes_memory, entries_is, entries_on, exit_is, file_is, file_on, new_thread_is, offset_is, offset_on, on_err_all, on_err_both, open_is, poll_does, poll_is, poll_sets_nothing, poll_takes_memory, random_is, resolution_is, state_is, thread_exit_is, time_is, unbuilt_does, unbuilt_is, zeros_does, zeros_is}
 use Rattle.kernel_core.proofs.FileCalls.{file_does}
 use Rattle.kernel_core.proofs.OffsetCalls.{offset_does}
 use Rattle.kernel_core.proofs.OpenCalls.{open_does}
@@ -264,7 +265,85 @@ returns-in-Open-clause-err c =
     on_err_both c.file_open.result c.file_open.ensures.only c.file_open.ensures.err
     (λ succeeds unchanged. lacks a c.file_open.new.self (call_of_open view) o same is refl (succeeds c.in-Some.table.now (there a)) unchanged)
 
+-- ---- what the process has of its own
+
+pub returns-in-Random-clause-ok : goal.returns-in-Random-clause-ok
+returns-in-Random-clause-ok c =
+    let a = (goal.at.returns-in-Random-clause-ok c).After-refusal in
+    let S = c.args.self.now in
+    let who = c.args.who.now in
+    let o = drawn_by c.args.constants.now who.pid (get S.processes who.pid) c.in-Random.length in
+    let is = allowed a (call.RandomGet c.in-Random.length) o c.in_default-refusal.is
+    (random_is c.args.call.now c.family.result c.family.ensures c.in-Random.length c.in-Random.is) refl in
+    IfOk-weaker _ _ _ (λ given done. by_outcome c.args.constants.now S c.random_get.new.self who c.args.call.now given o is done) c.random_get.ensures.ok
+
+pub returns-in-Random-clause-err : goal.returns-in-Random-clause-err
+returns-in-Random-clause-err c =
+    let a = (goal.at.returns-in-Random-clause-err c).After-refusal in
+    let S = c.args.self.now in
+    let who = c.args.who.now in
+    let same = random_is c.args.call.now c.family.result c.family.ensures c.in-Random.length c.in-Random.is in
+    let o = drawn_by c.args.constants.now who.pid (get S.processes who.pid) c.in-Random.length in
+    let is = allowed a (call.RandomGet c.in-Random.length) o c.in_default-refusal.is same refl in
+    on_err_both c.random_get.result c.random_get.ensures.only c.random_get.ensures.err
+    (λ succeeds unchanged. lacks a c.random_get.new.self (call.RandomGet c.in-Random.length) o same is refl succeeds unchanged)
+
+pub returns-in-NewThread-clause-ok : goal.returns-in-NewThread-clause-ok
+returns-in-NewThread-clause-ok c =
+    let a = (goal.at.returns-in-NewThread-clause-ok c).After-refusal in
+    let S = c.args.self.now in
+    let who = c.args.who.now in
+    let o = made_in who.pid who.tid (get S.processes who.pid) in
+    let is = allowed a (call.ThreadCreate c.in-NewThread.field-0) o c.in_default-refusal.is
+    (new_thread_is c.args.call.now c.family.result c.family.ensures c.in-NewThread.field-0 c.in-NewThread.is) refl in
+    IfOk-weaker _ _ _ (λ given done. by_outcome c.args.constants.now S c.thread_create.new.self who c.args.call.now given o is done) c.thread_create.ensures.ok
+
+pub returns-in-NewThread-clause-err : goal.returns-in-NewThread-clause-err
+returns-in-NewThread-clause-err c =
+    let a = (goal.at.returns-in-NewThread-clause-err c).After-refusal in
+    let S = c.args.self.now in
+    let who = c.args.who.now in
+    let same = new_thread_is c.args.call.now c.family.result c.family.ensures c.in-NewThread.field-0 c.in-NewThread.is in
+    let o = made_in who.pid who.tid (get S.processes who.pid) in
+    let is = allowed a (call.ThreadCreate c.in-NewThread.field-0) o c.in_default-refusal.is same refl in
+    on_err_both c.thread_create.result c.thread_create.ensures.only c.thread_create.ensures.err
+    (λ succeeds unchanged. lacks a c.thread_create.new.self (call.ThreadCreate c.in-NewThread.field-0) o same is refl succeeds unchanged)
+
+pub thread_exit-requires-clause-valid : goal.thread_exit-requires-clause-valid
+thread_exit-requires-clause-valid c = valid (goal.at.thread_exit-requires-clause-valid c).After-refusal
+
+pub returns-in-ThreadExit-clause-ok : goal.returns-in-ThreadExit-clause-ok
+returns-in-ThreadExit-clause-ok c =
+    let a = (goal.at.returns-in-ThreadExit-clause-ok c).After-refusal in
+    let S = c.args.self.now in
+    let who = c.args.who.now in
+    let lock = c.in-ThreadExit.lock in
+    let word = c.in-ThreadExit.word in
+    let o = left_with who.pid who.tid (get S.processes who.pid) lock (unlocked who.tid word) in
+    let is = allowed a (call.ThreadExit lock word c.in-ThreadExit.scope) o c.in_default-refusal.is
+    (thread_exit_is c.args.call.now c.family.result c.family.ensures lock word c.in-ThreadExit.scope c.in-ThreadExit.is) refl in
+    by_outcome c.args.constants.now S c.thread_exit.new.self who c.args.call.now (answer.Reply c.thread_exit.result) o is
+    (c.thread_exit.ensures.reply, c.thread_exit.ensures.state)
+
 -- ---- calls that change nothing, and the end of the process
+
+pub returns-in-ClockResolution-clause-ok : goal.returns-in-ClockResolution-clause-ok
+returns-in-ClockResolution-clause-ok c =
+    let a = (goal.at.returns-in-ClockResolution-clause-ok c).After-refusal in
+    let reply = c.success-in-ClockResolution.result in
+    replied a reply
+    (allowed a (call.ClockResGet c.in-ClockResolution.clock) (replies reply) c.in_default-refusal.is
+    (resolution_is c.args.call.now c.family.result c.family.ensures c.in-ClockResolution.clock c.in-ClockResolution.is)
+    (ap replies (sym c.success-in-ClockResolution.ensures)))
+
+pub returns-in-ClockTime-clause-ok : goal.returns-in-ClockTime-clause-ok
+returns-in-ClockTime-clause-ok c =
+    let a = (goal.at.returns-in-ClockTime-clause-ok c).After-refusal in
+    let clock = c.in-ClockTime.clock in
+    let reply = c.clock_time.result in
+    replied a reply
+    (allowed a (call.ClockTimeGet clock c.in-ClockTime.precision) (replies reply) c.in_default-refusal.is
+    (time_is c.args.call.now c.family.result c.family.ensures clock c.in-ClockTime.precision c.in-ClockTime.is) (ap replies (sym c.clock_time.ensures)))
 
 pub returns-in-Zeros-clause-ok : goal.returns-in-Zeros-clause-ok
 returns-in-Zeros-clause-ok c =

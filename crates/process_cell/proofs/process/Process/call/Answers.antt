@@ -1,30 +1,60 @@
-use Rattle.std.proofs.Common.{◌∙◌}
-use Rattle.process_cell.proofs.Outcomes.{call_lacks, call_same, call_tells}
-use Rattle.process_cell.proofs.Ties.{tied_act}
+use Rattle.std.proofs.Common.{IsSome, refl, sym, subst, ◌∙◌}
+use Rattle.process_cell.proofs.Outcomes.{call_tells}
+use Rattle.process_cell.proofs.Places.{has_place, placed_takes}
+use Rattle.process_cell.proofs.Ties.{asks_call, has_registers, tied_act, tied_moved}
 use Rattle.process_cell.proofs.process.Process.call.Goals as goal
 
-pub returns-in_default-clause-called : goal.returns-in_default-clause-called
-returns-in_default-clause-called g c =
+pub call-requires : goal.call-requires
+call-requires g c =
     let v = c.self.inside in
-    call_lacks v.pass v.tid v.turns v.guest v.phase c.args.self.now c.self.view_is
+    record {
+      thread = has_registers g.J.Naming.launch v.pass c.args.tid v.threads v.turns v.guest v.phase c.args.self.now c.self.invariant c.self.view_is c.requires;
+    }
+
+pub act-acted-requires : goal.act-acted-requires
+act-acted-requires g c =
+    let v = c.self.inside in
+    let tied =
+    tied_moved g.J.Naming.launch v.pass c.make_place.new.pass c.args.tid v.threads v.turns v.guest v.phase c.args.self.now c.self.invariant c.self.view_is
+    c.requires c.in-Made.ensures.moved in
+    asks_call g.J.Naming.launch c.make_place.new.pass c.args.tid v.threads v.turns c.replace-turns.result v.guest c.in-Ok.call tied c.in-Ok.ensures.ok
+    c.replace-turns.ensures.value
+
+pub take_acted-did-requires : goal.take_acted-did-requires
+take_acted-did-requires g c =
+    let v = c.self.inside in
+    let tied =
+    tied_moved g.J.Naming.launch v.pass c.make_place.new.pass c.args.tid v.threads v.turns v.guest v.phase c.args.self.now c.self.invariant c.self.view_is
+    c.requires c.in-Made.ensures.moved in
+    has_place g.J.Naming.launch v.pass c.make_place.new.pass c.act-acted.new.pass c.args.tid v.threads c.make_place.new.threads c.replace-turns.result
+    c.in-Ok.call c.act-acted.new.guest c.in-Made.made c.in-Made.ensures c.leave_place.new.threads c.act-acted.result
+    (subst IsSome (sym tied.0.live) refl) tied.1 c.act-acted.ensures c.leave_place.ensures
 
 pub invariant_of-self-2 : goal.invariant_of-self-2
 invariant_of-self-2 g c =
-    tied_act g.J.Naming.launch c.self.inside.pass c.act-acted.new.pass c.self.inside.tid c.replace-turns.result c.replace-turns.new.dest c.in-Ok.call
-    c.act-acted.new.guest c.act-acted.result c.phase_after_act-self-inside.result c.act-acted.ensures (c.replace-turns.ensures.after ∙ c.new.ensures)
-    c.phase_after_act-self-inside.ensures
-
-pub returns-clause-same : goal.returns-clause-same
-returns-clause-same g c =
     let v = c.self.inside in
-    call_same g.J.Naming.launch v.pass c.act-acted.new.pass v.tid v.turns c.in-Ok.call v.guest c.act-acted.new.guest v.phase c.replace-turns.result
-    c.replace-turns.new.dest c.phase_after_act-self-inside.result c.act-acted.result c.args.self.now c.replace-turns.ensures.value
-    c.act-acted.ensures c.self.view_is
+    let tied =
+    tied_moved g.J.Naming.launch v.pass c.make_place.new.pass c.args.tid v.threads v.turns v.guest v.phase c.args.self.now c.self.invariant c.self.view_is
+    c.requires c.in-Made.ensures.moved in
+    let takes =
+    placed_takes g.J.Naming.launch v.pass c.make_place.new.pass c.act-acted.new.pass c.args.tid v.threads c.make_place.new.threads c.replace-turns.result
+    c.in-Ok.call c.act-acted.new.guest c.in-Made.made c.in-Made.ensures c.leave_place.new.threads c.take_acted-did.new.threads c.act-acted.result
+    c.act-acted.ensures c.leave_place.ensures c.take_acted-did.ensures.threads in
+    tied_act g.J.Naming.launch c.make_place.new.pass c.act-acted.new.pass c.args.tid v.threads c.take_acted-did.new.threads v.turns c.replace-turns.result
+    c.replace-turns.new.dest c.in-Ok.call v.guest c.act-acted.new.guest c.phase_after-self-inside.result c.act-acted.result c.take_acted-did.result
+    tied c.act-acted.ensures takes c.take_acted-did.ensures.did (c.replace-turns.ensures.after ∙ c.new.ensures) c.phase_after-self-inside.ensures
 
 pub returns-clause-called : goal.returns-clause-called
 returns-clause-called g c =
     let v = c.self.inside in
-    call_tells g.J.Naming.launch v.pass c.act-acted.new.pass v.tid v.turns c.in-Ok.call v.guest c.act-acted.new.guest v.phase c.replace-turns.result
-    c.replace-turns.new.dest c.phase_after_act-self-inside.result c.did_in.result c.act-acted.result c.args.self.now c.self.invariant c.requires
-    c.replace-turns.ensures.value c.act-acted.ensures (c.replace-turns.ensures.after ∙ c.new.ensures) c.phase_after_act-self-inside.ensures
-    c.did_in.ensures c.self.view_is
+    let tied =
+    tied_moved g.J.Naming.launch v.pass c.make_place.new.pass c.args.tid v.threads v.turns v.guest v.phase c.args.self.now c.self.invariant c.self.view_is
+    c.requires c.in-Made.ensures.moved in
+    let takes =
+    placed_takes g.J.Naming.launch v.pass c.make_place.new.pass c.act-acted.new.pass c.args.tid v.threads c.make_place.new.threads c.replace-turns.result
+    c.in-Ok.call c.act-acted.new.guest c.in-Made.made c.in-Made.ensures c.leave_place.new.threads c.take_acted-did.new.threads c.act-acted.result
+    c.act-acted.ensures c.leave_place.ensures c.take_acted-did.ensures.threads in
+    call_tells g.J.Naming.launch v.pass c.make_place.new.pass c.args.tid v.threads v.turns v.guest v.phase c.act-acted.new.pass c.in-Ok.call
+    c.act-acted.new.guest c.take_acted-did.new.threads c.replace-turns.result c.replace-turns.new.dest c.phase_after-self-inside.result
+    c.take_acted-did.result c.act-acted.result c.args.self.now c.in-Made.ensures.moved tied c.replace-turns.ensures.value c.act-acted.ensures
+    (c.replace-turns.ensures.after ∙ c.new.ensures) takes c.take_acted-did.ensures.did c.phase_after-self-inside.ensures c.self.view_is

@@ -1,0 +1,3 @@
+pub mod Keystream
+pub mod Drawn
+pub mod KnownAnswers

@@ -1,0 +1,3 @@
+pub mod Random
+pub mod RandomLaws
+pub mod KnownAnswers

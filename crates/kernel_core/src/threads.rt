@@ -1,0 +1,77 @@
+//! The calls that make threads and end them.
+ghost use Rattle.std.specs.Prelude.{◌≡◌, IsSome, IfOk, OnErr};
+ghost use Rattle.std.specs.FinMap as map;
+ghost use Rattle.abi_types.specs.declared.reply.Answer.TheVariants as answer;
+ghost use Rattle.kernel_core.specs.Threads.{is_last_in};
+ghost use Rattle.kernel_model.specs.Families.LockWords.{unlocked};
+ghost use Rattle.kernel_model.specs.Families.ProcessCalls.{left_updates, left_with, made_in};
+ghost use Rattle.kernel_model.specs.Outcome.{IsSuccess};
+ghost use Rattle.kernel_model.specs.Release.{release};
+ghost use Rattle.kernel_model.specs.State.{put_all};
+ghost use Rattle.kernel_model.specs.Valid.{IsValid};
+
+use crate::kernel::Kernel;
+use abi_types::{Answer, Errno, Pid, Reply, Status, Tid, Who, WordWrite, WordWrites};
+use kernel_parts::unlocked;
+use right_rules::{refused, success};
+use std::alloc::AllocError;
+
+impl Kernel {
+    // Makes a thread of the caller's process. `Err` changes nothing.
+    pub(crate) fn thread_create(&mut self, who: &Who) -> Result<Answer, AllocError>
+        requires there { IsSome (map.get self.old.statuses who.now.pid) }
+        ensures ok { IfOk result (λ given. (given ≡ (made_in who.now.pid who.now.tid (map.get self.old.processes who.now.pid)).answer)
+            × (self.new ≡ release (put_all (made_in who.now.pid who.now.tid (map.get self.old.processes who.now.pid)).updates self.old))) }
+        ensures only { OnErr result (IsSuccess (made_in who.now.pid who.now.tid (map.get self.old.processes who.now.pid)).answer) }
+        ensures err { OnErr result (self.new ≡ self.old) }
+    {
+        let own = self.processes.get_mut(u64::from(who.pid.0));
+        own.make_thread(who.tid)
+    }
+
+    // Whether the process has no thread but this one.
+    fn is_last_thread(&self, pid: Pid, tid: Tid) -> bool
+        ensures { result ≡ is_last_in tid (map.get self.now.processes pid) }
+    {
+        match self.processes.get(u64::from(pid.0)) {
+            Some(own) => own.is_last_thread(tid),
+            None => true,
+        }
+    }
+
+    // Ends a thread, and with the last one its process, which exits with 0.
+    fn end_thread(&mut self, pid: Pid, tid: Tid)
+        requires { IsSome (map.get self.old.statuses pid) }
+        ensures { self.new ≡ release (put_all (left_updates pid tid (map.get self.old.processes pid)) self.old) }
+    {
+        if self.is_last_thread(pid, tid) {
+            self.end_process(pid, Status::Exit(0));
+        } else {
+            let own = self.processes.get_mut(u64::from(pid.0));
+            own.end_thread(tid);
+        }
+    }
+
+    // Lets go of the lock at this address, whose word is this, and ends the caller. Where it may not let go it goes on.
+    pub(crate) fn thread_exit(&mut self, who: &Who, lock: u64, word: u32) -> Reply
+        requires there { IsSome (map.get self.old.statuses who.now.pid) }
+        requires valid { IsValid self.old }
+        ensures reply { answer.Reply result
+            ≡ (left_with who.now.pid who.now.tid (map.get self.old.processes who.now.pid) lock (unlocked who.now.tid word)).answer }
+        ensures state { self.new
+            ≡ release (put_all (left_with who.now.pid who.now.tid (map.get self.old.processes who.now.pid) lock (unlocked who.now.tid word)).updates self.old) }
+    {
+        let Some(left) = unlocked(who.tid, word) else {
+            return refused(Errno::Perm);
+        };
+        self.end_thread(who.pid, who.tid);
+        let write = WordWrite {
+            address: lock,
+            word: left,
+        };
+        Reply {
+            writes: WordWrites::One(write),
+            ..success(0, 0)
+        }
+    }
+}

@@ -1,0 +1,198 @@
+-- States in which a process has other threads, or has made more.
+--     Grows, more_grows, drawn_grows, thread_grows, ended_grows      what a process may become
+--     set_process_nearly_valid      then a nearly valid state stays so
+use Rattle.std.proofs.Common.{◌≡◌, ◌≢◌, ◌⊎◌, inl, inr, ℕ, ◌≤◌, Option, Some, None, IsSome, is_some, refl, sym, ap, subst, ◌∙◌, arith}
+use Rattle.std.proofs.lemmas.Bool.Decides.{eqb_tells}
+use Rattle.std.specs.Ordering.{nat_cmp}
+use Rattle.std.specs.FinMap.{empty, get, get-empty, insert, remove}
+use Rattle.std.specs.Option.{option_map}
+use Rattle.abi_types.specs.declared.open_kind.OpenKind.{OpenKind}
+use Rattle.abi_types.specs.declared.open_kind.OpenKind.TheVariants.{File, Directory, End, Terminal, Process}
+use Rattle.abi_types.specs.declared.thread.Thread.{Thread}
+use Rattle.abi_types.specs.declared.thread.Thread.TheVariants.{Runnable}
+use Rattle.maps.specs.Maps.{get-insert-same, get-insert-other, get-remove-same, get-remove-other, same_numbers}
+use Rattle.tree_model.specs.Entries.{here_or_other}
+use Rattle.kernel_model.specs.Families.Numbers.{made_more}
+use Rattle.kernel_model.specs.OwnChanges.{drawn_more, next_thread, with_next_thread, without_thread}
+use Rattle.kernel_model.specs.State.{State, ProcessState, Threads, counts_in, locks_in, no_locks, put_one, set_process, thread_in, thread_of, threads_of}
+use Rattle.kernel_model.specs.Valid.{HasBehind, IsNearlyValid}
+use Rattle.kernel_model.specs.Waits.{MayWait}
+use Rattle.kernel_model.proofs.Children.{all_born, one_keeps, KeepsChildren}
+use Rattle.kernel_model.proofs.Tests.{none_is_no, not_true, same_some}
+use Rattle.kernel_model.proofs.Valids.{some_again}
+
+-- What a process may become: each of its threads was there, or runs and is numbered; it has none where it had none; it has numbered and
+-- made no less, and no fewer children; and the same wait in it.
+pub record Grows (own new : ProcessState) : Type 0 where
+  pub threads : (t : ℕ) (thread : Thread) → get new.threads t ≡ Some thread
+      → (get own.threads t ≡ Some thread) ⊎ ((thread ≡ Runnable) × (t ≤ new.counts.threads))
+  pub none : own.threads ≡ empty → new.threads ≡ empty
+  pub numbered : own.counts.threads ≤ new.counts.threads
+  pub more : own.counts.objects ≤ new.counts.objects
+  pub children : KeepsChildren (Some own) (Some new)
+  pub locks : new.locks ≡ own.locks
+
+pub more_grows : (count : ℕ) (own : ProcessState) → Grows own (made_more count own)
+more_grows count own = record { threads = λ t thread there. inl there; none = λ none. none; numbered = omega arith; more = omega arith; children = (refl, omega arith); locks = refl }
+
+pub drawn_grows : (words : ℕ) (own : ProcessState) → Grows own (drawn_more words own)
+drawn_grows words own = record { threads = λ t thread there. inl there; none = λ none. none; numbered = omega arith; more = omega arith; children = (refl, omega arith); locks = refl }
+
+-- a process that has a thread may have one more
+one_more : (own : ProcessState) (t : ℕ) (thread : Thread) → get (with_next_thread own).threads t ≡ Some thread
+    → (get own.threads t ≡ Some thread) ⊎ ((thread ≡ Runnable) × (t ≤ next_thread own))
+one_more own t thread there =
+    elim (eqb_tells t (next_thread own)) [
+      | inl is ↦ inr (
+        same_some thread Runnable (sym there ∙ ap (get (with_next_thread own).threads) is.1 ∙ get-insert-same own.threads (next_thread own) Runnable),
+        (let same : t ≡ next_thread own = is.1 in omega (arith, same)),
+      )
+      | inr other ↦ inl (sym (get-insert-other own.threads (next_thread own) Runnable t other.1) ∙ there)
+    ]
+
+pub thread_grows : (own : ProcessState) (t : ℕ) → IsSome (get own.threads t) → Grows own (with_next_thread own)
+thread_grows own t there = record {
+  threads = one_more own;
+  none = λ none.
+      absurd (not_true (sym (ap is_some (get-empty nat_cmp t)) ∙ sym (ap (λ (m : Threads). is_some (get m t)) none) ∙ there));
+  numbered = omega arith;
+  more = omega arith;
+  children = (refl, omega arith);
+  locks = refl;
+}
+
+-- and so may one that has one less
+removed_before : (own : ProcessState) (t u : ℕ) (thread : Thread) → get (remove own.threads t) u ≡ Some thread → get own.threads u ≡ Some thread
+removed_before own t u thread there =
+    elim (eqb_tells u t) [
+      | inl is ↦ absurd (none_is_no thread (sym (get-remove-same own.threads t) ∙ ap (get (remove own.threads t)) (sym is.1) ∙ there))
+      | inr other ↦ sym (get-remove-other own.threads t u other.1) ∙ there
+    ]
+
+pub ended_grows : (own : ProcessState) (t : ℕ) → Grows own (without_thread t own)
+ended_grows own t = record {
+  threads = λ u thread there. inl (removed_before own t u thread there);
+  none = λ none. ap (λ (m : Threads). remove m t) none ∙ still_empty;
+  numbered = omega arith;
+  more = omega arith;
+  children = (refl, omega arith);
+  locks = refl;
+} where
+  removed_empty : (u : ℕ) → get (remove (empty {X = Thread} {R = nat_cmp}) t) u ≡ get (empty {X = Thread} {R = nat_cmp}) u
+  removed_empty u =
+      elim (eqb_tells u t) [
+        | inl is ↦ ap (get (remove (empty {X = Thread} {R = nat_cmp}) t)) is.1 ∙ get-remove-same (empty {X = Thread}) t ∙ sym (get-empty nat_cmp u)
+        | inr other ↦ get-remove-other (empty {X = Thread}) t u other.1
+      ]
+
+  still_empty : remove (empty {X = Thread} {R = nat_cmp}) t ≡ empty
+  still_empty = same_numbers _ _ removed_empty
+
+-- ---- the state
+
+abbrev threads_in : Option ProcessState → Option Threads
+threads_in own = option_map (λ (x : ProcessState). x.threads) own
+
+module _ (S : State) (p : ℕ) (own new : ProcessState) (there : get S.processes p ≡ Some own) (grows : Grows own new) where
+  abbrev after : State
+  after = put_one (set_process p new) S
+
+  here : get after.processes p ≡ Some new
+  here = get-insert-same S.processes p new
+
+  other : (q : ℕ) → q ≢ p → get after.processes q ≡ get S.processes q
+  other q apart = get-insert-other S.processes p new q apart
+
+  more_numbered : (q : ℕ) → (counts_in (get S.processes q)).threads ≤ (counts_in (get after.processes q)).threads
+  more_numbered q =
+      here_or_other (λ k. (counts_in (get S.processes k)).threads ≤ (counts_in (get after.processes k)).threads) p q
+      (let is : (counts_in (get after.processes p)).threads ≡ new.counts.threads = ap (λ o. (counts_in o).threads) here in
+      let was : (counts_in (get S.processes p)).threads ≡ own.counts.threads = ap (λ o. (counts_in o).threads) there in
+      omega (arith, is, was, grows.numbered))
+      (λ apart. let same : (counts_in (get after.processes q)).threads ≡ (counts_in (get S.processes q)).threads =
+      ap (λ o. (counts_in o).threads) (other q apart) in omega (arith, same))
+
+  more_made : (q : ℕ) → (counts_in (get S.processes q)).objects ≤ (counts_in (get after.processes q)).objects
+  more_made q =
+      here_or_other (λ k. (counts_in (get S.processes k)).objects ≤ (counts_in (get after.processes k)).objects) p q
+      (let is : (counts_in (get after.processes p)).objects ≡ new.counts.objects = ap (λ o. (counts_in o).objects) here in
+      let was : (counts_in (get S.processes p)).objects ≡ own.counts.objects = ap (λ o. (counts_in o).objects) there in
+      omega (arith, is, was, grows.more))
+      (λ apart. let same : (counts_in (get after.processes q)).objects ≡ (counts_in (get S.processes q)).objects =
+      ap (λ o. (counts_in o).objects) (other q apart) in omega (arith, same))
+
+  -- a process without threads has none still
+  still_bare : (q : ℕ) → threads_of S q ≡ Some empty → threads_of after q ≡ Some empty
+  still_bare q bare =
+      elim (eqb_tells q p) [
+        | inl is ↦ subst (λ k. threads_of after k ≡ Some empty) (sym is.1)
+            (ap threads_in here
+            ∙ ap Some (grows.none (same_some own.threads empty (sym (ap threads_in there) ∙ subst (λ k. threads_of S k ≡ Some empty) is.1 bare))))
+        | inr apart ↦ ap threads_in (other q apart.1) ∙ bare
+      ]
+
+  -- each thread was there, or it runs and is numbered
+  thread_before : (q t : ℕ) (thread : Thread) → thread_of after q t ≡ Some thread
+      → (thread_of S q t ≡ Some thread) ⊎ ((thread ≡ Runnable) × (t ≤ (counts_in (get after.processes q)).threads))
+  thread_before q t thread now =
+      elim (eqb_tells q p) [
+        | inl is ↦ (
+            let mine : get new.threads t ≡ Some thread =
+            sym (ap (λ o. thread_in (threads_in o) t) here) ∙ subst (λ k. thread_of after k t ≡ Some thread) is.1 now in
+            elim (grows.threads t thread mine) [
+              | inl was ↦ inl (subst (λ k. thread_of S k t ≡ Some thread) (sym is.1) (ap (λ o. thread_in (threads_in o) t) there ∙ was))
+              | inr made ↦ inr (
+                made.0,
+                subst (λ k. t ≤ (counts_in (get after.processes k)).threads) (sym is.1)
+                    (subst (λ o. t ≤ (counts_in o).threads) (sym here) made.1),
+              )
+            ])
+        | inr apart ↦ inl (sym (ap (λ o. thread_in (threads_in o) t) (other q apart.1)) ∙ now)
+      ]
+
+  numbered_by : IsNearlyValid S → (q t : ℕ) (o : Option Thread) → thread_of after q t ≡ o → IsSome o → t ≤ (counts_in (get after.processes q)).threads
+  numbered_by v q t None is some = absurd (not_true some)
+  numbered_by v q t (Some thread) is some =
+      elim (thread_before q t thread is) [
+        | inl was ↦ (
+            let before : t ≤ (counts_in (get S.processes q)).threads = v.numbered q t (ap is_some was) in
+            let more = more_numbered q in
+            omega (arith, before, more))
+        | inr made ↦ made.1
+      ]
+
+  waits_by : IsNearlyValid S → (q t : ℕ) (o : Option Thread) → thread_of after q t ≡ o → MayWait o
+  waits_by v q t None is = tt
+  waits_by v q t (Some thread) is =
+      elim (thread_before q t thread is) [
+        | inl was ↦ subst MayWait was (v.waits q t)
+        | inr made ↦ subst (λ x. MayWait (Some x)) (sym made.0) tt
+      ]
+
+  behind_process : (kind : OpenKind) → HasBehind S kind → HasBehind after kind
+  behind_process (File q offset flags) h = h
+  behind_process (Directory q flags) h = h
+  behind_process (End reads writes flags) h = h
+  behind_process (Terminal which flags) h = h
+  behind_process (Process q) h = h
+
+  pub set_process_nearly_valid : IsNearlyValid S → IsNearlyValid (put_one (set_process p new) S)
+  set_process_nearly_valid v = record {
+    named = v.named;
+    behind = λ o kind e. behind_process kind (v.behind o kind e);
+    sole = v.sole;
+    tables = v.tables;
+    owns = λ q. some_again S.processes p own new q there ∙ v.owns q;
+    ended = λ q status is ends. ((v.ended q status is ends).0, still_bare q (v.ended q status is ends).1);
+    numbered = λ q t now. numbered_by v q t (thread_of after q t) refl now;
+    made = λ q k small beyond fits.
+        v.made q k small (let more = more_made q in omega (arith, more, beyond)) fits;
+    made_nodes = λ q k small beyond fits.
+        v.made_nodes q k small (let more = more_made q in omega (arith, more, beyond)) fits;
+    born = all_born S.processes (insert S.processes p new) (one_keeps S.processes p own new there grows.children) v.born;
+    tree = v.tree;
+    waits = λ q t. waits_by v q t (thread_of after q t) refl;
+    silent = v.silent;
+    nobody = λ q. here_or_other (λ k. locks_in (get after.processes k) ≡ no_locks) p q
+        (ap locks_in here ∙ grows.locks ∙ sym (ap locks_in there) ∙ v.nobody p) (λ apart. ap locks_in (other q apart) ∙ v.nobody q);
+  }

@@ -1,0 +1,38 @@
+use Rattle.std.proofs.Common.{◌≡◌, ℕ, refl, sym, ap, subst, ◌∙◌}
+use Rattle.std.specs.FinMap.{insert}
+use Rattle.abi_types.specs.declared.reply.Answer.TheVariants as answer
+use Rattle.abi_types.specs.declared.thread.Thread.TheVariants.{Runnable}
+use Rattle.kernel_model.specs.Outcome.{Outcome, IsSuccess}
+use Rattle.kernel_model.specs.OwnChanges.{next_thread, with_next_thread}
+use Rattle.kernel_model.specs.Reply.{success}
+use Rattle.kernel_model.specs.State.{ProcessState}
+use Rattle.kernel_parts.specs.OwnCalls.{own_after}
+use Rattle.kernel_parts.specs.contracts.process.ProcessState.{the_view}
+use Rattle.kernel_parts.proofs.OwnCalls.{made_with, not_made}
+use Rattle.kernel_parts.proofs.Tests.{on_err}
+use Rattle.kernel_parts.proofs.process.ProcessState.make_thread.Goals as goal
+
+pub returns-in_default-clause-ok : goal.returns-in_default-clause-ok
+returns-in_default-clause-ok c = λ p.
+    let own = c.args.self.now in
+    let none = not_made p c.args.tid own c.in_default.ensures in (
+      ap answer.Reply c.refused.ensures ∙ sym (ap (λ (o : Outcome). o.answer) none),
+      sym (ap (λ (o : Outcome). own_after o.updates own) none),
+    )
+
+pub returns-clause-ok : goal.returns-clause-ok
+returns-clause-ok c = λ p.
+    let own = c.args.self.now in
+    let V : ProcessState = the_view c.self.inside in
+    let made = made_with p c.args.tid c.in-Some.number own c.in-Some.ensures in
+    let number : c.in-Some.number ≡ next_thread V = made.1 ∙ ap next_thread (sym c.self.view_is) in
+    let threads : c.insert.new.self ≡ insert V.threads (next_thread V) Runnable =
+    c.in_ok-insert.ensures.ok ∙ ap (λ (k : ℕ). insert V.threads k Runnable) (c.from-key.ensures ∙ number) in (
+      ap answer.Reply (c.success.ensures ∙ ap (λ (k : ℕ). success k 0) (c.from-key.ensures ∙ made.1)) ∙ sym (ap (λ (o : Outcome). o.answer) made.0),
+      (λ i. record V { threads = threads i; counts = record V.counts { threads = number i } }) ∙ ap with_next_thread c.self.view_is
+          ∙ sym (ap (λ (o : Outcome). own_after o.updates own) made.0),
+    )
+
+pub returns-in_err-insert-clause-only : goal.returns-in_err-insert-clause-only
+returns-in_err-insert-clause-only c = on_err c.from_residual.result (λ p.
+    subst (λ (o : Outcome). IsSuccess o.answer) (sym (made_with p c.args.tid c.in-Some.number c.args.self.now c.in-Some.ensures).0) refl)
