@@ -141,13 +141,55 @@ static void list_names(void)
         cloudabi_sys_file_readdir(directory, bytes, 64, 4999, &count);
 }
 
+/* Sends so many bytes, and a pair's two ends into the channel that the second reads. */
+static void send_ends(const cloudabi_fd_t ends[2], size_t length)
+{
+    cloudabi_iovec_t range = {bytes, length};
+    cloudabi_send_in_t in = {&range, 1, ends, 2, 0};
+    cloudabi_send_out_t out;
+    cloudabi_sys_sock_send(ends[0], &in, &out);
+}
+
+/* Makes pairs of streams that hold themselves, with as many bytes in each channel as it has room for. */
+static void keep_channels(void)
+{
+    cloudabi_fd_t ends[2];
+    cloudabi_iovec_t range = {bytes, sizeof bytes};
+    size_t count;
+    for (;;) {
+        if (cloudabi_sys_fd_create2(CLOUDABI_FILETYPE_SOCKET_STREAM, &ends[0], &ends[1]) != CLOUDABI_ESUCCESS)
+            continue;
+        cloudabi_sys_fd_write(ends[1], &range, 1, &count);
+        send_ends(ends, sizeof bytes);
+        cloudabi_sys_fd_close(ends[0]);
+        cloudabi_sys_fd_close(ends[1]);
+    }
+}
+
+/* Sends a byte at a time, to pairs of streams that hold themselves. */
+static void send_bytes(void)
+{
+    cloudabi_fd_t ends[2];
+    cloudabi_iovec_t range = {bytes, 1};
+    size_t count;
+    for (;;) {
+        if (cloudabi_sys_fd_create2(CLOUDABI_FILETYPE_SOCKET_STREAM, &ends[0], &ends[1]) != CLOUDABI_ESUCCESS)
+            continue;
+        send_ends(ends, 1);
+        for (size_t i = 1; i < sizeof bytes; ++i)
+            cloudabi_sys_fd_write(ends[0], &range, 1, &count);
+        cloudabi_sys_fd_close(ends[0]);
+        cloudabi_sys_fd_close(ends[1]);
+    }
+}
+
 static const struct {
     const char *name;
     void (*run)(void);
 } kinds[] = {
     {"spin", spin},   {"memory", fill_memory}, {"protect", protect_memory}, {"map", map_memory}, {"output", write_output},
     {"input", read_input}, {"calls", make_calls}, {"denials", be_denied},   {"files", fill_files}, {"names", make_names},
-    {"list", list_names}, {"nest", nest_directories},
+    {"list", list_names}, {"nest", nest_directories}, {"channels", keep_channels}, {"sends", send_bytes},
 };
 
 void program_main(const argdata_t *arguments)

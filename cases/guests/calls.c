@@ -45,6 +45,9 @@ static size_t filled;
 
 static cloudabi_iovec_t ranges[2048];
 static size_t ranges_end; /* the place in the output behind the last range */
+static size_t fds_room;   /* how many descriptors there is room for behind a recv_out */
+
+#define RECV_OUT_SIZE 24
 
 /* Telling. */
 
@@ -446,7 +449,8 @@ static cloudabi_iovec_t read_room(void)
     return (cloudabi_iovec_t){(uint8_t *)output + start, length};
 }
 
-static void read_ranges(cloudabi_iovec_t (*read_range)(void))
+/* How many there are. */
+static size_t read_ranges(cloudabi_iovec_t (*read_range)(void))
 {
     size_t count = 0;
     want("[", "ranges are missing");
@@ -458,34 +462,83 @@ static void read_ranges(cloudabi_iovec_t (*read_range)(void))
         } while (skip(","));
         want("]", "ranges have no end");
     }
+    return count;
+}
+
+static size_t read_written(void)
+{
+    if (stands("["))
+        return read_ranges(read_bytes);
+    ranges[0] = read_bytes();
+    return 1;
+}
+
+static void fill_ranges(size_t count)
+{
     fill(CLOUDABI_ADDRESS(ranges));
     fill(count);
 }
 
-static void read_written(void)
-{
-    if (stands("[")) {
-        read_ranges(read_bytes);
-        return;
-    }
-    ranges[0] = read_bytes();
-    fill(CLOUDABI_ADDRESS(ranges));
-    fill(1);
-}
-
-static void read_descriptors(void)
+/* How many there are. */
+static uint64_t read_descriptors(struct bytes *to)
 {
     uint64_t count = 0;
-    begin_structure();
     want("[", "descriptors are missing");
     if (!skip("]")) {
         do {
-            put_number(&arena, read_number(), 4);
+            put_number(to, read_number(), 4);
             ++count;
         } while (skip(","));
         want("]", "descriptors have no end");
     }
-    fill(count);
+    return count;
+}
+
+static void read_descriptor_list(void)
+{
+    begin_structure();
+    fill(read_descriptors(&arena));
+}
+
+/* A message, of which the ranges and the descriptors are placed already. */
+static void put_message(size_t ranges_count, uint64_t fds, uint64_t fds_count)
+{
+    begin_structure();
+    put_number(&arena, CLOUDABI_ADDRESS(ranges), 8);
+    put_number(&arena, ranges_count, 8);
+    put_number(&arena, fds, 8);
+    put_number(&arena, fds_count, 8);
+    put_number(&arena, read_number(), 2);
+    for (size_t i = 0; i < 6; ++i)
+        put(&arena, 0xff);
+    want("}", "a message has no end");
+}
+
+/* A message to be sent: its bytes, its descriptors and its flags. */
+static void read_sent(void)
+{
+    want("{", "a message is missing");
+    size_t count = read_written();
+    want(" ", "the descriptors are missing");
+    while (arena.length % 4 != 0)
+        put(&arena, 0);
+    uint64_t fds = CLOUDABI_ADDRESS(arena.start + arena.length), fds_count = read_descriptors(&arena);
+    want(" ", "the flags are missing");
+    put_message(count, fds, fds_count);
+}
+
+/* Room for a message: for its bytes, for so many descriptors, and the flags. In the output stand recv_out, the descriptors, and the bytes
+   behind them. The room for descriptors is read first, since where the bytes go depends on it. */
+static void read_received(void)
+{
+    want("{", "room for a message is missing");
+    uint64_t fds_count = read_number();
+    want(" ", "the ranges are missing");
+    fds_room = fds_count < 16 ? fds_count : 16;
+    ranges_end = RECV_OUT_SIZE + 4 * fds_room;
+    size_t count = read_ranges(read_room);
+    want(" ", "the flags are missing");
+    put_message(count, CLOUDABI_ADDRESS(output) + RECV_OUT_SIZE, fds_count);
 }
 
 static void read_text_argument(void)
@@ -507,11 +560,13 @@ static void read_argument(char kind)
     want(" ", "an argument, a space or ` = ` is missing");
     switch (kind) {
     case 't': read_text_argument(); break;
-    case 'r': read_ranges(read_room); break;
-    case 'w': read_written(); break;
+    case 'r': fill_ranges(read_ranges(read_room)); break;
+    case 'w': fill_ranges(read_written()); break;
     case 's': read_structure(filestat); break;
     case 'f': read_structure(fdstat); break;
-    case 'd': read_descriptors(); break;
+    case 'd': read_descriptor_list(); break;
+    case 'm': read_sent(); break;
+    case 'v': read_received(); break;
     case 'p':
         begin_structure();
         read_pieces(&arena);
@@ -585,12 +640,37 @@ static void read_entry(void)
     want("}", "an entry has no end");
 }
 
+/* What was received: its bytes, the descriptors and the flags. */
+static void read_message(void)
+{
+    size_t start = wanted.length, bytes = start + RECV_OUT_SIZE + 4 * fds_room;
+    for (size_t i = start; i < bytes; ++i)
+        put(&wanted, 0);
+    read_text(&wanted);
+    size_t end_of_bytes = wanted.length;
+    want(" ", "descriptors are missing");
+    wanted.length = start + RECV_OUT_SIZE;
+    uint64_t count = read_descriptors(&wanted);
+    if (count > fds_room)
+        cannot_read("there is no room for so many descriptors");
+    want(" ", "flags are missing");
+    wanted.length = start;
+    put_number(&wanted, end_of_bytes - bytes, 8);
+    put_number(&wanted, count, 8);
+    put_number(&wanted, read_number(), 2);
+    wanted.length = end_of_bytes;
+}
+
 /* Reads bytes that the call must write, if such stand here. */
 static bool read_output(void)
 {
     wanted_fields = NULL;
     if (stands("\"")) {
         read_text(&wanted);
+    } else if (skip("sent ")) {
+        put_number(&wanted, read_number(), 8);
+    } else if (skip("received ")) {
+        read_message();
     } else if (stands("<")) {
         read_pieces(&wanted);
     } else if (stands("{")) {
@@ -734,7 +814,7 @@ static bool may_end(uint64_t number)
 static void make_row(void)
 {
     uint64_t came[8];
-    arena.length = wanted.length = ranges_end = filled = 0;
+    arena.length = wanted.length = ranges_end = fds_room = filled = 0;
     wanted_fields = NULL;
     const struct call *call = read_call();
     bool is_last = at == end && may_end(registers[7]);

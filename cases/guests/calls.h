@@ -61,7 +61,7 @@ static const struct number numbers[] = {
  * A call, with a letter for each argument and the count of its results in registers:
  *   n a number          s a filestat that is put    r ranges that are read into    o the output's address
  *   t a text or bytes   f an fdstat                 w ranges that are written      b the output's address, and a length
- *   p pieces            d descriptors
+ *   p pieces            d descriptors               m a message to be sent         v room for a message
  */
 static const struct call {
     const char *name;
@@ -112,8 +112,8 @@ static const struct call {
     {"proc_fork", 40, "", 2},
     {"proc_raise", 41, "n", 0},
     {"random_get", 42, "b", 0},
-    {"sock_recv", 43, "npo", 0},
-    {"sock_send", 44, "npo", 0},
+    {"sock_recv", 43, "nvo", 0},
+    {"sock_send", 44, "nmo", 0},
     {"sock_shutdown", 45, "nn", 0},
     {"thread_create", 46, "p", 1},
     {"thread_exit", 47, "pn", 0},

@@ -1,4 +1,4 @@
-/* Files and standard streams are always ready: nothing here waits. */
+/* Files and standard streams are always ready; an end of a pipe or of a pair of sockets is ENOSYS. */
 #ifndef _POLL_H
 #define _POLL_H
 

@@ -28,6 +28,21 @@ cloudabi_fd_t descriptor(int fd)
     return is_open(fd) ? table[fd].fd - 1 : NO_DESCRIPTOR;
 }
 
+uint8_t descriptor_kind(int fd)
+{
+    cloudabi_fdstat_t status;
+    return cloudabi_sys_fd_stat_get(descriptor(fd), &status) == CLOUDABI_ESUCCESS ? status.kind : 0;
+}
+
+int result_of_file(int fd, cloudabi_errno_t error, int otherwise)
+{
+    uint8_t kind = error == CLOUDABI_ENOTCAPABLE ? descriptor_kind(fd) : 0;
+    if (kind == 0 || kind == CLOUDABI_FILETYPE_REGULAR_FILE || kind == CLOUDABI_FILETYPE_DIRECTORY)
+        return result(error);
+    errno = otherwise;
+    return -1;
+}
+
 void set_descriptor(int fd, cloudabi_fd_t to, bool closes_on_exec)
 {
     free(table[fd].path);

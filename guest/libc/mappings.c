@@ -20,7 +20,7 @@ static uint32_t protection_of(int protection)
 /* A mapping of a file is a copy of it. So one that is shared can only be read. Memory is no one else's, and so may be shared. */
 void *mmap(void *address, size_t length, int protection, int flags, int fd, off_t offset)
 {
-    void *memory;
+    void *memory = MAP_FAILED;
     bool is_anonymous = (flags & MAP_ANONYMOUS) != 0;
     if (!is_anonymous && (flags & MAP_SHARED) && (protection & PROT_WRITE)) {
         errno = ENODEV;
@@ -35,7 +35,7 @@ void *mmap(void *address, size_t length, int protection, int flags, int fd, off_
                                                   is_anonymous ? 0 : (cloudabi_filesize_t)offset, &memory);
     if (error == CLOUDABI_ENOBUFS)
         error = CLOUDABI_ENOMEM;
-    return result(error) == 0 ? memory : MAP_FAILED;
+    return (is_anonymous ? result(error) : result_of_file(fd, error, ENODEV)) == 0 ? memory : MAP_FAILED;
 }
 
 int munmap(void *address, size_t length)

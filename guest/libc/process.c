@@ -159,18 +159,6 @@ int pclose(FILE *file)
     return -1;
 }
 
-int pipe(int fds[2])
-{
-    (void)fds;
-    return absent();
-}
-
-int pipe2(int fds[2], int flags)
-{
-    (void)flags;
-    return pipe(fds);
-}
-
 int daemon(int stays, int keeps)
 {
     (void)stays, (void)keeps;

@@ -25,6 +25,8 @@ static mode_t mode_of(uint8_t kind)
     case CLOUDABI_FILETYPE_REGULAR_FILE: return S_IFREG | S_IRUSR | S_IWUSR;
     case CLOUDABI_FILETYPE_SYMBOLIC_LINK: return S_IFLNK | S_IRWXU;
     case CLOUDABI_FILETYPE_CHARACTER_DEVICE: return S_IFCHR | S_IRUSR | S_IWUSR;
+    case CLOUDABI_FILETYPE_FIFO: return S_IFIFO | S_IRUSR | S_IWUSR;
+    case CLOUDABI_FILETYPE_SOCKET_STREAM: case CLOUDABI_FILETYPE_SOCKET_DGRAM: return S_IFSOCK | S_IRWXU;
     default: return S_IRUSR | S_IWUSR;
     }
 }
@@ -285,7 +287,7 @@ int ftruncate(int fd, off_t length)
         errno = EINVAL;
         return -1;
     }
-    return result(cloudabi_sys_file_stat_fput(descriptor(fd), &file, CLOUDABI_FILESTAT_SIZE));
+    return result_of_file(fd, cloudabi_sys_file_stat_fput(descriptor(fd), &file, CLOUDABI_FILESTAT_SIZE), EINVAL);
 }
 
 int truncate(const char *path, off_t length)

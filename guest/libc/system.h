@@ -32,8 +32,25 @@ static inline int result(cloudabi_errno_t error)
     return -1;
 }
 
+/* The same for a call that only files and directories have: another errno where the descriptor is of something else, and so lacks a right. */
+int result_of_file(int fd, cloudabi_errno_t error, int otherwise);
+
 /* The sandbox's descriptor of a file descriptor, or NO_DESCRIPTOR. */
 cloudabi_fd_t descriptor(int fd);
+
+/* The type of what a file descriptor is of, or 0. */
+uint8_t descriptor_kind(int fd);
+
+static inline bool is_socket(uint8_t kind)
+{
+    return kind == CLOUDABI_FILETYPE_SOCKET_STREAM || kind == CLOUDABI_FILETYPE_SOCKET_DGRAM;
+}
+
+/* An end of a pipe or of a pair of sockets: it has no offset, and gives what waits in it alone. */
+static inline bool is_end(uint8_t kind)
+{
+    return kind == CLOUDABI_FILETYPE_FIFO || is_socket(kind);
+}
 
 /* The lowest free file descriptor from `least` on gets the sandbox's descriptor; that one is closed where there is none, EMFILE. */
 int take_descriptor(cloudabi_fd_t fd, int least, bool closes_on_exec);

@@ -1,4 +1,4 @@
-/* Terminals, of which there are none, and waiting for descriptors, which are ready at once. */
+/* Terminals, of which there are none, and waiting for descriptors, which are ready at once: there is none for pipes and sockets yet. */
 #define _GNU_SOURCE
 #include "system.h"
 
@@ -76,12 +76,16 @@ char *ctermid(char *name)
     return name;
 }
 
-/* The ways in which a descriptor may be read and written are its rights. */
+/* The ways in which a descriptor may be read and written are its rights. -1 for what isn't always ready. */
 static int ready_ways(int fd, int events)
 {
     cloudabi_fdstat_t status;
     if (cloudabi_sys_fd_stat_get(descriptor(fd), &status) != CLOUDABI_ESUCCESS)
         return POLLNVAL;
+    if (is_end(status.kind)) {
+        errno = ENOSYS;
+        return -1;
+    }
     int reading = status.base & CLOUDABI_RIGHT_FD_READ ? POLLIN | POLLRDNORM : 0;
     int writing = status.base & CLOUDABI_RIGHT_FD_WRITE ? POLLOUT | POLLWRNORM : 0;
     return (reading | writing) & events;
@@ -93,8 +97,11 @@ int poll(struct pollfd fds[], nfds_t count, int timeout)
 {
     int ready = 0;
     for (nfds_t at = 0; at < count; ++at) {
-        fds[at].revents = fds[at].fd < 0 ? 0 : (short)ready_ways(fds[at].fd, fds[at].events);
-        ready += fds[at].revents != 0;
+        int ways = fds[at].fd < 0 ? 0 : ready_ways(fds[at].fd, fds[at].events);
+        if (ways < 0)
+            return -1;
+        fds[at].revents = (short)ways;
+        ready += ways != 0;
     }
     if (ready != 0 || timeout <= 0)
         return ready;
@@ -110,10 +117,10 @@ static int keep_ready(int most, fd_set *set, int events)
         if (!FD_ISSET(fd, set))
             continue;
         int ways = ready_ways(fd, events);
-        if (ways == POLLNVAL) {
+        if (ways == POLLNVAL)
             errno = EBADF;
+        if (ways == POLLNVAL || ways < 0)
             return -1;
-        }
         if (ways == 0)
             FD_CLR(fd, set);
         ready += ways != 0;

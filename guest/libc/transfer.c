@@ -1,38 +1,40 @@
 /* Reading and writing of bytes, and offsets. */
 #define _GNU_SOURCE
-#include "system.h"
+#include "ranges.h"
 
 #include <errno.h>
 #include <fcntl.h>
 #include <limits.h>
-#include <sys/uio.h>
 #include <unistd.h>
 
-#define MOST_OF_CALL 65536 /* bytes that one call transfers */
+static bool has_no_offset(uint8_t kind)
+{
+    return kind == CLOUDABI_FILETYPE_CHARACTER_DEVICE || is_end(kind);
+}
 
 /* A call that transfers bytes, at an offset where the call has one. */
-typedef cloudabi_errno_t (*transfer_call)(cloudabi_fd_t fd, const cloudabi_iovec_t *bytes, cloudabi_filesize_t offset, size_t *count);
+typedef cloudabi_errno_t (*transfer_call)(cloudabi_fd_t fd, const cloudabi_iovec_t *ranges, size_t number, cloudabi_filesize_t offset, size_t *count);
 
-static cloudabi_errno_t call_read(cloudabi_fd_t fd, const cloudabi_iovec_t *bytes, cloudabi_filesize_t offset, size_t *count)
+static cloudabi_errno_t call_read(cloudabi_fd_t fd, const cloudabi_iovec_t *ranges, size_t number, cloudabi_filesize_t offset, size_t *count)
 {
     (void)offset;
-    return cloudabi_sys_fd_read(fd, bytes, 1, count);
+    return cloudabi_sys_fd_read(fd, ranges, number, count);
 }
 
-static cloudabi_errno_t call_write(cloudabi_fd_t fd, const cloudabi_iovec_t *bytes, cloudabi_filesize_t offset, size_t *count)
+static cloudabi_errno_t call_write(cloudabi_fd_t fd, const cloudabi_iovec_t *ranges, size_t number, cloudabi_filesize_t offset, size_t *count)
 {
     (void)offset;
-    return cloudabi_sys_fd_write(fd, bytes, 1, count);
+    return cloudabi_sys_fd_write(fd, ranges, number, count);
 }
 
-static cloudabi_errno_t call_pread(cloudabi_fd_t fd, const cloudabi_iovec_t *bytes, cloudabi_filesize_t offset, size_t *count)
+static cloudabi_errno_t call_pread(cloudabi_fd_t fd, const cloudabi_iovec_t *ranges, size_t number, cloudabi_filesize_t offset, size_t *count)
 {
-    return cloudabi_sys_fd_pread(fd, bytes, 1, offset, count);
+    return cloudabi_sys_fd_pread(fd, ranges, number, offset, count);
 }
 
-static cloudabi_errno_t call_pwrite(cloudabi_fd_t fd, const cloudabi_iovec_t *bytes, cloudabi_filesize_t offset, size_t *count)
+static cloudabi_errno_t call_pwrite(cloudabi_fd_t fd, const cloudabi_iovec_t *ranges, size_t number, cloudabi_filesize_t offset, size_t *count)
 {
-    return cloudabi_sys_fd_pwrite(fd, bytes, 1, offset, count);
+    return cloudabi_sys_fd_pwrite(fd, ranges, number, offset, count);
 }
 
 /* What a directory refuses is EISDIR, what isn't open for this way EBADF, and what has no offset ESPIPE: none is a lack of rights. */
@@ -46,36 +48,50 @@ static int refused(int fd, cloudabi_errno_t error, cloudabi_rights_t way)
     else if (!(status.base & way))
         errno = EBADF;
     else
-        errno = status.kind == CLOUDABI_FILETYPE_CHARACTER_DEVICE ? ESPIPE : EACCES;
+        errno = has_no_offset(status.kind) ? ESPIPE : EACCES;
     return -1;
 }
 
-/* All that is asked, by as many calls as it takes; a call that gives less is the last. */
-static ssize_t transfer(int fd, const void *buffer, size_t size, cloudabi_filesize_t offset, transfer_call call)
+/* Whether bytes that are left may come or go by a further call. A pipe or a socket that gave what waits would wait for more; one that had
+   room for a part waits for the rest, and a file that has none says so. */
+static bool goes_on(int fd, transfer_call call, bool is_short)
 {
-    size_t done = 0, count, some;
-    if (size > SSIZE_MAX)
-        size = SSIZE_MAX;
+    if (call == call_read)
+        return !is_short && !is_end(descriptor_kind(fd));
+    return call == call_write || !is_short;
+}
+
+/* All that is asked, by as many calls as it takes. */
+static ssize_t transfer(int fd, struct ranges ranges, cloudabi_filesize_t offset, transfer_call call)
+{
+    size_t done = 0, asked, count, number;
     do {
-        some = size - done < MOST_OF_CALL ? size - done : MOST_OF_CALL;
-        cloudabi_iovec_t bytes = {(const char *)buffer + done, some};
-        cloudabi_errno_t error = call(descriptor(fd), &bytes, offset + done, &count);
+        asked = bytes_of_call(&ranges);
+        const cloudabi_iovec_t *array = ranges_of_call(&ranges, &number);
+        cloudabi_errno_t error = call(descriptor(fd), array, number, offset + done, &count);
         if (error != CLOUDABI_ESUCCESS)
             return done > 0 ? (ssize_t)done
                             : refused(fd, error, call == call_read || call == call_pread ? CLOUDABI_RIGHT_FD_READ : CLOUDABI_RIGHT_FD_WRITE);
         done += count;
-    } while (done < size && count == some);
+        pass_ranges(&ranges, count);
+    } while (bytes_of_call(&ranges) > 0 && goes_on(fd, call, count < asked));
     return (ssize_t)done;
+}
+
+static ssize_t transfer_one(int fd, const void *buffer, size_t size, off_t offset, transfer_call call)
+{
+    struct iovec range = {(void *)buffer, size < SSIZE_MAX ? size : SSIZE_MAX};
+    return transfer(fd, (struct ranges){.left = &range, .count = 1}, (cloudabi_filesize_t)offset, call);
 }
 
 ssize_t read(int fd, void *buffer, size_t size)
 {
-    return transfer(fd, buffer, size, 0, call_read);
+    return transfer_one(fd, buffer, size, 0, call_read);
 }
 
 ssize_t write(int fd, const void *buffer, size_t size)
 {
-    return transfer(fd, buffer, size, 0, call_write);
+    return transfer_one(fd, buffer, size, 0, call_write);
 }
 
 static bool is_offset(off_t offset)
@@ -87,31 +103,21 @@ static bool is_offset(off_t offset)
 
 ssize_t pread(int fd, void *buffer, size_t size, off_t offset)
 {
-    return is_offset(offset) ? transfer(fd, buffer, size, (cloudabi_filesize_t)offset, call_pread) : -1;
+    return is_offset(offset) ? transfer_one(fd, buffer, size, offset, call_pread) : -1;
 }
 
 ssize_t pwrite(int fd, const void *buffer, size_t size, off_t offset)
 {
-    return is_offset(offset) ? transfer(fd, buffer, size, (cloudabi_filesize_t)offset, call_pwrite) : -1;
+    return is_offset(offset) ? transfer_one(fd, buffer, size, offset, call_pwrite) : -1;
 }
 
-/* Each range by itself, up to the first that isn't done in full. */
 static ssize_t transfer_ranges(int fd, const struct iovec *ranges, int count, off_t offset, transfer_call call)
 {
-    ssize_t done = 0;
     if (count < 0 || count > IOV_MAX) {
         errno = EINVAL;
         return -1;
     }
-    for (int at = 0; at < count; ++at) {
-        ssize_t some = transfer(fd, ranges[at].iov_base, ranges[at].iov_len, (cloudabi_filesize_t)(offset + done), call);
-        if (some < 0)
-            return done > 0 ? done : -1;
-        done += some;
-        if ((size_t)some < ranges[at].iov_len)
-            break;
-    }
-    return done;
+    return transfer(fd, (struct ranges){.left = ranges, .count = (size_t)count}, (cloudabi_filesize_t)offset, call);
 }
 
 ssize_t readv(int fd, const struct iovec *ranges, int count)
@@ -134,7 +140,7 @@ ssize_t pwritev(int fd, const struct iovec *ranges, int count, off_t offset)
     return is_offset(offset) ? transfer_ranges(fd, ranges, count, offset, call_pwrite) : -1;
 }
 
-/* A standard stream has no offset. */
+/* A standard stream has no offset, nor has a pipe or a socket. */
 off_t lseek(int fd, off_t offset, int whence)
 {
     uint32_t from = whence == SEEK_SET ? CLOUDABI_WHENCE_SET : whence == SEEK_CUR ? CLOUDABI_WHENCE_CUR
@@ -144,7 +150,7 @@ off_t lseek(int fd, off_t offset, int whence)
     cloudabi_fd_t file = descriptor(fd);
     if (result(cloudabi_sys_fd_stat_get(file, &status)) != 0)
         return -1;
-    if (status.kind == CLOUDABI_FILETYPE_CHARACTER_DEVICE) {
+    if (has_no_offset(status.kind)) {
         errno = ESPIPE;
         return -1;
     }
@@ -153,12 +159,12 @@ off_t lseek(int fd, off_t offset, int whence)
 
 int fsync(int fd)
 {
-    return result(cloudabi_sys_fd_sync(descriptor(fd)));
+    return result_of_file(fd, cloudabi_sys_fd_sync(descriptor(fd)), EINVAL);
 }
 
 int fdatasync(int fd)
 {
-    return result(cloudabi_sys_fd_datasync(descriptor(fd)));
+    return result_of_file(fd, cloudabi_sys_fd_datasync(descriptor(fd)), EINVAL);
 }
 
 void sync(void)

@@ -94,7 +94,7 @@ def place_of(node):
 
 def opened(missing):
     names = ", ".join(right for rights in missing.values() for right in rights)
-    return ["the launch file doesn't name this descriptor: the program opened or copied it",
+    return ["the launch file doesn't name this descriptor: the program made, opened, received or copied it",
             f"what is opened through a directory has of its `inheriting` what the program asks: {names} would have to stand there, and be asked for"]
 
 

@@ -120,6 +120,14 @@ static void exit_process(struct thread *self)
     cloudabi_sys_proc_exit((uint32_t)self->argument);
 }
 
+/* Gives way ten times before it ends the process as a failure. */
+static void exit_late(struct thread *self)
+{
+    for (uint64_t i = 0; i < 10; ++i)
+        expect(cloudabi_sys_thread_yield());
+    cloudabi_sys_proc_exit((uint32_t)self->argument);
+}
+
 static void run_forever(struct thread *self)
 {
     for (;;)
@@ -188,6 +196,13 @@ static void exit_beside(void)
     run_forever(&threads[0]);
 }
 
+/* Goes on before the other thread, which gives way, ends the process. */
+static void exit_before(void)
+{
+    expect(start(&threads[0], exit_late, 1));
+    cloudabi_sys_proc_exit(0);
+}
+
 /* The others sleep, one longer than the other, and the last of them first. */
 static void sleepers(void)
 {
@@ -235,6 +250,7 @@ static const struct {
     {"many", many},
     {"trap beside", trap_beside},
     {"exit beside", exit_beside},
+    {"exit before", exit_before},
     {"sleepers", sleepers},
     {"sleep beside", sleep_beside},
     {"wait beside", wait_beside},

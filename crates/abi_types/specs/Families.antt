@@ -16,6 +16,8 @@ use Rattle.abi_types.specs.declared.family.FileCall.TheVariants as file
 use Rattle.abi_types.specs.declared.family.OffsetCall.{OffsetCall}
 use Rattle.abi_types.specs.declared.family.OffsetCall.TheVariants as offset
 use Rattle.abi_types.specs.declared.family.OpenCall.{OpenCall}
+use Rattle.abi_types.specs.declared.family.SocketCall.{SocketCall}
+use Rattle.abi_types.specs.declared.family.SocketCall.TheVariants as socket
 use Rattle.abi_types.specs.declared.place.Place.{Place}
 
 -- ---- the calls that views are of
@@ -52,6 +54,11 @@ call_of_entry (entry.FileUnlink fd path flags) = call.FileUnlink fd path.now fla
 
 abbrev pub call_of_open : OpenCall → Call
 call_of_open view = call.FileOpen view.lookup view.path.now view.oflags view.stat
+
+abbrev pub call_of_socket : SocketCall → Call
+call_of_socket (socket.SockRecv fd length fds flags) = call.SockRecv fd length fds flags
+call_of_socket (socket.SockSend fd bytes fds flags) = call.SockSend fd bytes.now fds.now flags
+call_of_socket (socket.SockShutdown fd how) = call.SockShutdown fd how
 
 -- ---- their descriptors
 
@@ -111,14 +118,10 @@ answer_of _ = None
 abbrev pub is_unbuilt : Call → Bool
 is_unbuilt (call.CondvarSignal condvar word scope n) = true
 is_unbuilt (call.FdCreate1 kind) = true
-is_unbuilt (call.FdCreate2 kind) = true
 is_unbuilt (call.LockUnlock lock word scope) = true
 is_unbuilt (call.ProcExec fd bytes fds) = true
 is_unbuilt (call.ProcFork left) = true
 is_unbuilt (call.ProcRaise signal) = true
-is_unbuilt (call.SockRecv fd length fds flags) = true
-is_unbuilt (call.SockSend fd bytes fds flags) = true
-is_unbuilt (call.SockShutdown fd how) = true
 is_unbuilt _ = false
 
 -- ---- the part that does a call
@@ -131,6 +134,8 @@ IsOf c (family.File view) = (c ≡ call_of_file view) × HasFile view
 IsOf c (family.Offset view) = c ≡ call_of_offset view
 IsOf c (family.Entries view) = c ≡ call_of_entry view
 IsOf c (family.Open view) = c ≡ call_of_open view
+IsOf c (family.Ends kind) = c ≡ call.FdCreate2 kind
+IsOf c (family.Socket view) = c ≡ call_of_socket view
 IsOf c (family.Exit code) = c ≡ call.ProcExit code
 IsOf c (family.Zeros place) = zeros_of c ≡ Some place
 IsOf c (family.Poll subscriptions) = c ≡ call.Poll subscriptions.now

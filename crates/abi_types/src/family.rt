@@ -126,6 +126,27 @@ pub struct OpenCall<'a> {
     pub stat: FdStat,
 }
 
+/// A call on the socket that the open of one descriptor is.
+#[derive(Clone, Copy)]
+pub enum SocketCall<'a> {
+    SockRecv {
+        fd: u32,
+        length: u64,
+        fds: u64,
+        flags: u16,
+    },
+    SockSend {
+        fd: u32,
+        bytes: &'a [u8],
+        fds: &'a [u32],
+        flags: u16,
+    },
+    SockShutdown {
+        fd: u32,
+        how: u32,
+    },
+}
+
 /// A view of a call by the part of the kernel that does it.
 #[derive(Clone, Copy)]
 pub enum Family<'a> {
@@ -141,6 +162,10 @@ pub enum Family<'a> {
     Entries(EntryCall<'a>),
     /// Opens what a path leads to.
     Open(OpenCall<'a>),
+    /// fd_create2: makes two ends, of a pipe or of a pair of sockets.
+    Ends { kind: u32 },
+    /// Works on a socket.
+    Socket(SocketCall<'a>),
     /// proc_exit: ends the process.
     Exit { code: u32 },
     /// mem_map of zeros, which go there.
@@ -361,6 +386,33 @@ impl Call {
                 oflags: *oflags,
                 stat: *stat,
             }),
+            Call::FdCreate2 { kind } => Family::Ends { kind: *kind },
+            Call::SockRecv {
+                fd,
+                length,
+                fds,
+                flags,
+            } => Family::Socket(SocketCall::SockRecv {
+                fd: *fd,
+                length: *length,
+                fds: *fds,
+                flags: *flags,
+            }),
+            Call::SockSend {
+                fd,
+                bytes,
+                fds,
+                flags,
+            } => Family::Socket(SocketCall::SockSend {
+                fd: *fd,
+                bytes: bytes.as_slice(),
+                fds: fds.as_slice(),
+                flags: *flags,
+            }),
+            Call::SockShutdown { fd, how } => Family::Socket(SocketCall::SockShutdown {
+                fd: *fd,
+                how: *how,
+            }),
             Call::ProcExit { code } => Family::Exit { code: *code },
             Call::Poll { subscriptions } => Family::Poll(subscriptions.as_slice()),
             Call::ClockResGet { clock } => Family::ClockResolution { clock: *clock },
@@ -383,14 +435,10 @@ impl Call {
             Call::Unknown { .. } => Family::Answered(Errno::Nosys),
             Call::CondvarSignal { .. }
             | Call::FdCreate1 { .. }
-            | Call::FdCreate2 { .. }
             | Call::LockUnlock { .. }
             | Call::ProcExec { .. }
             | Call::ProcFork { .. }
-            | Call::ProcRaise { .. }
-            | Call::SockRecv { .. }
-            | Call::SockSend { .. }
-            | Call::SockShutdown { .. } => Family::NotBuilt,
+            | Call::ProcRaise { .. } => Family::NotBuilt,
         }
     }
 }

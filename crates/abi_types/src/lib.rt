@@ -17,7 +17,7 @@ pub use constants::Constants;
 pub use copied::{Copied, EventList, FdList, SubscriptionList};
 pub use counts::Counts;
 pub use descriptor::{Denial, Descriptor};
-pub use family::{DescriptorChange, EntryCall, Family, FileCall, OffsetCall, OpenCall};
+pub use family::{DescriptorChange, EntryCall, Family, FileCall, OffsetCall, OpenCall, SocketCall};
 pub use input_output as outside;
 pub use lists::{Bytes, Items, Text, TryClone};
 pub use needed::Needed;

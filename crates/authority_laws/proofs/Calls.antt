@@ -9,6 +9,7 @@ use Rattle.abi_structures.specs.declared.structures.FdStat.{FdStat}
 use Rattle.abi_structures.specs.declared.structures.ThreadAttr.{ThreadAttr}
 use Rattle.abi_types.specs.declared.reply.Answer.{Answer}
 use Rattle.abi_types.specs.declared.reply.Answer.TheVariants as answer
+use Rattle.abi_base.specs.declared.rights.TheConstants.Rights.{SOCK_SHUTDOWN}
 use Rattle.abi_types.specs.declared.call.Call.{Call}
 use Rattle.abi_types.specs.declared.call.Call.TheVariants as call
 use Rattle.abi_types.specs.declared.call.Call.TheVariants.{FdClose, FdDup, FdReplace, FdStatGet, FdStatPut, FileOpen, MemMap, ProcExit}
@@ -49,23 +50,28 @@ use Rattle.kernel_model.proofs.ThreadCalls.{left_holds, made_holds}
 use Rattle.kernel_model.specs.Families.StreamCalls.{reading, seeking, writing}
 use Rattle.abi_types.specs.Families.{is_anonymous}
 use Rattle.kernel_model.specs.Families.MemoryCalls.{map_row, map_zeros, mapping}
-use Rattle.kernel_model.specs.Families.OpenMeaning.{OpenMeaning, by_open}
-use Rattle.kernel_model.specs.View.{View}
+use Rattle.kernel_model.specs.Families.OpenMeaning.{OpenMeaning, at_descriptor, by_open}
+use Rattle.kernel_model.specs.Rows.{base_row}
+use Rattle.kernel_model.specs.View.{View, whole}
 use Rattle.kernel_model.proofs.FileCalls.{on_open_of}
 use Rattle.kernel_model.proofs.FileMeanings.{tree_tables}
 use Rattle.kernel_model.proofs.FilePaths.{walked_plainly}
 use Rattle.kernel_model.proofs.NameProper.{outcome_tables}
 use Rattle.kernel_model.proofs.OpenMeanings.{OpensWell, apart_descriptor, apart_tables}
 use Rattle.kernel_model.proofs.Refusals.{refusal_is_other}
+use Rattle.kernel_model.specs.Families.ChannelCalls.{picked, receive_open, send_open}
+use Rattle.kernel_model.specs.Families.SocketCalls.{create, made_of, shutting}
+use Rattle.kernel_model.proofs.SocketCalls.{send_apart, shut_opens_well}
 use Rattle.kernel_model.proofs.StreamCalls.{read_opens_well, seek_opens_well, write_opens_well}
 use Rattle.authority_laws.specs.Ledger.{Row, no_row, has_thread, After, after_of, with_held, lowered_row, granted_row, by_success, answered_row}
 use Rattle.authority_laws.proofs.Openings.{open_reported, walk_by_error}
+use Rattle.authority_laws.proofs.Sockets.{pair_reported, receive_reported}
 use Rattle.authority_laws.proofs.Rows.{LeavesRow, row_in, row_of, row_emptied, row_inserted, row_removed, by_error, by_either, refused_reported, badf_is_error, mfile_is_error, nosys_is_error, again_is_error, perm_is_error}
 
 -- each outcome of the call of a process with this table, once it is not refused, is such
 abbrev IsReported : Call → Type 0
 IsReported call =
-    (constants : Constants) (S : State) (v : View) (who : Who) (table : Table) → get S.tables who.pid ≡ Some table
+    (constants : Constants) (S : State) (v : View) (who : Who) (table : Table) → get S.tables who.pid ≡ Some table → v ≡ whole S
     → LeavesRow S who.pid call ((meaning_of call).effect constants v who table)
 
 -- ---- calls that change no table, and that have no line of their own
@@ -83,11 +89,11 @@ same_answered after row call (answer.Reply reply) nothing =
 
 kept : (S : State) (p : ℕ) (call : Call) (o : Outcome) → GrantsNothing call → KeepsTables S o → LeavesRow S p call o
 kept S p call o nothing same =
-    ap (λ tables. row_in (get tables p)) same ∙ same_answered (after_of (put_all o.updates S) p) (row_of S p) call o.answer nothing
+    ap (λ tables. row_in (get tables p)) same ∙ same_answered (after_of S (put_all o.updates S) p) (row_of S p) call o.answer nothing
 
 -- a call that may make another open of that of a descriptor
 moved_reported : (called : Call) (m : OpenMeaning) (row : Needed) → OpensWell m → GrantsNothing called → meaning_of called ≡ by_open row m → IsReported called
-moved_reported called m row well nothing means constants S v who table there =
+moved_reported called m row well nothing means constants S v who table there seen =
     let o : Outcome = (by_open row m).effect constants v who table in
     subst (λ (x : Meaning). LeavesRow S who.pid called (x.effect constants v who table)) (sym means)
     (kept S who.pid called o nothing
@@ -102,18 +108,18 @@ stat_kept S v None = refl
 stat_kept S v (Some d) = stat_open_kept S d (v.opened d.id)
 
 fd_stat_get_reported : (fd : ℕ) → IsReported (FdStatGet fd)
-fd_stat_get_reported fd constants S v who table there =
+fd_stat_get_reported fd constants S v who table there seen =
     kept S who.pid (FdStatGet fd) (stat_get v (get table fd)) (λ after row reply. refl) (stat_kept S v (get table fd))
 
 -- a call that succeeds, and does no more
 nothing_reported : (call : Call) → GrantsNothing call
     → ((constants : Constants) (v : View) (who : Who) (table : Table) → (meaning_of call).effect constants v who table ≡ replies (success 0 0)) → IsReported call
-nothing_reported call nothing is constants S v who table there =
+nothing_reported call nothing is constants S v who table there seen =
     subst (LeavesRow S who.pid call) (sym (is constants v who table)) (kept S who.pid call (replies (success 0 0)) nothing refl)
 
 -- a call that works on the open of a descriptor: it changes the file tree alone
 file_reported : (called : Call) (fd : ℕ) → GrantsNothing called → file_fd called ≡ Some fd → IsReported called
-file_reported called fd nothing is constants S v who table there =
+file_reported called fd nothing is constants S v who table there seen =
     let on = on_open_of called fd is in
     let o : Outcome = (on_open on.row (file_meaning called)).effect constants v who table in
     subst (λ (m : Meaning). LeavesRow S who.pid called (m.effect constants v who table)) (sym on.means)
@@ -128,7 +134,7 @@ zeros_kept S constants v who table place = refl
 mem_map_reported : (place : Place) (length prot flags fd offset : ℕ) → IsReported (MemMap place length prot flags fd offset)
 mem_map_reported place length prot flags fd offset =
     elim (is_anonymous flags) as (λ b. is_anonymous flags ≡ b → IsReported (MemMap place length prot flags fd offset)) [
-      | true ↦ λ is constants S v who table there.
+      | true ↦ λ is constants S v who table there seen.
           subst (λ (m : Meaning). LeavesRow S who.pid (MemMap place length prot flags fd offset) (m.effect constants v who table))
           (sym (ap (λ b. cond b (map_zeros place) (on_open (map_row fd prot) (mapping place length offset))) is))
           (kept S who.pid (MemMap place length prot flags fd offset) ((map_zeros place).effect constants v who table) (λ after row reply. refl)
@@ -141,14 +147,14 @@ mem_map_reported place length prot flags fd offset =
 named_reported : (call : Call) → GrantsNothing call
     → ((constants : Constants) (v : View) (who : Who) (table : Table) → (new_nodes : ℕ) × (own : Option ProcessState) × (comes : NameOutcome)
     × ((meaning_of call).effect constants v who table ≡ outcome_of who.pid own new_nodes comes)) → IsReported call
-named_reported call nothing is constants S v who table there =
+named_reported call nothing is constants S v who table there seen =
     let comes = is constants v who table in
     subst (LeavesRow S who.pid call) (sym comes.3)
     (kept S who.pid call (outcome_of who.pid comes.1 comes.0 comes.2) nothing (outcome_tables S who.pid comes.0 comes.1 comes.2))
 
 -- file_open
 file_open_reported : (lookup : Lookup) (path : List ℕ) (oflags : ℕ) (stat : FdStat) → IsReported (FileOpen lookup path oflags stat)
-file_open_reported lookup path oflags stat constants S v who table there =
+file_open_reported lookup path oflags stat constants S v who table there seen =
     open_reported S who.pid table lookup path oflags stat there (v.process who.pid) (lowest_free table)
     (open_walked oflags stat.flags path (real_time constants v.clock) (next_object who.pid (v.process who.pid) 1) v.branch
     (walked v.branch (open_mode oflags lookup.flags) path (open_of v (get table lookup.fd))))
@@ -163,12 +169,12 @@ decided_reported call errno S p nothing = kept S p call (replies (refused errno)
 -- a call that isn't built yet, whatever its line says of a success
 unbuilt_reported : (call : Call)
     → ((constants : Constants) (v : View) (who : Who) (table : Table) → (meaning_of call).effect constants v who table ≡ replies (refused Nosys)) → IsReported call
-unbuilt_reported call is constants S v who table there =
+unbuilt_reported call is constants S v who table there seen =
     subst (LeavesRow S who.pid call) (sym (is constants v who table)) (refused_reported S who.pid call Nosys nosys_is_error)
 
 -- a poll has its events, or its thread waits
 poll_reported : (subscriptions : List Subscription) → IsReported (call.Poll subscriptions)
-poll_reported subscriptions constants S v who table there =
+poll_reported subscriptions constants S v who table there seen =
     poll_holds (LeavesRow S who.pid (call.Poll subscriptions)) (refused_reported S who.pid (call.Poll subscriptions) Nosys nosys_is_error)
     (λ userdata. kept S who.pid (call.Poll subscriptions) (replies (events_reply (clock_event userdata ∷ []))) (λ after row reply. refl) refl)
     (kept S who.pid (call.Poll subscriptions) (parks Zero) (λ after row reply. refl) refl) subscriptions constants v who table
@@ -176,17 +182,17 @@ poll_reported subscriptions constants S v who table there =
 -- ---- calls that change their process's table
 
 proc_exit_reported : (code : ℕ) → IsReported (ProcExit code)
-proc_exit_reported code constants S v who table there = row_emptied S.tables who.pid
+proc_exit_reported code constants S v who table there seen = row_emptied S.tables who.pid
 
 -- a table that has what the call's line says
 set_reported : (S : State) (p : ℕ) (call : Call) (table new : Table) (result : ℕ) → get S.tables p ≡ Some table
     → ((after : After) → row_in (Some new) ≡ granted_row after (row_in (Some table)) call (success result 0)) → LeavesRow S p call (with_table p result new)
 set_reported S p call table new result there is =
-    let after : After = after_of (put_one (set_table p new) S) p in
+    let after : After = after_of S (put_one (set_table p new) S) p in
     ap row_in (get-insert-same S.tables p new) ∙ is after ∙ ap (λ row. granted_row after row call (success result 0)) (sym (ap row_in there))
 
 fd_close_reported : (fd : ℕ) → IsReported (FdClose fd)
-fd_close_reported fd constants S v who table there = set_reported S who.pid (FdClose fd) table (remove table fd) 0 there (λ after. row_removed table fd)
+fd_close_reported fd constants S v who table there seen = set_reported S who.pid (FdClose fd) table (remove table fd) 0 there (λ after. row_removed table fd)
 
 -- fd_dup
 number_reported : (S : State) (p fd : ℕ) (table : Table) (d : Descriptor) (number : Option ℕ) → get S.tables p ≡ Some table → get table fd ≡ Some d
@@ -202,7 +208,7 @@ dup_reported S p fd table None there here = refused_reported S p (FdDup fd) Badf
 dup_reported S p fd table (Some d) there here = number_reported S p fd table d (lowest_free table) there here
 
 fd_dup_reported : (fd : ℕ) → IsReported (FdDup fd)
-fd_dup_reported fd constants S v who table there = dup_reported S who.pid fd table (get table fd) there refl
+fd_dup_reported fd constants S v who table there seen = dup_reported S who.pid fd table (get table fd) there refl
 
 -- fd_replace
 replaced_reported : (S : State) (p from to : ℕ) (table : Table) (o : Option Descriptor) → get S.tables p ≡ Some table → get table from ≡ o
@@ -213,7 +219,7 @@ replaced_reported S p from to table (Some d) there here =
     (λ after. row_inserted table to d ∙ ap (with_held (row_in (Some table)) to) (sym here))
 
 fd_replace_reported : (from to : ℕ) → IsReported (FdReplace from to)
-fd_replace_reported from to constants S v who table there = replaced_reported S who.pid from to table (get table from) there refl
+fd_replace_reported from to constants S v who table there seen = replaced_reported S who.pid from to table (get table from) there refl
 
 -- fd_stat_put: what the updates leave, of which the second alone sets the table
 updates_leave : (S : State) (p o : ℕ) (kind : OpenKind) (new : Table) (no_flags no_rights : Bool)
@@ -243,25 +249,25 @@ put_reported S v p table fd stat flags None there here = refused_reported S p (F
 put_reported S v p table fd stat flags (Some d) there here = set_stat_reported S p table fd stat flags d (v.opened d.id) there here
 
 fd_stat_put_reported : (fd : ℕ) (stat : FdStat) (flags : ℕ) → IsReported (FdStatPut fd stat flags)
-fd_stat_put_reported fd stat flags constants S v who table there = put_reported S v who.pid table fd stat flags (get table fd) there refl
+fd_stat_put_reported fd stat flags constants S v who table there seen = put_reported S v who.pid table fd stat flags (get table fd) there refl
 
 -- ---- threads and random bytes
 
 random_reported : (length : ℕ) → IsReported (call.RandomGet length)
-random_reported length constants S v who table there =
+random_reported length constants S v who table there seen =
     drawn_holds (LeavesRow S who.pid (call.RandomGet length)) constants who.pid (v.process who.pid) length
     (refused_reported S who.pid (call.RandomGet length) Again again_is_error)
     (λ own _. kept S who.pid (call.RandomGet length) (drawn_if true constants who.pid own length) (λ after row reply. refl) refl)
 
 create_reported : (attributes : ThreadAttr) → IsReported (call.ThreadCreate attributes)
-create_reported attributes constants S v who table there =
+create_reported attributes constants S v who table there seen =
     made_holds (LeavesRow S who.pid (call.ThreadCreate attributes)) who.pid who.tid (v.process who.pid)
     (refused_reported S who.pid (call.ThreadCreate attributes) Again again_is_error)
     (λ own _ _. kept S who.pid (call.ThreadCreate attributes) (made_if true who.pid own) (λ after row reply. refl) refl)
 
 -- thread_exit: the process ends with its last thread, and else it has one left
 exit_reported : (lock word scope : ℕ) → IsReported (call.ThreadExit lock word scope)
-exit_reported lock word scope constants S v who table there =
+exit_reported lock word scope constants S v who table there seen =
     let row : Row = row_of S who.pid in
     left_holds (LeavesRow S who.pid (call.ThreadExit lock word scope)) who.pid who.tid (v.process who.pid) lock (unlocked who.tid word)
     (refused_reported S who.pid (call.ThreadExit lock word scope) Perm perm_is_error)
@@ -274,14 +280,16 @@ exit_reported lock word scope constants S v who table there =
 -- ---- all of them
 
 pub reported : (call : Call) → IsReported call
-reported (call.ClockResGet clock) = λ constants S v who table there.
+reported (call.ClockResGet clock) = λ constants S v who table there seen.
     kept S who.pid (call.ClockResGet clock) (replies (success 1000 0)) (λ after row reply. refl) refl
-reported (call.ClockTimeGet clock precision) = λ constants S v who table there.
+reported (call.ClockTimeGet clock precision) = λ constants S v who table there seen.
     kept S who.pid (call.ClockTimeGet clock precision) (replies (success (time_of constants clock v.clock) 0)) (λ after row reply. refl) refl
 reported (call.CondvarSignal condvar word scope n) = unbuilt_reported (call.CondvarSignal condvar word scope n) (λ constants v who table. refl)
 reported (call.FdClose fd) = fd_close_reported fd
 reported (call.FdCreate1 kind) = unbuilt_reported (call.FdCreate1 kind) (λ constants v who table. refl)
-reported (call.FdCreate2 kind) = unbuilt_reported (call.FdCreate2 kind) (λ constants v who table. refl)
+reported (call.FdCreate2 kind) = λ constants S v who table there seen.
+    subst (λ u. LeavesRow S who.pid (call.FdCreate2 kind) (create (made_of kind) who.pid who.tid (u.process who.pid) table)) (sym seen)
+    (pair_reported kind S who.pid who.tid table there)
 reported (call.FdDatasync fd) = nothing_reported (call.FdDatasync fd) (λ after row reply. refl) (λ constants v who table. refl)
 reported (call.FdDup fd) = fd_dup_reported fd
 reported (call.FdPread fd length offset) = file_reported (call.FdPread fd length offset) fd (λ after row reply. refl) refl
@@ -316,24 +324,31 @@ reported (call.FileUnlink fd path flags) =
     named_reported (call.FileUnlink fd path flags) (λ after row reply. refl) (λ constants v who table. (0, v.process who.pid, _, refl))
 reported (call.LockUnlock lock word scope) = unbuilt_reported (call.LockUnlock lock word scope) (λ constants v who table. refl)
 reported (call.MemMap place length prot flags fd offset) = mem_map_reported place length prot flags fd offset
-reported (call.Memory number errno) = λ constants S v who table there. decided_reported (call.Memory number errno) errno S who.pid (λ after row reply. refl)
+reported (call.Memory number errno) = λ constants S v who table there seen. decided_reported (call.Memory number errno) errno S who.pid (λ after row reply. refl)
 reported (call.Poll subscriptions) = poll_reported subscriptions
 reported (call.ProcExec fd bytes fds) = unbuilt_reported (call.ProcExec fd bytes fds) (λ constants v who table. refl)
 reported (call.ProcExit code) = proc_exit_reported code
 reported (call.ProcFork left) = unbuilt_reported (call.ProcFork left) (λ constants v who table. refl)
 reported (call.ProcRaise signal) = unbuilt_reported (call.ProcRaise signal) (λ constants v who table. refl)
 reported (call.RandomGet length) = random_reported length
-reported (call.SockRecv fd length fds flags) = unbuilt_reported (call.SockRecv fd length fds flags) (λ constants v who table. refl)
-reported (call.SockSend fd bytes fds flags) = unbuilt_reported (call.SockSend fd bytes fds flags) (λ constants v who table. refl)
-reported (call.SockShutdown fd how) = unbuilt_reported (call.SockShutdown fd how) (λ constants v who table. refl)
+reported (call.SockRecv fd length fds flags) = λ constants S v who table there seen.
+    subst (λ u. LeavesRow S who.pid (call.SockRecv fd length fds flags) (at_descriptor (λ o. receive_open who.pid table u length fds flags) u (get table fd)))
+    (sym seen)
+    (receive_reported S who.pid table fd length fds flags there (get table fd) refl)
+reported (call.SockSend fd bytes fds flags) = λ constants S v who table there seen.
+    kept S who.pid (call.SockSend fd bytes fds flags) (at_descriptor (λ o. send_open v bytes (picked table fds)) v (get table fd)) (λ after row reply. refl)
+    (apart_tables (at_descriptor (λ o. send_open v bytes (picked table fds)) v (get table fd)).updates S (send_apart bytes (picked table fds) v (get table fd)))
+reported (call.SockShutdown fd how) =
+    moved_reported (call.SockShutdown fd how) (shutting how) (base_row fd SOCK_SHUTDOWN) (shut_opens_well how) (λ after row reply. refl) refl
 reported (call.ThreadCreate attributes) = create_reported attributes
 reported (call.ThreadExit lock word scope) = exit_reported lock word scope
 reported call.ThreadYield = nothing_reported call.ThreadYield (λ after row reply. refl) (λ constants v who table. refl)
-reported (call.Refused number errno) = λ constants S v who table there. decided_reported (call.Refused number errno) errno S who.pid (λ after row reply. refl)
-reported (call.Unknown number) = λ constants S v who table there. decided_reported (call.Unknown number) Nosys S who.pid (λ after row reply. refl)
+reported (call.Refused number errno) = λ constants S v who table there seen. decided_reported (call.Refused number errno) errno S who.pid (λ after row reply. refl)
+reported (call.Unknown number) = λ constants S v who table there seen. decided_reported (call.Unknown number) Nosys S who.pid (λ after row reply. refl)
 
 -- ---- refusals for lack of a descriptor or of rights
 
 pub refusal_reported : (S : State) (p : ℕ) (call : Call) (t : Option Table) (reply : Reply) → refusal_of call t ≡ Some reply
     → LeavesRow S p call (replies reply)
-refusal_reported S p call t reply is = sym (by_error reply.errno (granted_row (after_of S p) (row_of S p) call reply) (row_of S p) (refusal_is_other Success (λ e. cc) (λ e. cc) call t reply is))
+refusal_reported S p call t reply is =
+    sym (by_error reply.errno (granted_row (after_of S S p) (row_of S p) call reply) (row_of S p) (refusal_is_other Success (λ e. cc) (λ e. cc) call t reply is))

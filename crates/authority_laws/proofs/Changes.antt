@@ -1,5 +1,5 @@
 -- How an entry may change what its process holds.
-use Rattle.std.proofs.Common.{◌≡◌, ℕ, ◌==◌, Bool, true, false, cond, Option, Some, None, refl}
+use Rattle.std.proofs.Common.{◌≡◌, ℕ, ◌==◌, Bool, true, false, cond, Option, Some, None, refl, List, [], ◌∷◌}
 use Rattle.std.specs.Prelude.{bit_and, option_map}
 use Rattle.abi_base.proofs.Bits.{has-meet}
 use Rattle.abi_base.specs.declared.errno.Errno.{Errno}
@@ -8,7 +8,7 @@ use Rattle.abi_structures.specs.declared.structures.FdStat.{FdStat}
 use Rattle.abi_types.specs.declared.reply.Answer.{Answer}
 use Rattle.abi_types.specs.declared.reply.Answer.TheVariants as answer
 use Rattle.abi_types.specs.declared.call.Call.{Call}
-use Rattle.abi_types.specs.declared.call.Call.TheVariants.{FdClose, FdCreate2, FdDup, FdReplace, FdStatPut, FileOpen, ProcExit, ProcFork, ThreadExit}
+use Rattle.abi_types.specs.declared.call.Call.TheVariants.{FdClose, FdCreate2, FdDup, FdReplace, FdStatPut, FileOpen, ProcExit, ProcFork, SockRecv, ThreadExit}
 use Rattle.abi_types.specs.declared.reply.Reply.{Reply}
 use Rattle.abi_types.specs.declared.descriptor.Descriptor.{Descriptor}
 use Rattle.run_types.specs.declared.history.Act.{Act}
@@ -16,8 +16,8 @@ use Rattle.run_types.specs.declared.history.Act.TheVariants as act
 use Rattle.abi_types.specs.declared.open_kind.OpenKind.{OpenKind}
 use Rattle.kernel_model.specs.Families.DescriptorCalls.{lowered_to}
 use Rattle.kernel_model.specs.Families.Opening.{opened_descriptor}
-use Rattle.authority_laws.specs.Ledger.{Row, no_row, After, with_held, lowered_row, granted_row, by_success, answered_row}
-use Rattle.authority_laws.specs.Origins.{IsNoMoreThan, Change, stays, ends, closes, copies, lowers, opens, makes, makes_both}
+use Rattle.authority_laws.specs.Ledger.{Row, no_row, After, came_for, installed_fds, put_each, with_held, lowered_row, granted_row, by_success, answered_row}
+use Rattle.authority_laws.specs.Origins.{IsNoMoreThan, Change, stays, ends, closes, copies, lowers, opens, makes, makes_both, receives}
 use Rattle.authority_laws.specs.Recorded.{acted_row}
 
 pub lowered_is_no_more : (d : Descriptor) (stat : FdStat) → IsNoMoreThan (lowered_to d stat) d
@@ -52,6 +52,15 @@ where_ends_change : (after : After) (row : Row) (lasts : Bool) → Change after 
 where_ends_change after row true = stays refl
 where_ends_change after row false = ends refl
 
+-- numbers under which then stands what came for a socket, if there is one
+put_none : (row : Row) (fds : List ℕ) → put_each row fds [] ≡ row
+put_none row [] = refl
+put_none row (n ∷ fds) = refl
+
+received_change : (after : After) (row : Row) (fd : ℕ) (fds : List ℕ) (o : Option Descriptor) → row fd ≡ o → Change after row (put_each row fds (came_for after o))
+received_change after row fd fds None there = stays (put_none row fds)
+received_change after row fd fds (Some x) there = receives fd x fds there refl
+
 -- each call that changes what its process holds has a line
 granted_change : (after : After) (row : Row) (call : Call) (reply : Reply) → Change after row (granted_row after row call reply)
 granted_change after row (FdClose fd) reply = closes fd refl
@@ -62,6 +71,7 @@ granted_change after row (FdStatPut fd stat flags) reply = where_set_change afte
 granted_change after row (FileOpen lookup path oflags stat) reply = opened_change after row reply.r1 stat (after.made 0).kind refl
 granted_change after row (ProcExit code) reply = ends refl
 granted_change after row (ProcFork left) reply = makes reply.r1 refl
+granted_change after row (SockRecv fd length fds flags) reply = received_change after row fd (installed_fds reply.payload) (row fd) refl
 granted_change after row (ThreadExit lock word scope) reply = where_ends_change after row after.threaded
 granted_change after row _ reply = stays refl
 

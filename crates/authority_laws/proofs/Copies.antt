@@ -172,7 +172,7 @@ module _ (launch : Launch) (front : List Entry) (e : Entry) (rest : List Entry) 
       let called : T ≡ (world launch (front ++ e ∷ [])).state = sym (called_is launch front e call reply done) in
       sym (rows_after call reply done) ∙ step_row w.constants w.state (who_of w.state e) call (answer.Reply reply) T (stepped launch front e rest call reply legal done)
       (λ _. keeps)
-      ∙ (λ i. by_success (done.success i) (granted_row (after_of (called i) e.pid) (before_is i) call reply) (before_is i))
+      ∙ (λ i. by_success (done.success i) (granted_row (after_of w.state (called i) e.pid) (before_is i) call reply) (before_is i))
 
   pub duplicated_after : (fd : ℕ) (reply : Reply) → IsCalled e (FdDup fd) reply
       → held_after launch front e ≡ with_held (held_before launch front e) reply.r1 (held_before launch front e fd)

@@ -31,10 +31,10 @@ use Rattle.authority_laws.proofs.Successes.{act_is_within}
 -- ---- the ledger of one more entry
 
 all_more : (w : World) (l : Ledger) (history : List Entry) (e : Entry)
-    → noted_all w l (history ++ e ∷ []) ≡ noted (after_in (apply (apply_all w history) e) e) (noted_all w l history) e
+    → noted_all w l (history ++ e ∷ []) ≡ noted (after_in (apply_all w history) (apply (apply_all w history) e) e) (noted_all w l history) e
 unfolding noted_all apply_all
 all_more w l [] e = refl
-all_more w l (first ∷ history) e = all_more (apply w first) (noted (after_in (apply w first) first) l first) history e
+all_more w l (first ∷ history) e = all_more (apply w first) (noted (after_in w (apply w first) first) l first) history e
 
 pub ledger_none : (launch : Launch) → ledger launch [] ≡ launch_ledger launch.tree launch.grants
 unfolding ledger noted_all
@@ -45,7 +45,7 @@ pub ledger_more : (launch : Launch) (history : List Entry) (e : Entry)
 unfolding ledger world
 ledger_more launch history e =
     all_more (start_world launch) (launch_ledger launch.tree launch.grants) history e
-    ∙ ap (λ (v : World). noted (after_in v e) (ledger launch history) e) (sym (world_more launch history e))
+    ∙ ap (λ (v : World). noted (after_in (world launch history) v e) (ledger launch history) e) (sym (world_more launch history e))
 
 -- ---- the tables
 
@@ -54,7 +54,7 @@ abbrev left : After → Ledger → ℕ → Act → Ledger
 left after l p a = of_live after.live (with_row (with_child (acted_child after a) (l.held p) l) p (acted_row after (l.held p) a))
 
 acted_rows : (w : World) (who : Who) (guest : Guest) (ts : List ℕ) (a : Act) (l : Ledger) → FitsAct w.constants w.state who guest ts a
-    → IsValid (acted w who a).state → HasRows w.state l → HasRows (acted w who a).state (left (after_of (acted w who a).state who.pid) l who.pid a)
+    → IsValid (acted w who a).state → HasRows w.state l → HasRows (acted w who a).state (left (after_of w.state (acted w who a).state who.pid) l who.pid a)
 acted_rows w who guest ts (act.Call call given) l fits valid before =
     step_rows w.constants w.state who call given (called_state w.constants w.state who call given) l fits.1 valid before
 acted_rows w who guest ts (act.Wake call given answered) l fits valid before =
@@ -64,9 +64,9 @@ acted_rows w who guest ts act.Expire l fits valid before = end_rows w.state who.
 acted_rows w who guest ts act.Idle l fits valid before = idle_rows w.state who.pid l valid before
 
 apply_rows : (w : World) (e : Entry) (l : Ledger) → Fits w e → IsValid (apply w e).state → HasRows w.state l
-    → HasRows (apply w e).state (noted (after_in (apply w e) e) l e)
+    → HasRows (apply w e).state (noted (after_in w (apply w e) e) l e)
 apply_rows w e l fits valid before =
-    subst (λ (v : World). HasRows v.state (noted (after_in v e) l e)) (sym (apply_is w e))
+    subst (λ (v : World). HasRows v.state (noted (after_in w v e) l e)) (sym (apply_is w e))
     (acted_rows (turned w e.pid e.turns) (who_of w.state e) (guest_of w e.pid) e.turns e.act l fits.act
     (subst (λ (v : World). IsValid v.state) (apply_is w e) valid) before)
 
@@ -76,7 +76,7 @@ unfolding FollowsFrom apply_all noted_all
 follows_rows w [] l follows valid before = before
 follows_rows w (e ∷ history) l follows valid before =
     let then = apply_valid w e follows.0 valid in
-    follows_rows (apply w e) history (noted (after_in (apply w e) e) l e) follows.1 then (apply_rows w e l follows.0 then before)
+    follows_rows (apply w e) history (noted (after_in w (apply w e) e) l e) follows.1 then (apply_rows w e l follows.0 then before)
 
 start_has_rows : (launch : Launch) → HasRows (start_world launch).state (launch_ledger launch.tree launch.grants)
 start_has_rows launch =

@@ -1,6 +1,7 @@
 pub mod Rows
 pub mod Unbuilt
 pub mod Openings
+pub mod Sockets
 pub mod Calls
 pub mod States
 pub mod Changes
@@ -10,6 +11,12 @@ pub mod Histories
 pub mod Copies
 pub mod Leads
 pub mod Bounds
+pub mod Pairs
+pub mod OpenStays
+pub mod Waiting
+pub mod Sends
+pub mod SendNumbers
+pub mod Deliveries
 pub mod Traces
 pub mod OpenTargets
 pub mod Records

@@ -1,6 +1,7 @@
 -- What a process holds after an entry is no more than what it held before it, and what is passed on stays within a grant.
-use Rattle.std.proofs.Common.{◌≡◌, ◌⊎◌, inl, inr, ℕ, ◌==◌, Bool, true, false, cond, List, ◌&&◌, ◌∷◌, [], Option, Some, None, refl, sym, subst, ◌∙◌, arith}
+use Rattle.std.proofs.Common.{◌≡◌, ◌⊎◌, inl, inr, ℕ, ◌==◌, Bool, true, false, cond, List, ◌&&◌, ◌∷◌, ◌++◌, [], Option, Some, None, refl, sym, subst, ◌∙◌, arith}
 use Rattle.std.proofs.lemmas.Bool.Decides.{eqb_tells}
+use Rattle.std.proofs.lemmas.List.{append_assoc}
 use Rattle.std.proofs.lemmas.Nat.Bits.{bit_at_above}
 use Rattle.std.specs.Int.{bit_at}
 use Rattle.std.specs.List.{AllByRecursion}
@@ -10,7 +11,7 @@ use Rattle.abi_base.specs.declared.errno.Errno.TheVariants.{Success}
 use Rattle.abi_base.specs.declared.grant.Grant.{Grant}
 use Rattle.abi_structures.specs.declared.structures.FdStat.{FdStat}
 use Rattle.abi_types.specs.declared.call.Call.{Call}
-use Rattle.abi_types.specs.declared.call.Call.TheVariants.{FdClose, FdCreate2, FdDup, FdReplace, FdStatPut, FileOpen, ProcExit, ProcFork, SockSend, ThreadExit}
+use Rattle.abi_types.specs.declared.call.Call.TheVariants.{FdClose, FdCreate2, FdDup, FdReplace, FdStatPut, FdWrite, FileOpen, ProcExit, ProcFork, SockRecv, SockSend, ThreadExit}
 use Rattle.abi_types.specs.declared.descriptor.Descriptor.{Descriptor}
 use Rattle.abi_types.specs.declared.open_kind.OpenKind.{OpenKind}
 use Rattle.abi_types.specs.declared.reply.Answer.{Answer}
@@ -26,8 +27,8 @@ use Rattle.kernel_model.specs.Start.{granted_descriptor}
 use Rattle.kernel_model.specs.State.{Tree}
 use Rattle.kernel_model.proofs.Lists.{in_all}
 use Rattle.kernel_model.proofs.Tests.{none_is_no, same_some}
-use Rattle.authority_laws.specs.Ledger.{Row, no_row, Sends, with_held, Ledger, After, added, channel_of, picked, with_sent, granted_sends, answered_sends, with_row, with_child, of_live, lowered_row, opened_held, is_new, new_descriptor, new_held, new_held_of, granted_row, by_success, answered_row}
-use Rattle.authority_laws.specs.Origins.{Origin, was_held, was_made, ComesFrom, IsNoMoreThan, InheritsFrom, PassesOnNothing, ComesFromGrant}
+use Rattle.authority_laws.specs.Ledger.{Row, no_row, Sends, with_held, Ledger, After, added, came_for, channel_of, installed_fds, put_each, picked, with_sent, granted_sends, answered_sends, with_row, with_child, of_live, lowered_row, opened_held, is_new, new_descriptor, new_held, new_held_of, granted_row, by_success, answered_row}
+use Rattle.authority_laws.specs.Origins.{Origin, was_held, was_made, was_received, ComesFrom, IsNoMoreThan, InheritsFrom, PassesOnNothing, ComesFromGrant}
 use Rattle.authority_laws.specs.Recorded.{acted_child, acted_row, acted_sends, noted}
 use Rattle.authority_laws.proofs.Changes.{lowered_is_no_more}
 
@@ -111,6 +112,28 @@ module _ (after : After) (l : Ledger) (e : Entry) where
   where_ends_from true = own_from
   where_ends_from false = nothing_from
 
+  -- what stands under numbers comes from there where what is put there does
+  each_from : (row : Row) (fds : List ℕ) (ds : List Descriptor) → RowComesFrom row → AllByRecursion (λ (d : Descriptor). Origin after l e e.pid d) ds
+      → RowComesFrom (put_each row fds ds)
+  each_from row [] ds others all = others
+  each_from row (n ∷ fds) [] others all = others
+  each_from row (n ∷ fds) (d ∷ ds) others all =
+      each_from (with_held row n (Some d)) fds ds
+      (number_from row n (Some d) others (λ x is. subst (Origin after l e e.pid) (same_some d x is) all.0)) all.1
+
+  -- what came for the open of a descriptor that was held
+  all_came : (m : ℕ) (x : Descriptor) → l.held e.pid m ≡ Some x → (before ds : List Descriptor) → after.came x.id ≡ before ++ ds
+      → AllByRecursion (λ (d : Descriptor). Origin after l e e.pid d) ds
+  all_came m x held before [] is = tt
+  all_came m x held before (d ∷ ds) is = (
+    was_received m x refl held (before, ds, is),
+    all_came m x held (before ++ d ∷ []) ds (is ∙ sym (append_assoc before (d ∷ []) ds)),
+  )
+
+  received_from : (fd : ℕ) (fds : List ℕ) (o : Option Descriptor) → l.held e.pid fd ≡ o → RowComesFrom (put_each (l.held e.pid) fds (came_for after o))
+  received_from fd fds None there = each_from (l.held e.pid) fds [] own_from tt
+  received_from fd fds (Some x) there = each_from (l.held e.pid) fds (after.came x.id) own_from (all_came fd x there [] (after.came x.id) refl)
+
   granted_from : (call : Call) (reply : Reply) → OpensWithin call → RowComesFrom (granted_row after (l.held e.pid) call reply)
   granted_from (FdClose fd) reply within = number_from (l.held e.pid) fd None own_from (λ d here. absurd (none_is_no d here))
   granted_from (FdCreate2 kind) reply within =
@@ -125,6 +148,7 @@ module _ (after : After) (l : Ledger) (e : Entry) where
   granted_from (ProcExit code) reply within = nothing_from
   granted_from (ProcFork left) reply within =
       number_from (l.held e.pid) reply.r1 (new_held (after.made 0)) own_from (made_from 0 (after.made 0).kind refl)
+  granted_from (SockRecv fd length fds flags) reply within = received_from fd (installed_fds reply.payload) (l.held e.pid fd) refl
   granted_from (ThreadExit lock word scope) reply within = where_ends_from after.threaded
   granted_from _ reply within = own_from
 
@@ -216,7 +240,8 @@ module _ (after : After) (row : Row) (sent : Sends) where
       carried_from (picked row fds) (sent c j) (c == k && j == after.sends k) d (picked_stand row fds) is
 
   granted_sent : (call : Call) → SentFrom (granted_sends after row sent call)
-  granted_sent (SockSend fd bytes fds flags) = channel_from (channel_of after (row fd)) fds
+  granted_sent (FdWrite fd (b ∷ bytes)) = channel_from (channel_of after (row fd)) []
+  granted_sent (SockSend fd (b ∷ bytes) fds flags) = channel_from (channel_of after (row fd)) fds
   granted_sent _ = λ c j d is. inl is
 
   success_sent : (errno : Errno) (then : Sends) → SentFrom then → SentFrom (by_success errno then sent)

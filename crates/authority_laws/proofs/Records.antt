@@ -19,8 +19,11 @@ use Rattle.authority_laws.specs.Recorded.{ledger}
 use Rattle.authority_laws.specs.Traces.{Traced}
 use Rattle.authority_laws.proofs.Bounds.{opens_are_bounded}
 use Rattle.authority_laws.proofs.Copies.{duplicates_are_equal, replacements_are_equal, rights_are_lowered}
+use Rattle.authority_laws.proofs.Deliveries.{receives_are_sent}
 use Rattle.authority_laws.proofs.Histories.{ledger_reports, rights_never_grow, sends_are_held}
-use Rattle.authority_laws.proofs.OpenTargets.{files_come_from_grants, opens_stay, traced_stays}
+use Rattle.authority_laws.proofs.OpenStays.{opens_stay}
+use Rattle.authority_laws.proofs.OpenTargets.{files_come_from_grants, traced_stays}
+use Rattle.authority_laws.proofs.SendNumbers.{sends_are_numbered}
 use Rattle.authority_laws.proofs.Traces.{held_is_traced}
 
 -- a table's descriptor is there by the ledger
@@ -77,6 +80,8 @@ recorded_entry launch front e rest legal begins = record {
   stay = opens_stay launch front e rest begins legal;
   never_grows = rights_never_grow launch front e rest begins legal;
   sends = sends_are_held launch front e;
+  delivers = receives_are_sent launch front e rest begins legal;
+  counts = sends_are_numbered launch front e rest begins legal;
 }
 
 pub legal_is_recorded : (launch : Launch) (history : List Entry) → Legal launch history → MayBegin launch.tree launch.grants → IsRecorded launch history

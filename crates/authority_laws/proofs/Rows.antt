@@ -91,11 +91,11 @@ by_either _ same = refl
 
 -- after the outcome's updates its process has what the ledger says after this answer
 abbrev pub LeavesRow : State → ℕ → Call → Outcome → Type 0
-LeavesRow S p call o = row_of (put_all o.updates S) p ≡ answered_row (after_of (put_all o.updates S) p) (row_of S p) call o.answer
+LeavesRow S p call o = row_of (put_all o.updates S) p ≡ answered_row (after_of S (put_all o.updates S) p) (row_of S p) call o.answer
 
 -- an error, after which its process has the table that it had
 pub refused_reported : (S : State) (p : ℕ) (call : Call) (errno : Errno) → errno ≢ Success → LeavesRow S p call (replies (refused errno))
-refused_reported S p call errno other = sym (by_error errno (granted_row (after_of S p) (row_of S p) call (refused errno)) (row_of S p) other)
+refused_reported S p call errno other = sym (by_error errno (granted_row (after_of S S p) (row_of S p) call (refused errno)) (row_of S p) other)
 
 pub badf_is_error : Badf ≢ Success
 badf_is_error e = cc

@@ -44,7 +44,7 @@ use Rattle.kernel_model.proofs.Steps.{step_moves_only, end_ends_only, unless_kil
 use Rattle.kernel_model.proofs.Tests.{not_true, none_is_no, same_some}
 use Rattle.kernel_model.proofs.Touches.{live_spared}
 use Rattle.kernel_model.proofs.Valids.{get_released, held_or_carried, held_stays, left_counts, named_is_held, released_stays}
-use Rattle.authority_laws.specs.Ledger.{Row, no_row, has_thread, with_held, Ledger, After, Made, after_of, object_at, process_of, sends_of, is_live, is_new, last_made, recently_made, with_row, with_child, of_live, launch_row, launch_ledger, new_descriptor, new_held, new_held_of, granted_row, by_success, answered_row, answered_child}
+use Rattle.authority_laws.specs.Ledger.{Row, no_row, has_thread, with_held, Ledger, After, Made, after_of, object_at, process_of, sends_of, waits_for, is_live, is_new, last_made, recently_made, with_row, with_child, of_live, launch_row, launch_ledger, new_descriptor, new_held, new_held_of, granted_row, by_success, answered_row, answered_child}
 use Rattle.authority_laws.specs.Laws.{Holds}
 use Rattle.authority_laws.proofs.Calls.{reported, refusal_reported}
 use Rattle.authority_laws.proofs.Unbuilt.{makes_no_child}
@@ -60,7 +60,7 @@ outcome_reported : (constants : Constants) (S : State) (who : Who) (call : Call)
 outcome_reported constants S who call =
     outcome_holds (LeavesRow (tick S) who.pid call) constants S who call
     (λ reply is. refusal_reported (tick S) who.pid call (get S.tables who.pid) reply is)
-    (λ table there. reported call constants (tick S) (whole (tick S)) who table there)
+    (λ table there. reported call constants (tick S) (whole (tick S)) who table there refl)
 
 -- ---- the open that was made is still there after the release
 
@@ -145,14 +145,15 @@ seen_made : (U : State) (p k : ℕ) → recently_made (seen U) p k ≡ recently_
 seen_made U p k =
     seen_by_counts U p k ∙ ap (λ (c : Counts). after_by (release U) p c k) (sym (left_counts U p)) ∙ sym (made_by_counts (release U) p k)
 
-seen_after : (U : State) (p : ℕ) → IsSpared U p → after_of (seen U) p ≡ after_of (release U) p
-seen_after U p spared = λ i. record {
+seen_after : (S U : State) (p : ℕ) → IsSpared U p → after_of S (seen U) p ≡ after_of S (release U) p
+seen_after S U p spared = λ i. record {
   made = λ k. seen_made U p k i;
   child = process_of (seen_made U p 0 i).kind;
   opened = λ o. get (release U).opens o;
   sends = sends_of (release U);
   threaded = has_thread (sym (process_spared U (ends U) p spared) i);
   live = λ q. is_live (get (release U).statuses q);
+  came = λ o. waits_for S.chans (get S.opens o);
 }
 
 -- what is made of no descriptor, under one number or two
@@ -177,53 +178,53 @@ both_stay U p n m row a b spared first second is =
           λ i. with_held (with_held row n (before i)) m (last i))
     ]
 
-granted_stays : (U : State) (p : ℕ) (row : Row) (call : Call) (reply : Reply) → IsSpared U p → row_of U p ≡ granted_row (after_of U p) row call reply
-    → granted_row (after_of U p) row call reply ≡ granted_row (after_of (seen U) p) row call reply
-granted_stays U p row (FdCreate2 kind) reply spared is =
+granted_stays : (S U : State) (p : ℕ) (row : Row) (call : Call) (reply : Reply) → IsSpared U p → row_of U p ≡ granted_row (after_of S U p) row call reply
+    → granted_row (after_of S U p) row call reply ≡ granted_row (after_of S (seen U) p) row call reply
+granted_stays S U p row (FdCreate2 kind) reply spared is =
     both_stay U p reply.r1 reply.r2 row (new_held (recently_made U p 1)) (new_held (recently_made U p 0)) spared refl refl is
-granted_stays U p row (FileOpen lookup path oflags stat) reply spared is =
+granted_stays S U p row (FileOpen lookup path oflags stat) reply spared is =
     let number : ℕ = (last_made U p).number in
     let f : Option OpenKind → Option Descriptor = option_map (λ (kind : OpenKind). opened_descriptor number kind stat) in
     ap (with_held row reply.r1)
     (sym (open_stays U p reply.r1 number spared f (opened_names number stat) ((λ i. is i reply.r1) ∙ held_here row reply.r1 (f (get U.opens number)))))
-granted_stays U p row (ProcFork left) reply spared is =
+granted_stays S U p row (ProcFork left) reply spared is =
     ap (with_held row reply.r1) (new_stays U p reply.r1 0 spared ((λ i. is i reply.r1) ∙ held_here row reply.r1 (new_held (recently_made U p 0))))
-granted_stays U p row call reply spared is = refl
+granted_stays S U p row call reply spared is = refl
 
-errno_stays : (U : State) (p : ℕ) (row : Row) (call : Call) (reply : Reply) (errno : Errno) → IsSpared U p
-    → row_of U p ≡ by_success errno (granted_row (after_of U p) row call reply) row
-    → by_success errno (granted_row (after_of U p) row call reply) row ≡ by_success errno (granted_row (after_of (seen U) p) row call reply) row
-errno_stays U p row call reply Success spared is = granted_stays U p row call reply spared is
-errno_stays U p row call reply _ spared is = refl
+errno_stays : (S U : State) (p : ℕ) (row : Row) (call : Call) (reply : Reply) (errno : Errno) → IsSpared U p
+    → row_of U p ≡ by_success errno (granted_row (after_of S U p) row call reply) row
+    → by_success errno (granted_row (after_of S U p) row call reply) row ≡ by_success errno (granted_row (after_of S (seen U) p) row call reply) row
+errno_stays S U p row call reply Success spared is = granted_stays S U p row call reply spared is
+errno_stays S U p row call reply _ spared is = refl
 
-answered_stays : (U : State) (p : ℕ) (row : Row) (call : Call) (given : Answer) → IsSpared U p → row_of U p ≡ answered_row (after_of U p) row call given
-    → answered_row (after_of U p) row call given ≡ answered_row (after_of (seen U) p) row call given
-answered_stays U p row call (answer.Parked writes) spared is = refl
-answered_stays U p row call (answer.Reply reply) spared is = errno_stays U p row call reply reply.errno spared is
+answered_stays : (S U : State) (p : ℕ) (row : Row) (call : Call) (given : Answer) → IsSpared U p → row_of U p ≡ answered_row (after_of S U p) row call given
+    → answered_row (after_of S U p) row call given ≡ answered_row (after_of S (seen U) p) row call given
+answered_stays S U p row call (answer.Parked writes) spared is = refl
+answered_stays S U p row call (answer.Reply reply) spared is = errno_stays S U p row call reply reply.errno spared is
 
 -- a thread that waits leaves its process's descriptors
-waits_reported : (a : Answer) (who : Who) (thread : Thread) (V : State) (row : Row) (call : Call)
-    → row_of V who.pid ≡ answered_row (after_of V who.pid) row call a
-    → row_of (waits_if a who thread V) who.pid ≡ answered_row (after_of (waits_if a who thread V) who.pid) row call a
-waits_reported (answer.Parked writes) who thread V row call is = is
-waits_reported (answer.Reply reply) who thread V row call is = is
+waits_reported : (a : Answer) (who : Who) (thread : Thread) (S V : State) (row : Row) (call : Call)
+    → row_of V who.pid ≡ answered_row (after_of S V who.pid) row call a
+    → row_of (waits_if a who thread V) who.pid ≡ answered_row (after_of S (waits_if a who thread V) who.pid) row call a
+waits_reported (answer.Parked writes) who thread S V row call is = is
+waits_reported (answer.Reply reply) who thread S V row call is = is
 
 pub step_row : (constants : Constants) (S : State) (who : Who) (call : Call) (given : Answer) (T : State) → IsStep constants S who call given T
     → (T ≡ step_state constants S who call → IsSpared (unreleased constants S who call) who.pid)
-    → row_of T who.pid ≡ answered_row (after_of T who.pid) (row_of S who.pid) call given
+    → row_of T who.pid ≡ answered_row (after_of S T who.pid) (row_of S who.pid) call given
 step_row constants S who call given T (inl done) unkilled =
     let U = unreleased constants S who call in
-    let reported : row_of U who.pid ≡ answered_row (after_of U who.pid) (row_of S who.pid) call (step_answer constants S who call) =
-    waits_reported (step_answer constants S who call) who (waiting constants call who.since) (put_all (outcome constants S who call).updates (tick S))
+    let reported : row_of U who.pid ≡ answered_row (after_of S U who.pid) (row_of S who.pid) call (step_answer constants S who call) =
+    waits_reported (step_answer constants S who call) who (waiting constants call who.since) S (put_all (outcome constants S who call).updates (tick S))
     (row_of S who.pid) call (outcome_reported constants S who call) in
     let spared : IsSpared U who.pid = unkilled done.1 in
-    subst (λ (V : State). row_of V who.pid ≡ answered_row (after_of V who.pid) (row_of S who.pid) call given) (sym done.1)
+    subst (λ (V : State). row_of V who.pid ≡ answered_row (after_of S V who.pid) (row_of S who.pid) call given) (sym done.1)
     (row_spared U who.pid spared ∙ reported
-    ∙ answered_stays U who.pid (row_of S who.pid) call (step_answer constants S who call) spared reported
-    ∙ ap (λ (a : After). answered_row a (row_of S who.pid) call (step_answer constants S who call)) (seen_after U who.pid spared)
-    ∙ ap (answered_row (after_of (release U) who.pid) (row_of S who.pid) call) (sym done.0))
+    ∙ answered_stays S U who.pid (row_of S who.pid) call (step_answer constants S who call) spared reported
+    ∙ ap (λ (a : After). answered_row a (row_of S who.pid) call (step_answer constants S who call)) (seen_after S U who.pid spared)
+    ∙ ap (answered_row (after_of S (release U) who.pid) (row_of S who.pid) call) (sym done.0))
 step_row constants S who call given T (inr lacking) unkilled =
-    ap (λ (U : State). row_of U who.pid) lacking.2 ∙ ap (answered_row (after_of T who.pid) (row_of S who.pid) call) (sym lacking.1)
+    ap (λ (U : State). row_of U who.pid) lacking.2 ∙ ap (answered_row (after_of S T who.pid) (row_of S who.pid) call) (sym lacking.1)
 
 bare_row : (killed : Bool) → row_in (option_map (table_left killed) (Some empty)) ≡ no_row
 bare_row true = row_in_empty
@@ -286,18 +287,18 @@ status_row T m q (Some (Exit code)) valid is row = ended_row T q valid (λ live.
 status_row T m q (Some (Killed signal)) valid is row = ended_row T q valid (λ live. killed_is_not_live signal (sym is ∙ live))
 
 -- who isn't live holds nothing, so it is enough to look at who is
-live_rows : (T : State) (p : ℕ) (m : Ledger) → IsValid T → ((q : ℕ) → get T.statuses q ≡ Some Live → row_of T q ≡ m.held q)
-    → HasRows T (of_live (after_of T p).live m)
-live_rows T p m valid rows q = status_row T m q (get T.statuses q) valid refl (rows q)
+live_rows : (S T : State) (p : ℕ) (m : Ledger) → IsValid T → ((q : ℕ) → get T.statuses q ≡ Some Live → row_of T q ≡ m.held q)
+    → HasRows T (of_live (after_of S T p).live m)
+live_rows S T p m valid rows q = status_row T m q (get T.statuses q) valid refl (rows q)
 
 -- one process's row changes, if it is still live, and of the others those that are live hold what they held, or what the process held
 -- that made them
-changed : (T : State) (l : Ledger) (p : ℕ) (child : Option ℕ) (row : Row) → IsValid T → (get T.statuses p ≡ Some Live → row_of T p ≡ row)
+changed : (S T : State) (l : Ledger) (p : ℕ) (child : Option ℕ) (row : Row) → IsValid T → (get T.statuses p ≡ Some Live → row_of T p ≡ row)
     → ((q : ℕ) → q ≢ p → get T.statuses q ≡ Some Live → row_of T q ≡ (with_child child (l.held p) l).held q)
-    → HasRows T (of_live (after_of T p).live (with_row (with_child child (l.held p) l) p row))
-changed T l p child row valid own others =
+    → HasRows T (of_live (after_of S T p).live (with_row (with_child child (l.held p) l) p row))
+changed S T l p child row valid own others =
     let m : Ledger = with_child child (l.held p) l in
-    live_rows T p (with_row m p row) valid (λ q live.
+    live_rows S T p (with_row m p row) valid (λ q live.
     elim (eqb_tells q p) [
       | inl is ↦ ap (row_of T) is.1 ∙ own (ap (get T.statuses) (sym is.1) ∙ live) ∙ sym (ap (λ b. cond b row (m.held q)) is.0)
       | inr other ↦ others q other.1 live ∙ sym (ap (λ b. cond b row (m.held q)) other.0)
@@ -305,42 +306,42 @@ changed T l p child row valid own others =
 
 pub step_rows : (constants : Constants) (S : State) (who : Who) (call : Call) (given : Answer) (T : State) (l : Ledger) → IsStep constants S who call given T
     → IsValid T → HasRows S l
-    → HasRows T (of_live (after_of T who.pid).live
-    (with_row (with_child (answered_child (after_of T who.pid) call given) (l.held who.pid) l) who.pid
-    (answered_row (after_of T who.pid) (l.held who.pid) call given)))
+    → HasRows T (of_live (after_of S T who.pid).live
+    (with_row (with_child (answered_child (after_of S T who.pid) call given) (l.held who.pid) l) who.pid
+    (answered_row (after_of S T who.pid) (l.held who.pid) call given)))
 step_rows constants S who call given T l step valid before =
-    changed T l who.pid (answered_child (after_of T who.pid) call given) (answered_row (after_of T who.pid) (l.held who.pid) call given) valid
+    changed S T l who.pid (answered_child (after_of S T who.pid) call given) (answered_row (after_of S T who.pid) (l.held who.pid) call given) valid
     (λ live. step_row constants S who call given T step
     (λ is. live_spared (unreleased constants S who call) who.pid (subst (λ (V : State). get V.statuses who.pid ≡ Some Live) is live))
-    ∙ ap (λ row. answered_row (after_of T who.pid) row call given) (before who.pid))
+    ∙ ap (λ row. answered_row (after_of S T who.pid) row call given) (before who.pid))
     (λ q apart live.
     ap row_in (unless_killed S T q live ((step_moves_only constants S who call given T step).others q apart)).0 ∙ before q
-    ∙ ap (λ child. (with_child child (l.held who.pid) l).held q) (sym (makes_no_child constants S who call given T (after_of T who.pid) step)))
+    ∙ ap (λ child. (with_child child (l.held who.pid) l).held q) (sym (makes_no_child constants S who call given T (after_of S T who.pid) step)))
 
 -- a wake leaves what its call does from the state in which the thread runs
 pub wake_rows : (constants : Constants) (S : State) (who : Who) (call : Call) (given : WakeIn) (answered : Answer) (T : State) (l : Ledger)
     → IsWake constants S who call given answered T → IsValid T → HasRows S l
-    → HasRows T (of_live (after_of T who.pid).live
-    (with_row (with_child (answered_child (after_of T who.pid) call answered) (l.held who.pid) l) who.pid
-    (answered_row (after_of T who.pid) (l.held who.pid) call answered)))
+    → HasRows T (of_live (after_of S T who.pid).live
+    (with_row (with_child (answered_child (after_of S T who.pid) call answered) (l.held who.pid) l) who.pid
+    (answered_row (after_of S T who.pid) (l.held who.pid) call answered)))
 wake_rows constants S who call (wake.Plain word) answered T l is valid before =
     step_rows constants (resumed S who) who call answered T l is.0 valid before
 wake_rows constants S who call wake.Fault answered T l is valid before =
     let row : (q : ℕ) → row_of T q ≡ l.held q = λ q. ap (λ (U : State). row_of U q) is.1 ∙ before q in
-    subst (λ a. HasRows T (of_live (after_of T who.pid).live
-    (with_row (with_child (answered_child (after_of T who.pid) call a) (l.held who.pid) l) who.pid
-    (answered_row (after_of T who.pid) (l.held who.pid) call a)))) (sym is.0)
-    (changed T l who.pid None (l.held who.pid) valid (λ _. row who.pid) (λ q _ _. row q))
+    subst (λ a. HasRows T (of_live (after_of S T who.pid).live
+    (with_row (with_child (answered_child (after_of S T who.pid) call a) (l.held who.pid) l) who.pid
+    (answered_row (after_of S T who.pid) (l.held who.pid) call a)))) (sym is.0)
+    (changed S T l who.pid None (l.held who.pid) valid (λ _. row who.pid) (λ q _ _. row q))
 
 -- an idle jump leaves them
 pub idle_rows : (S : State) (p : ℕ) (l : Ledger) → IsValid (idle_state S) → HasRows S l
-    → HasRows (idle_state S) (of_live (after_of (idle_state S) p).live (with_row l p (l.held p)))
-idle_rows S p l valid before = changed (idle_state S) l p None (l.held p) valid (λ _. before p) (λ q _ _. before q)
+    → HasRows (idle_state S) (of_live (after_of S (idle_state S) p).live (with_row l p (l.held p)))
+idle_rows S p l valid before = changed S (idle_state S) l p None (l.held p) valid (λ _. before p) (λ q _ _. before q)
 
 pub end_rows : (S : State) (p : ℕ) (status : Status) (l : Ledger) → status ≢ Live → IsValid (end_state S p status) → HasRows S l
-    → HasRows (end_state S p status) (of_live (after_of (end_state S p status) p).live (with_row l p no_row))
+    → HasRows (end_state S p status) (of_live (after_of S (end_state S p status) p).live (with_row l p no_row))
 end_rows S p status l ends valid before =
-    changed (end_state S p status) l p None no_row valid (λ _. end_row S p status)
+    changed S (end_state S p status) l p None no_row valid (λ _. end_row S p status)
     (λ q apart live. ap row_in (unless_killed S (end_state S p status) q live ((end_ends_only S p status ends).others q apart)).0 ∙ before q)
 
 -- ---- what a row of a valid state has

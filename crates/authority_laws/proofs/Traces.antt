@@ -11,7 +11,7 @@ use Rattle.abi_base.specs.declared.grant.Grant.{Grant}
 use Rattle.abi_structures.specs.declared.structures.FdStat.{FdStat}
 use Rattle.tree_model.specs.Grants.{MayBegin}
 use Rattle.abi_types.specs.declared.call.Call.{Call}
-use Rattle.abi_types.specs.declared.call.Call.TheVariants.{FdClose, FdCreate2, FdDup, FdReplace, FdStatPut, FileOpen, ProcExit, ProcFork, ThreadExit}
+use Rattle.abi_types.specs.declared.call.Call.TheVariants.{FdClose, FdCreate2, FdDup, FdReplace, FdStatPut, FileOpen, ProcExit, ProcFork, SockRecv, ThreadExit}
 use Rattle.abi_types.specs.declared.descriptor.Descriptor.{Descriptor}
 use Rattle.abi_types.specs.declared.open_kind.OpenKind.{OpenKind}
 use Rattle.abi_types.specs.declared.reply.Answer.{Answer}
@@ -27,26 +27,26 @@ use Rattle.kernel_model.specs.Waits.{may_wait}
 use Rattle.kernel_model.proofs.OpenLaws.{grants_are_held}
 use Rattle.kernel_model.proofs.Tests.{none_is_no, same_some}
 use Rattle.run_model.specs.Legal.{FitsAct, Legal}
-use Rattle.run_model.specs.World.{World, called_state, guest_of, who_of, world}
-use Rattle.run_model.proofs.Histories.{first_state, legal_next, world_none}
-use Rattle.authority_laws.specs.Ledger.{After, Ledger, Row, answered_row, no_row, with_child, with_held, launch_ledger, launch_row, lowered_row, granted_row, by_success}
+use Rattle.run_model.specs.World.{called_state, guest_of, who_of, world}
+use Rattle.run_model.proofs.Histories.{legal_front, legal_next}
+use Rattle.run_model.proofs.Worlds.{world_is_valid}
+use Rattle.authority_laws.specs.Ledger.{After, Ledger, Row, answered_row, came_for, installed_fds, no_row, put_each, with_child, with_held, launch_ledger, launch_row, lowered_row, granted_row, new_held, by_success}
 use Rattle.authority_laws.specs.Laws.{TracedIsWithinRoot}
 use Rattle.authority_laws.specs.Origins.{InheritsFrom, IsCopied, IsNoMoreThan}
 use Rattle.authority_laws.specs.Recorded.{Replies, Succeeds, acted_row, after_at, child_at, held_after, held_before, ledger}
-use Rattle.authority_laws.specs.Traces.{AllTraced, IsGranted, IsWithin, Lowers, OpensFrom, Root, Traced, first_open, of_entry, of_grant, root}
+use Rattle.authority_laws.specs.Traces.{AllTraced, IsGranted, IsWithin, Lowers, OpensFrom, Receives, Root, Traced, first_open, of_entry, of_grant, root}
 use Rattle.authority_laws.specs.Traces as way
 use Rattle.authority_laws.proofs.Bounds.{opens_are_bounded}
-use Rattle.authority_laws.proofs.Copies.{at_once, copied, duplicates_are_equal, rights_are_lowered, stepped}
+use Rattle.authority_laws.proofs.Pairs.{Counted, last_is_made, next_is_made, step_counts}
+use Rattle.authority_laws.proofs.Copies.{at_once, called_is, copied, duplicates_are_equal, rights_are_lowered, stepped}
 use Rattle.authority_laws.proofs.Histories.{ledger_none, other_after, own_after, up_to}
 use Rattle.authority_laws.proofs.Origins.{inherits_of_granted, itself, no_more_than_granted}
 use Rattle.authority_laws.proofs.Rows.{held_elsewhere, held_here, row_in, row_of}
 use Rattle.authority_laws.proofs.States.{start_rows}
 use Rattle.authority_laws.proofs.Unbuilt.{IsUnbuilt, unbuilt_fails}
+use Rattle.authority_laws.proofs.Waiting.{AllSent, CameFrom, WasSent, begins_sent, came_from, came_waits, entry_sent, put_in, world_begins}
 
 -- ---- the grants
-
-world_begins : (launch : Launch) → (world launch []).state ≡ start_state launch.tree launch.grants launch.stdin
-world_begins launch = ap (λ (w : World). w.state) (world_none launch) ∙ first_state launch
 
 is_granted : (launch : Launch) (k : ℕ) (grant : Grant) → MayBegin launch.tree launch.grants → slice_get launch.grants k ≡ Some grant → IsGranted launch k grant
 is_granted launch k grant begins listed =
@@ -83,7 +83,7 @@ begins_traced launch begins p n d here =
 -- ---- one more entry
 
 module _ (launch : Launch) (front : List Entry) (e : Entry) (begins : MayBegin launch.tree launch.grants) (legal : Legal launch (front ++ e ∷ []))
-    (before : AllTraced launch front) where
+    (before : AllTraced launch front) (sent : AllSent launch front) where
   -- the descriptor is traced after the entry
   abbrev Is : ℕ → ℕ → Descriptor → Type 0
   Is p n d = Traced launch (front ++ e ∷ []) p n d
@@ -150,6 +150,64 @@ module _ (launch : Launch) (front : List Entry) (e : Entry) (begins : MayBegin l
       absurd (unbuilt_fails w.constants w.state (who_of w.state e) call reply (called_state w.constants w.state (who_of w.state e) call (answer.Reply reply)) unbuilt
       (stepped launch front e [] call reply legal done) done.success)
 
+  -- the two ends that fd_create2 made stand under its results, and all else stays
+  created_traced : (kind : ℕ) (reply : Reply) → Succeeds e (FdCreate2 kind) reply → after ≡ granted_row shown row (FdCreate2 kind) reply → (n : ℕ) (d : Descriptor)
+      → after n ≡ Some d → Is e.pid n d
+  created_traced kind reply succeeds left n d here =
+      let w = world launch front in
+      let S : State = w.state in
+      let U : State = (world launch (front ++ e ∷ [])).state in
+      let done = at_once launch front e [] (FdCreate2 kind) reply begins legal refl succeeds in
+      let T : State = called_state w.constants S (who_of S e) (FdCreate2 kind) (answer.Reply reply) in
+      let counts : Counted S T e.pid =
+      step_counts w.constants S (who_of S e) kind reply T (stepped launch front e [] (FdCreate2 kind) reply legal done) done.success in
+      let counted : Counted S U e.pid = subst (λ (V : State). Counted S V e.pid) (sym (called_is launch front e (FdCreate2 kind) reply done)) counts in
+      let valid = world_is_valid launch front begins (legal_front launch front (e ∷ []) legal) in
+      let first : Row = with_held row reply.r1 (new_held (shown.made 1)) in
+      elim (eqb_tells n reply.r2) [
+        | inl second ↦ (
+            let stands : new_held (shown.made 0) ≡ Some d =
+            sym ((λ i. left i n) ∙ ap (with_held first reply.r2 (new_held (shown.made 0))) second.1 ∙ held_here first reply.r2 (new_held (shown.made 0))) ∙ here in
+            way.made front e n d (inl (kind, reply, succeeds, inr second.1)) (last_is_made S U e.pid valid counted d stands) here)
+        | inr apart ↦ elim (eqb_tells n reply.r1) [
+          | inl is ↦ (
+              let stands : new_held (shown.made 1) ≡ Some d =
+              sym ((λ i. left i n) ∙ held_elsewhere first reply.r2 (new_held (shown.made 0)) n apart.1
+              ∙ ap (with_held row reply.r1 (new_held (shown.made 1))) is.1 ∙ held_here row reply.r1 (new_held (shown.made 1))) ∙ here in
+              way.made front e n d (inl (kind, reply, succeeds, inl is.1)) (next_is_made S U e.pid valid counted d stands) here)
+          | inr other ↦ stays e.pid n d
+              (sym ((λ i. left i n) ∙ held_elsewhere first reply.r2 (new_held (shown.made 0)) n apart.1
+              ∙ held_elsewhere row reply.r1 (new_held (shown.made 1)) n other.1) ∙ here) here
+        ]
+      ]
+
+  -- what sock_recv installed had waited for its socket
+  received_traced : (fd length room flags : ℕ) (reply : Reply) → Succeeds e (SockRecv fd length room flags) reply
+      → after ≡ put_each row (installed_fds reply.payload) (came_for shown (row fd)) → (n : ℕ) (d : Descriptor) → after n ≡ Some d → Is e.pid n d
+  received_traced fd length room flags reply done left n d here =
+      elim (put_in row (installed_fds reply.payload) (came_for shown (row fd)) n d ((λ i. sym left i n) ∙ here)) [
+        | inl was ↦ stays e.pid n d was here
+        | inr new ↦ (
+            let from : CameFrom launch front (row fd) d = came_from launch front e (row fd) d new.1 in
+            let s : WasSent launch front from.c d = sent from.c d (came_waits (world launch front).state d from.c from.came) in
+            let receives : Receives launch front e n from.c d = record {
+              fd = fd;
+              length = length;
+              room = room;
+              flags = flags;
+              reply = reply;
+              succeeds = done;
+              listed = new.0;
+              x = from.x;
+              socket = from.socket;
+              writes = from.writes;
+              mode = from.mode;
+              opened = from.opened;
+              came = from.came;
+            } in
+            way.received front e n from.c d receives s.at s.trace here)
+      ]
+
   -- where it holds what it held, or nothing
   where_ends_traced : (lasts : Bool) → after ≡ cond lasts row no_row → (n : ℕ) (d : Descriptor) → after n ≡ Some d → Is e.pid n d
   where_ends_traced true left = same_traced left
@@ -158,7 +216,7 @@ module _ (launch : Launch) (front : List Entry) (e : Entry) (begins : MayBegin l
   call_traced : (call : Call) (reply : Reply) → Succeeds e call reply → after ≡ granted_row shown row call reply → (n : ℕ) (d : Descriptor)
       → after n ≡ Some d → Is e.pid n d
   call_traced (FdClose fd) reply done left = closed_traced fd left
-  call_traced (FdCreate2 kind) reply done left = never_done (FdCreate2 kind) reply refl (λ constants v who table. refl) done
+  call_traced (FdCreate2 kind) reply done left = created_traced kind reply done left
   call_traced (FdDup fd) reply done left =
       let c = (duplicates_are_equal launch front e [] begins legal fd reply done).1 in
       changed_at reply.r1 c.d c.copy (way.copied front e fd reply.r1 (inl (reply, done, refl)) c (before e.pid fd c.d c.source)) c.others
@@ -170,6 +228,7 @@ module _ (launch : Launch) (front : List Entry) (e : Entry) (begins : MayBegin l
       changed_at reply.r1 o.d o.stands (way.opened front e lookup.fd reply.r1 stat from o (before e.pid lookup.fd o.x o.source)) o.others
   call_traced (ProcExit code) reply done left = none_traced left
   call_traced (ProcFork count) reply done left = never_done (ProcFork count) reply refl (λ constants v who table. refl) done
+  call_traced (SockRecv fd length room flags) reply done left = received_traced fd length room flags reply done left
   call_traced (ThreadExit lock word scope) reply done left = where_ends_traced shown.threaded left
   call_traced call reply done left = same_traced left
 
@@ -227,16 +286,17 @@ module _ (launch : Launch) (front : List Entry) (e : Entry) (begins : MayBegin l
 -- ---- a history
 
 goes_on : (launch : Launch) (front rest : List Entry) → MayBegin launch.tree launch.grants → Legal launch (front ++ rest) → AllTraced launch front
-    → AllTraced launch (front ++ rest)
-goes_on launch front [] begins legal before = subst (AllTraced launch) (sym (append-nil front)) before
-goes_on launch front (e ∷ rest) begins legal before =
+    → AllSent launch front → AllTraced launch (front ++ rest)
+goes_on launch front [] begins legal before sent = subst (AllTraced launch) (sym (append-nil front)) before
+goes_on launch front (e ∷ rest) begins legal before sent =
     let same : (front ++ e ∷ []) ++ rest ≡ front ++ e ∷ rest = append_assoc front (e ∷ []) rest in
+    let here : Legal launch (front ++ e ∷ []) = up_to launch front e rest legal in
     subst (AllTraced launch) same
     (goes_on launch (front ++ e ∷ []) rest begins (subst (Legal launch) (sym same) legal)
-    (entry_traced launch front e begins (up_to launch front e rest legal) before))
+    (entry_traced launch front e begins here before sent) (entry_sent launch front e begins here sent before))
 
 pub held_is_traced : (launch : Launch) (history : List Entry) → MayBegin launch.tree launch.grants → Legal launch history → AllTraced launch history
-held_is_traced launch history begins legal = goes_on launch [] history begins legal (begins_traced launch begins)
+held_is_traced launch history begins legal = goes_on launch [] history begins legal (begins_traced launch begins) (begins_sent launch)
 
 -- ---- what is traced
 
@@ -253,6 +313,7 @@ traced_is_held launch history p n d (way.lowered front e m stat lowers l before)
 traced_is_held launch history p n d (way.opened front e fd to stat opens o before) = o.stands
 traced_is_held launch history p n d (way.inherited front e q m x child before here) = here
 traced_is_held launch history p n d (way.made front e m x makes is here) = here
+traced_is_held launch history p n d (way.received front e m c x receives s before here) = here
 
 -- ---- the root of a trace
 
@@ -292,3 +353,4 @@ traced_is_within_root launch history p n d (way.opened front e fd to stat opens 
     (traced_is_within_root launch front e.pid fd o.x before)
 traced_is_within_root launch history p n d (way.inherited front e q m x child before here) = traced_is_within_root launch front e.pid m x before
 traced_is_within_root launch history p n d (way.made front e m x makes is here) = (is.passes, inl is.new)
+traced_is_within_root launch history p n d (way.received front e m c x receives s before here) = traced_is_within_root launch s.early s.sender.pid s.m x before

@@ -23,6 +23,7 @@ use Rattle.kernel_model.specs.State.{State, Table, Part, at_open, at_status, has
 use Rattle.kernel_model.specs.Step.{sight, unreleased}
 use Rattle.run_model.specs.Legal.{Legal}
 use Rattle.run_model.specs.World.{who_of, world}
+use Rattle.authority_laws.specs.Deliveries.{CountsAt, DeliversAt}
 use Rattle.authority_laws.specs.Ledger.{Ledger, launch_ledger}
 use Rattle.authority_laws.specs.Origins.{Change, ChangeOfOther, ComesFrom, SendsComeFrom, IsCopied, IsLowered, IsOpened}
 use Rattle.authority_laws.specs.Recorded.{Succeeds, after_at, held_after, held_before, ledger, noted}
@@ -144,6 +145,19 @@ OpensAreBounded =
     (launch : Launch) (front : List Entry) (e : Entry) (rest : List Entry) → MayBegin launch.tree launch.grants → Legal launch (front ++ e ∷ rest)
     → OpensAt launch front e
 
+-- Each descriptor that a sock_recv of a legal history installs is in its place what one sock_send carried: that which put into the channel
+-- the send whose turn it was.
+abbrev pub ReceivesAreSent : Type 0
+ReceivesAreSent =
+    (launch : Launch) (front : List Entry) (e : Entry) (rest : List Entry) → MayBegin launch.tree launch.grants → Legal launch (front ++ e ∷ rest)
+    → DeliversAt launch front e
+
+-- The numbers of a channel's sends count the entries of a legal history that put something into it.
+abbrev pub SendsAreNumbered : Type 0
+SendsAreNumbered =
+    (launch : Launch) (front : List Entry) (e : Entry) (rest : List Entry) → MayBegin launch.tree launch.grants → Legal launch (front ++ e ∷ rest)
+    → CountsAt launch front e
+
 -- Each open that is there before and after an entry is after it of the file, the directory, the stream, the channels or the process
 -- that it was of before it.
 abbrev pub OpensStayAt : Launch → List Entry → Entry → Type 0
@@ -237,7 +251,8 @@ pub record IsRecordedAt (launch : Launch) (front : List Entry) : Type 0 where
   pub sees : SeesByHeld launch front
 
 -- at this entry copies are equal, rights are lowered to those asked, what is opened is bounded, each open stays of what it was of, and
--- no right comes that was neither held nor passed on, but for a process or an end of channels that was made; and what is sent was held
+-- no right comes that was neither held nor passed on, but for a process or an end of channels that was made; what is sent was held;
+-- what is received was sent, in its place; and the numbers of sends count them
 pub record IsRecordedEntry (launch : Launch) (front : List Entry) (e : Entry) : Type 0 where
   pub copied : DuplicatesAt launch front e
   pub replaced : ReplacesAt launch front e
@@ -246,6 +261,8 @@ pub record IsRecordedEntry (launch : Launch) (front : List Entry) (e : Entry) : 
   pub stay : OpensStayAt launch front e
   pub never_grows : ComesFrom (after_at launch front e) e (ledger launch front) (ledger launch (front ++ e ∷ []))
   pub sends : SendsComeFrom e (ledger launch front) (ledger launch (front ++ e ∷ []))
+  pub delivers : DeliversAt launch front e
+  pub counts : CountsAt launch front e
 
 -- so it is at each point of the history, and at each entry
 pub record IsRecorded (launch : Launch) (history : List Entry) : Type 0 where

@@ -1,6 +1,7 @@
 -- Who holds which descriptors, and what a call leaves of that.
-use Rattle.std.specs.Prelude.{ℕ, zero, suc, ◌-◌, ◌==◌, ◌&&◌, bit_and, not, Bool, true, false, List, [], ◌∷◌, Option, None, Some, option_map, slice_get, if◌then◌else◌}
-use Rattle.std.specs.FinMap.{get, len}
+use Rattle.std.specs.Prelude.{ℕ, zero, suc, ◌+◌, ◌-◌, ◌==◌, ◌&&◌, bit_and, not, Bool, true, false, List, [], ◌∷◌, length, Option, None, Some, option_map, slice_get, if◌then◌else◌}
+use Rattle.std.specs.FinMap.{FinMap, get, len}
+use Rattle.std.specs.Ordering.{nat_cmp}
 use Rattle.abi_base.specs.declared.errno.Errno.{Errno}
 use Rattle.abi_base.specs.declared.errno.Errno.TheVariants.{Success}
 use Rattle.abi_base.specs.declared.grant.Grant.{Grant}
@@ -8,13 +9,16 @@ use Rattle.abi_structures.specs.declared.structures.FdStat.{FdStat}
 use Rattle.abi_types.specs.declared.reply.Answer.{Answer}
 use Rattle.abi_types.specs.declared.reply.Answer.TheVariants as answer
 use Rattle.abi_types.specs.declared.call.Call.{Call}
-use Rattle.abi_types.specs.declared.call.Call.TheVariants.{FdClose, FdCreate2, FdDup, FdReplace, FdStatPut, FileOpen, ProcExit, ProcFork, SockSend, ThreadExit}
+use Rattle.abi_types.specs.declared.call.Call.TheVariants.{FdClose, FdCreate2, FdDup, FdReplace, FdStatPut, FdWrite, FileOpen, ProcExit, ProcFork, SockRecv, SockSend, ThreadExit}
+use Rattle.abi_types.specs.declared.reply.Payload.{Payload}
+use Rattle.abi_types.specs.declared.reply.Payload.TheVariants.{Received}
 use Rattle.abi_types.specs.declared.reply.Reply.{Reply}
 use Rattle.abi_types.specs.declared.descriptor.Descriptor.{Descriptor}
 use Rattle.abi_types.specs.declared.open_kind.OpenKind.{OpenKind}
 use Rattle.abi_types.specs.declared.open_kind.OpenKind.TheVariants.{End, Process}
 use Rattle.abi_types.specs.declared.status.Status.{Status}
 use Rattle.abi_types.specs.declared.status.Status.TheVariants.{Live}
+use Rattle.kernel_model.specs.Channels.{Channel, Send}
 use Rattle.kernel_model.specs.Families.DescriptorCalls.{lowered_to}
 use Rattle.kernel_model.specs.Families.Numbers.{object_of}
 use Rattle.kernel_model.specs.Families.Opening.{opened_descriptor}
@@ -90,16 +94,35 @@ abbrev pub is_live : Option Status → Bool
 is_live (Some Live) = true
 is_live _ = false
 
--- how many sends a channel has had: no call makes a channel yet
+-- how many sends a channel has had: those that have left it, and those that wait
+abbrev pub sends_in : Option Channel → ℕ
+sends_in None = 0
+sends_in (Some channel) = channel.left + length channel.waiting
+
 abbrev pub sends_of : State → ℕ → ℕ
-sends_of S c = 0
+sends_of S c = sends_in (get S.chans c)
+
+-- what the first of these sends carries
+abbrev pub first_carried : List Send → List Descriptor
+first_carried [] = []
+first_carried (send ∷ rest) = send.carried
+
+abbrev pub carried_first : Option Channel → List Descriptor
+carried_first None = []
+carried_first (Some channel) = first_carried channel.waiting
+
+-- what the first send carries that waits for an open, in the channel that this reads
+abbrev pub waits_for : FinMap nat_cmp Channel → Option OpenKind → List Descriptor
+waits_for chans (Some (End (Some c) writes flags)) = carried_first (get chans c)
+waits_for chans _ = []
 
 -- whether a process has a thread left
 abbrev pub has_thread : Option ProcessState → Bool
 has_thread None = false
 has_thread (Some own) = not (len own.threads == 0)
 
--- What the ledger reads of the state after an entry: the objects that the entry's process made, from the last one on; the process
+-- What the ledger reads of the states before and after an entry: of that before it, what the first send carries that waits for each open;
+-- of that after it, the objects that the entry's process made, from the last one on; the process
 -- that it made, if the last of these is the open of one; what each open is; how many sends each channel has had; whether the process has a
 -- thread left; and whether each process is live. No table is among it.
 pub record After : Type 0 where
@@ -109,15 +132,17 @@ pub record After : Type 0 where
   pub sends : ℕ → ℕ
   pub threaded : Bool
   pub live : ℕ → Bool
+  pub came : ℕ → List Descriptor
 
-abbrev pub after_of : State → ℕ → After
-after_of S p = record {
+abbrev pub after_of : State → State → ℕ → After
+after_of before S p = record {
   made = recently_made S p;
   child = process_of (last_made S p).kind;
   opened = λ o. get S.opens o;
   sends = sends_of S;
   threaded = has_thread (get S.processes p);
   live = λ q. is_live (get S.statuses q);
+  came = λ o. waits_for before.chans (get before.opens o);
 }
 
 -- ---- what is opened, and what is made
@@ -144,6 +169,24 @@ new_held_of number (Some kind) = if is_new kind then Some (new_descriptor number
 abbrev pub new_held : Made → Option Descriptor
 new_held made = new_held_of made.number made.kind
 
+-- ---- what is received
+
+-- the numbers under which descriptors were installed
+abbrev pub installed_fds : Payload → List ℕ
+installed_fds (Received bytes fds flags) = fds
+installed_fds _ = []
+
+-- the row in which these descriptors stand under these numbers, the first under the first, as long as there are numbers
+abbrev pub put_each : Row → List ℕ → List Descriptor → Row
+put_each row [] ds = row
+put_each row (n ∷ fds) [] = row
+put_each row (n ∷ fds) (d ∷ ds) = put_each (with_held row n (Some d)) fds ds
+
+-- what waits first for the open of a descriptor
+abbrev pub came_for : After → Option Descriptor → List Descriptor
+came_for after None = []
+came_for after (Some d) = after.came d.id
+
 -- ---- calls
 
 -- the row in which what stands under number n has those of its rights that are asked
@@ -160,6 +203,7 @@ lowered_row row n stat = with_held row n (option_map (λ d. lowered_to d stat) (
 -- file_open: under the number that is the result stands the open made there, with the rights asked that are of its type.
 -- proc_exit: nothing is held.
 -- proc_fork: under the number that is the result stands the open of the process that was made, with all rights of its type.
+-- sock_recv: under the numbers in its reply stand the descriptors, in their order, that the first send carried that waited for its socket.
 -- thread_exit: nothing is held where the process has no thread left, since it ends with its last one.
 abbrev pub granted_row : After → Row → Call → Reply → Row
 granted_row after row (FdClose fd) reply = with_held row fd None
@@ -170,6 +214,7 @@ granted_row after row (FdStatPut fd stat flags) reply = if bit_and flags 2 == 0 
 granted_row after row (FileOpen lookup path oflags stat) reply = with_held row reply.r1 (opened_held (after.made 0) stat)
 granted_row after row (ProcExit code) reply = no_row
 granted_row after row (ProcFork left) reply = with_held row reply.r1 (new_held (after.made 0))
+granted_row after row (SockRecv fd length fds flags) reply = put_each row (installed_fds reply.payload) (came_for after (row fd))
 granted_row after row (ThreadExit lock word scope) reply = if after.threaded then row else no_row
 granted_row after row _ reply = row
 
@@ -204,10 +249,13 @@ abbrev pub with_sent : After → Option ℕ → List Descriptor → Sends → Se
 with_sent after None carried sent = sent
 with_sent after (Some c) carried sent = λ k j. if k == c && j == after.sends c then carried else sent k j
 
--- What the sends carried, after a call that succeeded of a process that held this before. Each call that sends descriptors has a line:
--- sock_send: the last send on the channel that its descriptor's open writes carried what stood under the numbers that it lists.
+-- What the sends carried, after a call that succeeded of a process that held this before. Each call that sends bytes has a line, and one of
+-- no bytes sends nothing:
+-- fd_write: the last send on the channel that its descriptor's open writes, if that writes one, carried nothing.
+-- sock_send: it carried what stood under the numbers that the call lists.
 abbrev pub granted_sends : After → Row → Sends → Call → Sends
-granted_sends after row sent (SockSend fd bytes fds flags) = with_sent after (channel_of after (row fd)) (picked row fds) sent
+granted_sends after row sent (FdWrite fd (b ∷ bytes)) = with_sent after (channel_of after (row fd)) [] sent
+granted_sends after row sent (SockSend fd (b ∷ bytes) fds flags) = with_sent after (channel_of after (row fd)) (picked row fds) sent
 granted_sends after row sent _ = sent
 
 -- ---- answers

@@ -16,7 +16,7 @@ use Rattle.kernel_model.specs.Proper.{IsIn}
 use Rattle.kernel_model.specs.Start.{granted_descriptor}
 use Rattle.kernel_model.specs.State.{State, Tree, tree_of}
 use Rattle.kernel_model.specs.Fits.{fits, fits_inheriting}
-use Rattle.authority_laws.specs.Ledger.{Row, no_row, with_held, Ledger, Made, After, is_new, new_held}
+use Rattle.authority_laws.specs.Ledger.{Row, no_row, put_each, with_held, Ledger, Made, After, is_new, new_held}
 use Rattle.authority_laws.specs.Recorded.{acted_child}
 
 -- each of the rights is among the others
@@ -58,6 +58,8 @@ pub data Origin (after : After) (l : Ledger) (e : Entry) (p : ℕ) (d : Descript
   -- p did the entry, and d is of an open that it made, which is a process's or an end of channels; d passes on nothing
   was_made : (k : ℕ) (kind : OpenKind) → p ≡ e.pid → d.id ≡ (after.made k).number → (after.made k).kind ≡ Some kind → is_new kind ≡ true
       → PassesOnNothing d → Origin after l e p d
+  -- p did the entry, and d was carried by the first send that waited for the open of a descriptor which p held
+  was_received : (m : ℕ) (x : Descriptor) → p ≡ e.pid → l.held p m ≡ Some x → IsIn d (after.came x.id) → Origin after l e p d
 
 -- each descriptor that a process holds by the one ledger has an origin in the other
 abbrev pub ComesFrom : After → Entry → Ledger → Ledger → Type 0
@@ -95,6 +97,8 @@ pub data Change (after : After) (before then : Row) : Type 0 where
   makes : (n : ℕ) → then ≡ with_held before n (new_held (after.made 0)) → Change after before then
   -- so it is under m, and under n stands the open that was made before that
   makes_both : (n m : ℕ) → then ≡ with_held (with_held before n (new_held (after.made 1))) m (new_held (after.made 0)) → Change after before then
+  -- under these numbers stands what the first send carried that waited for the open of what stands under fd
+  receives : (fd : ℕ) (x : Descriptor) (fds : List ℕ) → before fd ≡ Some x → then ≡ put_each before fds (after.came x.id) → Change after before then
 
 -- How what another process q holds after an entry may differ from what it held before it, where the entry's process held `own`.
 pub data ChangeOfOther (after : After) (e : Entry) (q : ℕ) (own before then : Row) : Type 0 where

@@ -42,14 +42,14 @@ noted after l e =
     (of_live after.live (with_row (with_child (acted_child after e.act) (l.held e.pid) l) e.pid (acted_row after (l.held e.pid) e.act)))
     (acted_sends after (l.held e.pid) l.sent e.act)
 
--- what the world after an entry shows
-abbrev pub after_in : World → Entry → After
-after_in w e = after_of w.state e.pid
+-- what the worlds before and after an entry show
+abbrev pub after_in : World → World → Entry → After
+after_in before w e = after_of before.state w.state e.pid
 
 -- the ledger after these entries, one after another from this world on
 unfoldable pub noted_all : World → Ledger → List Entry → Ledger
 noted_all w l [] = l
-noted_all w l (e ∷ es) = noted_all (apply w e) (noted (after_in (apply w e) e) l e) es
+noted_all w l (e ∷ es) = noted_all (apply w e) (noted (after_in w (apply w e) e) l e) es
 
 -- the ledger of a launch and a history
 unfoldable pub ledger : Launch → List Entry → Ledger
@@ -57,9 +57,9 @@ ledger launch history = noted_all (start_world launch) (launch_ledger launch.tre
 
 -- ---- at one entry, behind these in front of it
 
--- what the world after it shows
+-- what the worlds before and after it show
 abbrev pub after_at : Launch → List Entry → Entry → After
-after_at launch front e = after_in (world launch (front ++ e ∷ [])) e
+after_at launch front e = after_in (world launch front) (world launch (front ++ e ∷ [])) e
 
 -- the process that the entry made
 abbrev pub child_at : Launch → List Entry → Entry → Option ℕ

@@ -1,21 +1,22 @@
 -- How each descriptor that is held came there, from a grant of the launch on.
-use Rattle.std.specs.Prelude.{◌≡◌, ◌≢◌, ◌⊎◌, ⊤, ℕ, bit_and, true, List, [], ◌∷◌, ◌++◌, None, Some, slice_get}
+use Rattle.std.specs.Prelude.{◌≡◌, ◌≢◌, ◌⊎◌, ⊤, ℕ, bit_and, true, List, [], ◌∷◌, ◌++◌, Option, None, Some, slice_get}
 use Rattle.std.specs.FinMap.{get}
 use Rattle.abi_base.specs.declared.grant.Grant.{Grant}
 use Rattle.abi_structures.specs.declared.structures.FdStat.{FdStat}
-use Rattle.abi_types.specs.declared.call.Call.TheVariants.{FdCreate2, FdDup, FdReplace, FdStatPut, FileOpen, ProcFork}
+use Rattle.abi_types.specs.declared.call.Call.TheVariants.{FdCreate2, FdDup, FdReplace, FdStatPut, FileOpen, ProcFork, SockRecv, SockSend}
 use Rattle.abi_types.specs.declared.call.Lookup.{Lookup}
 use Rattle.abi_types.specs.declared.descriptor.Descriptor.{Descriptor}
 use Rattle.abi_types.specs.declared.open_kind.OpenKind.{OpenKind}
-use Rattle.abi_types.specs.declared.open_kind.OpenKind.TheVariants.{File, Directory, Terminal}
+use Rattle.abi_types.specs.declared.open_kind.OpenKind.TheVariants.{File, Directory, End, Terminal}
 use Rattle.abi_types.specs.declared.reply.Reply.{Reply}
 use Rattle.run_types.specs.declared.history.Entry.{Entry}
 use Rattle.run_types.specs.declared.launch.Launch.{Launch}
 use Rattle.kernel_model.specs.OpenLaws.{IsOfSame, IsOpenOf}
+use Rattle.kernel_model.specs.Proper.{IsIn, Waits}
 use Rattle.kernel_model.specs.Start.{granted_descriptor}
 use Rattle.kernel_model.specs.State.{State}
 use Rattle.run_model.specs.World.{world}
-use Rattle.authority_laws.specs.Ledger.{is_new}
+use Rattle.authority_laws.specs.Ledger.{carried_first, installed_fds, is_new}
 use Rattle.authority_laws.specs.Origins.{ComesFromGrant, HasNoRight, IsCopied, IsLowered, IsOpened, PassesOnNothing}
 use Rattle.authority_laws.specs.Recorded.{Succeeds, after_at, child_at, held_after, held_before, ledger}
 
@@ -62,6 +63,49 @@ pub record IsMade (S U : State) (d : Descriptor) : Type 0 where
   pub new : is_new kind ≡ true
   pub passes : PassesOnNothing d
 
+-- The entry is a sock_recv that succeeded, and n is one of the numbers that its reply lists. Its socket reads channel c, and d is among
+-- what the first send carried that waited there.
+pub record Receives (launch : Launch) (front : List Entry) (e : Entry) (n c : ℕ) (d : Descriptor) : Type 0 where
+  pub fd : ℕ
+  pub length : ℕ
+  pub room : ℕ
+  pub flags : ℕ
+  pub reply : Reply
+  pub succeeds : Succeeds e (SockRecv fd length room flags) reply
+  pub listed : IsIn n (installed_fds reply.payload)
+  pub x : Descriptor
+  pub socket : held_before launch front e fd ≡ Some x
+  pub writes : Option ℕ
+  pub mode : ℕ
+  pub opened : get (world launch front).state.opens x.id ≡ Some (End (Some c) writes mode)
+  pub came : IsIn d (carried_first (get (world launch front).state.chans c))
+
+-- the open of this number is there, and is of what this open is of
+abbrev pub IsStillOf : State → ℕ → OpenKind → Type 0
+IsStillOf S o first = (now : OpenKind) × (get S.opens o ≡ Some now) × IsOfSame first now
+
+-- the entry is a sock_send that succeeded, and m is among the numbers of the descriptors that it sends
+pub record SendsUnder (e : Entry) (m : ℕ) : Type 0 where
+  pub fd : ℕ
+  pub bytes : List ℕ
+  pub fds : List ℕ
+  pub flags : ℕ
+  pub reply : Reply
+  pub succeeds : Succeeds e (SockSend fd bytes fds flags) reply
+  pub listed : IsIn m fds
+
+-- One of these entries, behind those in front of it, sent d to channel c, as what its process held under number m: d waited there after it.
+-- Its open is there after all of these entries, of what it was of before that one.
+pub record IsSentEarlier (launch : Launch) (history : List Entry) (c : ℕ) (d : Descriptor) : Type 0 where
+  pub early : List Entry
+  pub sender : Entry
+  pub between : List Entry
+  pub is : history ≡ early ++ sender ∷ between
+  pub m : ℕ
+  pub sends : SendsUnder sender m
+  pub waited : Waits (world launch (early ++ sender ∷ [])).state c d
+  pub stays : (kind : OpenKind) → get (world launch early).state.opens d.id ≡ Some kind → IsStillOf (world launch history).state d.id kind
+
 -- After these entries process p holds d under number n, and it came there so. Each way in which a descriptor may come to a process
 -- has a line; but for the first, the last of the entries is the one by which it came or after which it is still there.
 pub data Traced (launch : Launch) : List Entry → ℕ → ℕ → Descriptor → Type 0 where
@@ -92,6 +136,10 @@ pub data Traced (launch : Launch) : List Entry → ℕ → ℕ → Descriptor �
   made : (front : List Entry) (e : Entry) (n : ℕ) (d : Descriptor) → Makes e n
       → IsMade (world launch front).state (world launch (front ++ e ∷ [])).state d → held_after launch front e n ≡ Some d
       → Traced launch (front ++ e ∷ []) e.pid n d
+  -- it was received: it had waited for the socket, in a channel, and the process that sent it there held it before it did, under a number
+  -- that its sock_send lists, with the same rights
+  received : (front : List Entry) (e : Entry) (n c : ℕ) (d : Descriptor) → Receives launch front e n c d → (s : IsSentEarlier launch front c d)
+      → Traced launch s.early s.sender.pid s.m d → held_after launch front e n ≡ Some d → Traced launch (front ++ e ∷ []) e.pid n d
 
 -- where a trace begins: with the grant of this number, or with an open of a process or an end of channels that an entry made
 pub data Root : Type 0 where
@@ -106,6 +154,7 @@ root launch history p n d (lowered front e m stat lowers l before) = root launch
 root launch history p n d (opened front e fd to stat opens o before) = root launch front e.pid fd o.x before
 root launch history p n d (inherited front e q m x child before here) = root launch front e.pid m x before
 root launch history p n d (made front e m x makes is here) = of_entry
+root launch history p n d (received front e m c x receives s before here) = root launch s.early s.sender.pid s.m x before
 
 -- the open that a traced descriptor names as it was when it came: as the launch granted it, or as the last entry on the way opened it
 -- or made it
@@ -117,10 +166,7 @@ first_open launch history p n d (lowered front e m stat lowers l before) = first
 first_open launch history p n d (opened front e fd to stat opens o before) = o.kind
 first_open launch history p n d (inherited front e q m x child before here) = first_open launch front e.pid m x before
 first_open launch history p n d (made front e m x makes is here) = is.kind
-
--- the open of this number is there, and is of what this open is of
-abbrev pub IsStillOf : State → ℕ → OpenKind → Type 0
-IsStillOf S o first = (now : OpenKind) × (get S.opens o ≡ Some now) × IsOfSame first now
+first_open launch history p n d (received front e m c x receives s before here) = first_open launch s.early s.sender.pid s.m x before
 
 -- The open of each traced descriptor is there after these entries, and is of what it was of when it came: where the launch granted it
 -- or where an entry opened it.

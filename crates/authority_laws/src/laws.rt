@@ -1,5 +1,5 @@
 //! Laws of the ledger. The statements are in `specs/Laws.antt`, and each holds of every launch and history.
-ghost use Rattle.authority_laws.specs.Laws.{LedgerBegins, LedgerGoesOn, LedgerReports, RightsNeverGrow, SendsAreHeld, EntryChangesOne, DuplicatesAreEqual, ReplacementsAreEqual, RightsAreLowered, OpensAreBounded, OpensStayOfWhatTheyAre, HeldIsTraced, TracedStays, TracedIsHeld, TracedIsWithinRoot, FilesComeFromGrants, TablesAreRecorded, SightIsRecorded, LegalIsRecorded};
+ghost use Rattle.authority_laws.specs.Laws.{LedgerBegins, LedgerGoesOn, LedgerReports, RightsNeverGrow, SendsAreHeld, EntryChangesOne, DuplicatesAreEqual, ReplacementsAreEqual, RightsAreLowered, OpensAreBounded, OpensStayOfWhatTheyAre, ReceivesAreSent, SendsAreNumbered, HeldIsTraced, TracedStays, TracedIsHeld, TracedIsWithinRoot, FilesComeFromGrants, TablesAreRecorded, SightIsRecorded, LegalIsRecorded};
 
 /// The ledger of no entry is the launch's, and that of one more entry is the ledger before it with the entry noted.
 pub fn ledger_goes_on()
@@ -18,8 +18,8 @@ pub fn ledger_reports()
 /// same process held before that entry, or that the process held which made it at that entry, with no right that this one
 /// lacked. Or it names the open that the process made last at that entry, with no right but those that a descriptor passes on
 /// which the process held before. Or it names a process or an end of channels that the process made at that entry, and passes
-/// on nothing. What a send carries after an entry it carried before it, or the entry's process held it then, with the same
-/// rights.
+/// on nothing. Or the first send carried it, with the same rights, that waited for a socket which the process held before. What a
+/// send carries after an entry it carried before it, or the entry's process held it then, with the same rights.
 pub fn rights_never_grow()
     ensures held { RightsNeverGrow }
     ensures sent { SendsAreHeld }
@@ -29,7 +29,7 @@ pub fn rights_never_grow()
 /// it, and it holds what the entry's process held. What the entry's process holds stays; or it holds nothing any more; or what
 /// stands under one number changes, to nothing, to what stood under another number, to the same open with no right more, to the
 /// open that it made, with rights of its type that were asked, or to a process or an end of channels that it made. Where it
-/// made two ends, so it is under two numbers.
+/// made two ends, so it is under two numbers. Or under some numbers comes what the first send carried that waited for a socket.
 pub fn entry_changes_one()
     ensures { EntryChangesOne }
 {}
@@ -64,13 +64,30 @@ pub fn opens_stay_of_what_they_are()
     ensures traced { TracedStays }
 {}
 
+/// Each descriptor that a `sock_recv` of a legal history installs was carried by one send, in the same place of its list: the first
+/// send that had not left the socket's channel. One earlier `sock_send` put it there, and its process held the descriptor then,
+/// with the same open and the same rights, under the number in that place of the call's list. It stands under its number in the
+/// reply unless the process isn't live after the entry.
+pub fn receives_are_sent()
+    ensures { ReceivesAreSent }
+{}
+
+/// The sends of a channel are numbered by the entries that put them there: where a channel is there before and after an entry of a
+/// legal history, it has had one send more after it if the entry is an `fd_write` or a `sock_send` of a byte at least to it that
+/// succeeded, and else as many. A channel that comes with an entry has had none.
+pub fn sends_are_numbered()
+    ensures { SendsAreNumbered }
+{}
+
 /// Each descriptor that the ledger of a legal history says is held was granted by the launch; or copied, lowered or opened
-/// through a directory's descriptor which the process held at that entry and which is traced itself, with no right that this
-/// one does not pass on, and of what is below that directory; or the process that made the process held it; or it is of a
-/// process or an end of channels that an entry made, and passes on nothing. What is traced is held. The trace of a file, a
-/// directory or a standard stream begins with a grant, and what is traced has no right but those that its grant has or passes
-/// on. Where an open that was made stands in place of the grant it passes on nothing, and is of a process or an end of
-/// channels, or has no right at all. Each descriptor in a table of the history's world is there by the ledger, and traced.
+/// through a directory's descriptor which the process held at that entry and which is traced itself, with no right that
+/// this one does not pass on, and of what is below that directory; or the process that made the process held it; or it is
+/// of a process or an end of channels that an entry made, and passes on nothing; or it was received, with the rights with
+/// which a process held it, traced itself, under a number that its `sock_send` to the socket's channel lists. What is
+/// traced is held. The trace of a file, a directory or a standard stream begins with a grant, and what is traced has no
+/// right but those that its grant has or passes on. Where an open that was made stands in place of the grant it passes on
+/// nothing, and is of a process or an end of channels, or has no right at all. Each descriptor in a table of the history's
+/// world is there by the ledger, and traced.
 pub fn held_is_traced()
     ensures ledger { HeldIsTraced }
     ensures held { TracedIsHeld }
@@ -89,7 +106,8 @@ pub fn sight_is_recorded()
 /// At each point of a legal history of a launch with proper grants the ledger says who holds what, all that is held is traced,
 /// of files, directories and standard streams to the launch's grants, its open is of what it was of when it came, and calls see
 /// by what is held. At each entry copies are equal, rights are lowered to those asked, opens are bounded, each open stays of
-/// what it is of, rights never grow, and what is sent was held.
+/// what it is of, rights never grow, what is sent was held, what is received was sent, in its place, and the
+/// numbers of sends count them.
 pub fn legal_is_recorded()
     ensures { LegalIsRecorded }
 {}

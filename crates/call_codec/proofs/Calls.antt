@@ -1,7 +1,7 @@
 -- What registers and memory say of the call that they encode.
 --     args_encoded      it is what is read under its number, or a refusal with an error that is listed
 --     args_refusals      each error with which a call is refused is listed
-use Rattle.std.proofs.Common.{◌≡◌, Option, Some, None, Result, Ok, Err, refl, sym, subst}
+use Rattle.std.proofs.Common.{◌≡◌, ℕ, Option, Some, None, Result, Ok, Err, refl, sym, subst}
 use Rattle.std.specs.Result.{result_ok}
 use Rattle.abi_base.specs.declared.errno.Errno.{Errno}
 use Rattle.abi_base.specs.Registers.{Registers}
@@ -10,10 +10,12 @@ use Rattle.abi_types.specs.declared.call.Call.{Call}
 use Rattle.abi_types.specs.declared.call.Call.TheVariants.{Memory, Refused, Unknown}
 use Rattle.abi_types.specs.declared.call_number.CallNumber.{CallNumber}
 use Rattle.abi_types.specs.declared.call_number.CallNumber.TheVariants as number
+use Rattle.codec_arguments.specs.Bytes.{descriptors_in, number_in}
+use Rattle.codec_calls.specs.SocketCalls.{sock_send_of}
 use Rattle.guest_memory.specs.Page.{Pages}
 use Rattle.call_codec.specs.Arguments.{args_of, asked, built_reading, or_refused, or_unknown, read_of}
 use Rattle.call_codec.proofs.PollRefusals.{poll_gives}
-use Rattle.call_codec.proofs.Readings.{IsListedRefusal, Gives, readings}
+use Rattle.call_codec.proofs.Readings.{array_refused, readings, Gives, IsListedRefusal, IsRefusedAsListed}
 
 -- the number under which the call is read, if it is no refusal
 abbrev pub read_under : Call → Option CallNumber
@@ -25,11 +27,16 @@ read_under (Memory it errno) = None
 read_under (Refused it errno) = None
 read_under call = result_ok (number_of_call call)
 
+send_gives : (m : Pages) (r : Registers) → ((a n : ℕ) → IsRefusedAsListed (descriptors_in m a n))
+    → Gives (λ call. read_under call ≡ Some number.SockSend) (sock_send_of m r)
+send_gives m r listed = search (readings, listed) depth 20
+
 -- what is read of a call that is built is a call of its number; the first line makes the cases
 reading_gives : (m : Pages) (r : Registers) (it : CallNumber) → Gives (λ call. read_under call ≡ Some it) (built_reading m r it)
 unfolding read_of
 reading_gives m r number.FdClose = search readings depth 12
 reading_gives m r number.Poll = poll_gives (λ call. read_under call ≡ Some number.Poll) (λ subscriptions. refl) m r
+reading_gives m r number.SockSend = send_gives m r (λ a n. array_refused (number_in m) 4 a n (λ at. search readings depth 12))
 reading_gives m r _ = search readings depth 12
 
 abbrev IsReadUnder : Pages → Registers → Call → Option CallNumber → Type 0

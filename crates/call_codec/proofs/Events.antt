@@ -46,7 +46,7 @@ not_made m a bytes (Err fault) h = refl
 
 -- ---- events
 
-both_ok : (first rest : Result (List ℕ) MemFault) → IsOk (joined first rest) → IsOk first × IsOk rest
+pub both_ok : (first rest : Result (List ℕ) MemFault) → IsOk (joined first rest) → IsOk first × IsOk rest
 both_ok (Ok xs) (Ok ys) h = (refl, refl)
 both_ok (Ok xs) (Err fault) h = absurd (cc)
 both_ok (Err fault) rest h = absurd (cc)

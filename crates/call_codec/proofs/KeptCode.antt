@@ -2,15 +2,16 @@
 --     code_is_kept      an answer leaves the latter where none of the pages that it changes can be executed
 --     words_keep_code, woken_code      words and the output of a call in which a thread waited leave them
 --     answer_keeps_code      the same of a memory with the room for the answer
-use Rattle.std.proofs.Common.{◌≡◌, ℕ, true, false, List, [], ◌∷◌, ◌/◌, take, drop, length, Some, None, option_map, Result, Ok, Err, IsOk, refl, sym, ap, subst, ◌∙◌}
+use Rattle.std.proofs.Common.{◌≡◌, ℕ, true, false, List, [], ◌∷◌, ◌+◌, ◌/◌, ◌%◌, ◌^◌, take, drop, length, Some, None, option_map, Result, Ok, Err, IsOk, refl, sym, ap, subst, ◌∙◌}
 use Rattle.std.specs.FinMap.{get}
 use Rattle.std.specs.Int.{w32, to_le_bytes}
 use Rattle.abi_base.specs.declared.errno.Errno.{Errno}
 use Rattle.abi_base.specs.declared.errno.Errno.TheVariants.{Success}
 use Rattle.abi_base.specs.Registers.{Registers}
 use Rattle.abi_structures.specs.declared.structures.Iovec.{Iovec}
+use Rattle.abi_structures.specs.declared.structures.RecvIn.{RecvIn}
 use Rattle.abi_types.specs.declared.call.Call.{Call}
-use Rattle.abi_types.specs.declared.call.Call.TheVariants.{FdPread, FdRead, FdStatGet, FileReaddir, FileReadlink, FileStatFget, FileStatGet, FdWrite, MemMap, Memory, Poll, RandomGet, ThreadExit}
+use Rattle.abi_types.specs.declared.call.Call.TheVariants.{FdPread, FdRead, FdStatGet, FileReaddir, FileReadlink, FileStatFget, FileStatGet, FdWrite, MemMap, Memory, Poll, RandomGet, SockRecv, SockSend, ThreadExit}
 use Rattle.abi_types.specs.declared.call_number.CallNumber.{CallNumber}
 use Rattle.abi_types.specs.declared.call_number.CallNumber.TheVariants.{MemProtect, MemUnmap}
 use Rattle.abi_types.specs.declared.place.Place.TheVariants as place
@@ -23,10 +24,12 @@ use Rattle.abi_types.specs.declared.reply.WordWrites.TheVariants as words
 use Rattle.abi_types.specs.declared.reply.Payload.TheVariants as payload
 use Rattle.codec_arguments.specs.Arguments.{argument, low}
 use Rattle.codec_arguments.specs.Ranges.{ranges_at}
+use Rattle.codec_arguments.specs.Structures.{recv_in_at}
 use Rattle.call_codec.specs.Arguments.{args_of}
 use Rattle.call_codec.specs.Given.{CanWait}
 use Rattle.call_codec.specs.MemoryCalls.{changed_by, changed_pages, on_success, pages_in, prot_of, with_change}
-use Rattle.call_codec.specs.Output.{into_ranges, or_unwritten, scattered, with_bytes, with_content, with_payload, with_word, with_words, event_bytes, events_bytes, fdstat_bytes, filestat_bytes}
+use Rattle.call_codec.specs.Output.{into_places, into_ranges, message_ranges, or_unwritten, received_of, scattered, with_bytes, with_content, with_descriptors, with_message, with_payload, with_received, with_sent}
+use Rattle.call_codec.specs.Output.{with_word, with_words, event_bytes, events_bytes, fdstat_bytes, filestat_bytes, recv_out_bytes, send_out_bytes}
 use Rattle.call_codec.specs.Put.{answered_memory, memory_after, worded_memory, AnswerKeepsCode, IsRoomFor}
 use Rattle.call_codec.proofs.Mappings.{mapping_filled}
 use Rattle.guest_memory.specs.declared.access.Access.TheVariants.{Write}
@@ -94,6 +97,33 @@ keeps_events m r writes given =
     keeps_both m (with_words m writes) (with_payload (with_words m writes) (argument r 1) given) (keeps_words m writes)
     (keeps_payload (with_words m writes) (argument r 1) given)
 
+keeps_descriptors : (fds : List ℕ) (m : Pages) (a : ℕ) → KeepsUnwritable m (with_descriptors m a fds)
+keeps_descriptors [] m a = same_keeps m
+keeps_descriptors (fd ∷ fds) m a =
+    let after = with_bytes m a (to_le_bytes w32 fd) in
+    keeps_both m after (with_descriptors after ((a + 4) % 2 ^ 64) fds) (keeps_bytes m a (to_le_bytes w32 fd)) (keeps_descriptors fds after ((a + 4) % 2 ^ 64))
+
+keeps_message : (m : Pages) (out : ℕ) (places : RecvIn) (bytes fds : List ℕ) (flags : ℕ) → KeepsUnwritable m (with_message m out places bytes fds flags)
+keeps_message m out places bytes fds flags =
+    let first = into_ranges m (message_ranges m places) bytes in
+    let second = with_descriptors first places.fds fds in
+    keeps_both m second (with_message m out places bytes fds flags)
+    (keeps_both m first second (keeps_ranges m (message_ranges m places) bytes) (keeps_descriptors fds first places.fds))
+    (keeps_bytes second out (recv_out_bytes (received_of bytes fds flags)))
+
+keeps_places : (m : Pages) (out : ℕ) (places : Result RecvIn Errno) (bytes fds : List ℕ) (flags : ℕ)
+    → KeepsUnwritable m (into_places m out places bytes fds flags)
+keeps_places m out (Ok places) bytes fds flags = keeps_message m out places bytes fds flags
+keeps_places m out (Err errno) bytes fds flags = same_keeps m
+
+keeps_received : (m : Pages) (r : Registers) (given : Payload) → KeepsUnwritable m (with_received m r given)
+keeps_received m r (payload.Received bytes fds flags) = keeps_places m (argument r 2) (recv_in_at m (argument r 1)) bytes fds flags
+keeps_received m r _ = same_keeps m
+
+keeps_sent : (m : Pages) (r : Registers) (given : Payload) → KeepsUnwritable m (with_sent m r given)
+keeps_sent m r (payload.Sent count) = keeps_bytes m (argument r 2) (send_out_bytes (record { datalen = count }))
+keeps_sent m r _ = same_keeps m
+
 -- ---- pages that can be executed and not written
 
 as_code : (m n : Pages) → KeepsUnwritable m n → KeepsCode m n
@@ -146,6 +176,8 @@ code_after m r (Memory number errno) writes given encoded none =
     succeeded_code m (with_change m r number) errno (λ done. changed_code m r number none)
 code_after m r (Poll subscriptions) writes given encoded none = as_code m _ (keeps_events m r writes given)
 code_after m r (RandomGet size) writes given encoded none = as_code m _ (keeps_payload m (argument r 0) given)
+code_after m r (SockRecv fd size fds flags) writes given encoded none = as_code m _ (keeps_received m r given)
+code_after m r (SockSend fd bytes fds flags) writes given encoded none = as_code m _ (keeps_sent m r given)
 code_after m r (ThreadExit lock word scope) writes given encoded none = words_keep_code m writes
 code_after m r _ writes given encoded none = same_code m
 
@@ -168,6 +200,8 @@ pub woken_code : (m : Pages) (r : Registers) (call : Call) (writes : WordWrites)
 woken_code m r (FdRead fd size) writes given can = as_code m _ (keeps_content m r given)
 woken_code m r (FdWrite fd bytes) writes given can = same_code m
 woken_code m r (Poll subscriptions) writes given can = as_code m _ (keeps_events m r writes given)
+woken_code m r (SockRecv fd size fds flags) writes given can = as_code m _ (keeps_received m r given)
+woken_code m r (SockSend fd bytes fds flags) writes given can = as_code m _ (keeps_sent m r given)
 woken_code m r _ writes given can = absurd can
 
 -- ---- the room for an answer

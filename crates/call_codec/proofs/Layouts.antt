@@ -1,14 +1,15 @@
 -- Bytes that are laid out are the layout's fields written into zeros.
 --     laid_is_written      for bytes, each of them below 256
---     fdstat_is, filestat_is, event_is      the same for the state of a descriptor or of a file, and for an event
---     fdstat_length, filestat_length, event_length      how many bytes these have
+--     fdstat_is, filestat_is, event_is, received_is, sent_is      the same for the state of a descriptor or of a file, for an event, and
+--                     for how much was received or sent
+--     fdstat_length, filestat_length, event_length, received_length, sent_length      how many bytes these have
 use Rattle.std.proofs.Common.{◌≡◌, ℕ, zero, suc, ◌+◌, ◌^◌, ◌<◌, ◌≤◌, List, [], ◌∷◌, ◌++◌, length, take, drop, get_or-drop, replicate, refl, sym, subst, ◌∙◌, arith, rules}
 use Rattle.std.proofs.Math.ListN.{length-replicate}
 use Rattle.std.specs.Int.{byte_at, bytes_low_first}
 use Rattle.abi_layout.specs.Layout.{Field, Fit, FollowFrom, IsLaidOut, IsProper, Layout, number_from, numbers, with_number, written}
 use Rattle.abi_layout.specs.Events.{event_layout, event_values}
 use Rattle.abi_layout.specs.Laws.{AreBytes}
-use Rattle.abi_layout.specs.Structures.{fdstat_layout, fdstat_values, filestat_layout, filestat_values}
+use Rattle.abi_layout.specs.Structures.{fdstat_layout, fdstat_values, filestat_layout, filestat_values, recv_out_layout, recv_out_values, send_out_layout, send_out_values}
 use Rattle.abi_layout.proofs.Bytes.{laid_out}
 use Rattle.abi_layout.proofs.Proper.{event_proper}
 use Rattle.abi_layout.proofs.Unique.{bytes_are_unique}
@@ -16,7 +17,9 @@ use Rattle.abi_layout.proofs.Written.{length-written}
 use Rattle.abi_structures.specs.declared.events.Event.{Event}
 use Rattle.abi_structures.specs.declared.structures.FdStat.{FdStat}
 use Rattle.abi_structures.specs.declared.structures.FileStat.{FileStat}
-use Rattle.call_codec.specs.Output.{event_bytes, fdstat_bytes, filestat_bytes}
+use Rattle.abi_structures.specs.declared.structures.RecvOut.{RecvOut}
+use Rattle.abi_structures.specs.declared.structures.SendOut.{SendOut}
+use Rattle.call_codec.specs.Output.{event_bytes, fdstat_bytes, filestat_bytes, recv_out_bytes, send_out_bytes}
 
 -- ---- bytes stay bytes
 
@@ -90,6 +93,12 @@ filestat_is stat bytes small laid = laid_is_written filestat_layout (filestat_va
 pub event_is : (event : Event) (bytes : List ℕ) → AreBytes bytes → IsLaidOut (event_layout event.kind) (event_values event) bytes → bytes ≡ event_bytes event
 event_is event bytes small laid = laid_is_written (event_layout event.kind) (event_values event) bytes (event_proper event.kind) small laid
 
+pub received_is : (out : RecvOut) (bytes : List ℕ) → AreBytes bytes → IsLaidOut recv_out_layout (recv_out_values out) bytes → bytes ≡ recv_out_bytes out
+received_is out bytes small laid = laid_is_written recv_out_layout (recv_out_values out) bytes (search rules) small laid
+
+pub sent_is : (out : SendOut) (bytes : List ℕ) → AreBytes bytes → IsLaidOut send_out_layout (send_out_values out) bytes → bytes ≡ send_out_bytes out
+sent_is out bytes small laid = laid_is_written send_out_layout (send_out_values out) bytes (search rules) small laid
+
 -- ---- how many bytes there are
 
 follow_ends : (fields : List Field) (place size : ℕ) → FollowFrom place fields size → place ≤ size
@@ -118,3 +127,9 @@ filestat_length stat = layout_length filestat_layout (filestat_values stat) (sea
 
 pub event_length : (event : Event) → length (event_bytes event) ≡ 32
 event_length event = layout_length (event_layout event.kind) (event_values event) (event_proper event.kind)
+
+pub received_length : (out : RecvOut) → length (recv_out_bytes out) ≡ 24
+received_length out = layout_length recv_out_layout (recv_out_values out) (search rules)
+
+pub sent_length : (out : SendOut) → length (send_out_bytes out) ≡ 8
+sent_length out = layout_length send_out_layout (send_out_values out) (search rules)

@@ -9,6 +9,7 @@ pub mod Images
 pub mod MemoryCalls
 pub mod Puts
 pub mod Outputs
+pub mod Sockets
 pub mod WokenOutputs
 pub mod ThreadOutputs
 pub mod Mappings

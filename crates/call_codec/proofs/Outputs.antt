@@ -1,6 +1,6 @@
 -- The output of a call that registers and memory encode is written whole.
 --     write_made, same_after      one write is made, and leaves each page's rights
---     takes_bytes      ranges that have room take as many bytes
+--     written_into, among_ok, takes_bytes      ranges that have room take as many bytes
 --     read_written, pread_written      the bytes of a read
 --     state_written      a descriptor's state
 --     entries_written, link_written      a directory's entries, the text of a symlink
@@ -34,7 +34,7 @@ use Rattle.codec_files.specs.ByNode.{file_readdir_of, file_stat_fget_of, file_st
 
 -- ---- one write
 
-front_ok : (b : Result ℕ MemFault) (rest : Result (List ℕ) MemFault) → IsOk (in_front b rest) → IsOk b × IsOk rest
+pub front_ok : (b : Result ℕ MemFault) (rest : Result (List ℕ) MemFault) → IsOk (in_front b rest) → IsOk b × IsOk rest
 front_ok (Ok b) (Ok bs) h = (refl, refl)
 front_ok (Ok b) (Err fault) h = absurd (cc)
 front_ok (Err fault) rest h = absurd (cc)
@@ -90,7 +90,7 @@ none_left [] less = refl
 none_left (b ∷ bytes) less = absurd (omega arith)
 
 -- as many bytes as the ranges had room for are written into them
-written_into : (ranges : List Iovec) (first m : Pages) (room n : ℕ) (bytes : List ℕ) → SameRights first m → room_of first room ranges ≡ Ok n → length bytes ≤ n
+pub written_into : (ranges : List Iovec) (first m : Pages) (room n : ℕ) (bytes : List ℕ) → SameRights first m → room_of first room ranges ≡ Ok n → length bytes ≤ n
     → AreWrittenInto m ranges bytes
 written_into [] first m room n bytes same e less = let none : 0 ≡ n = cc in none_left bytes (omega (arith, none))
 written_into (range ∷ ranges) first m room n bytes same e less =
@@ -106,7 +106,7 @@ written_into (range ∷ ranges) first m room n bytes same e less =
 
 -- ---- reads
 
-among_ok : (m : Pages) (found : Result (List Iovec) MemFault) (most : ℕ) → or_fault (room_among m found) ≡ Ok most
+pub among_ok : (m : Pages) (found : Result (List Iovec) MemFault) (most : ℕ) → or_fault (room_among m found) ≡ Ok most
     → (ranges : List Iovec) × (found ≡ Ok ranges) × (room_of m MOST_TRANSFERRED ranges ≡ Ok most)
 among_ok m (Ok ranges) most e = (ranges, refl, counted_ok (room_of m MOST_TRANSFERRED ranges) e)
   where

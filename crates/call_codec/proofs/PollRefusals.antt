@@ -1,7 +1,6 @@
 -- A poll that is read is a poll, or it is refused with an error that is listed.
 --     poll_gives      so the reading of a poll gives one
-use Rattle.std.proofs.Common.{ℕ, zero, suc, ◌+◌, ◌%◌, ◌^◌, List, [], ◌∷◌, Option, Some, None, Result, Ok, Err, refl}
-use Rattle.abi_base.specs.declared.errno.Errno.{Errno}
+use Rattle.std.proofs.Common.{ℕ, List, [], ◌∷◌, Option, Some, None, Ok}
 use Rattle.abi_base.specs.declared.errno.Errno.TheVariants.{Inval}
 use Rattle.abi_base.specs.Registers.{Registers}
 use Rattle.abi_structures.specs.declared.events.Subscription.{Subscription}
@@ -9,30 +8,12 @@ use Rattle.abi_structures.specs.declared.events.What.{What}
 use Rattle.abi_structures.specs.declared.events.What.TheVariants as what
 use Rattle.abi_types.specs.declared.call.Call.{Call}
 use Rattle.abi_types.specs.declared.call.Call.TheVariants.{Poll}
-use Rattle.codec_arguments.specs.Arrays.{array_at, in_front}
 use Rattle.codec_arguments.specs.Bytes.{bytes_in}
 use Rattle.codec_poll.specs.Found.{all_found, found_at, subscription_of, with_words, worded}
 use Rattle.codec_poll.specs.Poll.{poll_of}
 use Rattle.codec_poll.specs.Rules.{all_known, allowed, known, scopes_in, scopes_known}
 use Rattle.guest_memory.specs.Page.{Pages}
-use Rattle.call_codec.proofs.Readings.{gives_after, gives_either, gives_error, gives_memory, gives_value, readings, Gives}
-
--- the errors of the reading are listed, whatever it gives
-abbrev IsRefusedAsListed : {X : Type 0} → Result X Errno → Type 0
-IsRefusedAsListed {X} reading = Gives (λ (x : X). Unit {0}) reading
-
-front_refused : {X : Type 0} (first : Result X Errno) (rest : Result (List X) Errno) → IsRefusedAsListed first → IsRefusedAsListed rest
-    → IsRefusedAsListed (in_front first rest)
-front_refused {X} (Ok x) (Ok xs) h k = gives_value (λ (all : List X). Unit {0}) (x ∷ xs) tt
-front_refused {X} (Ok x) (Err errno) h k = gives_error (λ (all : List X). Unit {0}) errno (k.refused errno refl)
-front_refused {X} (Err errno) rest h k = gives_error (λ (all : List X). Unit {0}) errno (h.refused errno refl)
-
-array_refused : {X : Type 0} (element : ℕ → Result X Errno) (width a n : ℕ) → ((at : ℕ) → IsRefusedAsListed (element at))
-    → IsRefusedAsListed (array_at element width a n)
-unfolding array_at
-array_refused {X} element width a zero each = gives_value (λ (all : List X). Unit {0}) [] tt
-array_refused element width a (suc n) each =
-    front_refused (element a) (array_at element width ((a + width) % 2 ^ 64) n) (each a) (array_refused element width ((a + width) % 2 ^ 64) n each)
+use Rattle.call_codec.proofs.Readings.{array_refused, front_refused, gives_after, gives_either, gives_error, gives_memory, gives_value, readings, Gives, IsRefusedAsListed}
 
 -- ---- subscriptions
 

@@ -1,11 +1,14 @@
 -- What readings come to: a value, or a refusal with an error that is listed here.
 --     Gives      each value that a reading gives has a property, and each error is listed
 --     readings      what is made of such readings is such a reading
+--     front_refused, array_refused      the same of lists and arrays
 --     passed, not_refused      a reading in two steps that gives a value has passed both
-use Rattle.std.proofs.Common.{◌≡◌, Bool, true, false, cond, Result, Ok, Err, refl, subst}
+--     goes_on      after a step that gave a value comes the next
+use Rattle.std.proofs.Common.{◌≡◌, ℕ, zero, suc, ◌+◌, ◌%◌, ◌^◌, Bool, true, false, cond, List, [], ◌∷◌, Result, Ok, Err, refl, subst}
 use Rattle.abi_base.specs.declared.errno.Errno.{Errno}
 use Rattle.abi_base.specs.declared.errno.Errno.TheVariants.{Fault, Inval, Nosys, Notsup}
 use Rattle.guest_memory.specs.declared.fault.MemFault.{MemFault}
+use Rattle.codec_arguments.specs.Arrays.{array_at, in_front}
 use Rattle.codec_arguments.specs.Reading.{◌>>=◌, or_fault, refuse_when}
 
 -- an error with which a call is refused before the kernel sees it
@@ -52,6 +55,25 @@ either_listed false this that h k = k
 
 pub ruleset readings = (gives_value, gives_error, gives_either, gives_memory, gives_after, either_listed)
 
+-- ---- lists and arrays
+
+-- the errors of the reading are listed, whatever it gives
+abbrev pub IsRefusedAsListed : {X : Type 0} → Result X Errno → Type 0
+IsRefusedAsListed {X} reading = Gives (λ (x : X). Unit {0}) reading
+
+pub front_refused : {X : Type 0} (first : Result X Errno) (rest : Result (List X) Errno) → IsRefusedAsListed first → IsRefusedAsListed rest
+    → IsRefusedAsListed (in_front first rest)
+front_refused {X} (Ok x) (Ok xs) h k = gives_value (λ (all : List X). Unit {0}) (x ∷ xs) tt
+front_refused {X} (Ok x) (Err errno) h k = gives_error (λ (all : List X). Unit {0}) errno (k.refused errno refl)
+front_refused {X} (Err errno) rest h k = gives_error (λ (all : List X). Unit {0}) errno (h.refused errno refl)
+
+pub array_refused : {X : Type 0} (element : ℕ → Result X Errno) (width a n : ℕ) → ((at : ℕ) → IsRefusedAsListed (element at))
+    → IsRefusedAsListed (array_at element width a n)
+unfolding array_at
+array_refused {X} element width a zero each = gives_value (λ (all : List X). Unit {0}) [] tt
+array_refused element width a (suc n) each =
+    front_refused (element a) (array_at element width ((a + width) % 2 ^ 64) n) (each a) (array_refused element width ((a + width) % 2 ^ 64) n each)
+
 -- ---- readings that gave a value
 
 -- both steps gave one
@@ -69,3 +91,7 @@ not_refused false errno rest y e = (refl, e)
 pub test_false : (test : Bool) (errno : Errno) (x : Unit {0}) → refuse_when test errno ≡ Ok x → test ≡ false
 test_false true errno x e = absurd (cc)
 test_false false errno x e = refl
+
+-- a step that passes gives what comes next
+pub goes_on : {X Y : Type 0} (first : Result X Errno) (rest : X → Result Y Errno) (x : X) → first ≡ Ok x → (first >>= rest) ≡ rest x
+goes_on first rest x e = rw e refl

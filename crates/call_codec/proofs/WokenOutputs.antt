@@ -1,17 +1,16 @@
 -- What a wake is given, and what becomes of the output of the call in which the thread waited.
 --     events_written, words_written      the events and the words of a poll that is encoded
+--     message_written, sent_written      the message of a sock_recv that is encoded, and how much such a sock_send sent
 --     given_at_call      what is given to a thread whose registers and memory encode the call
---     woken_read, woken_events, woken_word      the output, where a word is given
-use Rattle.std.proofs.Common.{◌≡◌, ℕ, ◌*◌, ◌≤◌, inl, inr, nat_lt, List, [], ◌∷◌, length, None, Result, Ok, Err, IsOk, refl, sym, ap, subst, ◌∙◌, arith}
-use Rattle.std.proofs.lemmas.Bool.{le-ltb, ltb-false}
+--     woken_read, woken_events, woken_message, woken_sent, woken_word      the output, where a word is given
+use Rattle.std.proofs.Common.{◌≡◌, ℕ, ◌*◌, ◌≤◌, inl, inr, List, [], ◌∷◌, length, None, Result, Ok, Err, IsOk, refl, sym, ap, subst, ◌∙◌, arith}
 use Rattle.std.specs.Int.{w32, to_le_bytes}
 use Rattle.abi_base.specs.declared.errno.Errno.{Errno}
-use Rattle.abi_base.specs.declared.errno.Errno.TheVariants.{Fault}
 use Rattle.abi_base.specs.Registers.{Registers}
 use Rattle.abi_structures.specs.declared.events.Subscription.{Subscription}
 use Rattle.abi_structures.specs.declared.events.What.{What}
 use Rattle.abi_structures.specs.declared.events.What.TheVariants as what
-use Rattle.abi_types.specs.declared.call.Call.TheVariants.{FdRead, Poll}
+use Rattle.abi_types.specs.declared.call.Call.TheVariants.{FdRead, Poll, SockRecv, SockSend}
 use Rattle.abi_types.specs.declared.call_number.CallNumber.TheVariants as number
 use Rattle.abi_types.specs.declared.reply.WordWrites.{WordWrites}
 use Rattle.abi_types.specs.declared.reply.WordWrites.TheVariants as words
@@ -24,19 +23,19 @@ use Rattle.guest_memory.proofs.Writes.{SameRights, ok_after}
 use Rattle.codec_arguments.specs.Arguments.{argument}
 use Rattle.codec_arguments.specs.Bytes.{number_in, word_at, writable}
 use Rattle.codec_arguments.specs.Ranges.{room_in}
-use Rattle.codec_arguments.specs.Reading.{◌>>=◌}
 use Rattle.codec_calls.specs.DescriptorCalls.{fd_read_of}
 use Rattle.call_codec.specs.Arguments.{encoded_call, read_of}
 use Rattle.call_codec.specs.Given.{awaited_word, first_lock, given_from, has_places, has_room, lock_awaited, word_or_zero}
-use Rattle.call_codec.specs.GivenLaws.{GivenAtCall, WokenEventsAreWritten, WokenReadIsWritten, WokenWordIsWritten, first_word}
+use Rattle.call_codec.specs.GivenLaws.{GivenAtCall, WokenEventsAreWritten, WokenMessageIsWritten, WokenReadIsWritten, WokenSentIsWritten, WokenWordIsWritten, first_word}
 use Rattle.call_codec.specs.Output.{event_bytes, events_bytes, with_word, with_words}
-use Rattle.call_codec.specs.OutputLaws.{AreWordsOf, AreWordsWritten, EventsAreWritten, HasWord, TakesEvents, WordsAreWritten}
+use Rattle.call_codec.specs.OutputLaws.{AreWordsOf, AreWordsWritten, EventsAreWritten, HasWord, MessageIsWritten, SentIsWritten, TakesEvents, WordsAreWritten}
 use Rattle.call_codec.proofs.Encoded.{encoded_read}
 use Rattle.call_codec.proofs.Events.{events_length}
 use Rattle.call_codec.proofs.Layouts.{event_length}
 use Rattle.call_codec.proofs.Outputs.{had_ok, read_room, same_after, takes_bytes, write_made}
 use Rattle.call_codec.proofs.Polls.{FirstStands, IsPoll, WordsStand, poll_is_read}
-use Rattle.call_codec.proofs.Readings.{passed, test_false}
+use Rattle.call_codec.proofs.Readings.{goes_on, passed}
+use Rattle.call_codec.proofs.Sockets.{has_enough, message_encoded, message_given, message_places, room_given, sent_encoded, takes_message, takes_sent}
 
 -- ---- words
 
@@ -116,10 +115,20 @@ pub words_written : WordsAreWritten
 words_written m r left first others writes e named =
     all_written m first.what writes (encoded_poll m r left (first ∷ others) (sym e)).words named
 
--- ---- what is given where the call is encoded
+-- ---- a call on a socket that is encoded
 
-has_enough : (asked room : ℕ) → asked ≤ room → has_room asked room ≡ Ok tt
-has_enough asked room less = rw (le-ltb room asked less) refl
+pub message_written : MessageIsWritten
+unfolding read_of
+message_written m r left fd most fds flags e =
+    takes_message m r most fds
+    (message_encoded m r fd most fds flags (encoded_read m r left (SockRecv fd most fds flags) number.SockRecv (sym e) refl))
+
+pub sent_written : SentIsWritten
+unfolding read_of
+sent_written m r left fd bytes fds flags e =
+    takes_sent m r tt (sent_encoded m r fd bytes fds flags (encoded_read m r left (SockSend fd bytes fds flags) number.SockSend (sym e) refl))
+
+-- ---- what is given where the call is encoded
 
 word_stands : (m : Pages) (waited : What) → WordsStand m waited → word_or_zero m (first_lock (record { userdata = 0; what = waited } ∷ [])) ≡ Ok (first_word (record { userdata = 0; what = waited } ∷ []))
 word_stands m (what.Condvar condvar condvar_word lock lock_word condvar_scope lock_scope) stands = stands.1
@@ -133,10 +142,6 @@ word_stands m (what.ProcTerminate fd) stands = refl
 first_word_stands : (m : Pages) (subscriptions : List Subscription) → FirstStands m subscriptions → word_or_zero m (first_lock subscriptions) ≡ Ok (first_word subscriptions)
 first_word_stands m [] stands = refl
 first_word_stands m (first ∷ others) stands = word_stands m first.what stands
-
--- a step that passes gives what comes next
-goes_on : {X Y : Type 0} (first : Result X Errno) (rest : X → Result Y Errno) (x : X) → first ≡ Ok x → (first >>= rest) ≡ rest x
-goes_on first rest x e = rw e refl
 
 poll_given : (m : Pages) (r : Registers) (subscriptions : List Subscription) → IsPoll m r subscriptions → awaited_word m r (Poll subscriptions) ≡ Ok (first_word subscriptions)
 poll_given m r subscriptions poll =
@@ -155,6 +160,12 @@ pub given_at_call : GivenAtCall
 unfolding read_of
 given_at_call m r left (FdRead fd most) e = ap given_from (read_given m r fd most (encoded_read m r left (FdRead fd most) number.FdRead e refl))
 given_at_call m r left (Poll subscriptions) e = ap given_from (poll_given m r subscriptions (encoded_poll m r left subscriptions e))
+given_at_call m r left (SockRecv fd most fds flags) e =
+    let is = message_given m r most fds (message_encoded m r fd most fds flags (encoded_read m r left (SockRecv fd most fds flags) number.SockRecv e refl)) in
+    ap given_from (goes_on (has_places m r (SockRecv fd most fds flags)) (λ x. word_or_zero m None) tt is)
+given_at_call m r left (SockSend fd bytes fds flags) e =
+    let is = sent_encoded m r fd bytes fds flags (encoded_read m r left (SockSend fd bytes fds flags) number.SockSend e refl) in
+    ap given_from (goes_on (has_places m r (SockSend fd bytes fds flags)) (λ x. word_or_zero m None) tt is)
 given_at_call m r left call e = refl
 
 -- ---- the output where a word is given
@@ -162,9 +173,6 @@ given_at_call m r left call e = refl
 word_given : (found : Result ℕ Errno) (word : ℕ) → given_from found ≡ Plain word → found ≡ Ok word
 word_given (Ok other) word e = let same : other ≡ word = cc e in ap Ok same
 word_given (Err errno) word e = absurd (cc e)
-
-room_given : (asked room : ℕ) (x : Unit {0}) → has_room asked room ≡ Ok x → asked ≤ room
-room_given asked room x e = ltb-false room asked (test_false (nat_lt room asked) Fault x e)
 
 pub woken_read : WokenReadIsWritten
 woken_read m r fd most word given =
@@ -183,6 +191,18 @@ woken_events m r subscriptions word given =
     let room = passed (has_room (length subscriptions) n) (λ x. writable m (argument r 1) (32 * n)) places.0 places.1 in
     let less = room_given (length subscriptions) n room.0 room.1 in
     takes_events m (argument r 1) n (length subscriptions) less (had_ok (bytes_from Write m (argument r 1) (32 * n)) places.0 room.2)
+
+pub woken_message : WokenMessageIsWritten
+woken_message m r fd most fds flags word given =
+    let call = SockRecv fd most fds flags in
+    let places = passed (has_places m r call) (λ x. word_or_zero m None) word (word_given (awaited_word m r call) word given) in
+    takes_message m r most fds (message_places m r most fds places.0 places.1)
+
+pub woken_sent : WokenSentIsWritten
+woken_sent m r fd bytes fds flags word given =
+    let call = SockSend fd bytes fds flags in
+    let places = passed (has_places m r call) (λ x. word_or_zero m None) word (word_given (awaited_word m r call) word given) in
+    takes_sent m r places.0 places.1
 
 pub woken_word : WokenWordIsWritten
 woken_word m r call lock word becomes waits given =

@@ -94,14 +94,10 @@ is_copied _ = false
 -- a call that is built: all but these
 abbrev pub is_built : CallNumber → Bool
 is_built number.CondvarSignal = false
-is_built number.FdCreate2 = false
 is_built number.LockUnlock = false
 is_built number.ProcExec = false
 is_built number.ProcFork = false
 is_built number.ProcRaise = false
-is_built number.SockRecv = false
-is_built number.SockSend = false
-is_built number.SockShutdown = false
 is_built _ = true
 
 -- the call that a7 asks for, if its number is one's

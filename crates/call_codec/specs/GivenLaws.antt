@@ -6,14 +6,14 @@ use Rattle.abi_structures.specs.declared.events.Subscription.{Subscription}
 use Rattle.abi_structures.specs.declared.events.What.{What}
 use Rattle.abi_structures.specs.declared.events.What.TheVariants as what
 use Rattle.abi_types.specs.declared.call.Call.{Call}
-use Rattle.abi_types.specs.declared.call.Call.TheVariants.{FdRead, Poll, Refused}
+use Rattle.abi_types.specs.declared.call.Call.TheVariants.{FdRead, Poll, Refused, SockRecv, SockSend}
 use Rattle.abi_types.specs.declared.wake.WakeIn.TheVariants.{Plain}
 use Rattle.guest_memory.specs.Page.{Pages}
 use Rattle.guest_memory.specs.Written.{write_of}
 use Rattle.codec_arguments.specs.Arguments.{argument}
 use Rattle.call_codec.specs.Arguments.{args_of, encoded_call}
 use Rattle.call_codec.specs.Given.{given_of, lock_awaited}
-use Rattle.call_codec.specs.OutputLaws.{TakesBytes, TakesEvents}
+use Rattle.call_codec.specs.OutputLaws.{TakesBytes, TakesEvents, TakesMessage, TakesSent}
 use Rattle.call_codec.specs.Put.{HasFewRanges}
 
 -- the word of the lock that is waited for, as it was when the call was read, and 0 where there is none
@@ -45,6 +45,17 @@ abbrev pub WokenEventsAreWritten : Type 0
 WokenEventsAreWritten =
     (m : Pages) (r : Registers) (subscriptions : List Subscription) (word : ℕ) → given_of m r (Poll subscriptions) ≡ Plain word
     → TakesEvents m (argument r 1) (length subscriptions)
+
+-- Where a wake of sock_recv is given a word, a message of up to as many bytes and descriptors as it asked for is written.
+abbrev pub WokenMessageIsWritten : Type 0
+WokenMessageIsWritten =
+    (m : Pages) (r : Registers) (fd most fds flags word : ℕ) → given_of m r (SockRecv fd most fds flags) ≡ Plain word → TakesMessage m r most fds
+
+-- Where a wake of sock_send is given a word, how many bytes it sent is written.
+abbrev pub WokenSentIsWritten : Type 0
+WokenSentIsWritten =
+    (m : Pages) (r : Registers) (fd : ℕ) (bytes fds : List ℕ) (flags word : ℕ) → given_of m r (SockSend fd bytes fds flags) ≡ Plain word
+    → TakesSent m r
 
 -- Where a wake of a call that waits for a lock is given a word, the lock's word is written, whatever it becomes.
 abbrev pub WokenWordIsWritten : Type 0

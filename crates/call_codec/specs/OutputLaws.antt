@@ -1,6 +1,6 @@
 -- What registers and memory that encode a call say of its output: each byte of it is written, and so are the words of a poll and of
--- thread_exit.
-use Rattle.std.specs.Prelude.{◌≡◌, ◌⊎◌, ◌≤◌, ◌<◌, ◌+◌, ◌*◌, ◌/◌, ◌%◌, ℕ, true, false, List, [], ◌∷◌, take, drop, length, min, slice_index, Ok, IsOk, Option, Some, option_map}
+-- thread_exit, and the places of what comes or goes by a socket.
+use Rattle.std.specs.Prelude.{◌≡◌, ◌⊎◌, ◌≤◌, ◌<◌, ◌+◌, ◌*◌, ◌/◌, ◌%◌, ◌^◌, ℕ, true, false, List, [], ◌∷◌, take, drop, length, min, slice_index, Ok, IsOk, Option, Some, option_map}
 use Rattle.std.specs.FinMap.{get}
 use Rattle.std.specs.Int.{w32, to_le_bytes}
 use Rattle.abi_base.specs.declared.address_space.TheConstants.{PAGE_SIZE}
@@ -13,7 +13,8 @@ use Rattle.abi_structures.specs.declared.events.What.TheVariants as what
 use Rattle.abi_structures.specs.declared.structures.FdStat.{FdStat}
 use Rattle.abi_structures.specs.declared.structures.FileStat.{FileStat}
 use Rattle.abi_structures.specs.declared.structures.Iovec.{Iovec}
-use Rattle.abi_types.specs.declared.call.Call.TheVariants.{FdPread, FdRead, FdStatGet, FileReaddir, FileReadlink, FileStatFget, FileStatGet, MemMap, Poll, RandomGet, ThreadExit}
+use Rattle.abi_structures.specs.declared.structures.RecvIn.{RecvIn}
+use Rattle.abi_types.specs.declared.call.Call.TheVariants.{FdPread, FdRead, FdStatGet, FileReaddir, FileReadlink, FileStatFget, FileStatGet, MemMap, Poll, RandomGet, SockRecv, SockSend, ThreadExit}
 use Rattle.abi_types.specs.declared.call.Lookup.{Lookup}
 use Rattle.abi_types.specs.declared.place.Place.TheVariants.{At}
 use Rattle.abi_types.specs.declared.reply.Payload.{Payload}
@@ -24,11 +25,13 @@ use Rattle.guest_memory.specs.Ranges.{in_range}
 use Rattle.guest_memory.specs.Written.{write_of}
 use Rattle.codec_arguments.specs.Arguments.{argument}
 use Rattle.codec_arguments.specs.Ranges.{ranges_at}
+use Rattle.codec_arguments.specs.Structures.{recv_in_at}
 use Rattle.codec_arguments.specs.declared.ranges.TheConstants.{MOST_TRANSFERRED}
 use Rattle.codec_calls.specs.declared.process_calls.TheConstants.{MOST_RANDOM}
+use Rattle.codec_calls.specs.declared.socket_calls.TheConstants.{MOST_SENT_DESCRIPTORS}
 use Rattle.call_codec.specs.Arguments.{args_of, encoded_call}
 use Rattle.call_codec.specs.MemoryCalls.{pages_in, prot_of}
-use Rattle.call_codec.specs.Output.{content_of, event_bytes, events_bytes, fdstat_bytes, filestat_bytes, with_bytes, with_word, with_words}
+use Rattle.call_codec.specs.Output.{content_of, event_bytes, events_bytes, fdstat_bytes, filestat_bytes, message_ranges, received_of, recv_out_bytes, scattered, send_out_bytes, with_bytes, with_descriptors, with_word, with_words}
 use Rattle.call_codec.specs.Put.{memory_after}
 
 -- bytes go into ranges, one after another: each write is made, and no byte is left over
@@ -136,6 +139,44 @@ abbrev pub ExitWordIsWritten : Type 0
 ExitWordIsWritten =
     (m : Pages) (r : Registers) (lock word scope becomes : ℕ) → args_of m r ≡ ThreadExit lock word scope
     → IsOk (write_of m lock (to_le_bytes w32 becomes))
+
+-- each number of a descriptor is written, one directly behind the other
+abbrev pub AreNumbersWritten : Pages → ℕ → List ℕ → Type 0
+AreNumbersWritten m a [] = Unit {0}
+AreNumbersWritten m a (fd ∷ fds) =
+    IsOk (write_of m a (to_le_bytes w32 fd)) × AreNumbersWritten (with_bytes m a (to_le_bytes w32 fd)) ((a + 4) % 2 ^ 64) fds
+
+-- A message is written whole that goes into these ranges and to these places: its bytes, then its descriptors, and then how much it was.
+pub record IsMessageWritten (m : Pages) (out : ℕ) (places : RecvIn) (ranges : List Iovec) (bytes fds : List ℕ) (flags : ℕ) : Type 0 where
+  pub content : AreWrittenInto m ranges bytes
+  pub numbers : AreNumbersWritten (scattered m ranges bytes) places.fds fds
+  pub size : length (recv_out_bytes (received_of bytes fds flags)) ≡ 24
+  pub sum : IsOk (write_of (with_descriptors (scattered m ranges bytes) places.fds fds) out (recv_out_bytes (received_of bytes fds flags)))
+
+-- The structure that the registers name can be read and its iovec array too, and a message of up to so many bytes and so many
+-- descriptors, of which at most 16 come, is written.
+pub record TakesMessage (m : Pages) (r : Registers) (most most_fds : ℕ) : Type 0 where
+  pub places : RecvIn
+  pub found : recv_in_at m (argument r 1) ≡ Ok places
+  pub ranges : List Iovec
+  pub read : message_ranges m places ≡ Ok ranges
+  pub written : (bytes fds : List ℕ) (flags : ℕ) → length bytes ≤ most → length fds ≤ min most_fds MOST_SENT_DESCRIPTORS
+      → IsMessageWritten m (argument r 2) places ranges bytes fds flags
+
+-- Where sock_recv is encoded, a message of up to as many bytes and descriptors as it asks for is written.
+abbrev pub MessageIsWritten : Type 0
+MessageIsWritten =
+    (m : Pages) (r : Registers) (left fd most fds flags : ℕ) → encoded_call m r left ≡ SockRecv fd most fds flags → TakesMessage m r most fds
+
+-- how many bytes were sent is written
+abbrev pub TakesSent : Pages → Registers → Type 0
+TakesSent m r =
+    (count : ℕ) → (length (send_out_bytes (record { datalen = count })) ≡ 8) × IsOk (write_of m (argument r 2) (send_out_bytes (record { datalen = count })))
+
+-- Where sock_send is encoded, how many bytes it sent is written.
+abbrev pub SentIsWritten : Type 0
+SentIsWritten =
+    (m : Pages) (r : Registers) (left fd : ℕ) (bytes fds : List ℕ) (flags : ℕ) → encoded_call m r left ≡ SockSend fd bytes fds flags → TakesSent m r
 
 -- the byte that stands at an address, if its page is there
 abbrev pub standing : Pages → ℕ → Option ℕ

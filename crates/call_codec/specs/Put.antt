@@ -6,7 +6,7 @@ use Rattle.abi_base.specs.declared.address_space.TheConstants.{PAGE_SIZE}
 use Rattle.abi_types.specs.declared.reply.Answer.{Answer}
 use Rattle.abi_types.specs.declared.reply.Answer.TheVariants as answer
 use Rattle.abi_types.specs.declared.call.Call.{Call}
-use Rattle.abi_types.specs.declared.call.Call.TheVariants.{ClockResGet, ClockTimeGet, FdDup, FdPread, FdPwrite, FdRead, FdSeek, FdStatGet, FdWrite, FileOpen, FileReaddir, FileReadlink, FileStatFget, FileStatGet, MemMap, Memory, Poll, RandomGet, ThreadCreate, ThreadExit}
+use Rattle.abi_types.specs.declared.call.Call.TheVariants.{ClockResGet, ClockTimeGet, FdCreate2, FdDup, FdPread, FdPwrite, FdRead, FdSeek, FdStatGet, FdWrite, FileOpen, FileReaddir, FileReadlink, FileStatFget, FileStatGet, MemMap, Memory, Poll, RandomGet, SockRecv, SockSend, ThreadCreate, ThreadExit}
 use Rattle.abi_types.specs.declared.place.Place.{Place}
 use Rattle.abi_types.specs.declared.place.Place.TheVariants as place
 use Rattle.abi_types.specs.declared.place.Place.TheVariants.{At}
@@ -22,14 +22,15 @@ use Rattle.codec_arguments.specs.Arguments.{argument}
 use Rattle.codec_arguments.specs.declared.ranges.TheConstants.{MOST_IOVECS}
 use Rattle.call_codec.specs.Arguments.{args_of}
 use Rattle.call_codec.specs.MemoryCalls.{memory_with, on_success, pages_in, prot_of, with_mapping, IsSomewhere, MayMapThere}
-use Rattle.call_codec.specs.Output.{content_of, with_content, with_payload, with_words}
+use Rattle.call_codec.specs.Output.{content_of, with_content, with_payload, with_received, with_sent, with_words}
 
 -- the results of a call that succeeded: clock_res_get and clock_time_get have nanoseconds; fd_dup, file_open and thread_create have the
--- new number; fd_pread, fd_pwrite, fd_read and fd_write have how many bytes went, and file_readdir and file_readlink how many came;
--- fd_seek has the new offset; mem_map has an address; poll has how many events came
+-- new number, and fd_create2 has two; fd_pread, fd_pwrite, fd_read and fd_write have how many bytes went, and file_readdir and
+-- file_readlink how many came; fd_seek has the new offset; mem_map has an address; poll has how many events came
 abbrev pub with_results : Registers → Call → Reply → Registers
 with_results r (ClockResGet clock) reply = with_x r 11 reply.r1
 with_results r (ClockTimeGet clock precision) reply = with_x r 11 reply.r1
+with_results r (FdCreate2 kind) reply = with_x (with_x r 11 reply.r1) 12 reply.r2
 with_results r (FdDup fd) reply = with_x r 11 reply.r1
 with_results r (FdPread fd length offset) reply = with_x r 11 reply.r1
 with_results r (FdPwrite fd bytes offset) reply = with_x r 11 reply.r1
@@ -54,7 +55,8 @@ answered_of r call (answer.Parked writes) = r
 answered_of r call (answer.Reply reply) = put_of r call reply
 
 -- the memory after a call of these registers that succeeded and gave this beside its results: that goes to an iovec array, or to the
--- address in a0, in a1 or in a3, or stands in the pages that mem_map made. The calls that aren't named here write nothing of it
+-- address in a0, in a1 or in a3, or to the places of a message, or stands in the pages that mem_map made. The calls that aren't named
+-- here write nothing of it
 abbrev pub memory_after : Pages → Registers → Call → Payload → Pages
 memory_after m r (FdPread fd length offset) payload = with_content m r payload
 memory_after m r (FdRead fd length) payload = with_content m r payload
@@ -66,6 +68,8 @@ memory_after m r (FileStatGet lookup path) payload = with_payload m (argument r 
 memory_after m r (MemMap place length prot flags fd offset) payload = with_mapping m place (pages_in length) (prot_of prot) (content_of payload)
 memory_after m r (Poll subscriptions) payload = with_payload m (argument r 1) payload
 memory_after m r (RandomGet length) payload = with_payload m (argument r 0) payload
+memory_after m r (SockRecv fd length fds flags) payload = with_received m r payload
+memory_after m r (SockSend fd bytes fds flags) payload = with_sent m r payload
 memory_after m r other payload = memory_with m r other
 
 -- the memory with the words that a call gave which succeeded: poll's are written before its events, and thread_exit writes that of the

@@ -85,6 +85,7 @@ fn is_built(number: CallNumber) -> bool
         | CallNumber::ClockTimeGet
         | CallNumber::FdClose
         | CallNumber::FdCreate1
+        | CallNumber::FdCreate2
         | CallNumber::FdDatasync
         | CallNumber::FdDup
         | CallNumber::FdPread
@@ -118,18 +119,17 @@ fn is_built(number: CallNumber) -> bool
         | CallNumber::Poll
         | CallNumber::ProcExit
         | CallNumber::RandomGet
+        | CallNumber::SockRecv
+        | CallNumber::SockSend
+        | CallNumber::SockShutdown
         | CallNumber::ThreadCreate
         | CallNumber::ThreadExit
         | CallNumber::ThreadYield => true,
         CallNumber::CondvarSignal
-        | CallNumber::FdCreate2
         | CallNumber::LockUnlock
         | CallNumber::ProcExec
         | CallNumber::ProcFork
-        | CallNumber::ProcRaise
-        | CallNumber::SockRecv
-        | CallNumber::SockSend
-        | CallNumber::SockShutdown => false,
+        | CallNumber::ProcRaise => false,
     }
 }
 

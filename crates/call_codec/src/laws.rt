@@ -1,7 +1,8 @@
 //! Laws of the definitions. The functions do nothing.
-ghost use Rattle.call_codec.specs.GivenLaws.{BuiltIsEncoded, EncodedHasFewRanges, GivenAtCall, WokenEventsAreWritten, WokenReadIsWritten, WokenWordIsWritten};
-ghost use Rattle.call_codec.specs.OutputLaws.{EntriesAreWritten, EventsAreWritten, ExitWordIsWritten, FoundStateIsWritten, LinkIsWritten, MappingIsFilled};
-ghost use Rattle.call_codec.specs.OutputLaws.{OpenStateIsWritten, PreadIsWritten, RandomIsWritten, ReadIsWritten, StateIsWritten, WordsAreWritten};
+ghost use Rattle.call_codec.specs.GivenLaws.{BuiltIsEncoded, EncodedHasFewRanges, GivenAtCall, WokenEventsAreWritten, WokenMessageIsWritten, WokenReadIsWritten};
+ghost use Rattle.call_codec.specs.GivenLaws.{WokenSentIsWritten, WokenWordIsWritten};
+ghost use Rattle.call_codec.specs.OutputLaws.{EntriesAreWritten, EventsAreWritten, ExitWordIsWritten, FoundStateIsWritten, LinkIsWritten, MappingIsFilled, MessageIsWritten};
+ghost use Rattle.call_codec.specs.OutputLaws.{OpenStateIsWritten, PreadIsWritten, RandomIsWritten, ReadIsWritten, SentIsWritten, StateIsWritten, WordsAreWritten};
 ghost use Rattle.call_codec.specs.Refusals.{AdviseIsListed, MapIsListed, ProtectIsListed, SyncIsListed, UnmapIsListed};
 ghost use Rattle.call_codec.specs.StartBlock.{ArgdataStands, CanaryStands, VectorStands};
 ghost use Rattle.call_codec.specs.ThreadLaws.{ThreadStarts};
@@ -32,6 +33,7 @@ pub fn threads_start()
 /// asks for or has room for at most, of as many random ones as it asks for, and none of the state of a descriptor or of a file is
 /// refused. The pages that mem_map makes have the bytes that it gives, and zeros behind them. As many events as poll has subscriptions
 /// are written, and so are the words of the lock and the condition variable that it waits for, and of the lock that thread_exit lets go.
+/// A message that sock_recv takes is written whole, and so is how much sock_send sent.
 pub fn output_is_written()
     ensures pread { PreadIsWritten }
     ensures read { ReadIsWritten }
@@ -45,6 +47,8 @@ pub fn output_is_written()
     ensures events { EventsAreWritten }
     ensures words { WordsAreWritten }
     ensures exit_word { ExitWordIsWritten }
+    ensures message { MessageIsWritten }
+    ensures sent { SentIsWritten }
 {}
 
 /// What a thread that waited in a call is given when it goes on. Where its registers and memory encode the call as they did, it is the
@@ -55,6 +59,8 @@ pub fn wakes_are_given()
     ensures at_call { GivenAtCall }
     ensures read { WokenReadIsWritten }
     ensures events { WokenEventsAreWritten }
+    ensures message { WokenMessageIsWritten }
+    ensures sent { WokenSentIsWritten }
     ensures word { WokenWordIsWritten }
     ensures few { EncodedHasFewRanges }
     ensures built { BuiltIsEncoded }

@@ -19,6 +19,7 @@ mod code;
 mod image;
 mod laws;
 mod memory_calls;
+mod messages;
 mod output;
 mod replies;
 mod room;

@@ -24,7 +24,7 @@ const MANY: usize = MOST_IOVECS as usize;
 pub(crate) const EVENT_SIZE: u64 = 32;
 
 // Writes bytes from an address on; where one of them can't be written, none is.
-fn put_bytes(memory: &mut GuestMemory, at: u64, bytes: &[u8])
+pub(crate) fn put_bytes(memory: &mut GuestMemory, at: u64, bytes: &[u8])
     ensures { memory.new ≡ with_bytes memory.old at bytes.now }
 {
     let _ = memory.write_bytes(at, bytes);
@@ -108,6 +108,18 @@ fn put_ranges<const N: usize>(memory: &mut GuestMemory, at: u64, count: u64, byt
     }
 }
 
+// The same of an array of at most `MOST_IOVECS`.
+pub(crate) fn put_into(memory: &mut GuestMemory, at: u64, count: u64, bytes: &[u8])
+    requires { count ≤ MOST_IOVECS }
+    ensures { memory.new ≡ into_ranges memory.old (ranges_at memory.old at count) bytes.now }
+{
+    if count <= FEW as u64 {
+        put_ranges::<FEW>(memory, at, count, bytes);
+    } else {
+        put_ranges::<MANY>(memory, at, count, bytes);
+    }
+}
+
 /// Writes the bytes of the payload, if it has some, into the ranges of the iovec array that the registers name: a1 has its
 /// address, and a2 its count.
 pub fn put_content(regs: &Regs, memory: &mut GuestMemory, payload: &Payload)
@@ -115,13 +127,7 @@ pub fn put_content(regs: &Regs, memory: &mut GuestMemory, payload: &Payload)
     ensures { memory.new ≡ with_content memory.old regs.now payload.now }
 {
     if let Payload::Content(bytes) = payload {
-        let at = regs.get(11);
-        let count = regs.get(12);
-        if count <= FEW as u64 {
-            put_ranges::<FEW>(memory, at, count, bytes.as_slice());
-        } else {
-            put_ranges::<MANY>(memory, at, count, bytes.as_slice());
-        }
+        put_into(memory, regs.get(11), regs.get(12), bytes.as_slice());
     }
 }
 

@@ -16,6 +16,7 @@ ghost use Rattle.guest_memory.specs.Written.{KeepsCode};
 
 use crate::image::READ_WRITE;
 use crate::memory_calls::{has_bits, pages_in};
+use crate::messages::{put_received, put_sent};
 use crate::output::{content, put_content, put_payload, put_words};
 use abi_base::{GUEST_END, PAGE_SIZE};
 use abi_types::{Answer, Call, CallNumber, Errno, Place, Prot, Regs, Reply};
@@ -103,6 +104,10 @@ fn put_results(regs: &mut Regs, call: &Call, reply: &Reply)
         | Call::MemMap { .. }
         | Call::Poll { .. }
         | Call::ThreadCreate { .. } => regs.set(11, reply.r1),
+        Call::FdCreate2 { .. } => {
+            regs.set(11, reply.r1);
+            regs.set(12, reply.r2);
+        }
         _ => {}
     }
 }
@@ -174,6 +179,8 @@ fn put_output(regs: &Regs, memory: &mut GuestMemory, call: &Call, reply: &Reply)
             put_payload(memory, regs.get(11), payload);
         }
         Call::RandomGet { .. } => put_payload(memory, regs.get(10), payload),
+        Call::SockRecv { .. } => put_received(regs, memory, payload),
+        Call::SockSend { .. } => put_sent(regs, memory, payload),
         Call::ThreadExit { .. } => put_words(memory, &reply.writes),
         _ => {}
     }

@@ -1,11 +1,13 @@
 //! What a thread that waited in a call is given when it goes on.
 ghost use Rattle.std.specs.Prelude.{◌≡◌, ◌*◌};
 ghost use Rattle.codec_arguments.specs.Bytes.{writable};
-ghost use Rattle.call_codec.specs.Given.{awaited_word, first_lock, given_of, has_places, has_room, lock_awaited, lock_of};
+ghost use Rattle.call_codec.specs.Given.{awaited_word, first_lock, given_of, has_message, has_places, has_room, lock_awaited, lock_of};
 
+use crate::messages::iovecs_in;
 use crate::output::EVENT_SIZE;
 use abi_types::{Call, Errno, Regs, Subscription, WakeIn, What};
-use codec_arguments::{check_writable, read_room, read_word, refuse_when};
+use codec_arguments::{check_writable, read_recv_in, read_room, read_word, refuse_when};
+use codec_calls::MOST_SENT_DESCRIPTORS;
 use guest_memory::GuestMemory;
 
 /// What a thread with these registers is given that waited in the call: the present word of the lock that it waits for, or 0, where that
@@ -43,8 +45,23 @@ fn check_places(regs: &Regs, memory: &GuestMemory, call: &Call) -> Result<(), Er
             check_room(subscriptions.len() as u64, regs.get(12))?;
             check_events(memory, regs.get(11), regs.get(12))
         }
+        Call::SockRecv { length, fds, .. } => check_message(regs, memory, *length, *fds),
+        Call::SockSend { .. } => check_writable(memory, regs.get(12), 8),
         _ => Ok(()),
     }
+}
+
+// FAULT where a place of a message can't be written, or they have less room than for so many bytes and descriptors.
+fn check_message(regs: &Regs, memory: &GuestMemory, length: u64, fds: u64) -> Result<(), Errno>
+    ensures { result ≡ has_message memory.now regs.now length fds }
+{
+    let places = read_recv_in(memory, regs.get(11))?;
+    let room = read_room(memory, places.iovs, iovecs_in(&places))?;
+    check_room(length, room)?;
+    let count = places.fds_count.min(MOST_SENT_DESCRIPTORS);
+    check_writable(memory, places.fds, 4 * count)?;
+    check_room(fds, places.fds_count)?;
+    check_writable(memory, regs.get(12), 24)
 }
 
 // FAULT where there is less room than was asked for.

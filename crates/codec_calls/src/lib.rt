@@ -14,7 +14,7 @@ pub use descriptor_calls::{
 pub use flags::has_unknown;
 pub use lock_calls::{check_scope, condvar_signal, is_misaligned, lock_unlock, thread_exit};
 pub use process_calls::{proc_exec, proc_exit, proc_fork, proc_raise, random_get};
-pub use socket_calls::{sock_recv, sock_send, sock_shutdown};
+pub use socket_calls::{MOST_SENT_DESCRIPTORS, sock_recv, sock_send, sock_shutdown};
 pub use thread_calls::{thread_create, thread_yield};
 
 mod clock_calls;

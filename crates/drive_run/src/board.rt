@@ -1,9 +1,11 @@
 //! What the workers of a run share under one lock: the tickets, and who has one or waits for one.
 ghost use Rattle.std.specs.Prelude.{◌≡◌};
 
+use crate::outside::Outside;
 use abi_types::{Pid, Tid};
 use guest_process::FIRST_THREAD;
 use kernel_cell::{Idled, Naming, Times};
+use kernel_core::Wakes;
 use process_cell::{Did, Process};
 use std::alloc::{AllocError, Global};
 use std::sync::{Arc, Mutex};
@@ -68,31 +70,34 @@ pub enum Task<J: Naming> {
 /// What a worker did.
 #[derive(Drop)]
 pub enum Done<J: Naming> {
-    /// Steps of a thread, which came to this; and the run's moment then, and until when the thread waits.
+    /// Steps of a thread, which came to this; and the run's moment then, until when the thread waits, and whom else to look at again.
     Ran(ThreadTicket<J>, Did, Times),
     /// It asked the kernel to let time go on, which came to this; and the run's moment then.
     Idled(Idled, u64),
 }
 
-/// The tickets of a run, how many workers are at work, how many wait for something to do, and whether all are to stop, because memory
-/// ran out or because nothing can happen any more.
+/// The tickets of a run, those that workers have, how many workers are at work, how many wait for something to do, and whether all are to
+/// stop, because memory ran out or because nothing can happen any more.
 #[derive(Drop)]
 pub struct Board<J: Naming> {
     queue: Queue<ThreadTicket<J>>,
+    outside: Outside,
     at_work: u32,
     waiting: u32,
     stops: bool,
 }
 
 impl<J: Naming> Board<J> {
-    /// A board without a ticket.
-    pub fn new(alloc: Global) -> Board<J> {
-        Board {
+    /// A board without a ticket, for this many workers. `Err` where memory ran out.
+    pub fn new(alloc: Global, workers: u32) -> Result<Board<J>, AllocError> {
+        let outside = Outside::new(alloc, workers)?;
+        Ok(Board {
             queue: Queue::new(alloc),
+            outside,
             at_work: 0,
             waiting: 0,
             stops: false,
-        }
+        })
     }
 
     /// Puts a ticket behind those that are ready. Where memory runs out, all workers are to stop.
@@ -109,11 +114,26 @@ impl<J: Naming> Board<J> {
         }
     }
 
-    // Takes a ticket back from the worker that had it and came to this with it. A thread that was made has a ticket from then on, and one
-    // that has ended has none.
+    // Makes the tickets of these threads ready that are parked. A thread whose ticket a worker has may wait by then, so it is marked. One whose
+    // ticket is neither is ready already, or has ended.
+    fn take_wakes(&mut self, wakes: Wakes) {
+        if wakes.all {
+            self.queue.revive_all();
+            self.outside.mark_all();
+        }
+        for thread in wakes.threads.iter() {
+            if !self.queue.revive(thread.pid, thread.tid) {
+                self.outside.mark(thread.pid, thread.tid);
+            }
+        }
+    }
+
+    // Takes a ticket back from the worker that had it and came to this with it. The ticket of a thread that goes on, or that waits and was
+    // marked, stands behind those that are ready. A thread that was made has a ticket from then on, and one that has ended has none.
     fn take_back(&mut self, ticket: ThreadTicket<J>, did: Did, until: Option<u64>) {
+        let wake = self.outside.leave(ticket.pid);
         match did {
-            Did::Runs => self.put(ticket),
+            Did::Runs | Did::Yields => self.put(ticket),
             Did::Started(tid) => {
                 match ticket.beside(tid) {
                     Ok(started) => self.put(started),
@@ -121,6 +141,7 @@ impl<J: Naming> Board<J> {
                 }
                 self.put(ticket);
             }
+            Did::Parks | Did::NotReady if wake => self.put(ticket),
             Did::Parks | Did::NotReady => self.park(ticket, until),
             Did::ThreadGone | Did::ProcessGone => {}
             Did::NoMemory => self.stops = true,
@@ -133,7 +154,7 @@ impl<J: Naming> Board<J> {
         match idled {
             Idled::Jumped => {
                 self.queue.revive_due(moment);
-                if self.queue.ready_count() == 0 {
+                if !self.has_free() {
                     self.queue.revive_all();
                 }
             }
@@ -142,23 +163,44 @@ impl<J: Naming> Board<J> {
         }
     }
 
-    /// Takes what a worker did that was at work. Threads whose deadline has come by then are ready, while others go on running.
+    /// Takes what a worker did that was at work. Threads whose deadline has come by then are ready, while others go on running. Those that are
+    /// to be looked at again are taken before its ticket, since its own thread may be one of them.
     pub fn take_done(&mut self, done: Done<J>) {
         self.at_work = self.at_work.saturating_sub(1);
         match done {
             Done::Ran(ticket, did, times) => {
-                self.take_back(ticket, did, times.until);
-                self.queue.revive_due(times.moment);
+                let Times {
+                    moment,
+                    until,
+                    wakes,
+                } = times;
+                self.take_wakes(wakes);
+                self.take_back(ticket, did, until);
+                self.queue.revive_due(moment);
             }
             Done::Idled(idled, moment) => self.take_idled(idled, moment),
         }
     }
 
-    // What a worker is to do: the ticket that has been ready longest is run; where none is ready, none is at work and some are parked,
-    // time is to go on.
+    // Whether a ticket is ready whose process no worker has.
+    fn has_free(&self) -> bool {
+        self.queue.has_free(self.outside.busy())
+    }
+
+    // Hands a ticket out. Where memory runs out, all workers are to stop.
+    fn lend(&mut self, ticket: ThreadTicket<J>) -> Task<J> {
+        if self.outside.enter(ticket.pid, ticket.tid).is_err() {
+            self.stops = true;
+            return Task::Leave;
+        }
+        Task::Run(ticket)
+    }
+
+    // What a worker is to do: the ticket that has been ready longest is run of those whose process no other worker has, since two workers of
+    // one process would fight for its memory lock. Where none is ready, none is at work and some are parked, time is to go on.
     fn task(&mut self) -> Task<J> {
-        if let Some(ticket) = self.queue.take() {
-            return Task::Run(ticket);
+        if let Some(ticket) = self.queue.take_free(self.outside.busy()) {
+            return self.lend(ticket);
         }
         if self.at_work == 0 && self.queue.parked_count() > 0 {
             return Task::Idle;
@@ -178,9 +220,10 @@ impl<J: Naming> Board<J> {
         task
     }
 
-    /// Whether a worker is to wait: no ticket is ready, but some worker is at work, by which one may come back or be made ready.
+    /// Whether a worker is to wait: no ticket of a free process is ready, but some worker is at work, by which one may come back or be made
+    /// ready, or a process become free.
     pub fn waits(&self) -> bool {
-        !self.stops && self.at_work > 0 && self.queue.ready_count() == 0
+        !self.stops && self.at_work > 0 && !self.has_free()
     }
 
     /// Counts a worker that begins to wait.
@@ -193,7 +236,12 @@ impl<J: Naming> Board<J> {
         self.waiting = self.waiting.saturating_sub(1);
     }
 
-    /// Whether a worker waits that need wait no more.
+    /// Whether a worker waits that need wait no more, and so is to be woken. It is asked after each `take_done` and `hand_out`, under the lock
+    /// under which these were.
+    // No worker waits in vain. Tickets become ready, processes free and workers fewer by `take_done` alone, and `hand_out` only makes a process
+    // busy, or stops all. Who comes with `take_done` takes the first free ticket itself, also one of the process that it brought back. If
+    // another free one is left then, or all are to leave, one that waits is woken, takes the next, and is asked the same. If somebody else
+    // takes that ticket before, it waits on, and that one is asked.
     pub fn rings(&self) -> bool {
         self.waiting > 0 && !self.waits()
     }

@@ -4,5 +4,6 @@
 pub use run::{Driven, drive};
 
 mod board;
+mod outside;
 mod run;
 mod workers;

@@ -9,7 +9,7 @@ use std::thread;
 use std::thread::Threads;
 use turn_queue::Ticket;
 
-// How many steps a worker takes with a ticket before it gives it back, and with it the memory lock of the ticket's process.
+// How many steps a worker takes with a ticket at most before it gives it back, and with it the memory lock of the ticket's process.
 const STEPS: u32 = 64;
 
 // What the workers of a run share beside its kernel: the board of tickets behind a lock, and the bell that they wait for.
@@ -41,7 +41,7 @@ impl<J: Naming> Workplace<J> {
     }
 }
 
-// Steps of a ticket's thread, under the memory lock of its process.
+// Steps of a ticket's thread, under the memory lock of its process, until it gives way to others or can't go on.
 fn run_ticket<J: Naming, R: Wait, G: Gate>(
     rt: &R,
     alloc: Global,
@@ -99,7 +99,9 @@ pub fn run_process<J: Naming + Send + Sync, R: Threads + Wait + Sync, G: Gate + 
     let Ok(ticket) = ThreadTicket::new(alloc, process) else {
         return;
     };
-    let mut board = Board::new(alloc);
+    let Ok(mut board) = Board::new(alloc, workers) else {
+        return;
+    };
     board.put(ticket);
     let workplace = Workplace {
         board: Mutex::new(board),

@@ -25,6 +25,7 @@ no_offset_call = record {
   touched = λ kind. [];
   errors = Nosys ∷ [];
   takes_memory = false;
+  may_wait = false;
 }
 
 -- what the call means by the open

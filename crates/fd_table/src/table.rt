@@ -89,6 +89,18 @@ impl FdTable {
         lowest_unmarked(&self.taken)
     }
 
+    /// The lowest number that would be free if this one were taken. `None` exactly where each would be taken. Copies only which
+    /// numbers are taken.
+    pub fn lowest_beside(&self, fd: u32) -> Option<u32>
+        requires { fd < MOST_DESCRIPTORS }
+        ensures free { (d : Descriptor) → IfSome result (λ number. IsLowestFree (map.insert self.now fd d) number) }
+        ensures full { (d : Descriptor) → IsNone result ↔ IsFull (map.insert self.now fd d) }
+    {
+        let mut taken = self.taken;
+        mark(&mut taken, fd);
+        lowest_unmarked(&taken)
+    }
+
     /// Puts a descriptor at the lowest free number, and returns that number. An error changes nothing.
     pub fn insert_lowest(&mut self, descriptor: Descriptor) -> Result<u32, InsertFault>
         ensures lowest { IfOk result (λ number. IsLowestFree self.old number) }

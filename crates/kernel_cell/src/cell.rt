@@ -196,9 +196,14 @@ impl<J: Naming> Cell<J> {
         self.locked.lock(rt).moment()
     }
 
-    /// The moment now, and until when a thread waits.
+    /// The moment now, until when a thread waits, and the threads to be looked at again. Who gets these is to have them looked at.
     pub fn times<R: Wait>(&self, rt: &R, pid: Pid, tid: Tid) -> Times {
         self.locked.lock(rt).times(pid, tid)
+    }
+
+    /// Whether some thread is to be looked at again.
+    pub fn has_wakes<R: Wait>(&self, rt: &R) -> bool {
+        self.locked.lock(rt).has_wakes()
     }
 
     /// Takes back the pass of a process that needs it no more.

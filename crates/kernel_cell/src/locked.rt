@@ -188,14 +188,21 @@ impl<J: Naming> Locked<J> {
         self.recorded.kernel.moment()
     }
 
-    /// The moment now, and until when a thread waits.
-    pub fn times(&self, pid: Pid, tid: Tid) -> Times
-        ensures { AreTimes J.launch self.now pid tid result }
+    /// The moment now, until when a thread waits, and the threads to be looked at again, which none is then.
+    pub fn times(&mut self, pid: Pid, tid: Tid) -> Times
+        ensures times { AreTimes J.launch self.old pid tid result }
+        ensures same { self.new ≡ self.old }
     {
         Times {
             moment: self.moment(),
             until: self.recorded.kernel.until(pid, tid),
+            wakes: self.recorded.kernel.take_wakes(),
         }
+    }
+
+    /// Whether some thread is to be looked at again.
+    pub fn has_wakes(&self) -> bool {
+        self.recorded.kernel.has_wakes()
     }
 
     /// Takes back the pass of a process that needs it no more.

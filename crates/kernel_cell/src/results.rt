@@ -1,5 +1,6 @@
 //! What the calls on the locked kernel answer, and how a process is ended from outside.
 use abi_types::{Signal, Tid};
+use kernel_core::Wakes;
 
 /// What a thread's call came to.
 #[derive(Clone, Copy)]
@@ -61,12 +62,14 @@ pub enum Idled {
     NoMemory,
 }
 
-/// The moment of the run, and until when a thread waits, both in nanoseconds since the run began.
-#[derive(Clone, Copy)]
+/// The moment of the run, and until when a thread waits, both in nanoseconds since the run began; and the threads to be looked at again.
+#[derive(Drop)]
 pub struct Times {
     pub moment: u64,
     /// `None` where the thread doesn't wait, and where there is no such moment.
     pub until: Option<u64>,
+    /// Those that waited on channels which have changed. Who takes them is to have them looked at, since nobody else gets them.
+    pub wakes: Wakes,
 }
 
 /// How a process is ended from outside.

@@ -7,12 +7,11 @@ use Rattle.abi_base.specs.declared.limits.TheConstants.{MOST_DESCRIPTORS}
 use Rattle.abi_structures.specs.declared.structures.FdStat.{FdStat}
 use Rattle.abi_types.specs.declared.descriptor.Descriptor.{Descriptor}
 use Rattle.abi_types.specs.declared.open_kind.OpenKind.{OpenKind}
-use Rattle.maps.specs.Maps.{number, weight, total, insert-again, insert_self, get-insert-same, total-insert}
+use Rattle.maps.specs.Maps.{number, insert-again, insert_self, get-insert-same}
 use Rattle.fd_table.specs.Sizes.{below-insert, below-insert_again, below-remove}
 use Rattle.fd_table.specs.Table.{IsTable}
 use Rattle.kernel_model.specs.Families.DescriptorCalls.{dup_at, dup_of, free_from, lowest_free, lowered_to, replaced_by, stat_put, stat_set, with_flags}
 use Rattle.kernel_model.specs.Outcome.{Outcome}
-use Rattle.kernel_model.specs.Release.{count_in}
 use Rattle.kernel_model.specs.State.{State, Table, Update, set_table, set_open, put_all}
 use Rattle.kernel_model.specs.Valid.{IsNearlyValid}
 use Rattle.kernel_model.specs.View.{whole}
@@ -20,7 +19,7 @@ use Rattle.kernel_model.proofs.DescriptorCalls.{close_is, dup_errors, dup_is, pu
 use Rattle.abi_base.specs.declared.errno.Errno.TheVariants.{Badf}
 use Rattle.abi_types.specs.declared.family.DescriptorChange.{DescriptorChange}
 use Rattle.abi_types.specs.declared.family.DescriptorChange.TheVariants.{Close, Dup, Replace, StatPut}
-use Rattle.kernel_parts.specs.Changes.{change_outcome, opens_after, stat_put_at, table_after, HasReplaced, IsMoved}
+use Rattle.kernel_parts.specs.Changes.{change_outcome, opens_after, stat_put_at, table_after, HasReplaced}
 use Rattle.kernel_model.proofs.Tests.{none_is_no, same_some}
 
 -- ---- the updates are of this process's table and of opens
@@ -110,12 +109,15 @@ free_below table zero k j e = absurd (none_is_no j e)
 free_below table (suc n) k j e =
     free_case (contains_key table k) n k j (free_from table n (k + 1)) (λ is. free_below table n (k + 1) j is) e
 
+-- a free number is one that a descriptor may have
+pub lowest_small : (table : Table) (number : ℕ) → lowest_free table ≡ Some number → number < MOST_DESCRIPTORS
+lowest_small table number is = let less = free_below table MOST_DESCRIPTORS 0 number is in omega (arith, less)
+
 dup_small : (p : ℕ) (table : Table) (d : Descriptor) (number : Option ℕ) → lowest_free table ≡ number → IsTable table
     → IsTable (table_after table (dup_at p table d number).updates)
 dup_small p table d None e small = small
 dup_small p table d (Some number) e small =
-    let less = free_below table MOST_DESCRIPTORS 0 number e in
-    below-insert MOST_DESCRIPTORS table number d small (omega (arith, less))
+    below-insert MOST_DESCRIPTORS table number d small (lowest_small table number e)
 
 dups_small : (p : ℕ) (table : Table) (o : Option Descriptor) → IsTable table → IsTable (table_after table (dup_of p table o).updates)
 dups_small p table None small = small
@@ -150,14 +152,3 @@ change_small p opens table (Close fd) has small = below-remove MOST_DESCRIPTORS 
 change_small p opens table (Dup fd) has small = dups_small p table (get table fd) small
 change_small p opens table (Replace from to) has small = replaced_small p table to (get table from) has small
 change_small p opens table (StatPut fd stat flags) has small = put_small p opens table fd stat flags (get table fd) refl small
-
--- ---- the holders
-
--- the holders of all tables, where one has changed as the counts have
-pub moved_holders : (tables : FinMap nat_cmp Table) (p : ℕ) (old new : Table) (before after : FinMap nat_cmp ℕ) → get tables p ≡ Some old
-    → ((o : ℕ) → number (get before o) ≡ total (count_in o) tables) → IsMoved old new before after
-    → (o : ℕ) → number (get after o) ≡ total (count_in o) (insert tables p new)
-moved_holders tables p old new before after there counted moved o =
-    let own : weight (count_in o) (get tables p) ≡ count_in o old = ap (weight (count_in o)) there in
-    let sums = total-insert (count_in o) tables p new in
-    omega (arith, own, sums, counted o, moved o)

@@ -181,7 +181,7 @@ module _ (constants : Constants) (S : State) (p : ℕ) (table : Table) (fd : ℕ
         → record S { processes = insert S.processes p new; nodes = w.nodes; names = w.names } ≡ release (put_all (entry_outcome constants S p table fd other called).updates S)
     entries_after w rest =
         (λ i. record S { processes = insert S.processes p new; nodes = (rest i).nodes; names = (rest i).names })
-        ∙ released_is (record S { processes = insert S.processes p new; nodes = u.nodes; names = u.names }) v.held ∙ ap release (sym done_is)
+        ∙ released_is (record S { processes = insert S.processes p new; nodes = u.nodes; names = u.names }) v.held v.going ∙ ap release (sym done_is)
 
     pub entries_answer : answer.Reply reply ≡ (entry_outcome constants S p table fd other called).answer
     entries_answer =

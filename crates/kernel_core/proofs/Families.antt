@@ -1,5 +1,5 @@
 -- What a call means, by the part of the kernel that does it.
---     change_is, state_is, file_is, offset_is, entries_is, open_is, exit_is, poll_is, zeros_is, answered_is, unbuilt_is,
+--     change_is, state_is, file_is, offset_is, entries_is, open_is, ends_is, socket_is, exit_is, poll_is, zeros_is, answered_is, unbuilt_is,
 --     resolution_is, time_is, random_is, new_thread_is, thread_exit_is      the call of a view
 --     file_on, offset_on, entries_on      the descriptors of a view are those on whose opens its call works
 --     change_does, poll_does, zeros_does, answered_does, unbuilt_does      what such a call does
@@ -13,7 +13,7 @@ use Rattle.abi_structures.specs.declared.events.Subscription.{Subscription}
 use Rattle.abi_structures.specs.declared.events.What.{What}
 use Rattle.abi_structures.specs.declared.events.What.TheVariants.{Clock}
 use Rattle.abi_structures.specs.declared.structures.ThreadAttr.{ThreadAttr}
-use Rattle.abi_types.specs.Families.{HasFile, IsOf, answer_of, call_of_change, call_of_entry, call_of_file, call_of_offset, call_of_open, fd_of_file, fd_of_offset, fds_of_entry, is_anonymous, is_unbuilt, zeros_of}
+use Rattle.abi_types.specs.Families.{HasFile, IsOf, answer_of, call_of_change, call_of_entry, call_of_file, call_of_offset, call_of_open, call_of_socket, fd_of_file, fd_of_offset, fds_of_entry, is_anonymous, is_unbuilt, zeros_of}
 use Rattle.abi_types.specs.declared.call.Call.{Call}
 use Rattle.abi_types.specs.declared.call.Call.TheVariants as call
 use Rattle.abi_types.specs.declared.constants.Constants.{Constants}
@@ -28,6 +28,7 @@ use Rattle.abi_types.specs.declared.family.FileCall.TheVariants as file
 use Rattle.abi_types.specs.declared.family.OffsetCall.{OffsetCall}
 use Rattle.abi_types.specs.declared.family.OffsetCall.TheVariants as offset
 use Rattle.abi_types.specs.declared.family.OpenCall.{OpenCall}
+use Rattle.abi_types.specs.declared.family.SocketCall.{SocketCall}
 use Rattle.abi_types.specs.declared.place.Place.{Place}
 use Rattle.abi_types.specs.declared.reply.Reply.{Reply}
 use Rattle.abi_types.specs.declared.who.Who.{Who}
@@ -78,6 +79,14 @@ module _ (c : Call) (f : Family) (of : IsOf c f) where
   pub open_is : (v : OpenCall) → f ≡ family.Open v → c ≡ call_of_open v
   unfolding IsOf
   open_is v is = subst (IsOf c) is of
+
+  pub ends_is : (kind : ℕ) → f ≡ family.Ends kind → c ≡ call.FdCreate2 kind
+  unfolding IsOf
+  ends_is kind is = subst (IsOf c) is of
+
+  pub socket_is : (v : SocketCall) → f ≡ family.Socket v → c ≡ call_of_socket v
+  unfolding IsOf
+  socket_is v is = subst (IsOf c) is of
 
   pub exit_is : (code : ℕ) → f ≡ family.Exit code → c ≡ call.ProcExit code
   unfolding IsOf
@@ -197,14 +206,10 @@ pub unbuilt_does : (c : Call) (constants : Constants) (v : View) (who : Who) (ta
     → (meaning_of c).effect constants v who table ≡ replies (refused Nosys)
 unbuilt_does (call.CondvarSignal condvar word scope n) constants v who table is = refl
 unbuilt_does (call.FdCreate1 kind) constants v who table is = refl
-unbuilt_does (call.FdCreate2 kind) constants v who table is = refl
 unbuilt_does (call.LockUnlock lock word scope) constants v who table is = refl
 unbuilt_does (call.ProcExec fd bytes fds) constants v who table is = refl
 unbuilt_does (call.ProcFork left) constants v who table is = refl
 unbuilt_does (call.ProcRaise signal) constants v who table is = refl
-unbuilt_does (call.SockRecv fd length fds flags) constants v who table is = refl
-unbuilt_does (call.SockSend fd bytes fds flags) constants v who table is = refl
-unbuilt_does (call.SockShutdown fd how) constants v who table is = refl
 unbuilt_does other constants v who table is = absurd (cc)
 
 -- ---- polls

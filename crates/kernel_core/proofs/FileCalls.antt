@@ -83,6 +83,7 @@ pub tree_valid : (S : State) (t : Tree) → HasSameNodes (tree_of S) t → IsNea
 tree_valid S t same nearly v = record {
   nearly = nearly;
   held = v.held;
+  going = v.going;
   kept = λ n there.
       let links : links_of t n ≡ links_of (tree_of S) n =
       links_counted (get t.nodes n) ∙ ap counted (same n) ∙ sym (links_counted (get S.nodes n)) in

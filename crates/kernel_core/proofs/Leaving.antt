@@ -1,28 +1,31 @@
 -- The state that a call leaves that has changed the tree and what its process has of its own.
 --     counted_is      a process that has made so many more
 --     left_of      the state that what a call on names comes to leaves
---     none_holds      nothing holds an open that isn't there
+--     none_holds, none_carries, none_holds_or_carries      nothing holds an open that isn't there, and nothing that waits in a channel names it
 --     released_is      the release of a state whose opens are all held: the nodes go that aren't used
-use Rattle.std.proofs.Common.{◌≡◌, ℕ, zero, suc, ◌+◌, ◌<◌, Bool, true, false, cond, ◌++◌, Option, None, Some, IsSome, inl, inr, refl, sym, ap, subst, ◌∙◌, arith}
+use Rattle.std.proofs.Common.{◌≡◌, ℕ, zero, suc, ◌+◌, ◌<◌, Bool, true, false, cond, List, [], ◌∷◌, ◌++◌, Option, None, Some, IsSome, inl, inr, refl, sym, ap, subst, ◌∙◌, arith}
 use Rattle.std.proofs.lemmas.Bool.Decides.{eqb_tells}
 use Rattle.std.specs.FinMap.{get, insert}
+use Rattle.std.specs.List.{AllByRecursion}
 use Rattle.abi_base.specs.declared.errno.Errno.TheVariants.{Again}
 use Rattle.abi_types.specs.declared.descriptor.Descriptor.{Descriptor}
 use Rattle.abi_types.specs.declared.reply.Answer.TheVariants as answer
 use Rattle.maps.specs.Maps.{insert_self, total_none, weight}
 use Rattle.tree_model.specs.Opens.{is_used}
 use Rattle.tree_model.specs.Retained.{retained}
+use Rattle.kernel_model.specs.Channels.{Channel, carried_of}
 use Rattle.kernel_model.specs.Families.NameMeaning.{NameOutcome, Refuses, LeadsOut, Changes, outcome_of}
 use Rattle.kernel_model.specs.Families.Numbers.{can_number, made_more, next_object, process_updates}
 use Rattle.kernel_model.specs.Outcome.{replies}
 use Rattle.kernel_model.specs.Reply.{refused, success}
-use Rattle.kernel_model.specs.Release.{carriers, count_in, holders, names_open, release, without_nodes}
+use Rattle.kernel_model.specs.Release.{carried_in, carriers, count_carried, count_in, holders, is_channel_kept, names_open, release, without_nodes, without_over}
 use Rattle.kernel_model.specs.State.{State, ProcessState, Table, Tree, tree_of, put_all}
 use Rattle.kernel_model.specs.Families.TreeUpdates.{Change, change_updates}
 use Rattle.kernel_model.specs.Valid.{IsNamed, IsNearlyValid}
 use Rattle.kernel_model.proofs.NameMeanings.{IsChangeOf, IsGood}
 use Rattle.kernel_model.proofs.TreeUpdates.{counted, put_counted, with_tree}
-use Rattle.kernel_model.proofs.Valids.{ended_held}
+use Rattle.kernel_model.proofs.Channels.{count_all}
+use Rattle.kernel_model.proofs.Valids.{channels_stay, ended_held}
 use Rattle.kernel_parts.specs.Entries.{process_left, tree_left}
 
 -- ---- what a process has made
@@ -102,8 +105,33 @@ table_none S o p none v (Some table) is = total_none (names_open o) table (λ n.
 pub none_holds : (S : State) (o : ℕ) → get S.opens o ≡ None → IsNearlyValid S → holders S o ≡ 0
 none_holds S o none v = total_none (count_in o) S.tables (λ p. table_none S o p none v (get S.tables p) refl)
 
+-- nor does one that waits in a channel
+carried_none : (S : State) (o : ℕ) → get S.opens o ≡ None → (ds : List Descriptor) → AllByRecursion (λ (d : Descriptor). IsNamed (get S.opens d.id) d) ds
+    → count_carried o ds ≡ 0
+carried_none S o none [] named = refl
+carried_none S o none (d ∷ ds) named =
+    let first = names_none S o d none named.0 in
+    let rest = carried_none S o none ds named.1 in
+    omega (arith, first, rest)
+
+channel_none : (S : State) (o c : ℕ) → get S.opens o ≡ None → IsNearlyValid S → (x : Option Channel) → get S.chans c ≡ x → weight (carried_in o) x ≡ 0
+channel_none S o c none v None is = refl
+channel_none S o c none v (Some channel) is =
+    sym (count_all o channel.waiting) ∙ carried_none S o none (carried_of channel.waiting) (v.channels c channel is).carried
+
+pub none_carries : (S : State) (o : ℕ) → get S.opens o ≡ None → IsNearlyValid S → carriers S o ≡ 0
+none_carries S o none v = total_none (carried_in o) S.chans (λ c. channel_none S o c none v (get S.chans c) refl)
+
+-- so nothing does
+pub none_holds_or_carries : (S : State) (o : ℕ) → get S.opens o ≡ None → IsNearlyValid S → holders S o + carriers S o ≡ 0
+none_holds_or_carries S o none v =
+    let held = none_holds S o none v in
+    let carried = none_carries S o none v in
+    omega (arith, held, carried)
+
 -- ---- the release
 
-pub released_is : (T : State) → ((o : ℕ) → IsSome (get T.opens o) → 0 < holders T o + carriers T o)
+pub released_is : (T : State) → ((o : ℕ) → IsSome (get T.opens o) → 0 < holders T o + carriers T o) → ((c : ℕ) → is_channel_kept (get T.chans c) ≡ true)
     → (let u : Tree = retained (tree_of T) (is_used T.opens (tree_of T)) in record T { nodes = u.nodes; names = u.names }) ≡ release T
-released_is T held = sym (ap without_nodes (ended_held T held))
+released_is T held going =
+    sym (ap (λ (U : State). without_over (without_nodes U)) (ended_held T held) ∙ channels_stay (without_nodes T) going)

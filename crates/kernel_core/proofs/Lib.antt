@@ -1,5 +1,6 @@
 pub mod Kept
 pub mod Changes
+pub mod Channels
 pub mod Lives
 pub mod Streams
 pub mod OffsetCalls
@@ -16,3 +17,4 @@ pub mod Opens
 pub mod Parks
 pub mod Waiters
 pub mod OwnCalls
+pub mod EndCalls

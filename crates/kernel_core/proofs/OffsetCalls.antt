@@ -2,6 +2,7 @@
 --     offset_does      a call means what its outcome is;  offset_takes_memory      memory may run out in it
 --     lacking_answers      without a descriptor or an open it answers BADF, and leaves the state
 --     stream_is, stream_outcome_is, stream_answers      on a standard stream;  the state after it is that of its outcome
+--     end_outcome_is      on an end of channels
 --     offset_is, offset_outcome_is, offset_keeps      on any other open: it moves the open and changes the file tree;  it keeps what stands behind the open
 --     offset_valid, offset_answers      the state after it is valid, and that of its outcome, of which nothing is released
 use Rattle.std.proofs.Common.{◌≡◌, ◌≢◌, ℕ, ◌+◌, ◌==◌, ◌&&◌, Bool, true, false, cond, List, [], ◌∷◌, ◌++◌, Option, None, Some, IsSome, refl, sym, ap, subst, ◌∙◌}
@@ -26,6 +27,7 @@ use Rattle.maps.specs.Maps.{insert_self}
 use Rattle.tree_model.specs.Files.{is_beyond}
 use Rattle.tree_model.specs.Opens.{one_of_node}
 use Rattle.tree_model.specs.Releasing.{used-set}
+use Rattle.channel_calls.specs.Calls.{end_outcome}
 use Rattle.fd_calls.specs.Calls.{offset_fd, offset_outcome_of, offset_meaning}
 use Rattle.fd_calls.specs.AtOffset.{IsAtOffset, open_after}
 use Rattle.file_calls.specs.Done.{HasSameNodes, tree_after}
@@ -51,6 +53,7 @@ use Rattle.kernel_parts.specs.Entries.{open_in}
 use Rattle.kernel_parts.specs.StreamCalls.{terms_after}
 use Rattle.kernel_core.specs.OffsetCalls.{offset_outcome}
 use Rattle.kernel_parts.specs.StreamCalls.{stream_outcome}
+use Rattle.kernel_core.proofs.Channels.{end_is}
 use Rattle.kernel_core.proofs.FileCalls.{tree_valid, with_tree}
 use Rattle.kernel_core.proofs.Streams.{written_valid}
 
@@ -164,24 +167,32 @@ module _ (constants : Constants) (S : State) (table : Table) (fd : ℕ) (called 
       (sym (release_valid (with_terms S terms) (written_valid S terms stays valid))
       ∙ ap release (ap (with_terms S) left ∙ sym (stream_puts called S which (get S.terms which))))
 
+-- ---- ends of channels
+
+pub end_outcome_is : (constants : Constants) (S : State) (table : Table) (fd : ℕ) (called : Call) (d : Descriptor) (reads writes : Option ℕ) (flags : ℕ)
+    → offset_fd called ≡ Some fd → get table fd ≡ Some d → get S.opens d.id ≡ Some (End reads writes flags)
+    → offset_outcome constants S table fd called ≡ end_outcome S.chans (End reads writes flags) called
+end_outcome_is constants S table fd called d reads writes flags is named there =
+    at_open constants S table fd called d (Some (End reads writes flags)) named there ∙ end_is called fd (real_time constants S.clock) S d.id reads writes flags is
+
 -- ---- opens that aren't of standard streams
 
--- such an open
+-- such an open, which is no end of channels either
 abbrev pub IsNoStream : OpenKind → Type 0
-IsNoStream kind = (which flags : ℕ) → kind ≢ Terminal which flags
+IsNoStream kind = ((which flags : ℕ) → kind ≢ Terminal which flags) × ((reads writes : Option ℕ) (flags : ℕ) → kind ≢ End reads writes flags)
 
 offset_is : (called : Call) (fd now : ℕ) (S : State) (o : ℕ) (kind : OpenKind) → offset_fd called ≡ Some fd → IsNoStream kind
     → (offset_meaning called).effect now (whole S) o (Some kind) ≡ with_offset o (offset_outcome_of now (tree_of S) called kind)
 offset_is (call.FdRead n length) fd now S o (File node offset flags) is unlike = refl
 offset_is (call.FdRead n length) fd now S o (Directory node flags) is unlike = refl
-offset_is (call.FdRead n length) fd now S o (End reads writes flags) is unlike = refl
-offset_is (call.FdRead n length) fd now S o (Terminal which flags) is unlike = absurd (unlike which flags refl)
+offset_is (call.FdRead n length) fd now S o (End reads writes flags) is unlike = absurd (unlike.1 reads writes flags refl)
+offset_is (call.FdRead n length) fd now S o (Terminal which flags) is unlike = absurd (unlike.0 which flags refl)
 offset_is (call.FdRead n length) fd now S o (Process p) is unlike = refl
 offset_is (call.FdSeek n offset whence) fd now S o kind is unlike = refl
 offset_is (call.FdWrite n bytes) fd now S o (File node offset flags) is unlike = refl
 offset_is (call.FdWrite n bytes) fd now S o (Directory node flags) is unlike = refl
-offset_is (call.FdWrite n bytes) fd now S o (End reads writes flags) is unlike = refl
-offset_is (call.FdWrite n bytes) fd now S o (Terminal which flags) is unlike = absurd (unlike which flags refl)
+offset_is (call.FdWrite n bytes) fd now S o (End reads writes flags) is unlike = absurd (unlike.1 reads writes flags refl)
+offset_is (call.FdWrite n bytes) fd now S o (Terminal which flags) is unlike = absurd (unlike.0 which flags refl)
 offset_is (call.FdWrite n bytes) fd now S o (Process p) is unlike = refl
 offset_is other fd now S o kind is unlike = absurd (none_is_no fd is)
 
@@ -283,6 +294,7 @@ module _ (called : Call) (fd now : ℕ) (is : offset_fd called ≡ Some fd) (S :
   set_valid = record {
     nearly = set_open_nearly_valid S o kind new there (subst (IsSameBehind kind) (sym done.1) keeps.behind) valid.nearly;
     held = λ q some. valid.held q (sym (some_again S.opens o kind new q there) ∙ some);
+    going = valid.going;
     kept = λ n some.
         used-set S.opens o kind new (tree_of S) n there
         (subst (λ (k : OpenKind). (m : ℕ) → one_of_node m k ≡ one_of_node m kind) (sym done.1) keeps.node)

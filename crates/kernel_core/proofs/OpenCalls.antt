@@ -52,7 +52,7 @@ use Rattle.entry_calls.specs.declared.plans.OpenPlan.{OpenPlan}
 use Rattle.kernel_parts.specs.Entries.{open_in}
 use Rattle.kernel_core.specs.Opening.{IsOpening, open_outcome, opened_at}
 use Rattle.kernel_parts.specs.declared.opens.Opening.{Opening}
-use Rattle.kernel_core.proofs.Leaving.{counted_is, none_holds, released_is}
+use Rattle.kernel_core.proofs.Leaving.{counted_is, none_holds_or_carries, released_is}
 use Rattle.kernel_parts.proofs.Forgetting.{forgetting_none, used_still}
 use Rattle.kernel_parts.proofs.Lowest.{lowest_is}
 use Rattle.kernel_core.proofs.EntryCalls.{opened_is}
@@ -142,8 +142,8 @@ module _ (S : State) (p : ℕ) (table : Table) (lookup : Lookup) (path : List �
   pub open_is_new : get S.opens o.descriptor.id ≡ None
   open_is_new = ap (get S.opens) id_is ∙ (next_is_absent S p (new_nodes + 1) v.nearly open_fits.0 (omega arith) open_fits.1).0
 
-  pub none_holds_it : holders S o.descriptor.id ≡ 0
-  none_holds_it = none_holds S o.descriptor.id open_is_new v.nearly
+  pub none_holds_it : holders S o.descriptor.id + carriers S o.descriptor.id ≡ 0
+  none_holds_it = none_holds_or_carries S o.descriptor.id open_is_new v.nearly
 
   first_absent : get S.nodes first ≡ None
   first_absent =
@@ -264,7 +264,7 @@ module _ (S : State) (p : ℕ) (table : Table) (lookup : Lookup) (path : List �
         → (let u : Tree = retained (change now).tree (is_used (insert S.opens o.descriptor.id o.kind) (change now).tree) in
         record (opened_state now own) { nodes = u.nodes; names = u.names })
         ≡ release (put_all (open_outcome now S p table lookup path oflags stat).updates S)
-    open_released now own there = released_is (opened_state now own) open_held ∙ ap release (sym (open_left now own there))
+    open_released now own there = released_is (opened_state now own) open_held v.going ∙ ap release (sym (open_left now own there))
 
 -- ---- what it leaves is nearly valid
 

@@ -74,7 +74,7 @@ module _ (S : State) (p : ℕ) (own : ProcessState) (there : get S.processes p �
   own_valid us (inl none) v = subst (λ (x : List Update). IsValid (put_all x S)) (sym none) v
   own_valid us (inr set) v =
       subst (λ (x : List Update). IsValid (put_all x S)) (sym set.1)
-      (record { nearly = set_process_nearly_valid S p own set.0 there set.2 v.nearly; held = v.held; kept = v.kept })
+      (record { nearly = set_process_nearly_valid S p own set.0 there set.2 v.nearly; held = v.held; kept = v.kept; going = v.going })
 
   -- the release after them has nothing to do
   pub own_released : (us : List Update) → OnlyOwn p own us → IsValid S → with_process S p (own_after us own) ≡ release (put_all us S)
@@ -84,6 +84,7 @@ module _ (S : State) (p : ℕ) (own : ProcessState) (there : get S.processes p �
   own_kept us only counts kept = record {
     valid = subst IsValid (sym (own_left us only)) (own_valid us only kept.valid);
     counted = kept.counted;
+    few = kept.few;
     small = kept.small;
     processes = kept.processes;
   }

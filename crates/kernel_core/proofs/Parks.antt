@@ -74,6 +74,7 @@ module _ (S : State) (p t : ℕ) (thread : Thread) where
   set_kept counts may kept = record {
     valid = with_valid S p t thread may kept.valid;
     counted = kept.counted;
+    few = kept.few;
     small = kept.small;
     processes = kept.processes;
   }

@@ -5,13 +5,14 @@ use Rattle.std.specs.Ordering.{nat_cmp}
 use Rattle.std.specs.Cmp.{nat_cmp_total}
 use Rattle.std.specs.FinMap.{FinMap, get, get-empty, get-from_entries, insert, empty, from_entries}
 use Rattle.abi_base.specs.declared.grant.Grant.{Grant}
+use Rattle.channel_calls.specs.Calls.{AreFew, carriers_in}
 use Rattle.maps.specs.Maps.{number, get-insert-same, get-insert-other, total, total-empty, total-insert_new}
 use Rattle.kernel_core.specs.Kernel.{IsKept}
 use Rattle.fd_table.specs.Sizes.{KeysBelow, below-empty, below-insert, none_there}
 use Rattle.kernel_model.proofs.Tests.{none_is_no}
 use Rattle.kernel_parts.specs.Start.{granted_objects}
 use Rattle.kernel_core.proofs.Kept.{AreSmall, small_set}
-use Rattle.kernel_model.specs.Release.{names_open, count_in, holders}
+use Rattle.kernel_model.specs.Release.{carried_in, carriers, names_open, count_in, holders}
 use Rattle.tree_model.specs.Grants.{AreGrants, MayBegin}
 use Rattle.kernel_model.specs.Start.{first_open, numbered, granted_descriptor, granted_table, start_state}
 use Rattle.kernel_model.specs.State.{State, Table, Tree}
@@ -67,11 +68,24 @@ start_small tree grants all =
     small_set empty 0 (granted_table tree grants) (λ p table there. absurd (none_is_no table (sym (get-empty nat_cmp p) ∙ there)))
     (λ k there. let less = granted_below tree grants 0 k there in omega (arith, less, all.0))
 
+-- no channel is there, so nothing waits
+none_carried : (o : ℕ) → carriers_in o empty ≡ 0
+none_carried o = total-empty (carried_in o)
+
+counted_alone : (tree : Tree) (grants : List Grant) (stdin : List ℕ) (o : ℕ)
+    → number (get (granted_objects tree grants).counts o) ≡ holders (start_state tree grants stdin) o + carriers (start_state tree grants stdin) o
+counted_alone tree grants stdin o =
+    let held = start_counted tree grants stdin o in
+    let none = none_carried o in
+    omega (arith, held, none)
+
 pub start_kept : (tree : Tree) (grants : List Grant) (stdin : List ℕ) (S : State) (counts : FinMap nat_cmp ℕ) → MayBegin tree grants → S ≡ start_state tree grants stdin
     → counts ≡ (granted_objects tree grants).counts → IsKept S counts
 start_kept tree grants stdin S counts begins is counted = record {
   valid = subst IsValid (sym is) (start_valid tree grants stdin begins);
-  counted = λ o. ap (λ (m : FinMap nat_cmp ℕ). number (get m o)) counted ∙ start_counted tree grants stdin o ∙ sym (ap (λ (T : State). holders T o) is);
+  counted = λ o. ap (λ (m : FinMap nat_cmp ℕ). number (get m o)) counted ∙ counted_alone tree grants stdin o
+      ∙ sym (ap (λ (T : State). holders T o + carriers T o) is);
+  few = subst (λ (T : State). AreFew T.chans) (sym is) (λ o. let none = none_carried o in omega (arith, none));
   small = subst (λ (T : State). AreSmall T.tables) (sym is) (start_small tree grants begins.grants);
   processes = subst (λ (T : State). KeysBelow (2 ^ 32) T.tables) (sym is)
       (below-insert (2 ^ 32) empty 0 (granted_table tree grants) (below-empty Table (2 ^ 32)) (omega arith));

@@ -5,3 +5,5 @@ pub mod Entries
 pub mod Opening
 pub mod Waiting
 pub mod Threads
+pub mod Ends
+pub mod Sockets

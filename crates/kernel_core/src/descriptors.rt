@@ -79,6 +79,7 @@ impl Kernel {
             &mut self.tables,
             &mut self.processes,
             &mut self.statuses,
+            &mut self.channels,
         );
         Ok(Answer::Reply(reply))
     }

@@ -45,6 +45,8 @@ impl Kernel {
                 self.entry_call(constants, who.pid, fd, other, view)
             }
             Family::Open(view) => self.file_open(constants, who.pid, &view),
+            Family::Ends { kind } => self.fd_create2(who, kind),
+            Family::Socket(view) => self.socket_call(who.pid, view),
             Family::Exit { code } => {
                 self.end_process(who.pid, Status::Exit(code));
                 Ok(Answer::Reply(success(0, 0)))

@@ -21,6 +21,7 @@ use abi_types::{
     Answer, Call, Constants, Denial, Descriptor, Errno, Needed, Pid, Reply, Status, Thread, Tid,
     TryClone, Who,
 };
+use channel_calls::{Channels, Wakes};
 use fd_table::FdTable;
 use file_tree::Tree;
 use kernel_parts::{ProcessState, Terminal, granted, let_go_all, release, single, streams};
@@ -44,6 +45,7 @@ pub struct Kernel {
     pub(crate) objects: Objects,
     pub(crate) tree: Tree,
     pub(crate) terms: NumMap<Terminal>,
+    pub(crate) channels: Channels,
     pub(crate) alloc: Global,
 }
 
@@ -56,9 +58,9 @@ impl Model for Kernel {
 
     ghost coded = { state_code };
 
-    ghost view = { λ k. record no_state { clock = k.clock; tables = k.tables; processes = k.processes; statuses = k.statuses; opens = k.objects.kinds; nodes = k.tree.nodes; names = k.tree.names; terms = k.terms } };
+    ghost view = { λ k. record no_state { clock = k.clock; tables = k.tables; processes = k.processes; statuses = k.statuses; opens = k.objects.kinds; nodes = k.tree.nodes; names = k.tree.names; terms = k.terms; chans = k.channels } };
 
-    ghost invariant = { λ k. IsKept (record no_state { clock = k.clock; tables = k.tables; processes = k.processes; statuses = k.statuses; opens = k.objects.kinds; nodes = k.tree.nodes; names = k.tree.names; terms = k.terms }) k.objects.counts };
+    ghost invariant = { λ k. IsKept (record no_state { clock = k.clock; tables = k.tables; processes = k.processes; statuses = k.statuses; opens = k.objects.kinds; nodes = k.tree.nodes; names = k.tree.names; terms = k.terms; chans = k.channels }) k.objects.counts };
 }
 
 // Whether the status is that of a live process.
@@ -85,6 +87,7 @@ impl Kernel {
             objects,
             tree: launch.tree.copy()?,
             terms: streams(alloc, &launch.stdin)?,
+            channels: Channels::new(alloc),
             alloc,
         })
     }
@@ -104,6 +107,7 @@ impl Kernel {
             &mut self.tables,
             &mut self.processes,
             &mut self.statuses,
+            &mut self.channels,
         );
     }
 
@@ -165,6 +169,18 @@ impl Kernel {
     {
         self.clock += STEP_TIME;
         self.end_process(pid, status);
+    }
+
+    /// Whether some thread is to be looked at again, since a channel on which it waits has changed.
+    pub fn has_wakes(&self) -> bool {
+        self.channels.has_wakes()
+    }
+
+    /// The threads that are to be looked at again, which none is then.
+    pub fn take_wakes(&mut self) -> Wakes
+        ensures { self.new ≡ self.old }
+    {
+        self.channels.take_wakes()
     }
 
     /// Whether the process is live.

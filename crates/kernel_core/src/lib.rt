@@ -1,6 +1,7 @@
 //! The sequential kernel: one state, and a step for each call. It knows no machine, no worker and no lock.
 #![tactic(auto)]
 
+pub use channel_calls::{ThreadOf, Wakes};
 pub use kernel::Kernel;
 pub use kernel_parts::Activity;
 pub use run_types::{Act, Entry, Launch};
@@ -8,12 +9,14 @@ pub use run_types::{Act, Entry, Launch};
 mod clocks;
 mod descriptors;
 mod dispatch;
+mod ends;
 mod entries;
 mod files;
 mod kernel;
 mod offset_calls;
 mod opening;
 mod random;
+mod sockets;
 mod thread_numbers;
 mod threads;
 mod waiting;

@@ -1,7 +1,8 @@
 //! The calls that move an open: they read or write where the last one ended, or set that place.
-ghost use Rattle.std.specs.Prelude.{◌≡◌, ◌+◌, ◌^◌, ◌<◌, Some, IfOk, OnErr, true};
+ghost use Rattle.std.specs.Prelude.{◌≡◌, ◌+◌, ◌^◌, ◌<◌, ℕ, Some, IfOk, OnErr, true};
 ghost use Rattle.std.specs.FinMap as map;
 ghost use Rattle.abi_types.specs.Families.{call_of_offset};
+ghost use Rattle.channel_calls.specs.Calls.{end_outcome};
 ghost use Rattle.fd_calls.specs.Calls as model;
 ghost use Rattle.kernel_core.specs.OffsetCalls.{offset_outcome};
 ghost use Rattle.kernel_model.specs.Calls.{takes_memory};
@@ -11,12 +12,41 @@ ghost use Rattle.kernel_model.specs.State.{put_all, Table};
 
 use crate::kernel::Kernel;
 use abi_types::{Answer, Constants, Errno, OffsetCall, OpenKind, Pid};
+use channel_calls::on_end;
 use fd_calls::at_offset;
-use kernel_parts::{on_stream, open_of};
+use kernel_parts::{on_stream, open_of, release};
 use right_rules::refused;
 use std::alloc::AllocError;
 
 impl Kernel {
+    // Does such a call on an end of channels. Descriptors that come with bytes that are read are let go, and what nothing holds any more
+    // ends. `Err` changes nothing.
+    fn end_call(&mut self, kind: &OpenKind, call: OffsetCall<'_>) -> Result<Answer, AllocError>
+        requires there { (o : ℕ) × (map.get self.old.opens o ≡ Some kind.now) }
+        ensures ok { IfOk result (λ given. (given ≡ (end_outcome self.old.chans kind.now (call_of_offset call.entry)).answer)
+            × (self.new ≡ release (put_all (end_outcome self.old.chans kind.now (call_of_offset call.entry)).updates self.old))) }
+        ensures takes { OnErr result (takes_memory (call_of_offset call.entry) ≡ true) }
+        ensures only { OnErr result (IsSuccess (end_outcome self.old.chans kind.now (call_of_offset call.entry)).answer) }
+        ensures err { OnErr result (self.new ≡ self.old) }
+    {
+        let answer = on_end(
+            self.alloc,
+            &mut self.objects,
+            &mut self.channels,
+            kind,
+            call,
+        )?;
+        release(
+            &mut self.objects,
+            &mut self.tree,
+            &mut self.tables,
+            &mut self.processes,
+            &mut self.statuses,
+            &mut self.channels,
+        );
+        Ok(answer)
+    }
+
     // Does a call that moves the open of a descriptor. `Err` changes nothing.
     pub(crate) fn offset_call(
         &mut self,
@@ -40,6 +70,9 @@ impl Kernel {
         };
         if let OpenKind::Terminal { which, .. } = kind {
             return on_stream(self.alloc, &mut self.terms, which, call);
+        }
+        if let OpenKind::End { .. } = kind {
+            return self.end_call(&kind, call);
         }
         let mut moved = kind;
         let now = self.clock + constants.epoch;

@@ -11,8 +11,12 @@ ghost use Rattle.kernel_model.specs.Wakes.{is_ready, IsStalled, IsWake, MayJump}
 ghost use Rattle.kernel_parts.specs.Waiting.{kept_in};
 
 use crate::kernel::{Kernel, STEP_TIME};
-use abi_types::{Answer, Call, Constants, Errno, Pid, Reply, Thread, Tid, WakeIn, Who};
-use kernel_parts::{Activity, deadline_of, is_over, next_number};
+use crate::sockets::socket_fd;
+use abi_types::{
+    Answer, Call, Constants, Errno, Family, ObjId, Pid, Reply, Thread, Tid, WakeIn, Who,
+};
+use channel_calls::{ThreadOf, waited_on};
+use kernel_parts::{Activity, Surroundings, deadline_of, is_over, next_number, open_of};
 use right_rules::refused;
 use std::alloc::AllocError;
 
@@ -31,7 +35,45 @@ impl Kernel {
     {
         let until = deadline_of(constants, call, who.since);
         let own = self.processes.get_mut(u64::from(who.pid.0));
-        own.park(who.tid, call, who.since, until)
+        own.park(who.tid, call, who.since, until)?;
+        self.note(who.pid, who.tid);
+        Ok(())
+    }
+
+    // The channel on which a thread's call waits, if the thread waits and on one.
+    fn channel_of(&self, pid: Pid, tid: Tid) -> Option<ObjId> {
+        let call = self.kept(pid, tid)?;
+        let fd = match call.family() {
+            Family::Offset(view) => view.fd(),
+            Family::Socket(view) => socket_fd(view),
+            _ => return None,
+        };
+        let (_, kind) = open_of(&self.tables, &self.objects, pid, fd)?;
+        waited_on(&kind, call)
+    }
+
+    // Notes a thread at the channel on which it waits, if it waits on one: once that changes the thread is to be looked at again.
+    fn note(&mut self, pid: Pid, tid: Tid)
+        ensures { self.new ≡ self.old }
+    {
+        if let Some(id) = self.channel_of(pid, tid) {
+            self.channels.note(id, ThreadOf { pid, tid });
+        }
+    }
+
+    // What calls that wait look at beside their process's descriptors.
+    fn around<'a>(&'a self, constants: &'a Constants) -> Surroundings<'a>
+        ensures constants { result.constants.now ≡ constants.now }
+        ensures opens { result.objects.now.kinds ≡ self.now.opens }
+        ensures channels { result.channels.now ≡ self.now.chans }
+        ensures moment { result.now ≡ self.now.clock }
+    {
+        Surroundings {
+            constants,
+            objects: &self.objects,
+            channels: &self.channels,
+            now: self.clock,
+        }
     }
 
     // Lets a thread run that waits, and gives back the call that it waited in, and when that was made. `None` exactly where the
@@ -64,7 +106,7 @@ impl Kernel {
         match self.thread(pid, tid) {
             Some(Thread::Waits { call, since, .. }) => {
                 let table = self.tables.get(u64::from(pid.0));
-                is_over(constants, table, *since, self.clock, call)
+                is_over(self.around(constants), table, *since, call)
             }
             _ => false,
         }
@@ -95,6 +137,7 @@ impl Kernel {
             → self.new ≡ tick (with_thread self.old pid tid Thread.Runnable)) }
     {
         if !self.is_ready(constants, pid, tid) {
+            self.note(pid, tid);
             return None;
         }
         let (call, since) = self.resume(pid, tid)?;
@@ -114,11 +157,12 @@ impl Kernel {
     pub fn activity(&self, constants: &Constants) -> Activity
         ensures { ThreadsDo constants.now self.now result }
     {
+        let around = self.around(constants);
         let mut found = Activity::NoThread;
         let mut last = None;
         while let Some(p) = next_number(&self.processes, last) {
             if let Some(own) = self.processes.get(p) {
-                found = found.with(own.activity(constants, self.tables.get(p), self.clock));
+                found = found.with(own.activity(around, self.tables.get(p)));
             }
             last = Some(p);
         }

@@ -41,6 +41,7 @@ replying_is_proper named need seen errors reply names sees plain listed = record
   others = λ constants v who table q apart. (refl, refl);
   own = λ constants S who table. inl (own_stays (get S.processes who.pid));
   allows = λ constants S who table. tt;
+  carries = λ constants S who table nearly. tt;
   valid = λ constants S who table there nearly. nearly;
 }
 

@@ -70,6 +70,9 @@ takes_none (call.FileUnlink fd path flags) listed = absurd (not_true listed)
 takes_none (call.RandomGet length) listed = absurd (not_true listed)
 takes_none (call.ThreadCreate attributes) listed = absurd (not_true listed)
 takes_none (call.MemMap place length prot flags fd offset) listed = absurd (not_true listed)
+takes_none (call.FdCreate2 kind) listed = absurd (not_true listed)
+takes_none (call.SockRecv fd length fds flags) listed = absurd (not_true listed)
+takes_none (call.SockSend fd bytes fds flags) listed = absurd (not_true listed)
 takes_none _ listed = refl
 
 pub never_lack : NeverLack
@@ -111,7 +114,9 @@ stream_left q (node n) (Some (Terminal which flags)) = refl
 stream_left q (names n) (Some (Terminal which flags)) = refl
 stream_left q of (Some (File n offset flags)) = refl
 stream_left q of (Some (Directory n flags)) = refl
-stream_left q of (Some (End reads writes flags)) = refl
+stream_left q of (Some (End None writes flags)) = refl
+stream_left q (node n) (Some (End (Some c) writes flags)) = refl
+stream_left q (names n) (Some (End (Some c) writes flags)) = refl
 stream_left q of (Some (Process p)) = refl
 
 on_open_keeps : (row : Needed) (m : OpenMeaning) → ((q : Part) → IsOfTree q → (kind : Option OpenKind) → has_part (m.touched kind) q ≡ false)

@@ -6,7 +6,7 @@ use Rattle.abi_types.specs.declared.call.Call.TheVariants as call
 use Rattle.kernel_model.specs.Calls.{meaning_of}
 use Rattle.kernel_model.specs.Proper.{IsProper}
 use Rattle.kernel_model.specs.Reply.{success}
-use Rattle.kernel_model.proofs.Answering.{answering_is_proper, listing_is_proper, naming_is_proper, needing_is_proper, row_is_proper}
+use Rattle.kernel_model.proofs.Answering.{answering_is_proper, listing_is_proper, naming_is_proper, needing_is_proper}
 use Rattle.kernel_model.proofs.MemoryCalls.{decided_is_proper, mem_map_is_proper}
 use Rattle.kernel_model.proofs.ClockCalls.{clock_time_get_is_proper, random_get_is_proper}
 use Rattle.kernel_model.proofs.ProcessCalls.{proc_exit_is_proper}
@@ -20,6 +20,8 @@ use Rattle.kernel_model.proofs.NameMaking.{file_create_is_proper, file_symlink_i
 use Rattle.kernel_model.proofs.NameMoving.{file_rename_is_proper}
 use Rattle.kernel_model.proofs.NameRemoving.{file_unlink_is_proper}
 use Rattle.kernel_model.proofs.Opening.{file_open_is_proper}
+use Rattle.kernel_model.proofs.PairCalls.{fd_create2_is_proper}
+use Rattle.kernel_model.proofs.SocketCalls.{sock_recv_is_proper, sock_send_is_proper, sock_shutdown_is_proper}
 use Rattle.kernel_model.proofs.StreamCalls.{fd_read_is_proper, fd_seek_is_proper, fd_write_is_proper}
 use Rattle.kernel_model.proofs.WaitCalls.{poll_is_proper}
 
@@ -29,7 +31,7 @@ proper (call.ClockTimeGet clock precision) = clock_time_get_is_proper clock
 proper (call.CondvarSignal condvar word scope n) = naming_is_proper []
 proper (call.FdClose fd) = fd_close_is_proper fd
 proper (call.FdCreate1 kind) = naming_is_proper []
-proper (call.FdCreate2 kind) = naming_is_proper []
+proper (call.FdCreate2 kind) = fd_create2_is_proper kind
 proper (call.FdDatasync fd) = needing_is_proper fd _
 proper (call.FdDup fd) = fd_dup_is_proper fd
 proper (call.FdPread fd length offset) = fd_pread_is_proper fd length offset
@@ -64,9 +66,9 @@ proper (call.ProcExit code) = proc_exit_is_proper code
 proper (call.ProcFork left) = naming_is_proper []
 proper (call.ProcRaise signal) = naming_is_proper []
 proper (call.RandomGet length) = random_get_is_proper length
-proper (call.SockRecv fd length fds flags) = row_is_proper _
-proper (call.SockSend fd bytes fds flags) = listing_is_proper _ fds
-proper (call.SockShutdown fd how) = row_is_proper _
+proper (call.SockRecv fd length fds flags) = sock_recv_is_proper fd length fds flags
+proper (call.SockSend fd bytes fds flags) = sock_send_is_proper fd bytes fds
+proper (call.SockShutdown fd how) = sock_shutdown_is_proper fd how
 proper (call.ThreadCreate attributes) = thread_create_is_proper
 proper (call.ThreadExit lock word scope) = thread_exit_is_proper lock word
 proper call.ThreadYield = answering_is_proper [] (success 0 0) refl (inl refl)

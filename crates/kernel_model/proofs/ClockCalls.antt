@@ -9,7 +9,7 @@ use Rattle.maps.specs.Maps.{get-insert-same}
 use Rattle.kernel_model.specs.Families.ClockCalls.{can_draw, clock_time_get, drawn_by, drawn_if, random_get}
 use Rattle.kernel_model.specs.Outcome.{Outcome, replies}
 use Rattle.kernel_model.specs.OwnChanges.{draws_words, drawn_more, AllowsChange, LeavesOwn}
-use Rattle.kernel_model.specs.Proper.{IsPlain, IsProper, IsUnset}
+use Rattle.kernel_model.specs.Proper.{IsPlain, IsProper, IsUnset, AllCarryOn}
 use Rattle.kernel_model.specs.Reply.{refused}
 use Rattle.kernel_model.specs.State.{ProcessState, at_proc, at_status, has_part, put_all}
 use Rattle.kernel_model.specs.Valid.{IsNearlyValid}
@@ -33,6 +33,7 @@ clock_time_get_is_proper clock = record {
   others = λ constants v who table q apart. (refl, refl);
   own = λ constants S who table. inl (own_stays (get S.processes who.pid));
   allows = λ constants S who table. tt;
+  carries = λ constants S who table nearly. tt;
   valid = λ constants S who table there nearly. nearly;
 }
 
@@ -73,6 +74,8 @@ random_get_is_proper length = record {
   allows = λ constants S who table.
       drawn_holds (λ o. AllowsChange (draws_words (words_of length)) who.tid o.answer (get S.processes who.pid)) constants who.pid
       (get S.processes who.pid) length (λ done. absurd (not_true done)) (λ own there _. ap is_some there);
+  carries = λ constants S who table nearly.
+      drawn_holds (AllCarryOn S (table, [], false)) constants who.pid (get S.processes who.pid) length tt (λ own _. (tt, tt));
   valid = λ constants S who table there nearly.
       drawn_holds (λ o. IsNearlyValid (put_all o.updates S)) constants who.pid (get S.processes who.pid) length nearly
       (λ own is. set_process_nearly_valid S who.pid own (drawn_more (words_of length) own) is (drawn_grows (words_of length) own) nearly);

@@ -11,12 +11,13 @@ use Rattle.abi_types.specs.declared.who.Who.{Who}
 use Rattle.kernel_model.specs.Outcome.{Outcome}
 use Rattle.kernel_model.specs.Laws.{HasSameSight, EndsSame, EndsAlike}
 use Rattle.kernel_model.specs.Channels.{channel_left}
-use Rattle.kernel_model.specs.Release.{ends, is_node_kept, process_left, release, status_left, table_left, without_ended}
+use Rattle.kernel_model.specs.Release.{ends, is_node_kept, kept_channel, process_left, release, status_left, table_left, without_ended}
 use Rattle.kernel_model.specs.State.{State, Part, at_clock, at_proc, at_status, at_open, at_node, at_names, at_term, at_chan, same_part, has_part, Agree, AgreeOn, put_all}
 use Rattle.kernel_model.specs.Step.{tick, sight, outcome_by, outcome, unreleased, step_answer, step_state}
 use Rattle.kernel_model.specs.View.{only, restrict}
 use Rattle.kernel_model.specs.Waits.{waiting, waits_if}
-use Rattle.kernel_model.proofs.Ends.{channel_after, process_after, status_after, table_after}
+use Rattle.kernel_model.proofs.Channels.{channel_released}
+use Rattle.kernel_model.proofs.Ends.{process_after, status_after, table_after}
 use Rattle.kernel_model.proofs.Parts.{agree_at, put_same}
 use Rattle.kernel_model.proofs.Threading.{waits_alike}
 use Rattle.kernel_model.proofs.Valids.{get_released}
@@ -103,7 +104,7 @@ release_alike S T (at_names n) h alike =
     get-retain S.names (is_node_kept (without_ended S)) n
     ∙ (λ i. cond (same_test _ _ alike i) (h i) None) ∙ sym (get-retain T.names (is_node_kept (without_ended T)) n)
 release_alike S T (at_chan c) h alike =
-    channel_after S (ends S) c ∙ (λ i. option_map (channel_left (alike.0 i) (alike.1 i)) (h i)) ∙ sym (channel_after T (ends T) c)
+    channel_released S c ∙ (λ i. kept_channel (option_map (channel_left (alike.0 i) (alike.1 i)) (h i))) ∙ sym (channel_released T c)
 release_alike S T q h alike = h
 
 same_itself : (q : Part) → same_part q q ≡ true

@@ -18,7 +18,7 @@ use Rattle.maps.specs.Maps.{get-insert-same, get-insert-other, get-remove-same, 
 use Rattle.kernel_model.specs.Families.DescriptorCalls.{with_table, fd_close, free_from, lowest_free, dup_at, dup_of, fd_dup, replaced_by, fd_replace, stat_open, stat_get, fd_stat_get, stat_put_row, with_flags, lowered_to, stat_set, stat_put, open_part, fd_stat_put}
 use Rattle.kernel_model.specs.Outcome.{Outcome, replies}
 use Rattle.kernel_model.specs.OwnChanges.{keeps_own}
-use Rattle.kernel_model.specs.Proper.{IsIn, IsUnset, IsPlain, IsProper}
+use Rattle.kernel_model.specs.Proper.{IsIn, IsUnset, IsPlain, IsProper, AllCarryOn, CarriesOn, may_send}
 use Rattle.kernel_model.specs.Reply.{refused}
 use Rattle.kernel_model.specs.Sight.{process_parts, behind, reached_by}
 use Rattle.kernel_model.specs.State.{State, Table, Part, Update, at_clock, at_proc, at_status, at_open, same_part, has_part, part_of, put_all, set_open, set_table}
@@ -108,6 +108,7 @@ setting_is_proper : (named : List ℕ) (errors : List Errno) (takes : Bool) (f :
       takes_memory = takes;
       may_wait = false;
       deadline = λ constants since. None;
+      sends = [];
     })
 setting_is_proper named errors takes f is lacks = record {
   names = tt;
@@ -129,6 +130,8 @@ setting_is_proper named errors takes f is lacks = record {
       inl (of_table (KeepsOwn S who.pid) errors who.pid table (f who.pid table) (is who.pid table) (λ errno _. own_stays (get S.processes who.pid))
       (λ result new _. own_stays (get S.processes who.pid)));
   allows = λ constants S who table. tt;
+  carries = λ constants S who table nearly.
+      of_table (AllCarryOn S (table, [], may_send errors)) errors who.pid table (f who.pid table) (is who.pid table) (λ errno _. tt) (λ result new _. (tt, tt));
   valid = λ constants S who table there nearly. setting_valid errors S who.pid table (f who.pid table) (is who.pid table) there nearly;
 }
 
@@ -216,6 +219,7 @@ fd_stat_get_is_proper fd = record {
   own = λ constants S who table.
       inl (stat_holds (KeepsOwn S who.pid) (whole S) (get table fd) (own_stays (get S.processes who.pid)) (λ d kind. own_stays (get S.processes who.pid)));
   allows = λ constants S who table. tt;
+  carries = λ constants S who table nearly. stat_holds (AllCarryOn S (table, [], false)) (whole S) (get table fd) tt (λ d kind. tt);
   valid = λ constants S who table there nearly. stat_holds (λ (o : Outcome). IsNearlyValid (put_all o.updates S)) (whole S) (get table fd) nearly (λ d kind. nearly);
 }
 
@@ -318,5 +322,9 @@ fd_stat_put_is_proper fd stat flags = record {
   others = λ constants v who table q apart. put_others v who.pid table fd stat flags (get table fd) q apart;
   own = λ constants S who table. inl (put_own S (whole S) who.pid table fd stat flags (get table fd));
   allows = λ constants S who table. tt;
+  carries = λ constants S who table nearly.
+      put_holds (AllCarryOn S (table, [], false)) (whole S) who.pid table fd stat flags (get table fd) tt
+      (λ d kind _ _. either_set (λ us. AllByRecursion (CarriesOn S (table, [], false)) us) (bit_and flags 1 == 0) (bit_and flags 2 == 0)
+      (set_open d.id (with_flags kind stat.flags)) (set_table who.pid (insert table fd (lowered_to d stat))) tt (tt, tt) (tt, tt) (tt, (tt, tt)));
   valid = λ constants S who table there nearly. put_valid S who.pid table fd stat flags there nearly;
 }

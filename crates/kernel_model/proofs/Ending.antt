@@ -17,7 +17,7 @@ use Rattle.abi_types.specs.declared.status.Status.{Status}
 use Rattle.abi_types.specs.declared.status.Status.TheVariants.{Live, Exit, Killed}
 use Rattle.maps.specs.Closure.{member, IsSubset}
 use Rattle.maps.specs.Maps.{get-retain, same_numbers}
-use Rattle.kernel_model.specs.Channels.{Channel, side_gone, without_reader, without_writer, channel_left}
+use Rattle.kernel_model.specs.Channels.{Channel, Gone, without_reader, without_writer, channel_left}
 use Rattle.kernel_model.specs.Release.{holders, carriers, is_of_process, is_reader, is_writer, lives, is_killed, loses_reader, loses_writer, table_left, process_left, status_left, without, ends, without_ended, AllAreHeld, LetsGo, starts, goes}
 use Rattle.kernel_model.specs.State.{State, Table, ProcessState}
 use Rattle.kernel_model.proofs.Ends.{any_more, carriers_fewer, channel_after, ends_are_least, ends_closed, holders_fewer, process_after, status_after, table_after, without_none}
@@ -128,7 +128,7 @@ none_more n = omega arith
 
 reader_twice : (a b : Bool) (channel : Channel) → without_reader a (without_reader b channel) ≡ without_reader (a || b) channel
 reader_twice true true channel =
-    λ i. record channel { left = none_more (channel.left + length channel.waiting) i; waiting = []; drawn = 0; reader = side_gone }
+    λ i. record channel { left = none_more (channel.left + length channel.waiting) i; waiting = []; drawn = 0; reader = Gone }
 reader_twice true false channel = refl
 reader_twice false b channel = refl
 

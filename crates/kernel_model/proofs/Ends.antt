@@ -142,7 +142,7 @@ pub channel_after : (S : State) (ended : List ℕ) (c : ℕ)
     → get (without ended S).chans c ≡ option_map (channel_left (loses_reader S ended c) (loses_writer S ended c)) (get S.chans c)
 channel_after S ended c = get-changed (λ e. channel_left (loses_reader S ended e) (loses_writer S ended e)) S.chans c
 
-same_channel : (channel : Option Channel) → option_map (channel_left false false) channel ≡ channel
+pub same_channel : (channel : Option Channel) → option_map (channel_left false false) channel ≡ channel
 same_channel None = refl
 same_channel (Some channel) = refl
 

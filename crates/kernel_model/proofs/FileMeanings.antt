@@ -14,9 +14,9 @@ use Rattle.abi_types.specs.declared.open_kind.OpenKind.{OpenKind}
 use Rattle.kernel_model.specs.Families.ClockCalls.{real_time}
 use Rattle.kernel_model.specs.Families.FileMeaning.{FileMeaning, open_of, on_open}
 use Rattle.kernel_model.specs.Outcome.{Outcome}
-use Rattle.kernel_model.specs.Proper.{IsDeniedOutside, IsProper, IsUnset}
+use Rattle.kernel_model.specs.Proper.{CarriesOn, IsDeniedOutside, IsProper, IsUnset, Sender, may_send}
 use Rattle.kernel_model.specs.Sight.{process_parts, behind, reached_by}
-use Rattle.kernel_model.specs.State.{State, Tree, tree_of, Part, Update, at_proc, at_status, at_open, same_part, has_part, part_of, put_all, put_one, set_node, set_names}
+use Rattle.kernel_model.specs.State.{State, Tree, tree_of, Part, Update, at_proc, at_status, at_open, same_part, has_part, part_of, put_all, put_one, set_node, set_names, set_chan}
 use Rattle.kernel_model.specs.Step.{tick}
 use Rattle.kernel_model.specs.Valid.{HasBehind, IsNearlyValid}
 use Rattle.kernel_model.specs.View.{restrict, whole}
@@ -66,6 +66,14 @@ one_tables : (u : Update) (S : State) → IsOfTree u → (put_one u S).tables �
 one_tables (set_node n node) S h = refl
 one_tables (set_names n names) S h = refl
 one_tables u S h = absurd h
+
+one_carries : (S : State) (sender : Sender) (u : Update) → IsOfTree u → CarriesOn S sender u
+one_carries S sender (set_chan c channel) h = absurd h
+one_carries S sender u h = tt
+
+pub tree_carries : (S : State) (sender : Sender) (us : List Update) → AllByRecursion IsOfTree us → AllByRecursion (CarriesOn S sender) us
+tree_carries S sender [] h = tt
+tree_carries S sender (u ∷ us) h = (one_carries S sender u h.0, tree_carries S sender us h.1)
 
 pub tree_tables : (us : List Update) (S : State) → AllByRecursion IsOfTree us → (put_all us S).tables ≡ S.tables
 tree_tables [] S h = refl
@@ -141,6 +149,9 @@ module _ (m : FileMeaning) (well : KeepsWell m) where
         (tree_processes (m.effect (real_time constants S.clock) (tree_of S) (open_of (whole S) (get table row.fd))).updates S
         (well.tree (real_time constants S.clock) (tree_of S) (open_of (whole S) (get table row.fd))))));
     allows = λ constants S who table. tt;
+    carries = λ constants S who table nearly.
+        tree_carries S (table, [], may_send m.errors) (m.effect (real_time constants S.clock) (tree_of S) (open_of (whole S) (get table row.fd))).updates
+        (well.tree (real_time constants S.clock) (tree_of S) (open_of (whole S) (get table row.fd)));
     valid = λ constants S who table there nearly.
         well.valid (real_time constants S.clock) S (open_of (whole S) (get table row.fd)) (open_has_behind S (get table row.fd) nearly) nearly;
   }

@@ -16,6 +16,7 @@ use Rattle.abi_types.specs.declared.who.Who.{Who}
 use Rattle.kernel_model.specs.CallBounds.{BadfIsAbsent, IsAbsentIn, IsBadfBefore}
 use Rattle.kernel_model.specs.Calls.{meaning_of, named, need, refusal, refusal_of}
 use Rattle.kernel_model.specs.Families.LockWords.{unlocked}
+use Rattle.kernel_model.specs.Families.SocketCalls.{made_of}
 use Rattle.kernel_model.specs.Laws.{HasAll}
 use Rattle.kernel_model.specs.Need.{denied_by, first_lack, some_absent}
 use Rattle.kernel_model.specs.Outcome.{Outcome, WhereReply}
@@ -29,11 +30,13 @@ use Rattle.kernel_model.proofs.FoundFiles.{fd_close_found, fd_dup_found, fd_prea
 use Rattle.kernel_model.proofs.FoundNames.{file_create_found, file_link_found, file_open_found, file_rename_found, file_symlink_found, file_unlink_found}
 use Rattle.kernel_model.proofs.FoundOpens.{NeverBadf, OnlyWhere}
 use Rattle.kernel_model.proofs.WaitCalls.{poll_holds}
+use Rattle.kernel_model.proofs.FoundSockets.{created_found, sock_recv_found, sock_send_found, sock_shutdown_found}
 use Rattle.kernel_model.proofs.FoundStreams.{fd_read_found, fd_seek_found, fd_write_found, mem_map_found}
 use Rattle.kernel_model.proofs.ClockCalls.{drawn_holds}
 use Rattle.kernel_model.proofs.Lacks.{all_present}
 use Rattle.kernel_model.proofs.Lists.{in_more}
 use Rattle.kernel_model.proofs.Outcomes.{outcome_by_cases}
+use Rattle.kernel_model.proofs.PairCalls.{create_holds}
 use Rattle.kernel_model.proofs.Reaches.{all_met}
 use Rattle.kernel_model.proofs.Refusals.{same_reply, where_reply}
 use Rattle.kernel_model.proofs.Tests.{none_is_no, not_true, same_some}
@@ -79,6 +82,13 @@ module _ (S : State) (nearly : IsNearlyValid S) where
   found (call.ThreadExit lock word scope) = λ constants who table own all met.
       left_holds (OnlyWhere (IsBadfBefore (call.ThreadExit lock word scope))) who.pid who.tid (get S.processes who.pid) lock (unlocked who.tid word)
       (λ e. cc) (λ new _ e. cc) (λ new x _ _ e. cc)
+  found (call.FdCreate2 kind) = λ constants who table own all met.
+      create_holds who.pid who.tid (get S.processes who.pid) table (OnlyWhere (IsBadfBefore (call.FdCreate2 kind)))
+      (created_found (IsBadfBefore (call.FdCreate2 kind)))
+      (made_of kind) (λ made is first second x one two there some can e. cc)
+  found (call.SockRecv fd length fds flags) = sock_recv_found S nearly fd length fds flags
+  found (call.SockSend fd bytes fds flags) = sock_send_found S nearly fd bytes fds
+  found (call.SockShutdown fd how) = sock_shutdown_found S nearly fd how
   found _ = λ constants who table own all met e. cc
 
 -- ---- refusals

@@ -2,7 +2,7 @@
 --     fd_close_found .. fd_stat_put_found      calls on descriptors
 --     fd_pread_found .. file_stat_put_found      calls on files
 --     file_stat_fput_found      one that sets no size and no time of a standard stream
-use Rattle.std.proofs.Common.{◌≡◌, ℕ, ◌+◌, ◌<◌, ◌==◌, not, Bool, true, false, cond, List, [], ◌∷◌, length, Option, Some, None, IsSome, T, is_some, refl, sym, subst, ◌∙◌, arith}
+use Rattle.std.proofs.Common.{◌≡◌, ℕ, ◌+◌, ◌<◌, ◌==◌, ◌||◌, not, Bool, true, false, cond, List, [], ◌∷◌, length, Option, Some, None, IsSome, T, is_some, refl, sym, subst, ◌∙◌, arith}
 use Rattle.std.proofs.lemmas.Bool.{eqb-true}
 use Rattle.std.proofs.lemmas.Nat.{and_comm, and_or_apart}
 use Rattle.std.specs.Int.{bit_at}
@@ -21,6 +21,7 @@ use Rattle.abi_types.specs.declared.node.NodeKind.TheVariants as kind
 use Rattle.abi_types.specs.OpenTypes.{rights_of}
 use Rattle.abi_types.specs.declared.open_type.OpenType.TheVariants as type
 use Rattle.abi_types.specs.declared.open_kind.OpenKind.{OpenKind}
+use Rattle.abi_types.specs.declared.open_kind.OpenKind.TheVariants.{End}
 use Rattle.path_lookup.specs.declared.ends.WalkMode.TheVariants.{NoFollow}
 use Rattle.tree_model.specs.Changes.{is_file_node}
 use Rattle.tree_model.specs.Files.{is_beyond}
@@ -38,7 +39,7 @@ use Rattle.kernel_model.specs.Fits.{fits}
 use Rattle.kernel_model.specs.Valid.{HasBehind, IsNearlyValid}
 use Rattle.kernel_model.specs.View.{whole}
 use Rattle.kernel_model.proofs.FileChanges.{allocated_reworks, put_stat_reworks, put_times_reworks}
-use Rattle.kernel_model.proofs.FoundOpens.{NeverBadf, OnlyWhere, at_directory, at_file, by_kind, either, granted_base, no_stream, on_open_found, open_there, zero_or_one}
+use Rattle.kernel_model.proofs.FoundOpens.{NeverBadf, OnlyWhere, at_directory, at_file, by_kind, either, granted_base, no_end, no_stream, on_open_found, open_there, zero_or_one}
 use Rattle.kernel_model.proofs.FoundPaths.{by_path_found, directory_there, is_there}
 use Rattle.kernel_model.proofs.Reworks.{Reworks}
 use Rattle.kernel_model.proofs.Tests.{not_true}
@@ -98,6 +99,13 @@ reworked_found Q t u n works there = becomes_found Q n (get u.nodes n) (works.he
 large_found : (Q : Type 0) (size : ℕ) (o : Outcome) → OnlyWhere Q o → OnlyWhere Q (unless_large size o)
 large_found Q size o found = either (OnlyWhere Q) (nat_lt MOST_FILE_BYTES size) _ o (λ e. cc) found
 
+-- an end reads or writes a channel
+end_found : (t : Tree) (reads writes : Option ℕ) (flags : ℕ) → (is_some reads || is_some writes) ≡ true
+    → OnlyWhere ⊥ (report_open t (Some (End reads writes flags)))
+end_found t (Some r) writes flags some = λ e. cc
+end_found t None (Some w) flags some = λ e. cc
+end_found t None None flags some = absurd (not_true some)
+
 report_found : (n : ℕ) (o : Option Node) → is_some o ≡ true → OnlyWhere ⊥ (report_node n o)
 report_found n None there = absurd (not_true there)
 report_found n (Some node) there = λ e. cc
@@ -127,14 +135,15 @@ module _ (S : State) (nearly : IsNearlyValid S) where
       let row = base_row fd (both FD_READ FD_SEEK) in
       on_open_found S nearly ⊥ row (looking (read_at n at))
       (λ now.
-      at_file S (λ k. OnlyWhere ⊥ (read_at n at (tree_of S) (Some k))) 2 row refl refl ((omega arith, refl, refl, refl), refl) (λ node offset flags file. λ e. cc))
+      at_file S (λ k. OnlyWhere ⊥ (read_at n at (tree_of S) (Some k))) 2 row refl refl ((omega arith, refl, refl, refl, refl), refl)
+      (λ node offset flags file. λ e. cc))
 
   pub fd_pwrite_found : (fd : ℕ) (bytes : List ℕ) (at : ℕ) → NeverBadf ⊥ S (fd_pwrite fd bytes at)
   fd_pwrite_found fd bytes at =
       let row = base_row fd (both FD_WRITE FD_SEEK) in
       on_open_found S nearly ⊥ row (changing (write_at bytes at))
       (λ now.
-      at_file S (λ k. OnlyWhere ⊥ (write_at bytes at now (tree_of S) (Some k))) 2 row refl refl ((omega arith, refl, refl, refl), refl)
+      at_file S (λ k. OnlyWhere ⊥ (write_at bytes at now (tree_of S) (Some k))) 2 row refl refl ((omega arith, refl, refl, refl, refl), refl)
       (λ node offset flags file. bytes_found (tree_of S) node now at bytes))
 
   pub file_allocate_found : (fd offset length : ℕ) → NeverBadf ⊥ S (file_allocate fd offset length)
@@ -143,7 +152,7 @@ module _ (S : State) (nearly : IsNearlyValid S) where
       let size = offset + length in
       on_open_found S nearly ⊥ row (changing (allocate size))
       (λ now.
-      at_file S (λ k. OnlyWhere ⊥ (allocate size now (tree_of S) (Some k))) 8 row refl refl ((omega arith, refl, refl, refl), refl)
+      at_file S (λ k. OnlyWhere ⊥ (allocate size now (tree_of S) (Some k))) 8 row refl refl ((omega arith, refl, refl, refl, refl), refl)
       (λ node at flags file.
       large_found ⊥ size _
       (reworked_found ⊥ (tree_of S) (allocated (tree_of S) node now size) node (allocated_reworks (tree_of S) node now size file)
@@ -156,14 +165,14 @@ module _ (S : State) (nearly : IsNearlyValid S) where
       by_kind S (λ k. OnlyWhere ⊥ (report_open (tree_of S) (Some k)))
       (λ node offset flags file. report_found node (get S.nodes node) (file_there (get S.nodes node) file))
       (λ node flags directory. report_found node (get S.nodes node) (directory_there (get S.nodes node) directory))
-      (λ which flags stream. λ e. cc) (λ p. λ e. cc) kind g.silent g.behind)
+      (λ reads writes flags behind. end_found (tree_of S) reads writes flags behind.0) (λ which flags stream. λ e. cc) (λ p. λ e. cc) kind g.behind)
 
   pub file_readdir_found : (fd n cookie : ℕ) → NeverBadf ⊥ S (file_readdir fd n cookie)
   file_readdir_found fd n cookie =
       let row = base_row fd FILE_READDIR in
       on_open_found S nearly ⊥ row (looking (list_open n cookie))
       (λ now.
-      at_directory S (λ k. OnlyWhere ⊥ (list_open n cookie (tree_of S) (Some k))) 15 row refl refl ((omega arith, refl, refl, refl), refl)
+      at_directory S (λ k. OnlyWhere ⊥ (list_open n cookie (tree_of S) (Some k))) 15 row refl refl ((omega arith, refl, refl, refl, refl), refl)
       (λ node flags directory. names_found (tree_of S) n cookie (get S.names node) ((nearly.tree.directories node).1 directory)))
 
   pub file_stat_get_found : (lookup : Lookup) (path : List ℕ) → NeverBadf ⊥ S (file_stat_get lookup path)
@@ -173,7 +182,7 @@ module _ (S : State) (nearly : IsNearlyValid S) where
       let mode = lookup_mode lookup.flags in
       on_open_found S nearly ⊥ row (by_path mode path (λ now. report_in))
       (λ now.
-      at_directory S (λ k. OnlyWhere ⊥ (at_walked (report_in t) (walked t mode path (Some k)))) 22 row refl refl ((omega arith, refl, refl, refl), refl)
+      at_directory S (λ k. OnlyWhere ⊥ (at_walked (report_in t) (walked t mode path (Some k)))) 22 row refl refl ((omega arith, refl, refl, refl, refl), refl)
       (by_path_found t (report_in t) (λ n there. report_found n (get t.nodes n) there) mode path))
 
   pub file_readlink_found : (fd : ℕ) (path : List ℕ) (n : ℕ) → NeverBadf ⊥ S (file_readlink fd path n)
@@ -182,7 +191,8 @@ module _ (S : State) (nearly : IsNearlyValid S) where
       let row = base_row fd FILE_READLINK in
       on_open_found S nearly ⊥ row (by_path NoFollow path (λ now. read_link_in n))
       (λ now.
-      at_directory S (λ k. OnlyWhere ⊥ (at_walked (read_link_in n t) (walked t NoFollow path (Some k)))) 16 row refl refl ((omega arith, refl, refl, refl), refl)
+      at_directory S (λ k. OnlyWhere ⊥ (at_walked (read_link_in n t) (walked t NoFollow path (Some k)))) 16 row refl refl
+      ((omega arith, refl, refl, refl, refl), refl)
       (by_path_found t (read_link_in n t) (λ m there. read_found n (get t.nodes m) there) NoFollow path))
 
   pub file_stat_put_found : (lookup : Lookup) (path : List ℕ) (stat : FileStat) (flags : ℕ) → NeverBadf ⊥ S (file_stat_put lookup path stat flags)
@@ -192,7 +202,8 @@ module _ (S : State) (nearly : IsNearlyValid S) where
       let mode = lookup_mode lookup.flags in
       on_open_found S nearly ⊥ row (put_by_path mode path flags stat)
       (λ now.
-      at_directory S (λ k. OnlyWhere ⊥ (at_walked (put_found flags stat now t) (walked t mode path (Some k)))) 23 row refl refl ((omega arith, refl, refl, refl), refl)
+      at_directory S (λ k. OnlyWhere ⊥ (at_walked (put_found flags stat now t) (walked t mode path (Some k)))) 23 row refl refl
+      ((omega arith, refl, refl, refl, refl), refl)
       (by_path_found t (put_found flags stat now t)
       (λ n there. reworked_found ⊥ t (put_times flags stat now t n) n (put_times_reworks flags stat now t n) there) mode path))
 
@@ -234,7 +245,7 @@ module _ (S : State) (nearly : IsNearlyValid S) (fd : ℕ) (stat : FileStat) (fl
   abbrev put_row : Needed
   put_row = base_row fd (both (where_set flags 16 FILE_STAT_FPUT_SIZE) (where_set flags 15 FILE_STAT_FPUT_TIMES))
 
-  put_open_found : (now : ℕ) (kind : OpenKind) → ((c : ℕ) → get S.chans c ≡ None) → HasBehind S kind → ((k : ℕ) → k < 64 → Has put_row.base.0 k → Has (fits kind) k)
+  put_open_found : (now : ℕ) (kind : OpenKind) → HasBehind S kind → ((k : ℕ) → k < 64 → Has put_row.base.0 k → Has (fits kind) k)
       → OnlyWhere (bit_and flags 31 ≡ 0) (put_open flags stat now (tree_of S) (Some kind))
   put_open_found now =
       let t : Tree = tree_of S in
@@ -247,6 +258,11 @@ module _ (S : State) (nearly : IsNearlyValid S) (fd : ℕ) (stat : FileStat) (fl
       directory_put Q (bit_and flags 16 == 0) (bit_and flags 15 == 0) _ _
       (λ size. zero_or_one (bit_at (rights_of type.Directory) 20) refl (rights 20 (omega arith) size))
       (reworked_found Q t (put_times flags stat now t node) node (put_times_reworks flags stat now t node) (directory_there (get S.nodes node) directory)))
+      (λ reads writes open_flags behind rights _.
+      let none = nothing_asked (bit_and flags 16 == 0) (bit_and flags 15 == 0)
+      (λ size. no_end reads writes 20 refl refl refl (rights 20 (omega arith) size))
+      (λ time. no_end reads writes 21 refl refl refl (rights 21 (omega arith) time)) in
+      nothing_put flags (eqb-true _ _ none.0) (eqb-true _ _ none.1))
       (λ which open_flags stream rights _.
       let none = nothing_asked (bit_and flags 16 == 0) (bit_and flags 15 == 0)
       (λ size. no_stream which 20 refl refl (rights 20 (omega arith) size)) (λ time. no_stream which 21 refl refl (rights 21 (omega arith) time)) in
@@ -260,4 +276,4 @@ module _ (S : State) (nearly : IsNearlyValid S) (fd : ℕ) (stat : FileStat) (fl
   pub file_stat_fput_found : NeverBadf (bit_and flags 31 ≡ 0) S (file_stat_fput fd stat flags)
   file_stat_fput_found =
       on_open_found S nearly (bit_and flags 31 ≡ 0) put_row (changing (put_open flags stat))
-      (λ now kind g. put_open_found now kind nearly.silent g.behind (λ k below needs. granted_base g k below refl needs))
+      (λ now kind g. put_open_found now kind g.behind (λ k below needs. granted_base g k below refl needs))

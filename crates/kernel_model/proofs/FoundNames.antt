@@ -100,7 +100,7 @@ module _ (S : State) (nearly : IsNearlyValid S) where
       by_name_found S nearly (base_row fd FILE_CREATE_DIRECTORY) (making kind.Directory path)
       (λ now new.
       at_directory S (λ k. NamesOther ((making kind.Directory path).effect now new (tree_of S) (Some k) None)) 9 (base_row fd FILE_CREATE_DIRECTORY) refl refl
-      ((omega arith, refl, refl, refl), refl) (making_other kind.Directory path now new))
+      ((omega arith, refl, refl, refl, refl), refl) (making_other kind.Directory path now new))
 
   symlink_other : (o : Option Errno) (text path : List ℕ) → IsOther o → (now new node flags : ℕ) → is_directory (tree_of S) node ≡ true
       → NamesOther ((making_unless o (making (kind.Link text) path)).effect now new (tree_of S) (Some (Directory node flags)) None)
@@ -113,14 +113,14 @@ module _ (S : State) (nearly : IsNearlyValid S) where
       by_name_found S nearly (base_row fd FILE_SYMLINK) m
       (λ now new.
       at_directory S (λ k. NamesOther (m.effect now new (tree_of S) (Some k) None)) 24 (base_row fd FILE_SYMLINK) refl refl
-      ((omega arith, refl, refl, refl), refl) (symlink_other (text_error text) text path (text_error_other text) now new))
+      ((omega arith, refl, refl, refl, refl), refl) (symlink_other (text_error text) text path (text_error_other text) now new))
 
   pub file_unlink_found : (fd : ℕ) (path : List ℕ) (flags : ℕ) → NeverBadf ⊥ S (file_unlink fd path flags)
   file_unlink_found fd path flags =
       by_name_found S nearly (base_row fd FILE_UNLINK) (unlinking flags path)
       (λ now new.
       at_directory S (λ k. NamesOther ((unlinking flags path).effect now new (tree_of S) (Some k) None)) 25 (base_row fd FILE_UNLINK) refl refl
-      ((omega arith, refl, refl, refl), refl)
+      ((omega arith, refl, refl, refl, refl), refl)
       (at_last_found (tree_of S) (unlink_in flags now (tree_of S)) (unlink_other flags now (tree_of S)) path))
 
 -- ---- file_link and file_rename
@@ -162,10 +162,10 @@ module _ (S : State) (nearly : IsNearlyValid S) where
       by_names_found S nearly (base_row lookup.fd FILE_LINK_SOURCE) (base_row new_fd FILE_LINK_TARGET) m
       (λ now new here there first second.
       at_directory S (λ k. NamesOther (m.effect now new t (Some k) (Some there))) 12 (base_row lookup.fd FILE_LINK_SOURCE) refl refl
-      ((omega arith, refl, refl, refl), refl)
+      ((omega arith, refl, refl, refl, refl), refl)
       (λ node flags directory.
       at_directory S (λ k. NamesOther (m.effect now new t (Some (Directory node flags)) (Some k))) 13 (base_row new_fd FILE_LINK_TARGET) refl refl
-      ((omega arith, refl, refl, refl), refl)
+      ((omega arith, refl, refl, refl, refl), refl)
       (λ dir dir_flags target.
       found_other t (λ n. at_name (link_in now t n) (last_name t new_path (Some (Directory dir dir_flags))))
       (λ n. at_last_found t (link_in now t n) (link_other now t n) new_path dir dir_flags target)
@@ -178,10 +178,10 @@ module _ (S : State) (nearly : IsNearlyValid S) where
       by_names_found S nearly (base_row fd FILE_RENAME_SOURCE) (base_row new_fd FILE_RENAME_TARGET) m
       (λ now new here there first second.
       at_directory S (λ k. NamesOther (m.effect now new t (Some k) (Some there))) 17 (base_row fd FILE_RENAME_SOURCE) refl refl
-      ((omega arith, refl, refl, refl), refl)
+      ((omega arith, refl, refl, refl, refl), refl)
       (λ node flags directory.
       at_directory S (λ k. NamesOther (m.effect now new t (Some (Directory node flags)) (Some k))) 18 (base_row new_fd FILE_RENAME_TARGET) refl refl
-      ((omega arith, refl, refl, refl), refl)
+      ((omega arith, refl, refl, refl, refl), refl)
       (λ dir dir_flags target.
       at_last_found t (λ from name. at_name (rename_in now t from name) (last_name t new_path (Some (Directory dir dir_flags))))
       (λ from name. at_last_found t (rename_in now t from name) (rename_other now t from name) new_path dir dir_flags target)
@@ -249,6 +249,6 @@ module _ (S : State) (nearly : IsNearlyValid S) where
       open_found who.pid (get S.processes who.pid) table stat _ (lowest_free table)
       (subst (λ o. OpensOther (open_walked oflags stat.flags path now new t (walked t mode path o))) (sym found.1)
       (at_directory S (λ k. OpensOther (open_walked oflags stat.flags path now new t (walked t mode path (Some k)))) 14 row refl
-      (open_needed oflags lookup.fd stat) ((omega arith, refl, refl, refl), refl)
+      (open_needed oflags lookup.fd stat) ((omega arith, refl, refl, refl, refl), refl)
       (λ node flags directory. walked_opens oflags stat.flags now new t path (walked_in t mode path node) (leads_there t mode path node directory))
       found.0 found.2))

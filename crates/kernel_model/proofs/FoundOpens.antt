@@ -43,10 +43,10 @@ use Rattle.kernel_model.specs.Need.{has_instead, has_needed, lack_base, lack_inh
 use Rattle.kernel_model.specs.Outcome.{Outcome, WhereReply}
 use Rattle.kernel_model.specs.State.{ProcessState, State, Table, tree_of}
 use Rattle.kernel_model.specs.Step.{tick}
-use Rattle.kernel_model.specs.Fits.{HasRightsOf, fits}
+use Rattle.kernel_model.specs.Fits.{HasRightsOf, end_type, fits}
 use Rattle.kernel_model.specs.Valid.{HasBehind, IsNamed, IsNearlyValid}
 use Rattle.kernel_model.specs.View.{whole}
-use Rattle.kernel_model.proofs.Tests.{none_is_no, not_true}
+use Rattle.kernel_model.proofs.Tests.{not_true}
 
 -- ---- what is shown of a call
 
@@ -79,7 +79,6 @@ pub record IsGranted (S : State) (row : Needed) (kind : OpenKind) : Type 0 where
   pub rights : HasRightsOf d kind
   pub has : has_needed d row ≡ true
   pub behind : HasBehind S kind
-  pub silent : (c : ℕ) → get S.chans c ≡ None
 
 first_holds : (a b : Bool) → (a && b) ≡ true → a ≡ true
 first_holds true b h = refl
@@ -144,22 +143,17 @@ module _ {S : State} {row : Needed} {kind : OpenKind} (g : IsGranted S row kind)
 
 -- ---- what an open may be
 
--- where there is no channel there is no end of one
-no_end : (S : State) (reads writes : Option ℕ) (flags : ℕ) → ((c : ℕ) → get S.chans c ≡ None) → HasBehind S (End reads writes flags) → ⊥
-no_end S (Some c) writes flags silent behind = none_is_no behind.1.0 (sym (silent c) ∙ behind.1.1)
-no_end S None (Some c) flags silent behind = none_is_no behind.2.0 (sym (silent c) ∙ behind.2.1)
-no_end S None None flags silent behind = not_true behind.0
-
--- the open of a valid state is a file, a directory, a standard stream or a process
+-- the open of a valid state is a file, a directory, an end of channels, a standard stream or a process
 pub by_kind : (S : State) (P : OpenKind → Type 0) → ((node offset flags : ℕ) → is_file (tree_of S) node ≡ true → P (File node offset flags))
     → ((node flags : ℕ) → is_directory (tree_of S) node ≡ true → P (Directory node flags))
+    → ((reads writes : Option ℕ) (flags : ℕ) → HasBehind S (End reads writes flags) → P (End reads writes flags))
     → ((which flags : ℕ) → IsSome (get S.terms which) → P (Terminal which flags)) → ((p : ℕ) → P (Process p)) → (kind : OpenKind)
-    → ((c : ℕ) → get S.chans c ≡ None) → HasBehind S kind → P kind
-by_kind S P file directory stream process (File node offset flags) silent behind = file node offset flags behind
-by_kind S P file directory stream process (Directory node flags) silent behind = directory node flags behind
-by_kind S P file directory stream process (End reads writes flags) silent behind = absurd (no_end S reads writes flags silent behind)
-by_kind S P file directory stream process (Terminal which flags) silent behind = stream which flags behind.0
-by_kind S P file directory stream process (Process p) silent behind = process p
+    → HasBehind S kind → P kind
+by_kind S P file directory end stream process (File node offset flags) behind = file node offset flags behind
+by_kind S P file directory end stream process (Directory node flags) behind = directory node flags behind
+by_kind S P file directory end stream process (End reads writes flags) behind = end reads writes flags behind
+by_kind S P file directory end stream process (Terminal which flags) behind = stream which flags behind.0
+by_kind S P file directory end stream process (Process p) behind = process p
 
 -- no standard stream has the right
 pub no_stream : (which k : ℕ) → bit_at (stream_rights 0) k ≡ 0 → bit_at (stream_rights 1) k ≡ 0 → Has (stream_rights which) k → ⊥
@@ -169,9 +163,18 @@ no_stream which k read written =
       | false ↦ zero_or_one (bit_at (stream_rights 1) k) written
     ]
 
--- neither a standard stream nor a process has the right
+-- no end of channels has the right
+pub no_end : (reads writes : Option ℕ) (k : ℕ) → bit_at (rights_of type.Reading) k ≡ 0 → bit_at (rights_of type.Writing) k ≡ 0
+    → bit_at (rights_of type.Stream) k ≡ 0 → Has (rights_of (end_type reads writes)) k → ⊥
+no_end (Some r) (Some w) k read written both = zero_or_one (bit_at (rights_of type.Stream) k) both
+no_end (Some r) None k read written both = zero_or_one (bit_at (rights_of type.Reading) k) read
+no_end None writes k read written both = zero_or_one (bit_at (rights_of type.Writing) k) written
+
+-- neither a standard stream, nor a process, nor an end of channels has the right
 abbrev pub IsOfNodes : ℕ → Type 0
-IsOfNodes k = (k < 64) × (bit_at (stream_rights 0) k ≡ 0) × (bit_at (stream_rights 1) k ≡ 0) × (bit_at (rights_of type.Process) k ≡ 0)
+IsOfNodes k =
+    (k < 64) × (bit_at (stream_rights 0) k ≡ 0) × (bit_at (stream_rights 1) k ≡ 0) × (bit_at (rights_of type.Process) k ≡ 0)
+    × (bit_at (rights_of type.Stream) k ≡ 0)
 
 -- a right that files alone have
 abbrev pub IsOfFiles : ℕ → Type 0
@@ -184,31 +187,33 @@ IsOfDirectories k = IsOfNodes k × (bit_at (rights_of type.File) k ≡ 0)
 module _ (S : State) (P : OpenKind → Type 0) (k : ℕ) where
   -- an open with a right of files alone is a file
   pub file_alone : IsOfFiles k → ((node offset flags : ℕ) → is_file (tree_of S) node ≡ true → P (File node offset flags))
-      → (kind : OpenKind) → ((c : ℕ) → get S.chans c ≡ None) → HasBehind S kind → Has (fits kind) k → P kind
+      → (kind : OpenKind) → HasBehind S kind → Has (fits kind) k → P kind
   file_alone of file =
       by_kind S (λ kind. Has (fits kind) k → P kind) (λ node offset flags there _. file node offset flags there)
       (λ node flags _ has. absurd (zero_or_one (bit_at (rights_of type.Directory) k) of.1 has))
+      (λ reads writes flags _ has. absurd (no_end reads writes k of.0.1 of.0.2 of.0.4 has))
       (λ which flags _ has. absurd (no_stream which k of.0.1 of.0.2 has)) (λ p has. absurd (zero_or_one (bit_at (rights_of type.Process) k) of.0.3 has))
 
   -- and one with a right of directories alone is a directory
   directory_alone : IsOfDirectories k → ((node flags : ℕ) → is_directory (tree_of S) node ≡ true → P (Directory node flags))
-      → (kind : OpenKind) → ((c : ℕ) → get S.chans c ≡ None) → HasBehind S kind → Has (fits kind) k → P kind
+      → (kind : OpenKind) → HasBehind S kind → Has (fits kind) k → P kind
   directory_alone of directory =
       by_kind S (λ kind. Has (fits kind) k → P kind)
       (λ node offset flags _ has. absurd (zero_or_one (bit_at (rights_of type.File) k) of.1 has))
-      (λ node flags there _. directory node flags there) (λ which flags _ has. absurd (no_stream which k of.0.1 of.0.2 has))
+      (λ node flags there _. directory node flags there) (λ reads writes flags _ has. absurd (no_end reads writes k of.0.1 of.0.2 of.0.4 has))
+      (λ which flags _ has. absurd (no_stream which k of.0.1 of.0.2 has))
       (λ p has. absurd (zero_or_one (bit_at (rights_of type.Process) k) of.0.3 has))
 
   module _ (row : Needed) (alone : row.instead.0 ≡ 0) (needs : Has row.base.0 k) where
     -- the open of a descriptor, where a right of files alone is needed of it
     pub at_file : IsOfFiles k → ((node offset flags : ℕ) → is_file (tree_of S) node ≡ true → P (File node offset flags))
         → (kind : OpenKind) → IsGranted S row kind → P kind
-    at_file of file kind g = file_alone of file kind g.silent g.behind (granted_base g k of.0.0 alone needs)
+    at_file of file kind g = file_alone of file kind g.behind (granted_base g k of.0.0 alone needs)
 
     -- and where a right of directories alone is needed of it
     pub at_directory : IsOfDirectories k → ((node flags : ℕ) → is_directory (tree_of S) node ≡ true → P (Directory node flags))
         → (kind : OpenKind) → IsGranted S row kind → P kind
-    at_directory of directory kind g = directory_alone of directory kind g.silent g.behind (granted_base g k of.0.0 alone needs)
+    at_directory of directory kind g = directory_alone of directory kind g.behind (granted_base g k of.0.0 alone needs)
 
 -- ---- the open behind a descriptor
 
@@ -229,7 +234,7 @@ module _ (S : State) (nearly : IsNearlyValid S) where
       let found = open_there p row.fd table met.0 own met.1 in (
         found.0,
         ap (open_of (whole (tick S))) met.1 ∙ found.1,
-        record { d = met.0; rights = found.2; has = met.2; behind = nearly.behind met.0.id found.0 found.1; silent = nearly.silent },
+        record { d = met.0; rights = found.2; has = met.2; behind = nearly.behind met.0.id found.0 found.1 },
       )
 
   -- ---- calls on opens
@@ -250,7 +255,7 @@ module _ (S : State) (nearly : IsNearlyValid S) where
       subst (λ o. OnlyWhere Q (at_descriptor effect (whole (tick S)) o)) (sym met.0.1)
       (subst (λ o. OnlyWhere Q (effect d.id o)) (sym found.1)
       (each (real_time constants (tick S).clock) d.id found.0
-      (record { d = d; rights = found.2; has = met.0.2; behind = nearly.behind d.id found.0 found.1; silent = nearly.silent })))
+      (record { d = d; rights = found.2; has = met.0.2; behind = nearly.behind d.id found.0 found.1 })))
 
   named_found : (p : ℕ) (own : Option ProcessState) (new_nodes : ℕ) (c : NameOutcome) → NamesOther c → OnlyWhere ⊥ (outcome_of p own new_nodes c)
   named_found p own new_nodes (Refuses errno) other = other

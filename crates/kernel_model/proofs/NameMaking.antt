@@ -29,7 +29,7 @@ use Rattle.kernel_model.specs.Families.LastNames.{directory_parts, last_name, la
 use Rattle.kernel_model.specs.Families.NameMaking.{empty_error, errno_of, file_create, file_symlink, make_in, making, making_unless, new_directories, node_of, or_else, text_error, with_node}
 use Rattle.kernel_model.specs.Families.NameMeaning.{NameOutcome, Refuses, Changes, NameMeaning, unless_fault}
 use Rattle.kernel_model.specs.Proper.{IsIn, IsProper}
-use Rattle.kernel_model.specs.State.{Part, Tree, at_names, at_node, at_open, has_part, part_of, same_part, tree_of}
+use Rattle.kernel_model.specs.State.{Part, Tree, at_names, at_chan, at_node, at_open, has_part, part_of, same_part, tree_of}
 use Rattle.kernel_model.specs.Families.TreeUpdates.{change_updates}
 use Rattle.kernel_model.proofs.FilePaths.{ilseq_among, inval_among, name_too_long_among, noent_among, notdir_among, path_errors_lack}
 use Rattle.kernel_model.proofs.LastNames.{all_both, at_name_holds, at_name_plain, at_name_reads, below_alike, directory_is_seen, directory_unset, in_front, last_name_reads}
@@ -163,8 +163,9 @@ pub with_node_unset : (kind : NodeKind) (now new : ℕ) (t : Tree) (d : ℕ) (na
     → (same_part (at_node d) q ≡ false) × (same_part (at_names d) q ≡ false)
     → has_part (map part_of (change_updates (with_node kind now new t d name))) q ≡ false
 with_node_unset kind now new t d name q fresh here =
-    let node = outside_cons (at_node new) (at_names new ∷ []) q (outside_cons (at_open new) (at_node new ∷ at_names new ∷ []) q fresh).1 in
-    let names = outside_cons (at_names new) [] q node.1 in
+    let node = outside_cons (at_node new) (at_names new ∷ at_chan new ∷ []) q
+    (outside_cons (at_open new) (at_node new ∷ at_names new ∷ at_chan new ∷ []) q fresh).1 in
+    let names = outside_cons (at_names new) (at_chan new ∷ []) q node.1 in
     updates_unset (with_node kind now new t d name).tree q (d ∷ new ∷ []) (d ∷ new_directories kind new) (here.0, (node.0, tt))
     (directories_unset kind new d q here.1 names.0)
 

@@ -7,12 +7,14 @@ use Rattle.abi_base.specs.declared.errno.Errno.TheVariants.{Again}
 use Rattle.abi_types.specs.declared.descriptor.Descriptor.{Descriptor}
 use Rattle.abi_types.specs.declared.needed.Needed.{Needed}
 use Rattle.abi_types.specs.declared.reply.Answer.TheVariants as answer
+use Rattle.std.specs.List.{AllByRecursion}
+use Rattle.kernel_model.proofs.Channels.{all_both}
 use Rattle.kernel_model.specs.Families.ClockCalls.{real_time}
 use Rattle.kernel_model.specs.Families.FileMeaning.{open_of}
 use Rattle.kernel_model.specs.Families.NameMeaning.{NameOutcome, Refuses, LeadsOut, Changes, NameMeaning, by_name, by_names, outcome_of}
 use Rattle.kernel_model.specs.Families.Numbers.{can_number, new_parts, next_object, object_parts, process_updates}
 use Rattle.kernel_model.specs.Outcome.{Outcome, replies}
-use Rattle.kernel_model.specs.Proper.{IsDeniedOutside, IsIn, IsProper, IsUnset}
+use Rattle.kernel_model.specs.Proper.{AllCarryOn, CarriesOn, IsDeniedOutside, IsIn, IsProper, IsUnset, Sender, may_send}
 use Rattle.kernel_model.specs.Reply.{refused, success}
 use Rattle.kernel_model.specs.Sight.{process_parts, behind, reached_by}
 use Rattle.kernel_model.specs.OwnChanges.{IsChangedBy}
@@ -23,7 +25,7 @@ use Rattle.kernel_model.specs.Valid.{IsNearlyValid}
 use Rattle.kernel_model.specs.View.{only, restrict, whole}
 use Rattle.kernel_model.proofs.Branches.{IsSeen, all_behind_is_seen}
 use Rattle.kernel_model.proofs.DescriptorCalls.{other_table, process_table}
-use Rattle.kernel_model.proofs.FileMeanings.{open_has_behind, tree_processes, tree_tables, tree_unset}
+use Rattle.kernel_model.proofs.FileMeanings.{open_has_behind, tree_carries, tree_processes, tree_tables, tree_unset}
 use Rattle.kernel_model.proofs.NameMeanings.{IsGood, IsPlainly, IsUnsetBy, NamesWell, SetsAlike, new_node_parts}
 use Rattle.kernel_model.proofs.ObjectNumbers.{fewer_fit, next_is_absent}
 use Rattle.kernel_model.proofs.Parts.{KeepsOwn, own_stays, beyond_process, has_left, has_of_both, has_right}
@@ -130,6 +132,21 @@ outcome_own S p new_nodes (Changes c) =
     (sym (ap (λ (T : State). get T.processes p) (put_both (process_updates p new_nodes (get S.processes p)) (change_updates c) S)
     ∙ ap (λ processes. get processes p) (tree_processes (change_updates c) (counted p new_nodes S) (change_of_tree c))))
     (counted_own S p new_nodes))
+
+-- it sets no channel
+pub process_carries : (S : State) (sender : Sender) (p count : ℕ) (own : Option ProcessState) → AllByRecursion (CarriesOn S sender) (process_updates p count own)
+process_carries S sender p zero own = tt
+process_carries S sender p (suc count) None = tt
+process_carries S sender p (suc count) (Some own) = (tt, tt)
+
+outcome_carries : (S : State) (sender : Sender) (p new_nodes : ℕ) (own : Option ProcessState) (comes : NameOutcome)
+    → AllCarryOn S sender (outcome_of p own new_nodes comes)
+outcome_carries S sender p new_nodes own (Refuses errno) = tt
+outcome_carries S sender p new_nodes own (LeadsOut component) = tt
+outcome_carries S sender p new_nodes own (Changes c) =
+    change_holds (AllCarryOn S sender) p new_nodes own c (λ _. tt)
+    (λ _. all_both (CarriesOn S sender) (process_updates p new_nodes own) (change_updates c) (process_carries S sender p new_nodes own)
+    (tree_carries S sender (change_updates c) (change_of_tree c)))
 
 process_tables : (S : State) (p count : ℕ) (own : Option ProcessState) → (put_all (process_updates p count own) S).tables ≡ S.tables
 process_tables S p zero own = refl
@@ -266,6 +283,8 @@ module _ (m : NameMeaning) (well : NamesWell m) where
     others = λ constants v who table q apart. outcome_others who.pid m.new_nodes (v.process who.pid) _ q apart;
     own = λ constants S who table. inl (outcome_own S who.pid m.new_nodes (comes_to (real_time constants S.clock) S who.pid (get table row.fd) None));
     allows = λ constants S who table. tt;
+    carries = λ constants S who table nearly.
+        outcome_carries S (table, [], may_send m.errors) who.pid m.new_nodes (get S.processes who.pid) (comes_to (real_time constants S.clock) S who.pid (get table row.fd) None);
     valid = λ constants S who table there nearly. both_valid (real_time constants S.clock) S who.pid (get table row.fd) None nearly;
   }
 
@@ -314,6 +333,9 @@ module _ (m : NameMeaning) (well : NamesWell m) where
     own = λ constants S who table.
         inl (outcome_own S who.pid m.new_nodes (comes_to (real_time constants S.clock) S who.pid (get table first.fd) (get table second.fd)));
     allows = λ constants S who table. tt;
+    carries = λ constants S who table nearly.
+        outcome_carries S (table, [], may_send m.errors) who.pid m.new_nodes (get S.processes who.pid)
+        (comes_to (real_time constants S.clock) S who.pid (get table first.fd) (get table second.fd));
     valid = λ constants S who table there nearly.
         both_valid (real_time constants S.clock) S who.pid (get table first.fd) (get table second.fd) nearly;
   }

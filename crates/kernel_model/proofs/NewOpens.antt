@@ -1,7 +1,7 @@
 -- A state with one open more, that a new descriptor of a process names.
 --     IsBeside, put_last      an open and a table may be set after updates of the tree and of what a process has of its own beside its table
 --     new_open_nearly_valid, new_descriptor_nearly_valid      a nearly valid state stays so with the open, and with the descriptor
-use Rattle.std.proofs.Common.{◌≡◌, ◌≢◌, ℕ, ◌<◌, ◌^◌, List, [], ◌∷◌, Some, None, inl, inr, refl, sym, ap, subst, ◌∙◌}
+use Rattle.std.proofs.Common.{◌≡◌, ◌≢◌, ℕ, ◌<◌, ◌^◌, Bool, true, false, List, [], ◌∷◌, Option, Some, None, inl, inr, refl, sym, ap, subst, ◌∙◌}
 use Rattle.std.proofs.lemmas.Bool.Decides.{eqb_tells}
 use Rattle.std.specs.Prelude.{⊤}
 use Rattle.std.specs.FinMap.{get, get-empty, empty, insert}
@@ -15,7 +15,9 @@ use Rattle.maps.specs.Maps.{get-insert-same, get-insert-other}
 use Rattle.kernel_model.specs.Families.Numbers.{object_of}
 use Rattle.kernel_model.specs.State.{State, Table, Update, counts_in, put_all, put_one, set_names, set_node, set_open, set_process, set_table}
 use Rattle.kernel_model.specs.Valid.{AreSole, HasBehind, IsNamed, IsNearlyValid}
-use Rattle.kernel_model.proofs.Tests.{none_is_no}
+use Rattle.kernel_model.specs.Release.{is_reader, is_writer}
+use Rattle.kernel_model.proofs.Channels.{KeepsEnds, opens_joined}
+use Rattle.kernel_model.proofs.Tests.{none_is_no, not_true}
 use Rattle.kernel_model.proofs.Valids.{behind_same, same_value, some_again}
 
 -- ---- the order of updates
@@ -52,6 +54,17 @@ module _ (S : State) (o : ℕ) (kind : OpenKind) (none : get S.opens o ≡ None)
         | inr other ↦ subst (λ x. IsNamed x d) (sym (get-insert-other S.opens o kind d.id other.1)) named
       ]
 
+  -- an end is no open that wasn't there
+  still_passes : (test : Option OpenKind → Bool) → test None ≡ false → (r : ℕ) → test (get S.opens r) ≡ true → test (get (insert S.opens o kind) r) ≡ true
+  still_passes test fails r passes =
+      elim (eqb_tells r o) [
+        | inl is ↦ absurd (not_true (sym fails ∙ ap test (sym (ap (get S.opens) is.1 ∙ none)) ∙ passes))
+        | inr other ↦ ap test (get-insert-other S.opens o kind r other.1) ∙ passes
+      ]
+
+  still_ends : (c : ℕ) → KeepsEnds S.opens (insert S.opens o kind) c
+  still_ends c = (still_passes (is_reader c) refl, still_passes (is_writer c) refl)
+
   still_behind : HasBehind S kind → (r : ℕ) (k : OpenKind) → get (insert S.opens o kind) r ≡ Some k → HasBehind S k
   still_behind there r k at =
       elim (eqb_tells r o) [
@@ -79,7 +92,8 @@ module _ (S : State) (o : ℕ) (kind : OpenKind) (none : get S.opens o ≡ None)
     born = v.born;
     tree = v.tree;
     waits = v.waits;
-    silent = v.silent;
+    channels = opens_joined S.opens (insert S.opens o kind) S.chans still_named still_ends v.channels;
+    made_channels = v.made_channels;
     nobody = v.nobody;
   }
 
@@ -134,6 +148,7 @@ module _ (S : State) (p : ℕ) (table : Table) (there : get S.tables p ≡ Some 
     born = v.born;
     tree = v.tree;
     waits = v.waits;
-    silent = v.silent;
+    channels = v.channels;
+    made_channels = v.made_channels;
     nobody = v.nobody;
   }

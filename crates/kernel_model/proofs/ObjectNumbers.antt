@@ -10,7 +10,7 @@ use Rattle.std.specs.FinMap.{get}
 use Rattle.tree_model.specs.Tree.{is_directory_node}
 use Rattle.kernel_model.specs.Laws.{IsNotThere}
 use Rattle.kernel_model.specs.Families.Numbers.{can_number, next_object, new_parts, object_parts}
-use Rattle.kernel_model.specs.State.{State, ProcessState, Part, at_open, at_node, at_names, same_part, counts_in, has_part}
+use Rattle.kernel_model.specs.State.{State, ProcessState, Part, at_open, at_node, at_names, at_chan, same_part, counts_in, has_part}
 use Rattle.kernel_model.specs.Valid.{IsNearlyValid}
 use Rattle.kernel_model.proofs.Parts.{has_of_both, same_part_is}
 use Rattle.kernel_model.proofs.Tests.{not_true, either_true}
@@ -55,10 +55,11 @@ new_part_is p (suc count) own q h =
 
 pub next_is_absent : (S : State) (p k : ℕ) → IsNearlyValid S → p < 0xffffffff → 1 ≤ k → (counts_in (get S.processes p)).objects + k < 2 ^ 32
     → (get S.opens (next_object p (get S.processes p) k) ≡ None) × (get S.nodes (next_object p (get S.processes p) k) ≡ None)
+    × (get S.chans (next_object p (get S.processes p) k) ≡ None)
 next_is_absent S p k v small some fits =
     let made : ℕ = (counts_in (get S.processes p)).objects in
     let beyond : made < made + k = omega (arith, some) in
-    (v.made p (made + k) small beyond fits, v.made_nodes p (made + k) small beyond fits)
+    (v.made p (made + k) small beyond fits, v.made_nodes p (made + k) small beyond fits, v.made_channels p (made + k) small beyond fits)
 
 absent : {X : Type 0} (o : Option X) → (IsSome o → ⊥) → o ≡ None
 absent None h = refl
@@ -69,16 +70,19 @@ pub no_names : (S : State) (n : ℕ) → IsNearlyValid S → get S.nodes n ≡ N
 no_names S n v none =
     absent (get S.names n) (λ there. not_true (sym (ap is_directory_node none) ∙ (v.tree.directories n).0 there))
 
-pub none_of_new : (S : State) (o : ℕ) (q : Part) → get S.opens o ≡ None → get S.nodes o ≡ None → get S.names o ≡ None
+pub none_of_new : (S : State) (o : ℕ) (q : Part) → get S.opens o ≡ None → get S.nodes o ≡ None → get S.names o ≡ None → get S.chans o ≡ None
     → has_part (object_parts o) q ≡ true → IsNotThere S q
-none_of_new S o q no_open no_node no_names h =
-    elim (either_true (same_part (at_open o) q) (has_part (at_node o ∷ at_names o ∷ []) q) h) [
+none_of_new S o q no_open no_node no_names no_channel h =
+    elim (either_true (same_part (at_open o) q) (has_part (at_node o ∷ at_names o ∷ at_chan o ∷ []) q) h) [
       | inl is ↦ subst (IsNotThere S) (same_part_is (at_open o) q is) no_open
-      | inr more ↦ elim (either_true (same_part (at_node o) q) (has_part (at_names o ∷ []) q) more) [
+      | inr more ↦ elim (either_true (same_part (at_node o) q) (has_part (at_names o ∷ at_chan o ∷ []) q) more) [
         | inl is ↦ subst (IsNotThere S) (same_part_is (at_node o) q is) no_node
-        | inr last ↦ elim (either_true (same_part (at_names o) q) false last) [
+        | inr last ↦ elim (either_true (same_part (at_names o) q) (has_part (at_chan o ∷ []) q) last) [
           | inl is ↦ subst (IsNotThere S) (same_part_is (at_names o) q is) no_names
-          | inr none ↦ absurd (not_true none)
+          | inr channel ↦ elim (either_true (same_part (at_chan o) q) false channel) [
+            | inl is ↦ subst (IsNotThere S) (same_part_is (at_chan o) q is) no_channel
+            | inr none ↦ absurd (not_true none)
+          ]
         ]
       ]
     ]
@@ -89,4 +93,5 @@ parts_are_absent S p count q v can h =
     let new = new_part_is p count (get S.processes p) q h in
     let fits = fewer_fit p new.0 count (get S.processes p) new.1 new.2 can in
     let none = next_is_absent S p new.0 v fits.0 new.1 fits.1 in
-    none_of_new S (next_object p (get S.processes p) new.0) q none.0 none.1 (no_names S (next_object p (get S.processes p) new.0) v none.1) new.3
+    none_of_new S (next_object p (get S.processes p) new.0) q none.0 none.1
+    (no_names S (next_object p (get S.processes p) new.0) v none.1) none.2 new.3

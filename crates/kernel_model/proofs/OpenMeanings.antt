@@ -1,9 +1,9 @@
 -- What a meaning on the open of one descriptor keeps to that may make another one of it, and that it is then proper.
 --     IsOfNoProcess, apart_unset, apart_processes, apart_tables      updates of opens, of the tree and of streams set nothing of a
 --         process, and keep what it has of its own and its descriptors
---     OpensWell m      what is shown of each such meaning
+--     SeesWell m, OpensWell m      what is shown of each such meaning, beside what it sets and with it
 --     by_open_is_proper      it is proper
-use Rattle.std.proofs.Common.{◌≡◌, ◌≢◌, inl, inr, ℕ, ◌||◌, true, false, List, [], ◌∷◌, ◌++◌, map, Option, Some, None, refl, ap, ◌∙◌}
+use Rattle.std.proofs.Common.{◌≡◌, ◌≢◌, inl, inr, ℕ, ◌||◌, Bool, true, false, List, [], ◌∷◌, ◌++◌, map, Option, Some, None, refl, ap, ◌∙◌}
 use Rattle.std.specs.Prelude.{⊤}
 use Rattle.std.specs.FinMap.{get}
 use Rattle.std.specs.List.{AllByRecursion}
@@ -15,9 +15,11 @@ use Rattle.kernel_model.specs.Families.ClockCalls.{real_time}
 use Rattle.kernel_model.specs.Families.DescriptorCalls.{open_part}
 use Rattle.kernel_model.specs.Families.FileMeaning.{open_of}
 use Rattle.kernel_model.specs.Families.OpenMeaning.{OpenMeaning, at_descriptor, by_open}
-use Rattle.kernel_model.specs.Proper.{IsIn, IsPlain, IsProper, IsUnset}
+use Rattle.kernel_model.specs.Outcome.{Outcome, is_parked, replies}
+use Rattle.kernel_model.specs.Proper.{AllCarryOn, IsIn, IsPlain, IsProper, IsUnset, OrWaits, may_send}
+use Rattle.kernel_model.specs.Reply.{refused}
 use Rattle.kernel_model.specs.Sight.{process_parts, behind, reached_by}
-use Rattle.kernel_model.specs.State.{State, Part, Update, at_proc, at_status, at_open, same_part, has_part, part_of, put_all, put_one, set_table, set_process, set_status}
+use Rattle.kernel_model.specs.State.{State, Table, Part, Update, at_proc, at_status, at_open, same_part, has_part, part_of, put_all, put_one, set_table, set_process, set_status}
 use Rattle.kernel_model.specs.Step.{tick}
 use Rattle.kernel_model.specs.Valid.{IsNearlyValid}
 use Rattle.kernel_model.specs.View.{View, restrict, whole}
@@ -72,25 +74,45 @@ apart_tables (u ∷ us) S h = apart_tables us (put_one u S) h.1 ∙ one_tables u
 
 -- ---- meanings
 
-pub record OpensWell (m : OpenMeaning) : Type 0 where
+-- how a thread waits in what is done with an open
+pub record WaitsWell (m : OpenMeaning) : Type 0 where
+  -- where it waits it waits at each other moment: it waits for what others do
+  pub patient : (now before : ℕ) (v : View) (clock o : ℕ) (kind : Option OpenKind) → is_parked (m.effect now v o kind).answer ≡ true
+      → is_parked (m.effect before (record v { clock = clock }) o kind).answer ≡ true
+  pub keeps : m.takes_memory ≡ true
+
+-- what is shown of each such meaning beside what it sets
+pub record SeesWell (m : OpenMeaning) : Type 0 where
   -- by what it sees it does what it does by the whole state
   pub reads : (now : ℕ) (S : State) (p o : ℕ) (kind : Option OpenKind)
       → m.effect now (restrict S (seen_parts S p o kind)) o kind ≡ m.effect now (whole S) o kind
+  pub seen : (S : State) (kind : Option OpenKind) (q : Part) → has_part (m.touched kind) q ≡ true → has_part (behind S kind) q ≡ true
+  -- its thread waits, where it may, or it has its reply
+  pub plain : (now : ℕ) (v : View) (o : ℕ) (kind : Option OpenKind) → OrWaits m.may_wait (m.effect now v o kind) (IsPlain m.errors (m.effect now v o kind))
+  pub badf : IsIn Badf m.errors
+  pub lacks : m.takes_memory ≡ true → AllByRecursion (λ errno. errno ≢ Nomem) m.errors
+  pub waits : m.may_wait ≡ true → WaitsWell m
+
+pub record OpensWell (m : OpenMeaning) : Type 0 where
+  pub sees : SeesWell m
   -- it sets nothing of a process, and nothing beside the open that it doesn't say; and it sees that
   pub apart : (now : ℕ) (v : View) (o : ℕ) (kind : Option OpenKind) → AreOfNoProcess (m.effect now v o kind).updates
   pub sets : (now : ℕ) (v : View) (o : ℕ) (kind : Option OpenKind) (q : Part) → has_part (at_open o ∷ m.touched kind) q ≡ false
       → IsUnset (m.effect now v o kind) q
-  pub seen : (S : State) (kind : Option OpenKind) (q : Part) → has_part (m.touched kind) q ≡ true → has_part (behind S kind) q ≡ true
-  -- its reply
-  pub plain : (now : ℕ) (v : View) (o : ℕ) (kind : Option OpenKind) → IsPlain m.errors (m.effect now v o kind)
-  pub badf : IsIn Badf m.errors
-  pub lacks : m.takes_memory ≡ true → AllByRecursion (λ errno. errno ≢ Nomem) m.errors
+  -- channels go on, whatever the table is
+  pub carries : (now : ℕ) (S : State) (o : ℕ) (kind : Option OpenKind) (table : Table)
+      → AllCarryOn S (table, [], may_send m.errors) (m.effect now (whole S) o kind)
   -- it leaves a nearly valid state so
   pub valid : (now : ℕ) (S : State) (o : ℕ) (kind : Option OpenKind) → get S.opens o ≡ kind → IsNearlyValid S
       → IsNearlyValid (put_all (m.effect now (whole S) o kind).updates S)
 
-module _ (m : OpenMeaning) (well : OpensWell m) where
-  reads_descriptor : (now : ℕ) (S : State) (p : ℕ) (d : Option Descriptor)
+-- where a thread may wait it waits, or this holds
+pub or_waits : (b : Bool) (o : Outcome) (P : Type 0) → P → OrWaits b o P
+or_waits true o P h = inr h
+or_waits false o P h = h
+
+module _ (m : OpenMeaning) (well : SeesWell m) where
+  pub reads_descriptor : (now : ℕ) (S : State) (p : ℕ) (d : Option Descriptor)
       → at_descriptor (m.effect now (restrict S (process_parts p ++ (reached_by S d ++ [])))) (restrict S (process_parts p ++ (reached_by S d ++ []))) d
       ≡ at_descriptor (m.effect now (whole S)) (whole S) d
   reads_descriptor now S p None = refl
@@ -98,13 +120,7 @@ module _ (m : OpenMeaning) (well : OpensWell m) where
       ap (m.effect now (restrict S (process_parts p ++ (reached_by S (Some d) ++ []))) d.id) (open_seen S p d)
       ∙ well.reads now S p d.id (get S.opens d.id)
 
-  sets_descriptor : (now : ℕ) (S : State) (d : Option Descriptor) (q : Part)
-      → has_part (open_part d ++ m.touched (open_of (whole S) d)) q ≡ false
-      → IsUnset (at_descriptor (m.effect now (whole (tick S))) (whole (tick S)) d) q
-  sets_descriptor now S None q h = refl
-  sets_descriptor now S (Some d) q h = well.sets now (whole (tick S)) d.id (get S.opens d.id) q h
-
-  seen_descriptor : (S : State) (d : Option Descriptor) (q : Part) → has_part (open_part d ++ m.touched (open_of (whole S) d)) q ≡ true
+  pub seen_descriptor : (S : State) (d : Option Descriptor) (q : Part) → has_part (open_part d ++ m.touched (open_of (whole S) d)) q ≡ true
       → has_part (reached_by S d ++ []) q ≡ true
   seen_descriptor S None q h = well.seen S None q h
   seen_descriptor S (Some d) q h =
@@ -113,13 +129,33 @@ module _ (m : OpenMeaning) (well : OpensWell m) where
         | inr there ↦ ap (λ b. same_part (at_open d.id) q || b) (well.seen S (get S.opens d.id) q there) ∙ or_true (same_part (at_open d.id) q)
       ])
 
-  plain_descriptor : (now : ℕ) (v : View) (d : Option Descriptor) → IsPlain m.errors (at_descriptor (m.effect now v) v d)
-  plain_descriptor now v None = (refl, inr (refl, well.badf))
+  pub plain_descriptor : (now : ℕ) (v : View) (d : Option Descriptor)
+      → OrWaits m.may_wait (at_descriptor (m.effect now v) v d) (IsPlain m.errors (at_descriptor (m.effect now v) v d))
+  plain_descriptor now v None =
+      or_waits m.may_wait (replies (refused Badf)) (IsPlain m.errors (replies (refused Badf))) (refl, inr (refl, well.badf))
   plain_descriptor now v (Some d) = well.plain now v d.id (v.opened d.id)
+
+  pub patient_descriptor : (waits : WaitsWell m) (now before : ℕ) (v : View) (clock : ℕ) (d : Option Descriptor)
+      → is_parked (at_descriptor (m.effect now v) v d).answer ≡ true
+      → is_parked (at_descriptor (m.effect before (record v { clock = clock })) (record v { clock = clock }) d).answer ≡ true
+  patient_descriptor waits now before v clock None h = absurd (not_true h)
+  patient_descriptor waits now before v clock (Some d) h = waits.patient now before v clock d.id (v.opened d.id) h
+
+module _ (m : OpenMeaning) (well : OpensWell m) where
+  pub sets_descriptor : (now : ℕ) (S : State) (d : Option Descriptor) (q : Part)
+      → has_part (open_part d ++ m.touched (open_of (whole S) d)) q ≡ false
+      → IsUnset (at_descriptor (m.effect now (whole (tick S))) (whole (tick S)) d) q
+  sets_descriptor now S None q h = refl
+  sets_descriptor now S (Some d) q h = well.sets now (whole (tick S)) d.id (get S.opens d.id) q h
 
   pub apart_descriptor : (now : ℕ) (v : View) (d : Option Descriptor) → AreOfNoProcess (at_descriptor (m.effect now v) v d).updates
   apart_descriptor now v None = tt
   apart_descriptor now v (Some d) = well.apart now v d.id (v.opened d.id)
+
+  carries_descriptor : (now : ℕ) (S : State) (d : Option Descriptor) (table : Table)
+      → AllCarryOn S (table, [], may_send m.errors) (at_descriptor (m.effect now (whole S)) (whole S) d)
+  carries_descriptor now S None table = tt
+  carries_descriptor now S (Some d) table = well.carries now S d.id (get S.opens d.id) table
 
   valid_descriptor : (now : ℕ) (S : State) (d : Option Descriptor) → IsNearlyValid S
       → IsNearlyValid (put_all (at_descriptor (m.effect now (whole S)) (whole S) d).updates S)
@@ -130,15 +166,21 @@ module _ (m : OpenMeaning) (well : OpensWell m) where
   by_open_is_proper row = record {
     names = (([], [], refl), tt);
     sees = (inl (row, ([], [], refl), refl), tt);
-    reads = λ constants S who table. reads_descriptor (real_time constants S.clock) S who.pid (get table row.fd);
+    reads = λ constants S who table. reads_descriptor m well.sees (real_time constants S.clock) S who.pid (get table row.fd);
     walks = λ S who table. refl;
     sets = λ constants S who table part h.
         sets_descriptor (real_time constants (tick S).clock) S (get table row.fd) part
         (beyond_process who.pid (open_part (get table row.fd) ++ m.touched (open_of (whole S) (get table row.fd))) part h).1;
-    touched = λ S table part h. seen_descriptor S (get table row.fd) part h;
-    plain = λ constants v who table. plain_descriptor (real_time constants v.clock) v (get table row.fd);
-    waits = λ h. absurd (not_true h);
-    lacks = well.lacks;
+    touched = λ S table part h. seen_descriptor m well.sees S (get table row.fd) part h;
+    plain = λ constants v who table. plain_descriptor m well.sees (real_time constants v.clock) v (get table row.fd);
+    waits = λ may. record {
+      patient = λ constants v who table before earlier waits.
+          patient_descriptor m well.sees (well.sees.waits may) (real_time constants v.clock) (real_time constants before) v before (get table row.fd) waits;
+      due = λ constants v who table come. absurd (not_true come);
+      inside = λ v table. refl;
+      keeps = (well.sees.waits may).keeps;
+    };
+    lacks = well.sees.lacks;
     others = λ constants v who table q other.
         apart_unset (at_descriptor (m.effect (real_time constants v.clock) v) v (get table row.fd)).updates q
         (apart_descriptor (real_time constants v.clock) v (get table row.fd));
@@ -148,5 +190,6 @@ module _ (m : OpenMeaning) (well : OpensWell m) where
         (apart_processes (at_descriptor (m.effect (real_time constants S.clock) (whole S)) (whole S) (get table row.fd)).updates S
         (apart_descriptor (real_time constants S.clock) (whole S) (get table row.fd)))));
     allows = λ constants S who table. tt;
+    carries = λ constants S who table nearly. carries_descriptor (real_time constants S.clock) S (get table row.fd) table;
     valid = λ constants S who table there nearly. valid_descriptor (real_time constants S.clock) S (get table row.fd) nearly;
   }

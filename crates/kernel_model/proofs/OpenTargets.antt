@@ -22,11 +22,14 @@ use Rattle.abi_types.specs.declared.node.NodeKind.TheVariants.{Link}
 use Rattle.abi_types.specs.declared.open_kind.OpenKind.{OpenKind}
 use Rattle.abi_types.specs.declared.open_kind.OpenKind.TheVariants.{File, Directory, End, Terminal, Process}
 use Rattle.abi_types.specs.declared.place.Place.{Place}
+use Rattle.abi_types.specs.declared.reply.Reply.{Reply}
 use Rattle.abi_types.specs.declared.stream.Stream.{Stream}
 use Rattle.abi_types.specs.declared.who.Who.{Who}
 use Rattle.maps.specs.Maps.{get-insert-same, get-insert-other}
 use Rattle.tree_model.specs.Files.{is_beyond}
 use Rattle.kernel_model.specs.Calls.{meaning_of}
+use Rattle.kernel_model.specs.Channels.{Channel, Push, hung, full, sends, Pulled, must_wait, pull, push, with_reader_shut, with_writer_shut}
+use Rattle.kernel_model.specs.Families.ChannelCalls.{is_nonblocking, picked, read_end, read_from, read_if, receive_open, send_on, send_open, send_to, sent_by, sent_reply, shut_if, waits_unless, written_reply}
 use Rattle.kernel_model.specs.Families.ClockCalls.{real_time}
 use Rattle.kernel_model.specs.Families.DescriptorCalls.{dup_at, dup_of, lowered_to, lowest_free, replaced_by, stat_get, stat_open, stat_put, stat_set, with_flags}
 use Rattle.kernel_model.specs.Families.FileBytes.{overwrites, overwritten, written_count}
@@ -42,6 +45,7 @@ use Rattle.kernel_model.specs.Families.Numbers.{can_number, next_object, process
 use Rattle.kernel_model.specs.Families.OpenMeaning.{OpenMeaning, at_descriptor}
 use Rattle.kernel_model.specs.Families.Opening.{Opened, NotOpened, OpenedOutside, Opens, open_at, open_mode, open_walked, opened_outcome}
 use Rattle.kernel_model.specs.Families.ProcessCalls.{end_updates}
+use Rattle.kernel_model.specs.Families.SocketCalls.{Pair, pipe, pair, count_of, create, create_updates, made_of, shutting}
 use Rattle.kernel_model.specs.Families.StreamCalls.{read_term, reading, seek_row, seeking, write_term, writing}
 use Rattle.kernel_model.specs.Families.TreeUpdates.{Change, change_updates, node_update}
 use Rattle.kernel_model.specs.Meaning.{Meaning}
@@ -60,6 +64,8 @@ use Rattle.kernel_model.proofs.FileMeanings.{IsOfTree}
 use Rattle.kernel_model.proofs.NameProper.{change_holds}
 use Rattle.kernel_model.proofs.ObjectNumbers.{fewer_fit, next_is_absent}
 use Rattle.kernel_model.proofs.Outcomes.{outcome_holds}
+use Rattle.kernel_model.proofs.PairCalls.{absent, create_holds, number}
+use Rattle.kernel_model.proofs.SocketCalls.{receive_holds}
 use Rattle.kernel_model.proofs.ThreadCalls.{left_holds, made_holds}
 use Rattle.kernel_model.proofs.Threading.{waits_if_same}
 use Rattle.kernel_model.proofs.WaitCalls.{poll_holds}
@@ -242,13 +248,112 @@ write_from_keeps S t o node offset flags now at (b ∷ bytes) there =
     (all_of_both (IsKeeping S) (node_update node written) (set_open o moved ∷ []) (trees_keep S (node_update node written) (node_of_tree node written))
     (moved_keeps S o (File node offset flags) moved there refl, tt))
 
+-- ---- ends of channels
+
+waits_keep : (S : State) (nonblocking : Bool) → AllKeep S (waits_unless nonblocking).updates
+waits_keep S true = tt
+waits_keep S false = tt
+
+sent_keeps : (S : State) (reply : ℕ → Reply) (nonblocking : Bool) (c : ℕ) (p : Push) → AllKeep S (sent_by reply nonblocking c p).updates
+sent_keeps S reply nonblocking c hung = tt
+sent_keeps S reply nonblocking c full = waits_keep S nonblocking
+sent_keeps S reply nonblocking c (sends count channel) = (tt, tt)
+
+send_keeps : (S : State) (reply : ℕ → Reply) (v : View) (flags : ℕ) (bytes : List ℕ) (carried : List Descriptor) (writes : Option ℕ)
+    → AllKeep S (send_on reply v flags bytes carried writes).updates
+send_keeps S reply v flags [] carried writes = tt
+send_keeps S reply v flags (b ∷ bytes) carried None = tt
+send_keeps S reply v flags (b ∷ bytes) carried (Some c) =
+    elim (v.channel c) as (λ (x : Option Channel). AllKeep S (send_to reply (is_nonblocking flags) (b ∷ bytes) carried c x).updates) [
+      | None ↦ tt
+      | Some channel ↦ sent_keeps S reply (is_nonblocking flags) c (push (b ∷ bytes) carried channel)
+    ]
+
+send_open_keeps : (S : State) (v : View) (bytes : List ℕ) (carried : List Descriptor) (kind : Option OpenKind) → AllKeep S (send_open v bytes carried kind).updates
+send_open_keeps S v bytes carried None = tt
+send_open_keeps S v bytes carried (Some (File node offset flags)) = tt
+send_open_keeps S v bytes carried (Some (Directory node flags)) = tt
+send_open_keeps S v bytes carried (Some (End None writes flags)) = tt
+send_open_keeps S v bytes carried (Some (End (Some r) None flags)) = tt
+send_open_keeps S v bytes carried (Some (End (Some r) (Some w) flags)) = send_keeps S sent_reply v flags bytes carried (Some w)
+send_open_keeps S v bytes carried (Some (Terminal which flags)) = tt
+send_open_keeps S v bytes carried (Some (Process p)) = tt
+
+send_at_keeps : (S : State) (v : View) (bytes : List ℕ) (carried : List Descriptor) (d : Option Descriptor)
+    → AllKeep S (at_descriptor (λ o. send_open v bytes carried) v d).updates
+send_at_keeps S v bytes carried None = tt
+send_at_keeps S v bytes carried (Some d) = send_open_keeps S v bytes carried (v.opened d.id)
+
+read_if_keeps : (S : State) (waits nonblocking : Bool) (c : ℕ) (pulled : Pulled) → AllKeep S (read_if waits nonblocking c pulled).updates
+read_if_keeps S true nonblocking c pulled = waits_keep S nonblocking
+read_if_keeps S false nonblocking c pulled = (tt, tt)
+
+read_end_keeps : (S : State) (v : View) (n flags : ℕ) (reads : Option ℕ) → AllKeep S (read_end v n flags reads).updates
+read_end_keeps S v n flags None = tt
+read_end_keeps S v n flags (Some c) =
+    elim (v.channel c) as (λ (x : Option Channel). AllKeep S (read_from n (is_nonblocking flags) c x).updates) [
+      | None ↦ tt
+      | Some channel ↦ read_if_keeps S (must_wait n channel) (is_nonblocking flags) c (pull n channel)
+    ]
+
+receive_at_keeps : (S : State) (p : ℕ) (table : Table) (n room flags : ℕ) (v : View) (d : Option Descriptor)
+    → AllKeep S (at_descriptor (λ o. receive_open p table v n room flags) v d).updates
+receive_at_keeps S p table n room flags v None = tt
+receive_at_keeps S p table n room flags v (Some d) =
+    receive_holds p table v n room flags (λ (x : Outcome). AllKeep S x.updates) (λ errno here. tt) tt (λ bytes. tt) (v.opened d.id)
+    (λ c w mode channel installed is there made. (tt, (tt, tt)))
+
+shut_keeps : (S : State) (first : Bool) (r : ℕ) (x : Option Channel) (second : Bool) (w : ℕ) (y : Option Channel)
+    → AllKeep S (shut_if first with_reader_shut r x ++ shut_if second with_writer_shut w y)
+shut_keeps S true r (Some x) true w (Some y) = (tt, (tt, tt))
+shut_keeps S true r (Some x) true w None = (tt, tt)
+shut_keeps S true r (Some x) false w y = (tt, tt)
+shut_keeps S true r None true w (Some y) = (tt, tt)
+shut_keeps S true r None true w None = tt
+shut_keeps S true r None false w y = tt
+shut_keeps S false r x true w (Some y) = (tt, tt)
+shut_keeps S false r x true w None = tt
+shut_keeps S false r x false w y = tt
+
+shut_open_keeps : (how : ℕ) → MeaningKeeps (shutting how)
+shut_open_keeps how now S v o None there = tt
+shut_open_keeps how now S v o (Some (File node offset flags)) there = tt
+shut_open_keeps how now S v o (Some (Directory node flags)) there = tt
+shut_open_keeps how now S v o (Some (End None writes flags)) there = tt
+shut_open_keeps how now S v o (Some (End (Some r) None flags)) there = tt
+shut_open_keeps how now S v o (Some (End (Some r) (Some w) flags)) there =
+    shut_keeps S (not (bit_and how 1 == 0)) r (v.channel r) (not (bit_and how 2 == 0)) w (v.channel w)
+shut_open_keeps how now S v o (Some (Terminal which flags)) there = tt
+shut_open_keeps how now S v o (Some (Process p)) there = tt
+
+-- two ends that are made weren't there
+pair_keeps : (S : State) (p : ℕ) (own : ProcessState) → get S.processes p ≡ Some own → IsNearlyValid S → (table : Table) (first second : ℕ) (made : Pair)
+    → can_number p (count_of made) (Some own) ≡ true → AllKeep S (create_updates made p (Some own) table first second)
+pair_keeps S p own there v table first second pipe can =
+    (tt, (tt, (new 2 (omega arith) (omega arith) _, (new 3 (omega arith) (omega arith) _, (tt, tt))))) where
+      new : (k : ℕ) → 1 ≤ k → k ≤ 3 → (kind : OpenKind) → IsKeeping S (set_open (number S p own there v 2 can k) kind)
+      new k some within kind before is = absurd (none_is_no before (sym (absent S p own there v 2 can k some within).0 ∙ is))
+pair_keeps S p own there v table first second pair can =
+    (tt, (tt, (tt, (new 3 (omega arith) (omega arith) _, (new 4 (omega arith) (omega arith) _, (tt, tt)))))) where
+      new : (k : ℕ) → 1 ≤ k → k ≤ 4 → (kind : OpenKind) → IsKeeping S (set_open (number S p own there v 3 can k) kind)
+      new k some within kind before is = absurd (none_is_no before (sym (absent S p own there v 3 can k some within).0 ∙ is))
+
+create_keeps : (S : State) (p t : ℕ) (table : Table) (made : Option Pair) → IsNearlyValid S → AllKeep S (create made p t (get S.processes p) table).updates
+create_keeps S p t table made v =
+    create_holds p t (get S.processes p) table (λ (x : Outcome). AllKeep S x.updates) (λ errno here. tt) made
+    (λ m is first second own one two there some can.
+    subst (λ (o : Option ProcessState). AllKeep S (create_updates m p o table first second)) (sym there)
+    (pair_keeps S p own there v table first second m can))
+
+-- ---- opens that are written and read
+
 write_keeps : (bytes : List ℕ) → MeaningKeeps (writing bytes)
 write_keeps bytes now S v o None there = tt
 write_keeps bytes now S v o (Some (Terminal which flags)) there = write_term_keeps S bytes which (v.term which)
 write_keeps bytes now S v o (Some (File node offset flags)) there =
     write_from_keeps S v.branch o node offset flags now (write_place v.branch node offset flags) bytes there
 write_keeps bytes now S v o (Some (Directory node flags)) there = tt
-write_keeps bytes now S v o (Some (End reads writes flags)) there = tt
+write_keeps bytes now S v o (Some (End reads writes flags)) there = send_keeps S written_reply v flags bytes [] writes
 write_keeps bytes now S v o (Some (Process p)) there = tt
 
 read_term_keeps : (S : State) (n which : ℕ) (stream : Option Stream) → AllKeep S (read_term n which stream).updates
@@ -260,7 +365,7 @@ read_keeps n now S v o None there = tt
 read_keeps n now S v o (Some (Terminal which flags)) there = read_term_keeps S n which (v.term which)
 read_keeps n now S v o (Some (File node offset flags)) there = (moved_keeps S o (File node offset flags) (File node _ flags) there refl, tt)
 read_keeps n now S v o (Some (Directory node flags)) there = tt
-read_keeps n now S v o (Some (End reads writes flags)) there = tt
+read_keeps n now S v o (Some (End reads writes flags)) there = read_end_keeps S v n flags reads
 read_keeps n now S v o (Some (Process p)) there = tt
 
 seek_to_keeps : (S : State) (o node offset flags : ℕ) (place : Option ℕ) → get S.opens o ≡ Some (File node offset flags)
@@ -327,7 +432,7 @@ keeps (call.ClockTimeGet clock precision) constants S who table nearly = tt
 keeps (call.CondvarSignal condvar word scope n) constants S who table nearly = tt
 keeps (call.FdClose fd) constants S who table nearly = (tt, tt)
 keeps (call.FdCreate1 kind) constants S who table nearly = tt
-keeps (call.FdCreate2 kind) constants S who table nearly = tt
+keeps (call.FdCreate2 kind) constants S who table nearly = create_keeps S who.pid who.tid table (made_of kind) nearly
 keeps (call.FdDatasync fd) constants S who table nearly = tt
 keeps (call.FdDup fd) constants S who table nearly = dup_keeps S who.pid table (get table fd)
 keeps (call.FdPread fd length offset) constants S who table nearly = file_keeps (call.FdPread fd length offset) fd refl constants S who table nearly
@@ -368,9 +473,10 @@ keeps (call.ProcFork left) constants S who table nearly = tt
 keeps (call.ProcRaise signal) constants S who table nearly = tt
 keeps (call.RandomGet length) constants S who table nearly =
     drawn_holds (λ (o : Outcome). AllKeep S o.updates) constants who.pid (get S.processes who.pid) length tt (λ own _. (tt, tt))
-keeps (call.SockRecv fd length fds flags) constants S who table nearly = tt
-keeps (call.SockSend fd bytes fds flags) constants S who table nearly = tt
-keeps (call.SockShutdown fd how) constants S who table nearly = tt
+keeps (call.SockRecv fd length fds flags) constants S who table nearly = receive_at_keeps S who.pid table length fds flags (whole S) (get table fd)
+keeps (call.SockSend fd bytes fds flags) constants S who table nearly = send_at_keeps S (whole S) bytes (picked table fds) (get table fd)
+keeps (call.SockShutdown fd how) constants S who table nearly =
+    descriptor_keeps (shutting how) (shut_open_keeps how) (real_time constants S.clock) S (get table fd)
 keeps (call.ThreadCreate attributes) constants S who table nearly =
     made_holds (λ (o : Outcome). AllKeep S o.updates) who.pid who.tid (get S.processes who.pid) tt (λ own _ _. (tt, tt))
 keeps (call.ThreadExit lock word scope) constants S who table nearly =

@@ -31,10 +31,10 @@ use Rattle.kernel_model.specs.Families.Numbers.{can_number, next_object, new_par
 use Rattle.kernel_model.specs.Families.Opening.{Opened, NotOpened, OpenedOutside, Opens, absent_end_parts, absent_parts, creates, file_open, open_at, open_mode, open_row, open_walked, opened_descriptor, opened_outcome, parts_where, truncates, where_free}
 use Rattle.kernel_model.specs.Outcome.{Outcome, replies}
 use Rattle.kernel_model.specs.OwnChanges.{IsChangedBy}
-use Rattle.kernel_model.specs.Proper.{IsDeniedOutside, IsPlain, IsProper, IsUnset}
+use Rattle.kernel_model.specs.Proper.{IsDeniedOutside, IsPlain, IsProper, IsUnset, AllCarryOn, CarriesOn}
 use Rattle.kernel_model.specs.Reply.{refused, success}
 use Rattle.kernel_model.specs.Sight.{process_parts, behind, reached_by}
-use Rattle.kernel_model.specs.State.{State, ProcessState, Part, Table, Tree, Update, at_clock, at_node, at_names, at_open, at_proc, at_status, counts_in, has_part, part_of, put_all, put_one, same_part, set_names, set_node, set_open, set_table, tree_of}
+use Rattle.kernel_model.specs.State.{State, ProcessState, Part, Table, Tree, Update, at_clock, at_node, at_names, at_chan, at_open, at_proc, at_status, counts_in, has_part, part_of, put_all, put_one, same_part, set_names, set_node, set_open, set_table, tree_of}
 use Rattle.kernel_model.specs.Step.{tick}
 use Rattle.kernel_model.specs.Families.TreeUpdates.{Change, change_updates}
 use Rattle.kernel_model.specs.Fits.{fits, fits_inheriting}
@@ -42,12 +42,12 @@ use Rattle.kernel_model.specs.Valid.{AreSole, HasBehind, IsNamed, IsNearlyValid}
 use Rattle.kernel_model.specs.View.{View, restrict, whole}
 use Rattle.kernel_model.proofs.Branches.{IsSeen}
 use Rattle.kernel_model.proofs.DescriptorCalls.{met_within}
-use Rattle.kernel_model.proofs.FileMeanings.{IsOfTree, tree_processes, tree_unset}
+use Rattle.kernel_model.proofs.FileMeanings.{IsOfTree, tree_processes, tree_unset, tree_carries}
 use Rattle.kernel_model.proofs.FilePaths.{FailsPlainly, found_is_seen, path_errors_lack, walked_plainly, walked_reads}
 use Rattle.kernel_model.proofs.LastNames.{EndsBelow, WalksBelow, all_both, directory_seen, walks_below}
 use Rattle.kernel_model.proofs.Lists.{all_weaker}
 use Rattle.kernel_model.proofs.NameMeanings.{IsChangeOf}
-use Rattle.kernel_model.proofs.NameProper.{HasReached, behind_is_reached, sees_behind, sees_open}
+use Rattle.kernel_model.proofs.NameProper.{HasReached, behind_is_reached, sees_behind, sees_open, process_carries}
 use Rattle.kernel_model.proofs.SoleOpens.{more_sole}
 use Rattle.kernel_model.proofs.NewOpens.{IsBeside, new_descriptor_nearly_valid, new_open_nearly_valid, put_last}
 use Rattle.kernel_model.proofs.ObjectNumbers.{fewer_fit, next_is_absent}
@@ -143,7 +143,7 @@ opening_unset p own table stat fd kind new_nodes us q apart proc change =
     ∙ both_unset (process_updates p (new_nodes + 1) own) us q (process_unset p (new_nodes + 1) own q proc) change
 
 open_apart : (o : ℕ) (q : Part) → has_part (object_parts o) q ≡ false → same_part (at_open o) q ≡ false
-open_apart o q h = (outside_cons (at_open o) (at_node o ∷ at_names o ∷ []) q h).0
+open_apart o q h = (outside_cons (at_open o) (at_node o ∷ at_names o ∷ at_chan o ∷ []) q h).0
 
 -- a part apart from those of two new objects
 apart_from_new : (p : ℕ) (own : Option ProcessState) (q : Part) → has_part (new_parts p 2 own) q ≡ false
@@ -442,6 +442,18 @@ file_open_is_proper lookup path oflags stat = record {
       (opened_from who.pid stat oflags (open_mode oflags lookup.flags) path (real_time constants S.clock) (get S.processes who.pid) (tree_of S)
       (open_of (whole S) (get table lookup.fd))));
   allows = λ constants S who table. tt;
+  carries = λ constants S who table nearly.
+      open_by who.pid (get S.processes who.pid) table stat (AllCarryOn S (table, [], false)) (λ reply. tt) (lowest_free table)
+      (opened_from who.pid stat oflags (open_mode oflags lookup.flags) path (real_time constants S.clock) (get S.processes who.pid) (tree_of S)
+      (open_of (whole S) (get table lookup.fd)))
+      (λ fd kind c new_nodes is can. (
+        tt,
+        (
+          tt,
+          all_both (CarriesOn S (table, [], false)) (process_updates who.pid (new_nodes + 1) (get S.processes who.pid)) (change_updates c)
+              (process_carries S (table, [], false) who.pid (new_nodes + 1) (get S.processes who.pid)) (tree_carries S (table, [], false) (change_updates c) (change_of_tree c)),
+        ),
+      ));
   valid = λ constants S who table there nearly.
       open_valid S who.pid table stat oflags (open_mode oflags lookup.flags) path (real_time constants S.clock) (lowest_free table) lookup.fd
       (get table lookup.fd) there refl nearly;

@@ -192,7 +192,9 @@ module _ (S : State) (p : ℕ) (own new : ProcessState) (there : get S.processes
     born = all_born S.processes (insert S.processes p new) (one_keeps S.processes p own new there grows.children) v.born;
     tree = v.tree;
     waits = λ q t. waits_by v q t (thread_of after q t) refl;
-    silent = v.silent;
+    channels = v.channels;
+    made_channels = λ q k small beyond fits.
+        v.made_channels q k small (let more = more_made q in omega (arith, more, beyond)) fits;
     nobody = λ q. here_or_other (λ k. locks_in (get after.processes k) ≡ no_locks) p q
         (ap locks_in here ∙ grows.locks ∙ sym (ap locks_in there) ∙ v.nobody p) (λ apart. ap locks_in (other q apart) ∙ v.nobody q);
   }

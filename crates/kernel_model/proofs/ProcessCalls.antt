@@ -14,7 +14,7 @@ use Rattle.kernel_model.specs.State.{ProcessState, Part, no_locks, at_clock, at_
 use Rattle.kernel_model.proofs.Parts.{outside_cons, beyond_process, number_apart}
 use Rattle.kernel_model.proofs.Sights.{first_seen}
 use Rattle.kernel_model.proofs.Tests.{not_true}
-use Rattle.kernel_model.proofs.Valids.{end_nearly_valid}
+use Rattle.kernel_model.proofs.EndedValid.{end_nearly_valid}
 
 -- the end of a process sets only what is its own
 pub end_unset : (p : ℕ) (own : Option ProcessState) (status : Status) (q : Part) → has_part (process_parts p) q ≡ false
@@ -72,5 +72,6 @@ proc_exit_is_proper code = record {
   own = λ constants S who table.
       inr (ended_live S.statuses who.pid code, ends_own (λ own. own) (λ _. refl) (λ _. refl) who.pid S.processes);
   allows = λ constants S who table. tt;
+  carries = λ constants S who table nearly. (tt, (tt, (tt, tt)));
   valid = λ constants S who table there nearly. end_nearly_valid S who.pid (Exit code) (sym (nearly.tables who.pid) ∙ ap is_some there) nearly;
 }

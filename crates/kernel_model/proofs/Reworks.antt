@@ -177,6 +177,7 @@ module _ (S : State) (n : ℕ) (node : Node) (u : Tree) (works : Reworks (tree_o
     born = v.born;
     tree = subst IsTree (sym put_tree) (works.tree v.tree);
     waits = v.waits;
-    silent = v.silent;
+    channels = v.channels;
+    made_channels = v.made_channels;
     nobody = v.nobody;
   }

@@ -21,7 +21,7 @@ use Rattle.abi_types.specs.declared.node.Node.{Node}
 use Rattle.abi_types.specs.declared.node.NodeKind.TheVariants as node_kind
 use Rattle.abi_types.specs.declared.open_kind.OpenKind.TheVariants as kind
 use Rattle.tree_model.specs.Tree.{is_directory_kind, is_directory_node}
-use Rattle.kernel_model.specs.Release.{holders, is_of_process, is_reader, is_writer}
+use Rattle.kernel_model.specs.Release.{holders, is_channel_kept, is_of_process, is_reader, is_writer}
 use Rattle.tree_model.specs.Changes.{is_file_kind, is_file_node}
 use Rattle.tree_model.specs.declared.limits.TheConstants.{ROOT}
 use Rattle.tree_model.specs.Grants.{IsStartTree, IsGrant, IsGrantOf, AreGrants, HasRightsOfType, MayBegin, type_of_kind, type_of_node}
@@ -365,9 +365,11 @@ start_valid tree grants stdin begins = record {
     made_nodes = λ p k small beyond fits. start_nodes tree begins.tree p k small fits;
     born = start_born;
     tree = begins.tree.tree;
-    silent = λ c. get-empty nat_cmp c;
+    channels = λ c channel there. absurd (none_is_no channel (sym (get-empty nat_cmp c) ∙ there));
+    made_channels = λ p k small beyond fits. get-empty nat_cmp (object_of p k);
     nobody = start_nobody;
   };
   held = λ o there. held_or_carried (start_state tree grants stdin) o (start_held tree grants begins.grants o there);
   kept = λ n there. named_is_kept (start_state tree grants stdin) n (begins.tree.named n there);
+  going = λ c. ap is_channel_kept (get-empty nat_cmp c);
 }

@@ -38,7 +38,8 @@ use Rattle.kernel_model.proofs.Tests.{same_some}
 use Rattle.kernel_model.proofs.Threading.{waits_apart, waits_if_holds, waits_if_same, with_counts, with_nearly_valid}
 use Rattle.kernel_model.proofs.Threads.{IsOwnAfter, leaves_counts, leaves_threads, refusal_of_fails, undone_allows, undone_stays}
 use Rattle.kernel_model.proofs.Touches.{killed_is_not_live, live_spared, release_ends, release_keeps}
-use Rattle.kernel_model.proofs.Valids.{counts_stay, left_counts, release_restores, some_mapped, tick_nearly_valid, tick_valid, end_nearly_valid}
+use Rattle.kernel_model.proofs.EndedValid.{counts_stay, end_nearly_valid}
+use Rattle.kernel_model.proofs.Valids.{left_counts, release_restores, some_mapped, tick_nearly_valid, tick_valid}
 
 -- ---- valid states
 

@@ -1,5 +1,5 @@
 -- Tests and options that contradict each other, or that fall into cases.
-use Rattle.std.proofs.Common.{◌≡◌, ◌≢◌, ◌⊎◌, ◌||◌, Bool, true, false, not, T, inl, inr, Option, Some, None, is_some, refl, sym, ap, subst}
+use Rattle.std.proofs.Common.{◌≡◌, ◌≢◌, ◌⊎◌, ◌||◌, ◌&&◌, Bool, true, false, not, T, inl, inr, Option, Some, None, is_some, refl, sym, ap, subst}
 
 pub not_true : false ≢ true
 not_true e = subst T (sym e) tt
@@ -33,3 +33,7 @@ not_false false h = sym h
 pub or_false : (b : Bool) → (b || false) ≡ b
 or_false true = refl
 or_false false = refl
+
+pub and_false : (b : Bool) → (b && false) ≡ false
+and_false true = refl
+and_false false = refl

@@ -12,7 +12,7 @@ use Rattle.kernel_model.specs.Families.LockWords.{unlocked}
 use Rattle.kernel_model.specs.Families.ProcessCalls.{can_make_thread, end_updates, has_next_number, is_last_thread, left_if_last, left_reply, left_updates, left_with, made_if, made_in, most_threads, thread_create, thread_exit}
 use Rattle.kernel_model.specs.Outcome.{Outcome, replies}
 use Rattle.kernel_model.specs.OwnChanges.{ends_one, makes_one, next_thread, with_next_thread, without_thread, AllowsChange, LeavesOwn}
-use Rattle.kernel_model.specs.Proper.{IsPlain, IsProper, IsUnset}
+use Rattle.kernel_model.specs.Proper.{IsPlain, IsProper, IsUnset, AllCarryOn}
 use Rattle.kernel_model.specs.Reply.{refused, success}
 use Rattle.kernel_model.specs.State.{ProcessState, Update, at_proc, at_status, has_part, put_all, set_process}
 use Rattle.kernel_model.specs.Valid.{IsNearlyValid}
@@ -22,7 +22,7 @@ use Rattle.kernel_model.proofs.Parts.{beyond_process, own_becomes, own_stays}
 use Rattle.kernel_model.proofs.ProcessCalls.{end_others, end_unset, ended_live, ends_own}
 use Rattle.kernel_model.proofs.Sights.{first_seen}
 use Rattle.kernel_model.proofs.Tests.{none_is_no, none_of, not_true, same_some}
-use Rattle.kernel_model.proofs.Valids.{end_nearly_valid}
+use Rattle.kernel_model.proofs.EndedValid.{end_nearly_valid}
 
 -- ---- thread_create
 
@@ -92,6 +92,7 @@ thread_create_is_proper = record {
   allows = λ constants S who table.
       made_holds (λ o. AllowsChange makes_one who.tid o.answer (get S.processes who.pid)) who.pid who.tid (get S.processes who.pid) (λ done. absurd (not_true done))
       (λ own there can. free_by who.tid (get S.processes who.pid) own there can);
+  carries = λ constants S who table nearly. made_holds (AllCarryOn S (table, [], false)) who.pid who.tid (get S.processes who.pid) tt (λ own _ _. (tt, tt));
   valid = λ constants S who table there nearly.
       made_holds (λ o. IsNearlyValid (put_all o.updates S)) who.pid who.tid (get S.processes who.pid) nearly
       (λ own is can. set_process_nearly_valid S who.pid own (with_next_thread own) is (thread_grows own who.tid can.there) nearly);
@@ -152,6 +153,9 @@ thread_exit_is_proper lock word = record {
       (λ new own there _. inl (own_becomes (without_thread who.tid) (get S.processes who.pid) _ own there
       (get-insert-same S.processes who.pid (without_thread who.tid own))));
   allows = λ constants S who table. tt;
+  carries = λ constants S who table nearly.
+      left_holds (AllCarryOn S (table, [], false)) who.pid who.tid (get S.processes who.pid) lock (unlocked who.tid word) tt (λ new _. (tt, (tt, (tt, tt))))
+      (λ new own _ _. (tt, tt));
   valid = λ constants S who table there nearly.
       left_holds (λ o. IsNearlyValid (put_all o.updates S)) who.pid who.tid (get S.processes who.pid) lock (unlocked who.tid word) nearly
       (λ new _. end_nearly_valid S who.pid (Exit 0) (sym (nearly.tables who.pid) ∙ ap is_some there) nearly)

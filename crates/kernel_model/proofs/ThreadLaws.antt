@@ -92,7 +92,12 @@ own_left : (S : State) (p : ℕ) (own new : ProcessState) → get S.processes p 
     → release (put_one (set_process p new) (tick S)) ≡ with_own S p new
 own_left S p own new there grows valid =
     release_valid (put_one (set_process p new) (tick S))
-    (record { nearly = set_process_nearly_valid (tick S) p own new there grows (tick_nearly_valid S valid.nearly); held = valid.held; kept = valid.kept })
+    (record {
+      nearly = set_process_nearly_valid (tick S) p own new there grows (tick_nearly_valid S valid.nearly);
+      held = valid.held;
+      kept = valid.kept;
+      going = valid.going;
+    })
 
 the_table : (o : Option Table) → IsSome o → (table : Table) × (o ≡ Some table)
 the_table None there = absurd (not_true there)

@@ -162,12 +162,13 @@ module _ (S : State) (p t : ℕ) (thread : Thread) where
     born = all_born S.processes (with_thread S p t thread).processes with_children v.born;
     tree = v.tree;
     waits = each_thread MayWait may v.waits;
-    silent = v.silent;
+    channels = v.channels;
+    made_channels = λ q k small beyond fits. v.made_channels q k small (subst (λ (c : Counts). c.objects < k) (with_counts q) beyond) fits;
     nobody = λ q. ap locks_in (with_processes q) ∙ locks_where (q == p) t thread (get S.processes q) ∙ v.nobody q;
   }
 
   pub with_valid : MayWait (Some thread) → IsValid S → IsValid (with_thread S p t thread)
-  with_valid may v = record { nearly = with_nearly_valid may v.nearly; held = v.held; kept = v.kept }
+  with_valid may v = record { nearly = with_nearly_valid may v.nearly; held = v.held; kept = v.kept; going = v.going }
 
 -- the same of what is said of that thread, and of each, by its numbers
 pub each_of : (p t : ℕ) (thread : Thread) (S : State) (P : ℕ → ℕ → Option Thread → Type 0) → P p t (Some thread) → ((q u : ℕ) → P q u (thread_of S q u))

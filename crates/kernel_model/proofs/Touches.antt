@@ -1,5 +1,6 @@
 -- A call changes nothing outside what it touches and what the release after it ends.
-use Rattle.std.proofs.Common.{◌≡◌, ◌≢◌, inl, inr, ℕ, Bool, true, false, not, cond, T, [], ◌∷◌, ◌++◌, map, Option, Some, None, refl, sym, ap, subst, ◌∙◌, arith}
+use Rattle.std.proofs.Common.{◌≡◌, ◌≢◌, ◌||◌, inl, inr, ℕ, Bool, true, false, not, cond, T, [], ◌∷◌, ◌++◌, map, Option, Some, None, refl, sym, ap, subst, ◌∙◌, arith}
+use Rattle.std.specs.Prelude.{if◌then◌else◌}
 use Rattle.std.specs.FinMap.{get, empty}
 use Rattle.std.specs.Option.{option_map}
 use Rattle.abi_base.specs.declared.signal.Signal.TheVariants.{Kill}
@@ -17,19 +18,20 @@ use Rattle.kernel_model.specs.Outcome.{Outcome}
 use Rattle.kernel_model.specs.Families.ProcessCalls.{ended_process, end_updates}
 use Rattle.kernel_model.specs.Proper.{IsUnset}
 use Rattle.tree_model.specs.Retained.{retained-no_node, retained-no_table, retained-node, retained-table}
-use Rattle.kernel_model.specs.Release.{ends, loses_reader, loses_writer, is_killed, is_node_kept, is_released, process_left, release, status_left, table_left, without_ended, IsEnded}
-use Rattle.kernel_model.specs.Channels.{Channel, channel_left}
+use Rattle.kernel_model.specs.Release.{ends, is_channel_kept, kept_channel, loses_reader, loses_writer, is_killed, is_node_kept, is_released, process_left, release, status_left, table_left, without_ended, IsEnded}
+use Rattle.kernel_model.specs.Channels.{Channel, channel_left, is_over}
 use Rattle.kernel_model.specs.Sight.{process_parts}
 use Rattle.kernel_model.specs.State.{State, Table, ProcessState, tree_of, Part, at_clock, at_proc, at_status, at_open, at_node, at_names, at_chan, same_part, has_part, Agree, part_of, put_all}
 use Rattle.kernel_model.specs.Step.{tick, unless_refused, changed, made_by, made_on, touch, unless, outcome_on, outcome, unreleased, step_answer, step_state, IsStep, IsUntouched, end_unreleased, end_state}
 use Rattle.kernel_model.specs.View.{whole}
 use Rattle.kernel_model.specs.Waits.{waiting}
 use Rattle.kernel_model.proofs.Calls.{proper}
-use Rattle.kernel_model.proofs.Ends.{channel_after, channel_spared, killed_by, process_after, process_spared, status_after, status_spared, table_after, table_spared}
+use Rattle.kernel_model.proofs.Channels.{channel_released}
+use Rattle.kernel_model.proofs.Ends.{killed_by, same_channel, process_after, process_spared, status_after, status_spared, table_after, table_spared}
 use Rattle.kernel_model.proofs.Outcomes.{outcome_reads}
 use Rattle.kernel_model.proofs.Parts.{outside_cons, agree_through, put_keeps}
 use Rattle.kernel_model.proofs.ProcessCalls.{end_unset}
-use Rattle.kernel_model.proofs.Tests.{not_false, not_true}
+use Rattle.kernel_model.proofs.Tests.{either_false, not_false, not_true}
 use Rattle.kernel_model.proofs.Threading.{waits_keeps}
 use Rattle.kernel_model.proofs.Valids.{get_released, released_stays}
 
@@ -75,7 +77,11 @@ release_keeps S (at_status p) h = status_spared S (ends S) p h
 release_keeps S (at_open o) h = released_stays S o h
 release_keeps S (at_node n) h = retained-node (tree_of S) (is_node_kept (without_ended S)) n (not_false _ h)
 release_keeps S (at_names n) h = retained-table (tree_of S) (is_node_kept (without_ended S)) n (not_false _ h)
-release_keeps S (at_chan c) h = channel_spared S (ends S) c h
+release_keeps S (at_chan c) h =
+    let stays = either_false (loses_reader S (ends S) c) (loses_writer S (ends S) c || not (is_channel_kept (get S.chans c))) h in
+    let writer = either_false (loses_writer S (ends S) c) (not (is_channel_kept (get S.chans c))) stays.1 in
+    channel_released S c ∙ (λ i. kept_channel (option_map (channel_left (stays.0 i) (writer.0 i)) (get S.chans c)))
+    ∙ ap kept_channel (same_channel (get S.chans c)) ∙ ap (λ b. cond b (get S.chans c) None) (not_false (is_channel_kept (get S.chans c)) writer.1)
 release_keeps S q h = refl
 
 -- what becomes of a part that the release ends
@@ -100,7 +106,7 @@ release_ends S (at_status p) h =
 release_ends S (at_open o) h = get_released S o ∙ ap (λ b. cond (not b) (get S.opens o) None) h
 release_ends S (at_node n) h = retained-no_node (tree_of S) (is_node_kept (without_ended S)) n (not_true_is _ h)
 release_ends S (at_names n) h = retained-no_table (tree_of S) (is_node_kept (without_ended S)) n (not_true_is _ h)
-release_ends S (at_chan c) h = (loses_reader S (ends S) c, loses_writer S (ends S) c, h, channel_after S (ends S) c)
+release_ends S (at_chan c) h = (loses_reader S (ends S) c, loses_writer S (ends S) c, channel_released S c)
 release_ends S q h = absurd (not_true h)
 
 pub release_keeps_or_ends : (S : State) (q : Part) → (is_released S q ≡ false → Agree (release S) S q) × (is_released S q ≡ true → IsEnded S (release S) q)
@@ -139,12 +145,18 @@ is_left_by false false channel = record {
   sends = refl;
 }
 
+turned : (b : Bool) (x : Option Channel) → cond (not b) x None ≡ cond b None x
+turned true x = refl
+turned false x = refl
+
 pub channels_are_left : (S : State) (c : ℕ) (before : Channel) → get S.chans c ≡ Some before
-    → (after : Channel) × (get (release S).chans c ≡ Some after) × IsLeftBy (loses_reader S (ends S) c) (loses_writer S (ends S) c) before after
+    → (after : Channel) × IsLeftBy (loses_reader S (ends S) c) (loses_writer S (ends S) c) before after
+    × (get (release S).chans c ≡ (if is_over after then None else Some after))
 channels_are_left S c before there = (
   channel_left (loses_reader S (ends S) c) (loses_writer S (ends S) c) before,
-  channel_after S (ends S) c ∙ ap (option_map (channel_left (loses_reader S (ends S) c) (loses_writer S (ends S) c))) there,
   is_left_by (loses_reader S (ends S) c) (loses_writer S (ends S) c) before,
+  channel_released S c ∙ ap (λ o. kept_channel (option_map (channel_left (loses_reader S (ends S) c) (loses_writer S (ends S) c)) o)) there
+      ∙ turned (is_over (channel_left (loses_reader S (ends S) c) (loses_writer S (ends S) c) before)) _,
 )
 
 -- a process whose status is that it lives still was not killed

@@ -190,7 +190,8 @@ with_tree_nearly_valid S u after v = record {
   born = v.born;
   tree = after.tree;
   waits = v.waits;
-  silent = v.silent;
+  channels = v.channels;
+  made_channels = v.made_channels;
   nobody = v.nobody;
 }
 

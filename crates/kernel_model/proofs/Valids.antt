@@ -1,5 +1,5 @@
 -- What keeps a state valid, or nearly so: one part set, the end of a process, and the release.
-use Rattle.std.proofs.Common.{◌≡◌, ◌≢◌, inl, inr, ℕ, ◌+◌, ◌<◌, ◌≤◌, ◌==◌, Bool, true, false, not, cond, ◌||◌, T, Option, Some, None, IsSome, is_some, refl, sym, ap, subst, ◌∙◌, arith}
+use Rattle.std.proofs.Common.{◌≡◌, ◌≢◌, inl, inr, ℕ, ◌+◌, ◌<◌, ◌≤◌, ◌==◌, Bool, true, false, not, cond, ◌&&◌, ◌||◌, T, Option, Some, None, IsSome, is_some, refl, sym, ap, subst, ◌∙◌, arith}
 use Rattle.std.proofs.lemmas.Bool.Decides.{eqb_tells}
 use Rattle.std.proofs.lemmas.Bool.{eq-eqb, eqb-true}
 use Rattle.std.proofs.lemmas.Nat.{and_assoc}
@@ -18,7 +18,6 @@ use Rattle.abi_types.specs.declared.status.Status.TheVariants.{Live}
 use Rattle.abi_types.specs.declared.stream.Stream.{Stream}
 use Rattle.maps.specs.Closure.{member}
 use Rattle.maps.specs.Maps.{get-insert-same, get-insert-other, get-retain, same_numbers, total, weight, total-empty, total-insert, total_at_least}
-use Rattle.kernel_model.specs.Families.ProcessCalls.{ended_process, end_updates}
 use Rattle.tree_model.specs.declared.limits.TheConstants.{ROOT}
 use Rattle.tree_model.specs.Changes.{is_file_node}
 use Rattle.tree_model.specs.Counts.{one_for-same}
@@ -26,18 +25,19 @@ use Rattle.tree_model.specs.Opens.{one_of_node, opens_of_node}
 use Rattle.tree_model.specs.Releasing.{retained-all, used_by_links, used_by_opens}
 use Rattle.tree_model.specs.Retained.{retained, retained-node, retained-no_node, retained-tree}
 use Rattle.tree_model.specs.Tree.{IsTree, is_directory_node, links_in, links_of}
-use Rattle.kernel_model.specs.Channels.{Channel, channel_left}
-use Rattle.kernel_model.specs.Release.{names_open, count_in, holders, carriers, is_of_process, is_reader, is_writer, loses_reader, loses_writer, is_killed, table_left, process_left, status_left, without, ends, release, is_ending, is_node_kept, without_ended, without_nodes}
-use Rattle.kernel_model.specs.State.{State, Table, Threads, ProcessState, tree_of, put_one, put_all, set_open, set_table, set_term, threads_of, thread_in, thread_of, counts_in, locks_in, no_locks}
+use Rattle.kernel_model.specs.Channels.{Channel, SideState, Gone, Open, Shut, channel_left, is_empty, is_gone}
+use Rattle.kernel_model.specs.Release.{names_open, count_in, holders, carried_in, carriers, is_channel_kept, is_of_process, is_reader, is_writer, kept_channel, loses_reader, loses_writer, is_killed, table_left, process_left, status_left, without, ends, release, is_ending, is_node_kept, without_ended, without_nodes, without_over}
+use Rattle.kernel_model.specs.State.{State, Table, Threads, ProcessState, tree_of, put_one, set_open, set_table, set_term, threads_of, thread_in, thread_of, counts_in, locks_in, no_locks}
 use Rattle.kernel_model.specs.Step.{tick}
 use Rattle.kernel_model.specs.Families.Numbers.{object_of}
 use Rattle.kernel_model.specs.Fits.{fits, fits_inheriting}
-use Rattle.kernel_model.specs.Valid.{AreSole, AtMostOne, IsNamed, HasBehind, HasReader, HasWriter, IsNearlyValid, IsValid}
+use Rattle.kernel_model.specs.Valid.{AreSole, AtMostOne, IsJoined, IsNamed, HasBehind, HasReader, HasWriter, IsNearlyValid, IsValid}
 use Rattle.kernel_model.specs.Waits.{MayWait}
-use Rattle.kernel_model.proofs.Children.{all_born, end_keeps, left_keeps, KeepsChildren}
-use Rattle.kernel_model.proofs.Ends.{any_member, channel_after, ends_closed, ends_none, ends_unheld, process_after, same_process, same_status, same_table, status_after, table_after, without_none}
+use Rattle.kernel_model.proofs.Children.{all_born, left_keeps, KeepsChildren}
+use Rattle.kernel_model.proofs.Channels.{KeepsEnds, carriers_kept, channel_released, left_joined, opens_joined, was_channel}
+use Rattle.kernel_model.proofs.Ends.{any_member, any_of_member, ends_closed, ends_none, ends_unheld, process_after, same_process, same_status, same_table, status_after, table_after, without_none}
 use Rattle.kernel_model.proofs.SoleOpens.{PassesAsBefore, one_more, one_still}
-use Rattle.kernel_model.proofs.Tests.{not_true, none_is_no, same_some}
+use Rattle.kernel_model.proofs.Tests.{not_true, none_is_no, and_false, same_some}
 
 -- ---- what holds an open
 
@@ -81,7 +81,7 @@ held_stays S o held =
       | true ↦ λ e. (
           let unheld = ends_unheld S o e in
           let none : holders (release S) o ≡ 0 = unheld.1 in
-          let bare : carriers (release S) o ≡ 0 = unheld.2 in
+          let bare : carriers (release S) o ≡ 0 = carriers_kept S o ∙ unheld.2 in
           absurd (omega arith))
       | false ↦ λ e. refl
     ] refl
@@ -95,7 +95,7 @@ is_held_by : (S : State) (o : ℕ) (b : Bool) → is_ending S o ≡ b → IsSome
 is_held_by S o true gone there = absurd (not_true there)
 is_held_by S o false stays there =
     elim (eqb_tells (holders (release S) o + carriers (release S) o) 0) [
-      | inl is ↦ absurd (not_true (sym stays ∙ ends_closed S o there is.1))
+      | inl is ↦ absurd (not_true (sym stays ∙ ends_closed S o there (ap (λ n. holders (release S) o + n) (sym (carriers_kept S o)) ∙ is.1)))
       | inr other ↦ (let apart : holders (release S) o + carriers (release S) o ≢ 0 = other.1 in omega arith)
     ]
 
@@ -171,7 +171,7 @@ left_born : (S : State) (p : ℕ) → KeepsChildren (get S.processes p) (get (re
 left_born S p =
     subst (KeepsChildren (get S.processes p)) (sym (process_after S (ends S) p)) (left_keeps (is_killed S (ends S) p) (get S.processes p))
 
-no_thread : (t : ℕ) → IsSome (thread_in (Some empty) t) → ⊥
+pub no_thread : (t : ℕ) → IsSome (thread_in (Some empty) t) → ⊥
 no_thread t h = not_true (subst IsSome (get-empty nat_cmp t) h)
 
 same_thread : (killed : Bool) (own : Option ProcessState) (t : ℕ) → IsSome (thread_in (threads_in (option_map (process_left killed) own)) t)
@@ -186,7 +186,7 @@ left_thread S p t there =
     (subst (λ (own : Option ProcessState). IsSome (thread_in (threads_in own) t)) (process_after S (ends S) p) there)
 
 -- no thread waits where there is none
-none_waits : (t : ℕ) → MayWait (thread_in (Some empty) t)
+pub none_waits : (t : ℕ) → MayWait (thread_in (Some empty) t)
 none_waits t = subst MayWait (sym (get-empty nat_cmp t)) tt
 
 kept_waits : (killed : Bool) (own : Option ProcessState) (t : ℕ) → MayWait (thread_in (threads_in own) t)
@@ -271,6 +271,20 @@ writer_kept : (reader : Bool) (channel : Channel) → (channel_left reader false
 writer_kept true channel = refl
 writer_kept false channel = refl
 
+-- a channel with one of its sides isn't over
+apart : (side : SideState) → side ≢ Gone → is_gone side ≡ false
+apart Open h = refl
+apart Shut h = refl
+apart Gone h = absurd (h refl)
+
+reader_keeps : (channel : Channel) → channel.reader ≢ Gone → kept_channel (Some channel) ≡ Some channel
+reader_keeps channel h = ap (λ b. cond (not (b && (is_gone channel.writer && is_empty channel.waiting))) (Some channel) None) (apart channel.reader h)
+
+writer_keeps : (channel : Channel) → channel.writer ≢ Gone → kept_channel (Some channel) ≡ Some channel
+writer_keeps channel h =
+    ap (λ b. cond (not (is_gone channel.reader && (b && is_empty channel.waiting))) (Some channel) None) (apart channel.writer h)
+    ∙ ap (λ b. cond (not b) (Some channel) None) (and_false (is_gone channel.reader))
+
 -- the channels of an end that is left still have its sides
 left_reader : (S : State) (o : ℕ) (reads writes : Option ℕ) (flags : ℕ) → AreSole S.opens → get (release S).opens o ≡ Some (End reads writes flags)
     → get S.opens o ≡ Some (End reads writes flags) → HasReader S.chans reads → HasReader (release S).chans reads
@@ -280,7 +294,9 @@ left_reader S o (Some c) writes flags sole there before h =
     sole_left S (is_reader c) o (End (Some c) writes flags) (sole c).1 there (ap (is_reader c) before ∙ eq-eqb c c refl) in
     let lost : Bool = loses_writer S (ends S) c in (
       channel_left false lost h.0,
-      channel_after S (ends S) c ∙ ap (λ b. option_map (channel_left b lost) (get S.chans c)) kept ∙ ap (option_map (channel_left false lost)) h.1,
+      channel_released S c ∙ ap (λ b. kept_channel (option_map (channel_left b lost) (get S.chans c))) kept
+          ∙ ap (λ o. kept_channel (option_map (channel_left false lost) o)) h.1
+          ∙ reader_keeps (channel_left false lost h.0) (λ gone. h.2 (sym (reader_kept lost h.0) ∙ gone)),
       λ gone. h.2 (sym (reader_kept lost h.0) ∙ gone),
     )
 
@@ -292,7 +308,9 @@ left_writer S o reads (Some c) flags sole there before h =
     sole_left S (is_writer c) o (End reads (Some c) flags) (sole c).2 there (ap (is_writer c) before ∙ eq-eqb c c refl) in
     let lost : Bool = loses_reader S (ends S) c in (
       channel_left lost false h.0,
-      channel_after S (ends S) c ∙ ap (λ b. option_map (channel_left lost b) (get S.chans c)) kept ∙ ap (option_map (channel_left lost false)) h.1,
+      channel_released S c ∙ ap (λ b. kept_channel (option_map (channel_left lost b) (get S.chans c))) kept
+          ∙ ap (λ o. kept_channel (option_map (channel_left lost false) o)) h.1
+          ∙ writer_keeps (channel_left lost false h.0) (λ gone. h.2 (sym (writer_kept lost h.0) ∙ gone)),
       λ gone. h.2 (sym (writer_kept lost h.0) ∙ gone),
     )
 
@@ -340,6 +358,24 @@ none_left : {X : Type 0} (b : Bool) (o : Option X) → o ≡ None → cond b o N
 none_left true o h = h
 none_left false o h = refl
 
+-- an end that was not lost is left
+end_left : (S : State) (test : Option OpenKind → Bool) → list_any (λ r. test (get S.opens r)) (ends S) ≡ false → (o : ℕ) → test (get S.opens o) ≡ true
+    → test (get (release S).opens o) ≡ true
+end_left S test none o is =
+    elim (is_ending S o) as (λ b. is_ending S o ≡ b → test (get (release S).opens o) ≡ true) [
+      | true ↦ λ e. absurd (not_true (sym none ∙ any_of_member (λ r. test (get S.opens r)) (ends S) o e is))
+      | false ↦ λ e. ap test (released_stays S o e) ∙ is
+    ] refl
+
+kept_stays : (o : Option Channel) → is_channel_kept (kept_channel o) ≡ true
+kept_stays o =
+    elim (is_channel_kept o) as (λ b. is_channel_kept o ≡ b → is_channel_kept (cond b o None) ≡ true) [ true ↦ λ e. e | false ↦ λ e. refl ] refl
+
+left_going : (S : State) (c : ℕ) → is_channel_kept (get (release S).chans c) ≡ true
+left_going S c =
+    ap is_channel_kept (channel_released S c)
+    ∙ kept_stays (option_map (channel_left (loses_reader S (ends S) c) (loses_writer S (ends S) c)) (get S.chans c))
+
 pub release_restores : (S : State) → IsNearlyValid S → IsValid (release S)
 release_restores S v = record {
   nearly = record {
@@ -366,12 +402,25 @@ release_restores S v = record {
     born = all_born S.processes (release S).processes (left_born S) v.born;
     tree = retained-tree (tree_of S) (is_node_kept (without_ended S)) v.tree (root_is_kept (without_ended S)) (named_is_kept (without_ended S));
     waits = λ p t. left_waits S p t (v.waits p t);
-    silent = λ c.
-        channel_after S (ends S) c ∙ ap (option_map (channel_left (loses_reader S (ends S) c) (loses_writer S (ends S) c))) (v.silent c);
+    channels = λ c channel there.
+        let was = was_channel (loses_reader S (ends S) c) (loses_writer S (ends S) c) (get S.chans c) channel (sym (channel_released S c) ∙ there) in
+        subst (IsJoined (release S).opens c) was.2 (
+        left_joined S.opens (release S).opens (loses_reader S (ends S) c) (loses_writer S (ends S) c) c was.0 (v.channels c was.0 was.1)
+        (λ o some. released_stays S o (held_stays S o (
+        let inside : carried_in o channel ≤ carriers (release S) o = total_at_least (carried_in o) (release S).chans c channel there in
+        let same : carried_in o (channel_left (loses_reader S (ends S) c) (loses_writer S (ends S) c) was.0) ≡ carried_in o channel =
+        ap (carried_in o) was.2 in
+        omega (arith, some, inside, same))))
+        (end_left S (is_reader c)) (end_left S (is_writer c)));
+    made_channels = λ p k small beyond fits.
+        channel_released S (object_of p k)
+        ∙ ap (λ o. kept_channel (option_map (channel_left (loses_reader S (ends S) (object_of p k)) (loses_writer S (ends S) (object_of p k))) o))
+        (v.made_channels p k small (subst (λ (c : Counts). c.objects < k) (left_counts S p) beyond) fits);
     nobody = λ p. ap locks_in (process_after S (ends S) p) ∙ left_nobody (is_killed S (ends S) p) (get S.processes p) (v.nobody p);
   };
   held = left_is_held S;
   kept = released_kept S;
+  going = left_going S;
 }
 
 -- where each open is held none ends, and nothing with it
@@ -384,10 +433,17 @@ nodes_stay S tree kept =
     let same : retained (tree_of S) (is_node_kept S) ≡ tree_of S = retained-all (tree_of S) (is_node_kept S) tree kept in
     λ i. record S { nodes = (same i).nodes; names = (same i).names }
 
+-- where no channel is over, none goes
+pub channels_stay : (S : State) → ((c : ℕ) → is_channel_kept (get S.chans c) ≡ true) → without_over S ≡ S
+channels_stay S going =
+    let same : (without_over S).chans ≡ S.chans =
+    same_numbers _ _ (λ c. get-retain S.chans (λ e. is_channel_kept (get S.chans e)) c ∙ ap (λ b. cond b (get S.chans c) None) (going c)) in
+    λ i. record S { chans = same i }
+
 -- nothing of a valid state is released
 pub release_valid : (S : State) → IsValid S → release S ≡ S
 release_valid S v =
-    ap without_nodes (ended_held S v.held) ∙ nodes_stay S v.nearly.tree v.kept
+    ap (λ U. without_over (without_nodes U)) (ended_held S v.held) ∙ ap without_over (nodes_stay S v.nearly.tree v.kept) ∙ channels_stay S v.going
 
 -- ---- another moment
 
@@ -405,7 +461,8 @@ moment_nearly_valid S moment v = record {
   born = v.born;
   tree = v.tree;
   waits = v.waits;
-  silent = v.silent;
+  channels = v.channels;
+  made_channels = v.made_channels;
   nobody = v.nobody;
 }
 
@@ -413,7 +470,7 @@ pub tick_nearly_valid : (S : State) → IsNearlyValid S → IsNearlyValid (tick 
 tick_nearly_valid S v = moment_nearly_valid S (S.clock + 1000) v
 
 pub moment_valid : (S : State) (moment : ℕ) → IsValid S → IsValid (record S { clock = moment })
-moment_valid S moment v = record { nearly = moment_nearly_valid S moment v.nearly; held = v.held; kept = v.kept }
+moment_valid S moment v = record { nearly = moment_nearly_valid S moment v.nearly; held = v.held; kept = v.kept; going = v.going }
 
 pub tick_valid : (S : State) → IsValid S → IsValid (tick S)
 tick_valid S v = moment_valid S (S.clock + 1000) v
@@ -454,122 +511,18 @@ streams_nearly_valid S terms more v = record {
   born = v.born;
   tree = v.tree;
   waits = v.waits;
-  silent = v.silent;
+  channels = v.channels;
+  made_channels = v.made_channels;
   nobody = v.nobody;
 }
 
 pub set_term_nearly_valid : (S : State) (k : ℕ) (stream : Stream) → IsNearlyValid S → IsNearlyValid (put_one (set_term k stream) S)
 set_term_nearly_valid S k stream v = streams_nearly_valid S (insert S.terms k stream) (some_inserted S.terms k stream) v
 
--- ---- the end of a process
+-- ---- one value
 
 pub same_value : {X : Type 0} (x y : X) (o : Option X) → o ≡ Some x → o ≡ Some y → x ≡ y
 same_value x y o a b = let both : Some x ≡ Some y = sym a ∙ b in cc
-
--- a descriptor of a process after one is emptied was there before
-emptied_before : (tables : FinMap nat_cmp Table) (p q n : ℕ) (table : Table) (d : Descriptor)
-    → get (insert tables p empty) q ≡ Some table → get table n ≡ Some d → get tables q ≡ Some table
-emptied_before tables p q n table d there here =
-    elim (eqb_tells q p) [
-      | inl is ↦ (let bare : empty ≡ table = same_value _ _ _ (get-insert-same tables p empty) (subst (λ j. get (insert tables p empty) j ≡ Some table) is.1 there) in
-          absurd (none_is_no d (sym (get-empty nat_cmp n) ∙ ap (λ (m : Table). get m n) bare ∙ here)))
-      | inr other ↦ sym (get-insert-other tables p empty q other.1) ∙ there
-    ]
-
-emptied_stays : {X : Type 0} (m : FinMap nat_cmp (FinMap nat_cmp X)) (p q : ℕ) → get m q ≡ Some empty → get (insert m p empty) q ≡ Some empty
-emptied_stays m p q e =
-    elim (eqb_tells q p) [
-      | inl is ↦ subst (λ j. get (insert m p empty) j ≡ Some empty) (sym is.1) (get-insert-same m p empty)
-      | inr other ↦ get-insert-other m p empty q other.1 ∙ e
-    ]
-
--- what an ended process has left, where one more has ended
-ended_after : {X : Type 0} (m : FinMap nat_cmp (FinMap nat_cmp X)) (statuses : FinMap nat_cmp Status) (p : ℕ) (status : Status)
-    → ((q : ℕ) (s : Status) → get statuses q ≡ Some s → s ≢ Live → get m q ≡ Some empty)
-    → (q : ℕ) (s : Status) → get (insert statuses p status) q ≡ Some s → s ≢ Live → get (insert m p empty) q ≡ Some empty
-ended_after m statuses p status before q s e ends =
-    elim (eqb_tells q p) [
-      | inl is ↦ subst (λ j. get (insert m p empty) j ≡ Some empty) (sym is.1) (get-insert-same m p empty)
-      | inr other ↦ emptied_stays m p q (before q s (sym (get-insert-other statuses p status q other.1) ∙ e) ends)
-    ]
-
--- what an ended process and all others have of their own, once one more has ended
-process_at : (m : FinMap nat_cmp ProcessState) (p : ℕ) → get (insert m p (ended_process (get m p))) p ≡ Some (ended_process (get m p))
-process_at m p = get-insert-same m p (ended_process (get m p))
-
-pub threads_at : (S : State) (p : ℕ) (status : Status) → threads_of (put_all (end_updates p (get S.processes p) status) S) p ≡ Some empty
-threads_at S p status = ap (option_map (λ (own : ProcessState). own.threads)) (process_at S.processes p)
-
-process_apart : (S : State) (p : ℕ) (status : Status) (q : ℕ) → q ≢ p → get (put_all (end_updates p (get S.processes p) status) S).processes q ≡ get S.processes q
-process_apart S p status q n = get-insert-other S.processes p (ended_process (get S.processes p)) q n
-
-threads_ended : (S : State) (p : ℕ) (status : Status) → IsNearlyValid S → (q : ℕ) (s : Status) → get (insert S.statuses p status) q ≡ Some s → s ≢ Live
-    → threads_of (put_all (end_updates p (get S.processes p) status) S) q ≡ Some empty
-threads_ended S p status v q s e ends =
-    elim (eqb_tells q p) [
-      | inl is ↦ subst (λ j. threads_of (put_all (end_updates p (get S.processes p) status) S) j ≡ Some empty) (sym is.1) (threads_at S p status)
-      | inr other ↦ ap (option_map (λ (own : ProcessState). own.threads)) (process_apart S p status q other.1)
-          ∙ (v.ended q s (sym (get-insert-other S.statuses p status q other.1) ∙ e) ends).1
-    ]
-
-pub counts_stay : (S : State) (p : ℕ) (status : Status) (q : ℕ) → counts_in (get (put_all (end_updates p (get S.processes p) status) S).processes q) ≡ counts_in (get S.processes q)
-counts_stay S p status q =
-    elim (eqb_tells q p) [
-      | inl is ↦ subst (λ j. counts_in (get (put_all (end_updates p (get S.processes p) status) S).processes j) ≡ counts_in (get S.processes j)) (sym is.1)
-          (ap counts_in (process_at S.processes p))
-      | inr other ↦ ap counts_in (process_apart S p status q other.1)
-    ]
-
-ended_numbered : (S : State) (p : ℕ) (status : Status) → IsNearlyValid S → (q t : ℕ) → IsSome (thread_of (put_all (end_updates p (get S.processes p) status) S) q t)
-    → t ≤ (counts_in (get S.processes q)).threads
-ended_numbered S p status v q t there =
-    elim (eqb_tells q p) [
-      | inl is ↦ absurd (no_thread t (subst (λ o. IsSome (thread_in o t)) (threads_at S p status)
-          (subst (λ j. IsSome (thread_of (put_all (end_updates p (get S.processes p) status) S) j t)) is.1 there)))
-      | inr other ↦ v.numbered q t (subst (λ o. IsSome (thread_in (option_map (λ (own : ProcessState). own.threads) o) t)) (process_apart S p status q other.1) there)
-    ]
-
-ended_waits : (S : State) (p : ℕ) (status : Status) → IsNearlyValid S → (q t : ℕ) → MayWait (thread_of (put_all (end_updates p (get S.processes p) status) S) q t)
-ended_waits S p status v q t =
-    elim (eqb_tells q p) [
-      | inl is ↦ subst (λ j. MayWait (thread_of (put_all (end_updates p (get S.processes p) status) S) j t)) (sym is.1)
-          (subst (λ o. MayWait (thread_in o t)) (sym (threads_at S p status)) (none_waits t))
-      | inr other ↦ subst (λ o. MayWait (thread_in (option_map (λ (own : ProcessState). own.threads) o) t)) (sym (process_apart S p status q other.1)) (v.waits q t)
-    ]
-
-ended_nobody : (S : State) (p : ℕ) (status : Status) → IsNearlyValid S → (q : ℕ)
-    → locks_in (get (put_all (end_updates p (get S.processes p) status) S).processes q) ≡ no_locks
-ended_nobody S p status v q =
-    elim (eqb_tells q p) [
-      | inl is ↦ subst (λ j. locks_in (get (put_all (end_updates p (get S.processes p) status) S).processes j) ≡ no_locks) (sym is.1)
-          (ap locks_in (process_at S.processes p))
-      | inr other ↦ ap locks_in (process_apart S p status q other.1) ∙ v.nobody q
-    ]
-
--- a process that was made may end
-pub end_nearly_valid : (S : State) (p : ℕ) (status : Status) → IsSome (get S.statuses p) → IsNearlyValid S
-    → IsNearlyValid (put_all (end_updates p (get S.processes p) status) S)
-end_nearly_valid S p status made v = record {
-  named = λ q n table d there here. v.named q n table d (emptied_before S.tables p q n table d there here) here;
-  behind = λ o kind e. behind_same S (put_all (end_updates p (get S.processes p) status) S) (λ _. refl) (λ _ h. h) (λ _. refl) (some_inserted S.statuses p status) kind (v.behind o kind e);
-  sole = v.sole;
-  tables = same_keys_inserted S.tables S.statuses p empty status v.tables;
-  owns = same_keys_inserted S.processes S.statuses p (ended_process (get S.processes p)) status v.owns;
-  ended = λ q s e ends. (
-    ended_after S.tables S.statuses p status (λ r t f live. (v.ended r t f live).0) q s e ends,
-    threads_ended S p status v q s e ends,
-  );
-  numbered = λ q t there. subst (λ (c : Counts). t ≤ c.threads) (sym (counts_stay S p status q)) (ended_numbered S p status v q t there);
-  waits = λ q t. ended_waits S p status v q t;
-  made = λ q k small beyond fits.
-      v.made q k small (subst (λ (c : Counts). c.objects < k) (counts_stay S p status q) beyond) fits;
-  made_nodes = λ q k small beyond fits.
-      v.made_nodes q k small (subst (λ (c : Counts). c.objects < k) (counts_stay S p status q) beyond) fits;
-  born = all_born S.processes _ (end_keeps S.processes p (v.owns p ∙ made)) v.born;
-  tree = v.tree;
-  silent = v.silent;
-  nobody = ended_nobody S p status v;
-}
 
 -- ---- another table
 
@@ -650,7 +603,8 @@ set_table_nearly_valid S p old new there from v = record {
   born = v.born;
   tree = v.tree;
   waits = v.waits;
-  silent = v.silent;
+  channels = v.channels;
+  made_channels = v.made_channels;
   nobody = v.nobody;
 }
 
@@ -707,6 +661,21 @@ open_made S o kind new r there none =
       | inr other ↦ get-insert-other S.opens o new r other.1 ∙ none
     ]
 
+open_passes : (S : State) (o : ℕ) (kind new : OpenKind) → get S.opens o ≡ Some kind → (test : Option OpenKind → Bool) → test (Some new) ≡ test (Some kind)
+    → (r : ℕ) → test (get S.opens r) ≡ true → test (get (insert S.opens o new) r) ≡ true
+open_passes S o kind new there test same r passes =
+    elim (eqb_tells r o) [
+      | inl is ↦ subst (λ j. test (get (insert S.opens o new) j) ≡ true) (sym is.1)
+          (ap test (get-insert-same S.opens o new) ∙ same ∙ ap test (sym there) ∙ subst (λ j. test (get S.opens j) ≡ true) is.1 passes)
+      | inr other ↦ ap test (get-insert-other S.opens o new r other.1) ∙ passes
+    ]
+
+open_ends : (S : State) (o : ℕ) (kind new : OpenKind) → get S.opens o ≡ Some kind → IsSameBehind kind new → (c : ℕ) → KeepsEnds S.opens (insert S.opens o new) c
+open_ends S o kind new there same c = (
+  open_passes S o kind new there (is_reader c) (same.alike c).1,
+  open_passes S o kind new there (is_writer c) (same.alike c).2,
+)
+
 pub set_open_nearly_valid : (S : State) (o : ℕ) (kind new : OpenKind) → get S.opens o ≡ Some kind → IsSameBehind kind new → IsNearlyValid S
     → IsNearlyValid (put_one (set_open o new) S)
 set_open_nearly_valid S o kind new there same v = record {
@@ -722,6 +691,7 @@ set_open_nearly_valid S o kind new there same v = record {
   born = v.born;
   tree = v.tree;
   waits = v.waits;
-  silent = v.silent;
+  channels = opens_joined S.opens (insert S.opens o new) S.chans (open_named S o kind new there same) (open_ends S o kind new there same) v.channels;
+  made_channels = v.made_channels;
   nobody = v.nobody;
 }

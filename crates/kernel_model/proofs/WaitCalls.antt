@@ -12,7 +12,7 @@ use Rattle.kernel_model.specs.Deadlines.{is_due, soon}
 use Rattle.kernel_model.specs.Families.WaitCalls.{clock_deadline, clock_event, clock_poll, clock_poll_at, events_reply, fds_of, lone_poll, poll, wait_row, wait_rows}
 use Rattle.kernel_model.specs.Outcome.{Outcome, is_parked, parks, replies}
 use Rattle.kernel_model.specs.OwnChanges.{LeavesOwn, keeps_own}
-use Rattle.kernel_model.specs.Proper.{IsDeniedOutside, IsPatient, IsProper, IsUnset, OrWaits}
+use Rattle.kernel_model.specs.Proper.{IsDeniedOutside, IsPatient, IsProper, IsUnset, OrWaits, AllCarryOn}
 use Rattle.kernel_model.specs.Reply.{refused}
 use Rattle.kernel_model.specs.State.{Table, at_proc, at_status, put_all}
 use Rattle.kernel_model.specs.Valid.{IsNearlyValid}
@@ -78,6 +78,8 @@ clock_poll_is_proper userdata clock timeout flags = record {
       (is_due S.clock (soon (Some (clock_deadline constants who.since clock timeout flags)))) userdata (inl (own_stays (get S.processes who.pid)))
       (inl (own_stays (get S.processes who.pid)));
   allows = λ constants S who table. tt;
+  carries = λ constants S who table nearly.
+      clock_holds (AllCarryOn S (table, [], false)) (is_due S.clock (soon (Some (clock_deadline constants who.since clock timeout flags)))) userdata tt tt;
   valid = λ constants S who table there nearly.
       clock_holds (λ o. IsNearlyValid (put_all o.updates S)) (is_due S.clock (soon (Some (clock_deadline constants who.since clock timeout flags)))) userdata nearly nearly;
 }
@@ -93,6 +95,7 @@ lone_is_proper : (userdata : ℕ) (what : What)
       touched = λ S table. [];
       numbers = 0;
       own = keeps_own;
+      sends = [];
     })
 lone_is_proper userdata (Clock clock timeout precision flags) = clock_poll_is_proper userdata clock timeout flags
 lone_is_proper userdata (Condvar condvar condvar_word lock lock_word condvar_scope lock_scope) = each_row_is_proper []

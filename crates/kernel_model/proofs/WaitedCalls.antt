@@ -48,4 +48,8 @@ pub waited_is_plain : (call : Call) → may_wait call ≡ true → IsNotDeniedEa
 waited_is_plain (call.Poll subscriptions) may = (poll_is_plain subscriptions, λ h. h)
 waited_is_plain (call.MemMap place length prot flags fd offset) may =
     absurd (not_true (sym (map_never_waits (map_zeros place) (on_open (map_row fd prot) (mapping place length offset)) (is_anonymous flags) refl refl) ∙ may))
+waited_is_plain (call.FdRead fd length) may = (((λ e. cc), ((λ e. cc), tt)), λ h. h)
+waited_is_plain (call.FdWrite fd bytes) may = (((λ e. cc), ((λ e. cc), ((λ e. cc), ((λ e. cc), tt)))), λ h. h)
+waited_is_plain (call.SockRecv fd length fds flags) may = (((λ e. cc), ((λ e. cc), ((λ e. cc), ((λ e. cc), tt)))), λ h. h)
+waited_is_plain (call.SockSend fd bytes fds flags) may = (((λ e. cc), ((λ e. cc), ((λ e. cc), ((λ e. cc), tt)))), λ h. h)
 waited_is_plain _ may = absurd (not_true may)

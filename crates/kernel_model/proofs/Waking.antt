@@ -48,7 +48,8 @@ use Rattle.kernel_model.proofs.Tests.{none_is_no, not_true}
 use Rattle.kernel_model.proofs.Threading.{each_of, thread_apart, thread_here, with_apart, with_counts, with_keeps, with_valid}
 use Rattle.kernel_model.proofs.Threads.{keeps_others, leaves_counts, undone_allows, undone_stays, waited_keeps}
 use Rattle.kernel_model.proofs.Touches.{others_stay, outside_own, tick_keeps, outside_clock}
-use Rattle.kernel_model.proofs.Valids.{threads_at, tick_valid}
+use Rattle.kernel_model.proofs.EndedValid.{threads_at}
+use Rattle.kernel_model.proofs.Valids.{tick_valid}
 
 -- ---- the wake of a ready thread
 

@@ -1,5 +1,5 @@
 -- The code of a state, by which proofs distinguish states: the tuple of its fields.
-use Rattle.std.specs.Prelude.{◌≡◌, ℕ, zero, suc, List, refl}
+use Rattle.std.specs.Prelude.{ℕ, List, refl}
 use Rattle.std.specs.Ordering.{nat_cmp}
 use Rattle.std.specs.FinMap.{FinMap, code}
 use Rattle.std.specs.Coded.{Coded, code_by, coded×, coded_list, coded_ℕ}
@@ -7,10 +7,8 @@ use Rattle.abi_types.specs.declared.node.Node.{Node}
 use Rattle.abi_types.specs.declared.open_kind.OpenKind.{OpenKind}
 use Rattle.abi_types.specs.declared.status.Status.{Status}
 use Rattle.abi_types.specs.declared.counts.Counts.{Counts}
-use Rattle.abi_types.specs.declared.descriptor.Descriptor.{Descriptor}
 use Rattle.abi_types.specs.declared.stream.Stream.{Stream}
 use Rattle.abi_types.specs.contracts.counts.Counts as counts
-use Rattle.abi_types.specs.contracts.descriptor.Descriptor as descriptor
 use Rattle.abi_types.specs.contracts.node.Node as node
 use Rattle.abi_types.specs.contracts.open_kind.OpenKind as open_kind
 use Rattle.abi_types.specs.contracts.status.Status as status
@@ -19,7 +17,7 @@ use Rattle.abi_types.specs.contracts.thread.Thread as thread
 use Rattle.abi_types.specs.contracts.waiter.Waiter as waiter
 use Rattle.abi_types.specs.declared.waiter.Waiter.{Waiter}
 use Rattle.fd_table.specs.Table.{table_code}
-use Rattle.kernel_model.specs.Channels.{Side, side_open, side_shut, side_gone, Send, Channel}
+use Rattle.channels.specs.Channels.{Channel, channel_code}
 use Rattle.kernel_model.specs.State.{State, Table, Threads, Locks, ProcessState, Names}
 
 abbrev pub threads_code : Coded Threads
@@ -46,37 +44,6 @@ process_code =
     code_by (Threads × (Counts × (Locks × ℕ))) (coded× threads_code (coded× counts.the_row.coded (coded× locks_code coded_ℕ)))
     (λ own. (own.threads, (own.counts, (own.locks, own.depth))))
     (λ f. record { threads = f.0; counts = f.1.0; locks = f.1.1.0; depth = f.1.1.1 }) (λ _. refl)
-
--- a side as a number
-abbrev side_number : Side → ℕ
-side_number side_open = 0
-side_number side_shut = 1
-side_number side_gone = 2
-
-abbrev side_of : ℕ → Side
-side_of zero = side_open
-side_of (suc zero) = side_shut
-side_of (suc (suc n)) = side_gone
-
-pub side_back : (side : Side) → side_of (side_number side) ≡ side
-side_back side_open = refl
-side_back side_shut = refl
-side_back side_gone = refl
-
-abbrev side_code : Coded Side
-side_code = code_by ℕ coded_ℕ side_number side_of side_back
-
-abbrev send_code : Coded Send
-send_code =
-    code_by (List ℕ × List Descriptor) (coded× (coded_list coded_ℕ) (coded_list descriptor.the_row.coded)) (λ s. (s.bytes, s.carried))
-    (λ f. record { bytes = f.0; carried = f.1 }) (λ _. refl)
-
-abbrev pub channel_code : Coded Channel
-channel_code =
-    code_by (ℕ × (List Send × (ℕ × (Side × Side))))
-    (coded× coded_ℕ (coded× (coded_list send_code) (coded× coded_ℕ (coded× side_code side_code))))
-    (λ c. (c.left, (c.waiting, (c.drawn, (c.reader, c.writer)))))
-    (λ f. record { left = f.0; waiting = f.1.0; drawn = f.1.1.0; reader = f.1.1.1.0; writer = f.1.1.1.1 }) (λ _. refl)
 
 -- the fields as nested pairs
 abbrev Fields : Type 0

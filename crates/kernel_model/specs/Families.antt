@@ -23,6 +23,7 @@ pub mod Opening
 pub mod SocketCalls
 pub mod WaitCalls
 pub mod OpenMeaning
+pub mod ChannelCalls
 pub mod StreamCalls
 pub mod MemoryCalls
 pub mod FileCalls

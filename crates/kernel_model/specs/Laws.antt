@@ -1,5 +1,5 @@
 -- What holds of every step of the kernel: the statements that are the contracts of the functions of src/laws.rt.
-use Rattle.std.specs.Prelude.{◌≡◌, ◌≢◌, ◌⊎◌, ◌↔◌, ℕ, ◌+◌, Bool, true, false, List, [], length, ◌∷◌, ◌++◌, Option, None, Some, IsSome}
+use Rattle.std.specs.Prelude.{◌≡◌, ◌≢◌, ◌⊎◌, ◌↔◌, ℕ, ◌+◌, Bool, true, false, List, [], length, ◌∷◌, ◌++◌, Option, None, Some, IsSome, if◌then◌else◌}
 use Rattle.std.specs.List.{AllByRecursion}
 use Rattle.std.specs.FinMap.{get}
 use Rattle.abi_types.specs.declared.reply.Answer.{Answer}
@@ -19,10 +19,10 @@ use Rattle.abi_types.specs.declared.status.Status.TheVariants.{Live}
 use Rattle.abi_types.specs.declared.who.Who.{Who}
 use Rattle.maps.specs.Closure.{member}
 use Rattle.kernel_model.specs.Calls.{meaning_of, named, need, errors_of, takes_memory, refusal_of}
-use Rattle.kernel_model.specs.Channels.{Channel, side_gone}
+use Rattle.kernel_model.specs.Channels.{Channel, Gone, is_over}
 use Rattle.kernel_model.specs.Need.{has_needed, missing}
 use Rattle.kernel_model.specs.Families.Numbers.{can_number}
-use Rattle.kernel_model.specs.Proper.{IsIn, IsProper}
+use Rattle.kernel_model.specs.Proper.{IsIn, IsProper, Waits}
 use Rattle.kernel_model.specs.Release.{ends, is_node_kept, is_released, loses_reader, loses_writer, release, without_ended, AllAreHeld, IsEnd, IsEnded, LetsGo}
 use Rattle.kernel_model.specs.Reply.{refused, denied}
 use Rattle.kernel_model.specs.Sight.{process_parts, behind}
@@ -128,6 +128,7 @@ abbrev pub IsNotThere : State → Part → Type 0
 IsNotThere S (at_open o) = get S.opens o ≡ None
 IsNotThere S (at_node n) = get S.nodes n ≡ None
 IsNotThere S (at_names n) = get S.names n ≡ None
+IsNotThere S (at_chan c) = get S.chans c ≡ None
 IsNotThere S q = ⊥
 
 -- What a call may make isn't there in a valid state, as long as its process can number so many objects.
@@ -222,17 +223,18 @@ HungUpByEnd =
 -- A channel that has lost its reader or its writer, or not: without its reader nothing waits in it, without its writer what waits still
 -- does, and the count of all its sends stays.
 pub record IsLeftBy (reader writer : Bool) (before after : Channel) : Type 0 where
-  pub reader_gone : reader ≡ true → (after.reader ≡ side_gone) × (after.waiting ≡ []) × (after.drawn ≡ 0)
+  pub reader_gone : reader ≡ true → (after.reader ≡ Gone) × (after.waiting ≡ []) × (after.drawn ≡ 0)
   pub reader_stays : reader ≡ false → (after.reader ≡ before.reader) × (after.waiting ≡ before.waiting) × (after.drawn ≡ before.drawn)
-  pub writer_gone : writer ≡ true → after.writer ≡ side_gone
+  pub writer_gone : writer ≡ true → after.writer ≡ Gone
   pub writer_stays : writer ≡ false → after.writer ≡ before.writer
   pub sends : after.left + length after.waiting ≡ before.left + length before.waiting
 
--- Each channel stays, and is left so by the ends that end.
+-- Each channel is left so by the ends that end, and stays unless it is over then.
 abbrev pub ChannelsAreLeft : Type 0
 ChannelsAreLeft =
     (S : State) (c : ℕ) (before : Channel) → get S.chans c ≡ Some before
-    → (after : Channel) × (get (release S).chans c ≡ Some after) × IsLeftBy (loses_reader S (ends S) c) (loses_writer S (ends S) c) before after
+    → (after : Channel) × IsLeftBy (loses_reader S (ends S) c) (loses_writer S (ends S) c) before after
+    × (get (release S).chans c ≡ (if is_over after then None else Some after))
 
 -- In whatever order unheld opens end one after another, where none is left the state is the one without the opens that end.
 abbrev pub EndsInAnyOrder : Type 0
@@ -246,6 +248,30 @@ ReleaseEnds = (S : State) (q : Part) → (is_released S q ≡ false → Agree (r
 abbrev pub NothingUnheldIsLeft : Type 0
 NothingUnheldIsLeft =
     (S : State) → AllAreHeld (release S) × ((n : ℕ) → IsSome (get (release S).nodes n) → is_node_kept (release S) n ≡ true)
+
+-- ---- what waits in channels
+
+-- the call succeeded, and the descriptor stands in the table of its process under one of the numbers that it sends
+pub record IsSent (S : State) (who : Who) (call : Call) (given : Answer) (d : Descriptor) : Type 0 where
+  pub reply : Reply
+  pub is : given ≡ answer.Reply reply
+  pub success : reply.errno ≡ Success
+  pub table : Table
+  pub own : get S.tables who.pid ≡ Some table
+  pub n : ℕ
+  pub listed : IsIn n (meaning_of call).sends
+  pub here : get table n ≡ Some d
+
+-- A descriptor that waits in a channel after a step from a valid state waited there before it, or the call sent it, with the rights that it
+-- had in the table.
+abbrev pub WaitingWasHeld : Type 0
+WaitingWasHeld =
+    (constants : Constants) (S : State) (who : Who) (call : Call) (given : Answer) (T : State) (c : ℕ) (d : Descriptor) → IsValid S
+    → IsStep constants S who call given T → Waits T c d → Waits S c d ⊎ IsSent S who call given d
+
+-- What waits in a channel after the end of a process from outside waited there before it.
+abbrev pub EndCarriesNothing : Type 0
+EndCarriesNothing = (S : State) (p : ℕ) (status : Status) (c : ℕ) (d : Descriptor) → Waits (end_state S p status) c d → Waits S c d
 
 -- ---- why a call is denied
 

@@ -29,5 +29,6 @@ pub mod WaitLaws
 pub mod PollLaws
 pub mod ThreadLaws
 pub mod OpenLaws
+pub mod ChannelLaws
 pub mod OpenConditions
 pub mod CallBounds

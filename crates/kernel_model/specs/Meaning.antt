@@ -39,6 +39,8 @@ pub record Meaning : Type 0 where
   pub may_wait : Bool
   -- the moment by which the wait is over, by the moment at which the call was made: none where it may wait for ever
   pub deadline : Constants → ℕ → Option ℕ
+  -- the numbers of the descriptors that it sends
+  pub sends : List ℕ
 
 -- a call that needs nothing, and that answers this
 abbrev pub answering : List Errno → Reply → Meaning
@@ -55,6 +57,7 @@ answering errors reply = record {
   takes_memory = false;
   may_wait = false;
   deadline = λ constants since. None;
+  sends = [];
 }
 
 -- ---- calls that aren't built yet: where no descriptor and no right is missing they answer NOSYS, and nothing changes

@@ -1,23 +1,26 @@
 -- What the meaning of each call keeps to. The laws of all steps follow from it (`Laws.antt`), so a call that is added is
 -- shown to keep to this, and nothing else is shown anew.
-use Rattle.std.specs.Prelude.{◌≡◌, ◌≢◌, ◌⊎◌, ℕ, ◌≤◌, Bool, true, false, List, [], ◌∷◌, ◌++◌, map, Option, None, Some}
+use Rattle.std.specs.Prelude.{◌≡◌, ◌≢◌, ◌⊎◌, ⊤, ℕ, suc, ◌+◌, ◌≤◌, ◌||◌, Bool, true, false, List, [], ◌∷◌, ◌++◌, length, map, Option, None, Some}
 use Rattle.std.specs.List.{AllByRecursion}
 use Rattle.std.specs.FinMap.{get}
 use Rattle.abi_base.specs.declared.errno.Errno.{Errno}
-use Rattle.abi_base.specs.declared.errno.Errno.TheVariants.{Success, Nomem}
+use Rattle.abi_base.specs.declared.errno.Errno.TheVariants.{Success, Nomem, Pipe}
 use Rattle.abi_types.specs.declared.reply.Reply.{Reply}
 use Rattle.abi_types.specs.declared.constants.Constants.{Constants}
 use Rattle.abi_types.specs.declared.descriptor.Denial.TheVariants.{Outside}
+use Rattle.abi_types.specs.declared.descriptor.Descriptor.{Descriptor}
 use Rattle.abi_types.specs.declared.needed.Needed.{Needed}
 use Rattle.abi_types.specs.declared.who.Who.{Who}
+use Rattle.kernel_model.specs.Channels.{Channel, Send, carried_of, sends_after, sends_gone}
 use Rattle.kernel_model.specs.Deadlines.{is_due, soon}
 use Rattle.kernel_model.specs.Meaning.{Meaning}
+use Rattle.kernel_model.specs.Families.ChannelCalls.{picked}
 use Rattle.kernel_model.specs.Families.Numbers.{new_parts}
 use Rattle.kernel_model.specs.Outcome.{Outcome, OnReply, is_parked, replies}
 use Rattle.kernel_model.specs.OwnChanges.{AllowsChange, LeavesOwn}
 use Rattle.kernel_model.specs.Reply.{denied}
 use Rattle.kernel_model.specs.Sight.{process_parts, reached}
-use Rattle.kernel_model.specs.State.{State, Table, Part, at_proc, at_status, has_part, part_of, put_all}
+use Rattle.kernel_model.specs.State.{State, Table, Part, Update, at_proc, at_status, has_part, part_of, put_all, set_chan}
 use Rattle.kernel_model.specs.Step.{tick}
 use Rattle.kernel_model.specs.Valid.{IsNearlyValid}
 use Rattle.kernel_model.specs.View.{View, restrict, whole}
@@ -25,6 +28,53 @@ use Rattle.kernel_model.specs.View.{View, restrict, whole}
 -- the list has the item
 abbrev pub IsIn : {X : Type 0} → X → List X → Type 0
 IsIn {X} x xs = (before : List X) × (after : List X) × (xs ≡ before ++ x ∷ after)
+
+-- the descriptor waits in the channel
+abbrev pub Waits : State → ℕ → Descriptor → Type 0
+Waits S c d = (channel : Channel) × (get S.chans c ≡ Some channel) × IsIn d (carried_of channel.waiting)
+
+-- How a channel goes on, if there was one: nothing waits in it any more; or so many bytes were drawn from it, or none; or one send more
+-- stands behind the others, and this holds of what it carries.
+pub data GoesOn (carries : List Descriptor → Type 0) (old : Option Channel) (new : Channel) : Type 0 where
+  empties : new.waiting ≡ [] → GoesOn carries old new
+  draws : (was : Channel) (m : ℕ) → old ≡ Some was → new.waiting ≡ sends_after m was.waiting → new.left ≡ was.left + sends_gone m was.waiting
+      → GoesOn carries old new
+  adds : (was : Channel) (send : Send) → old ≡ Some was → new.waiting ≡ was.waiting ++ send ∷ [] → new.left ≡ was.left → carries send.carried
+      → GoesOn carries old new
+
+-- how many sends a channel has had: those that have left it, and those that wait
+abbrev pub sends_had : Channel → ℕ
+sends_had channel = channel.left + length channel.waiting
+
+-- a call that sends may answer PIPE, and no other call does
+abbrev pub is_pipe : Errno → Bool
+is_pipe Pipe = true
+is_pipe errno = false
+
+abbrev pub may_send : List Errno → Bool
+may_send [] = false
+may_send (errno ∷ errors) = is_pipe errno || may_send errors
+
+-- a channel that was there has had as many sends as before, or one more, by a call that sends; and one that wasn't has had none
+abbrev pub IsCounted : Bool → Option Channel → Channel → Type 0
+IsCounted sends None new = sends_had new ≡ 0
+IsCounted sends (Some was) new = (sends_had new ≡ sends_had was) ⊎ ((sends ≡ true) × (sends_had new ≡ suc (sends_had was)))
+
+-- a process's table, the numbers of the descriptors that a call of it sends, and whether it is a call that sends
+abbrev pub Sender : Type 0
+Sender = Table × List ℕ × Bool
+
+-- nothing is carried, or what stands in the table under the numbers, in their order
+abbrev pub IsSentBy : Sender → List Descriptor → Type 0
+IsSentBy sender carried = (carried ≡ []) ⊎ (carried ≡ picked sender.0 sender.1)
+
+-- where the update sets a channel, this goes on from what it was, a send more carries what is sent, and it is counted
+abbrev pub CarriesOn : State → Sender → Update → Type 0
+CarriesOn S sender (set_chan c channel) = GoesOn (IsSentBy sender) (get S.chans c) channel × IsCounted sender.2 (get S.chans c) channel
+CarriesOn S sender _ = ⊤
+
+abbrev pub AllCarryOn : State → Sender → Outcome → Type 0
+AllCarryOn S sender o = AllByRecursion (CarriesOn S sender) o.updates
 
 -- the part is none that the outcome sets
 abbrev pub IsUnset : Outcome → Part → Type 0
@@ -98,6 +148,9 @@ pub record IsProper (m : Meaning) : Type 0 where
       → LeavesOwn m.own who.pid who.tid (m.effect constants (whole S) who table).answer S (put_all (m.effect constants (whole S) who table).updates S)
   pub allows : (constants : Constants) (S : State) (who : Who) (table : Table)
       → AllowsChange m.own who.tid (m.effect constants (whole S) who table).answer (get S.processes who.pid)
+  -- in a state that is nearly valid it draws from channels or drops what waits there, or it puts behind this what it sends
+  pub carries : (constants : Constants) (S : State) (who : Who) (table : Table) → IsNearlyValid S
+      → AllCarryOn S (table, m.sends, may_send m.errors) (m.effect constants (whole S) who table)
   -- a state that is nearly valid, and in which its process has this table, it leaves so
   pub valid : (constants : Constants) (S : State) (who : Who) (table : Table) → get S.tables who.pid ≡ Some table → IsNearlyValid S
       → IsNearlyValid (put_all (m.effect constants (whole S) who table).updates S)

@@ -13,7 +13,7 @@ use Rattle.abi_types.specs.declared.status.Status.TheVariants.{Live, Exit, Kille
 use Rattle.maps.specs.Closure.{member, closure, changed}
 use Rattle.maps.specs.Maps.{total}
 use Rattle.tree_model.specs.Opens.{is_used}
-use Rattle.kernel_model.specs.Channels.{Send, Channel, channel_left}
+use Rattle.kernel_model.specs.Channels.{Send, Channel, channel_left, is_over}
 use Rattle.kernel_model.specs.Families.ProcessCalls.{ended_process}
 use Rattle.kernel_model.specs.State.{State, Table, ProcessState, tree_of, Part, at_proc, at_status, at_open, at_node, at_names, at_chan}
 
@@ -130,9 +130,18 @@ is_node_kept S n = is_used S.opens (tree_of S) n
 abbrev pub without_nodes : State → State
 without_nodes S = record S { nodes = retain_keys S.nodes (is_node_kept S); names = retain_keys S.names (is_node_kept S) }
 
--- the same, and then without the nodes that have neither a name nor an open
+-- whether the channel, if there is one, stays: it is not over
+abbrev pub is_channel_kept : Option Channel → Bool
+is_channel_kept None = true
+is_channel_kept (Some channel) = not (is_over channel)
+
+-- the state without the channels that are over
+abbrev pub without_over : State → State
+without_over S = record S { chans = retain_keys S.chans (λ c. is_channel_kept (get S.chans c)) }
+
+-- the same, and then without the nodes that have neither a name nor an open, and without the channels that are over
 abbrev pub release : State → State
-release S = without_nodes (without_ended S)
+release S = without_over (without_nodes (without_ended S))
 
 -- whether the part is one that the release of this state ends
 abbrev pub is_released : State → Part → Bool
@@ -141,7 +150,7 @@ is_released S (at_status p) = is_killed S (ends S) p
 is_released S (at_open o) = is_ending S o
 is_released S (at_node n) = not (is_node_kept (without_ended S) n)
 is_released S (at_names n) = not (is_node_kept (without_ended S) n)
-is_released S (at_chan c) = loses_reader S (ends S) c || loses_writer S (ends S) c
+is_released S (at_chan c) = loses_reader S (ends S) c || (loses_writer S (ends S) c || not (is_channel_kept (get S.chans c)))
 is_released S _ = false
 
 -- The second state comes of the first as opens that nothing holds end one after another, each with what ends with it.
@@ -149,13 +158,17 @@ pub data LetsGo (S : State) : State → Type 0 where
   starts : LetsGo S S
   goes : (T : State) (o : ℕ) → LetsGo S T → IsSome (get T.opens o) → holders T o + carriers T o ≡ 0 → LetsGo S (without (o ∷ []) T)
 
+-- the channel, if there is one, unless it is over
+abbrev pub kept_channel : Option Channel → Option Channel
+kept_channel channel = if is_channel_kept channel then channel else None
+
 -- nothing is left that may go: each open has a holder or a carrier
 abbrev pub AllAreHeld : State → Type 0
 AllAreHeld S = (o : ℕ) → IsSome (get S.opens o) → 0 < holders S o + carriers S o
 
 -- What the release makes of a part that it ends. A process that is killed was live; it has no descriptor and no thread left, nobody
 -- waits in it, its counts stay, and its status says how it ended. An open, a node and the names in it are gone. A channel has lost a
--- side, or both.
+-- side, or both, and is gone where it has neither.
 abbrev pub IsEnded : State → State → Part → Type 0
 IsEnded S T (at_proc p) =
     (get T.tables p ≡ option_map (λ (table : Table). empty) (get S.tables p))
@@ -165,7 +178,7 @@ IsEnded S T (at_open o) = get T.opens o ≡ None
 IsEnded S T (at_node n) = get T.nodes n ≡ None
 IsEnded S T (at_names n) = get T.names n ≡ None
 IsEnded S T (at_chan c) =
-    (reader : Bool) × (writer : Bool) × ((reader || writer) ≡ true) × (get T.chans c ≡ option_map (channel_left reader writer) (get S.chans c))
+    (reader : Bool) × (writer : Bool) × (get T.chans c ≡ kept_channel (option_map (channel_left reader writer) (get S.chans c)))
 IsEnded S T _ = ⊥
 
 -- The set of opens is the one that ends: it has each open which nothing holds once the set has ended, each of it is such

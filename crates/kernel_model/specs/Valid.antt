@@ -2,6 +2,7 @@
 use Rattle.std.specs.Prelude.{◌≡◌, ◌≢◌, ℕ, ◌+◌, ◌^◌, ◌<◌, ◌≤◌, ◌||◌, Bool, true, Option, None, Some, IsSome, is_some, ⊤}
 use Rattle.std.specs.Ordering.{nat_cmp}
 use Rattle.std.specs.FinMap.{FinMap, get, empty}
+use Rattle.std.specs.List.{AllByRecursion}
 use Rattle.abi_types.specs.declared.descriptor.Descriptor.{Descriptor}
 use Rattle.abi_types.specs.declared.open_kind.OpenKind.{OpenKind}
 use Rattle.abi_types.specs.declared.open_kind.OpenKind.TheVariants as kind
@@ -9,11 +10,11 @@ use Rattle.abi_types.specs.declared.status.Status.{Status}
 use Rattle.abi_types.specs.declared.status.Status.TheVariants.{Live}
 use Rattle.tree_model.specs.Changes.{is_file}
 use Rattle.tree_model.specs.Tree.{IsTree, is_directory}
-use Rattle.kernel_model.specs.Channels.{Channel, side_gone}
+use Rattle.kernel_model.specs.Channels.{Channel, IsChannel, carried_of, Gone}
 use Rattle.kernel_model.specs.Families.Children.{IsBorn}
 use Rattle.kernel_model.specs.Families.Numbers.{object_of}
 use Rattle.kernel_model.specs.Fits.{HasRightsOf}
-use Rattle.kernel_model.specs.Release.{holders, carriers, is_node_kept, is_of_process, is_reader, is_writer}
+use Rattle.kernel_model.specs.Release.{holders, carriers, is_channel_kept, is_node_kept, is_of_process, is_reader, is_writer}
 use Rattle.kernel_model.specs.State.{State, ProcessState, Table, tree_of, threads_of, thread_of, counts_in, locks_in, no_locks}
 use Rattle.kernel_model.specs.Waits.{MayWait}
 
@@ -25,11 +26,11 @@ IsNamed (Some kind) d = HasRightsOf d kind
 -- the channel that an end reads is there, and its reader has not gone; and so is the channel that it writes, with its writer
 abbrev pub HasReader : FinMap nat_cmp Channel → Option ℕ → Type 0
 HasReader chans None = ⊤
-HasReader chans (Some c) = (channel : Channel) × (get chans c ≡ Some channel) × (channel.reader ≢ side_gone)
+HasReader chans (Some c) = (channel : Channel) × (get chans c ≡ Some channel) × (channel.reader ≢ Gone)
 
 abbrev pub HasWriter : FinMap nat_cmp Channel → Option ℕ → Type 0
 HasWriter chans None = ⊤
-HasWriter chans (Some c) = (channel : Channel) × (get chans c ≡ Some channel) × (channel.writer ≢ side_gone)
+HasWriter chans (Some c) = (channel : Channel) × (get chans c ≡ Some channel) × (channel.writer ≢ Gone)
 
 -- What stands behind the open is there: the node, the stream, which is one of the three, the channels that an end reads and writes, at
 -- least one, or the process, which was made. None is of process 0, which the launcher holds.
@@ -48,13 +49,25 @@ AtMostOne test opens = (o r : ℕ) → test (get opens o) ≡ true → test (get
 abbrev pub AreSole : FinMap nat_cmp OpenKind → Type 0
 AreSole opens = (k : ℕ) → AtMostOne (is_of_process k) opens × AtMostOne (is_reader k) opens × AtMostOne (is_writer k) opens
 
+-- The channel is one that there may be. The open of each descriptor that waits in it is there with its rights. There is an end that reads
+-- it unless its reader has gone, and one that writes it unless its writer has.
+pub record IsJoined (opens : FinMap nat_cmp OpenKind) (c : ℕ) (channel : Channel) : Type 0 where
+  pub sound : IsChannel channel
+  pub carried : AllByRecursion (λ (d : Descriptor). IsNamed (get opens d.id) d) (carried_of channel.waiting)
+  pub read : channel.reader ≢ Gone → (o : ℕ) × (is_reader c (get opens o) ≡ true)
+  pub written : channel.writer ≢ Gone → (o : ℕ) × (is_writer c (get opens o) ≡ true)
+
+-- each channel is so
+abbrev pub AreJoined : FinMap nat_cmp OpenKind → FinMap nat_cmp Channel → Type 0
+AreJoined opens chans = (c : ℕ) (channel : Channel) → get chans c ≡ Some channel → IsJoined opens c channel
+
 -- All of validity but that each open is held and each node has a name or an open: what each call keeps before the release,
 -- which brings the rest. Each descriptor's open is there with its rights, each open has what stands behind it, and no two opens are of
 -- one process, read one channel or write one. A process has a table, what is its own and a status, or none of these, and an ended
--- process has no descriptor and no thread. No thread that a process has, and no open and no node that it made, is numbered beyond its
--- count. Each process but process 0 is a child that another one has counted. The file tree is a tree. A thread waits only in a call in
--- which it may. Channels come with the calls that make them, so none is there yet, and no end of one; and nobody waits for a lock or at a
--- condition variable, since no call makes a thread wait there yet.
+-- process has no descriptor and no thread. No thread that a process has, and no open, no node and no channel that it made, is numbered
+-- beyond its count. Each process but process 0 is a child that another one has counted. The file tree is a tree. A thread waits only in a
+-- call in which it may. Each channel is one that there may be, with an end for each side that hasn't gone, and what waits in it is named.
+-- Nobody waits for a lock or at a condition variable, since no call makes a thread wait there yet.
 pub record IsNearlyValid (S : State) : Type 0 where
   pub named : (p n : ℕ) (table : Table) (d : Descriptor) → get S.tables p ≡ Some table → get table n ≡ Some d → IsNamed (get S.opens d.id) d
   pub behind : (o : ℕ) (kind : OpenKind) → get S.opens o ≡ Some kind → HasBehind S kind
@@ -65,14 +78,16 @@ pub record IsNearlyValid (S : State) : Type 0 where
   pub numbered : (p t : ℕ) → IsSome (thread_of S p t) → t ≤ (counts_in (get S.processes p)).threads
   pub made : (p k : ℕ) → p < 0xffffffff → (counts_in (get S.processes p)).objects < k → k < 2 ^ 32 → get S.opens (object_of p k) ≡ None
   pub made_nodes : (p k : ℕ) → p < 0xffffffff → (counts_in (get S.processes p)).objects < k → k < 2 ^ 32 → get S.nodes (object_of p k) ≡ None
+  pub made_channels : (p k : ℕ) → p < 0xffffffff → (counts_in (get S.processes p)).objects < k → k < 2 ^ 32 → get S.chans (object_of p k) ≡ None
   pub born : (p : ℕ) (own : ProcessState) → get S.processes p ≡ Some own → IsBorn S.processes p own.depth
   pub tree : IsTree (tree_of S)
   pub waits : (p t : ℕ) → MayWait (thread_of S p t)
-  pub silent : (c : ℕ) → get S.chans c ≡ None
+  pub channels : AreJoined S.opens S.chans
   pub nobody : (p : ℕ) → locks_in (get S.processes p) ≡ no_locks
 
--- a state is valid where it is nearly so, each open is held, and each node is the root, has a name or is open
+-- a state is valid where it is nearly so, each open is held, each node is the root, has a name or is open, and no channel is over
 pub record IsValid (S : State) : Type 0 where
   pub nearly : IsNearlyValid S
   pub held : (o : ℕ) → IsSome (get S.opens o) → 0 < holders S o + carriers S o
   pub kept : (n : ℕ) → IsSome (get S.nodes n) → is_node_kept S n ≡ true
+  pub going : (c : ℕ) → is_channel_kept (get S.chans c) ≡ true

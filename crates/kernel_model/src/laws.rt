@@ -3,7 +3,7 @@
 ghost use Rattle.kernel_model.specs.ChildLaws.{ChildNumbersAreUnique, DeepestHasNoChild, NextChildIsUnmade, ProcessNumbersAreSmall, ProcessZeroHasDepthZero};
 ghost use Rattle.kernel_model.specs.Laws.{MeaningsAreProper, ReadsSight, SightDecides, StepDecided, SightIsReached, TouchIsSeen, MadeIsNew};
 ghost use Rattle.kernel_model.specs.Laws.{OthersStay, EndKeeps, ErrorKeeps, StepMovesOnly, OtherThreadsGoOn, WaitedKeepsThreads, EndStateEndsOnly, EndsAreLeast, EndsInAnyOrder, KilledByLastOpen};
-ghost use Rattle.kernel_model.specs.Laws.{HungUpByEnd, ReleaseEnds, ChannelsAreLeft, NothingUnheldIsLeft};
+ghost use Rattle.kernel_model.specs.Laws.{EndCarriesNothing, WaitingWasHeld, HungUpByEnd, ReleaseEnds, ChannelsAreLeft, NothingUnheldIsLeft};
 ghost use Rattle.kernel_model.specs.Laws.{FirstLackIsNamed, DenialIsOfFirstLack, NotcapableIsDenied, OutsideIsDenied, OutsideReadsSight};
 ghost use Rattle.kernel_model.specs.Laws.{RepliesAreListed, NoMemoryIsExact, ErrorsAreExact, AbsentIsBadf, LackIsDenied, LeavingIsDenied};
 ghost use Rattle.kernel_model.specs.Laws.{StepKeepsValid, EndKeepsValid, StartIsValid};
@@ -88,6 +88,14 @@ pub fn release_ends()
     ensures parts { ReleaseEnds }
     ensures channels { ChannelsAreLeft }
     ensures left { NothingUnheldIsLeft }
+{}
+
+/// A descriptor that waits in a channel after a step from a valid state waited there before, or the call sent it: it succeeded,
+/// and its process held that descriptor, with the same rights, under one of the numbers that it sends. The end of a process from
+/// outside puts nothing into a channel.
+pub fn waiting_was_held()
+    ensures step { WaitingWasHeld }
+    ensures end { EndCarriesNothing }
 {}
 
 /// A call that answers an error, lack of memory among them, changes only the clock of a valid state.

@@ -7,6 +7,8 @@ pub mod Releases
 pub mod Forgetting
 pub mod Naming
 pub mod Activities
+pub mod PollReads
+pub mod Parked
 pub mod Polling
 pub mod Threads
 pub mod OwnCalls

@@ -6,17 +6,19 @@ use Rattle.abi_base.specs.declared.signal.Signal.TheVariants.{Kill}
 use Rattle.abi_types.specs.declared.open_kind.OpenKind.{OpenKind}
 use Rattle.abi_types.specs.declared.status.Status.{Status}
 use Rattle.abi_types.specs.declared.status.Status.TheVariants.{Killed}
+use Rattle.kernel_model.specs.Channels.{Channel}
 use Rattle.kernel_model.specs.Families.ProcessCalls.{ended_process}
 use Rattle.kernel_model.specs.Release.{lives}
 use Rattle.kernel_model.specs.State.{State, Table, ProcessState, Tree, no_state}
 
 -- the state of these parts, which has nothing else
-abbrev pub state_by : FinMap nat_cmp Table → FinMap nat_cmp ProcessState → FinMap nat_cmp Status → FinMap nat_cmp OpenKind → Tree → State
-state_by tables processes statuses opens tree = record no_state {
+abbrev pub state_by : FinMap nat_cmp Table → FinMap nat_cmp ProcessState → FinMap nat_cmp Status → FinMap nat_cmp OpenKind → FinMap nat_cmp Channel → Tree → State
+state_by tables processes statuses opens channels tree = record no_state {
   tables = tables;
   processes = processes;
   statuses = statuses;
   opens = opens;
+  chans = channels;
   nodes = tree.nodes;
   names = tree.names;
 }

@@ -1,10 +1,19 @@
 -- The calls that threads wait in, and whether they are over.
 use Rattle.std.specs.Prelude.{ℕ, not, Bool, Option, None, Some}
+use Rattle.std.specs.Ordering.{nat_cmp}
+use Rattle.std.specs.FinMap.{FinMap}
+use Rattle.abi_base.specs.declared.errno.Errno.TheVariants.{Badf}
 use Rattle.abi_types.specs.declared.call.Call.{Call}
 use Rattle.abi_types.specs.declared.constants.Constants.{Constants}
+use Rattle.abi_types.specs.declared.family.SocketCall.{SocketCall}
+use Rattle.abi_types.specs.declared.family.SocketCall.TheVariants.{SockRecv, SockSend, SockShutdown}
+use Rattle.abi_types.specs.declared.open_kind.OpenKind.{OpenKind}
 use Rattle.abi_types.specs.declared.thread.Thread.{Thread}
 use Rattle.abi_types.specs.declared.thread.Thread.TheVariants.{Runnable, Waits}
-use Rattle.kernel_model.specs.Outcome.{is_parked}
+use Rattle.channel_calls.specs.Calls.{end_outcome, socket_outcome}
+use Rattle.kernel_model.specs.Channels.{Channel}
+use Rattle.kernel_model.specs.Outcome.{Outcome, is_parked, replies}
+use Rattle.kernel_model.specs.Reply.{refused}
 use Rattle.kernel_model.specs.State.{Table, no_state}
 use Rattle.kernel_model.specs.Step.{outcome_on}
 use Rattle.kernel_model.specs.View.{whole}
@@ -16,7 +25,24 @@ kept_in (Some Runnable) = None
 kept_in (Some (Waits call since until)) = Some (call, since)
 
 -- Whether a call would be done at the moment `now` and not wait, which was made at the moment `since` by a thread of a process with this
--- table. A call that may wait reads nothing else of a state.
-abbrev pub is_over : Constants → Option Table → ℕ → ℕ → Call → Bool
-is_over constants table since now call =
-    not (is_parked (outcome_on constants (whole (record no_state { clock = now })) (record { pid = 0; tid = 0; since = since }) call table).answer)
+-- table, where there are these opens and channels. A call that may wait reads nothing else of a state.
+abbrev pub is_over : Constants → FinMap nat_cmp OpenKind → FinMap nat_cmp Channel → ℕ → Option Table → ℕ → Call → Bool
+is_over constants opens channels now table since call =
+    not (is_parked (outcome_on constants (whole (record no_state { clock = now; opens = opens; chans = channels }))
+    (record { pid = 0; tid = 0; since = since }) call table).answer)
+
+-- what fd_read and fd_write come to by a descriptor's open, where there are ends of channels alone
+abbrev pub end_at : FinMap nat_cmp Channel → Option OpenKind → Call → Outcome
+end_at channels None call = replies (refused Badf)
+end_at channels (Some kind) call = end_outcome channels kind call
+
+-- the same of calls on sockets, for process p
+abbrev pub socket_at : ℕ → Table → FinMap nat_cmp Channel → Option OpenKind → Call → Outcome
+socket_at p table channels None call = replies (refused Badf)
+socket_at p table channels (Some kind) call = socket_outcome p table channels kind call
+
+-- the descriptor of a call on a socket
+abbrev pub fd_of_socket : SocketCall → ℕ
+fd_of_socket (SockRecv fd length fds flags) = fd
+fd_of_socket (SockSend fd bytes fds flags) = fd
+fd_of_socket (SockShutdown fd how) = fd

@@ -3,8 +3,8 @@ ghost use Rattle.std.specs.Prelude.{◌≡◌, option_copied};
 ghost use Rattle.kernel_parts.specs.Activity.{activity_of, both, earlier};
 
 use crate::polls::soon;
-use crate::waiting::is_over;
-use abi_types::{Constants, Thread};
+use crate::waiting::{Surroundings, is_over};
+use abi_types::Thread;
 use fd_table::FdTable;
 
 /// What some threads do, taken together.
@@ -49,19 +49,18 @@ impl Activity {
         }
     }
 
-    /// What one thread does at the moment `now`, of the process that has this table.
+    /// What one thread does now, of the process that has this table.
     pub(crate) fn of_thread(
-        constants: &Constants,
+        around: Surroundings<'_>,
         table: Option<&FdTable>,
-        now: u64,
         thread: &Thread,
     ) -> Activity
-        ensures { result ≡ activity_of constants.now (option_copied table.entry) now thread.now }
+        ensures { result ≡ activity_of around.entry.constants.now around.entry.objects.now.kinds around.entry.channels.now around.entry.now (option_copied table.entry) thread.now }
     {
         match thread {
             Thread::Runnable => Activity::Busy,
             Thread::Waits { call, since, until } => {
-                if is_over(constants, table, *since, now, call) {
+                if is_over(around, table, *since, call) {
                     Activity::Busy
                 } else {
                     Activity::Waiting {

@@ -17,7 +17,7 @@ pub use stream_calls::on_stream;
 pub use table::let_go_all;
 pub use table_change::change_table;
 pub use terminal::Terminal;
-pub use waiting::{deadline_of, is_over};
+pub use waiting::{Surroundings, deadline_of, is_over};
 
 mod activity;
 mod clocks;

@@ -16,6 +16,7 @@ ghost use Rattle.kernel_model.specs.Waits.{thread_set};
 use crate::activity::Activity;
 use crate::numbers::next_number;
 use crate::start::{LAUNCH_PROCESS, single};
+use crate::waiting::Surroundings;
 use abi_types::{
     Answer, Call, Constants, Counts, Errno, ObjId, Payload, Pid, Thread, Tid, TryClone,
 };
@@ -213,15 +214,15 @@ impl ProcessState {
         }
     }
 
-    /// What the threads do at the moment `now`, where the process has this table. Looks at each thread.
-    pub fn activity(&self, constants: &Constants, table: Option<&FdTable>, now: u64) -> Activity
-        ensures { IsActivity (activity_at constants.now (option_copied table.entry) now self.now.threads) (λ _. ⊤) result }
+    /// What the threads do now, where the process has this table. Looks at each thread.
+    pub fn activity(&self, around: Surroundings<'_>, table: Option<&FdTable>) -> Activity
+        ensures { IsActivity (activity_at around.entry.constants.now around.entry.objects.now.kinds around.entry.channels.now around.entry.now (option_copied table.entry) self.now.threads) (λ _. ⊤) result }
     {
         let mut found = Activity::NoThread;
         let mut last = None;
         while let Some(tid) = next_number(&self.threads, last) {
             if let Some(thread) = self.threads.get(tid) {
-                found = found.with(Activity::of_thread(constants, table, now, thread));
+                found = found.with(Activity::of_thread(around, table, thread));
             }
             last = Some(tid);
         }

@@ -1,6 +1,7 @@
 //! What ends because nothing holds it, and the nodes of the file tree that go with it.
-ghost use Rattle.std.specs.Prelude.{◌≡◌, ◌⊎◌, ℕ, None, Some, IsSome, is_some, true, false};
+ghost use Rattle.std.specs.Prelude.{◌≡◌, ◌≤◌, ◌⊎◌, ◌+◌, ℕ, None, Some, IsSome, is_some, true, false};
 ghost use Rattle.std.specs.FinMap as map;
+ghost use Rattle.channel_calls.specs.Calls.{AllGoOn, AreFew, carriers_in};
 ghost use Rattle.kernel_model.specs.Release.{count_in, lives, release};
 ghost use Rattle.kernel_parts.specs.Released.{IsKilledIn, state_by};
 ghost use Rattle.maps.specs.Maps.{number, total};
@@ -12,6 +13,7 @@ ghost use Rattle.tree_model.specs.Tree.{IsTree};
 use crate::process::ProcessState;
 use crate::table::let_go_all;
 use abi_types::{ObjId, OpenKind, Pid, Signal, Status};
+use channel_calls::{Channels, leave};
 use fd_table::FdTable;
 use file_tree::Tree;
 use maps::NumMap;
@@ -47,11 +49,11 @@ fn kill(
     processes: &mut NumMap<ProcessState>,
     statuses: &mut NumMap<Status>,
 )
-    requires counted { (o : ℕ) → number (map.get objects.old.counts o) ≡ total (count_in o) tables.old }
+    requires covered { (o : ℕ) → total (count_in o) tables.old ≤ number (map.get objects.old.counts o) }
     requires tables { (p : ℕ) → is_some (map.get tables.old p) ≡ is_some (map.get statuses.old p) }
     requires processes { (p : ℕ) → is_some (map.get processes.old p) ≡ is_some (map.get statuses.old p) }
     ensures kinds { objects.new.kinds ≡ objects.old.kinds }
-    ensures counted { (o : ℕ) → number (map.get objects.new.counts o) ≡ total (count_in o) tables.new }
+    ensures counts { (o : ℕ) → number (map.get objects.new.counts o) + total (count_in o) tables.old ≡ number (map.get objects.old.counts o) + total (count_in o) tables.new }
     ensures parts { IsKilledIn pid tables.old processes.old statuses.old tables.new processes.new statuses.new }
 {
     let p = u64::from(pid.0);
@@ -62,28 +64,36 @@ fn kill(
     }
 }
 
-/// Takes each open away that nothing holds, with each open of a process that lives the process, and each node that then has neither
-/// a name nor an open. Looks at no open that is held, and at no node but those of the opens that end. Takes no memory.
+/// Takes each open away that nothing holds, with each open of a process that lives the process, with each end of a channel what waited
+/// in the channel that it read, each channel that has lost both ends, and each node that then has neither a name nor an open. Looks at
+/// no open that is held, at no channel but those of the ends that end, and at no node but those of the opens that do. Takes no memory.
 pub fn release(
     objects: &mut Objects,
     tree: &mut Tree,
     tables: &mut NumMap<FdTable>,
     processes: &mut NumMap<ProcessState>,
     statuses: &mut NumMap<Status>,
+    channels: &mut Channels,
 )
     requires tree { IsTree tree.old }
     requires used { (n : ℕ) → IsSome (map.get tree.old.nodes n) → is_used objects.old.kinds tree.old n ≡ true }
-    requires counted { (o : ℕ) → number (map.get objects.old.counts o) ≡ total (count_in o) tables.old }
+    requires counted { (o : ℕ) → number (map.get objects.old.counts o) ≡ total (count_in o) tables.old + carriers_in o channels.old }
     requires tables { (p : ℕ) → is_some (map.get tables.old p) ≡ is_some (map.get statuses.old p) }
     requires processes { (p : ℕ) → is_some (map.get processes.old p) ≡ is_some (map.get statuses.old p) }
-    ensures state { state_by tables.new processes.new statuses.new objects.new.kinds tree.new ≡ release (state_by tables.old processes.old statuses.old objects.old.kinds tree.old) }
-    ensures counted { (o : ℕ) → number (map.get objects.new.counts o) ≡ total (count_in o) tables.new }
+    requires going { AllGoOn channels.old }
+    ensures state { state_by tables.new processes.new statuses.new objects.new.kinds channels.new tree.new ≡ release (state_by tables.old processes.old statuses.old objects.old.kinds channels.old tree.old) }
+    ensures counted { (o : ℕ) → number (map.get objects.new.counts o) ≡ total (count_in o) tables.new + carriers_in o channels.new }
+    ensures few { AreFew channels.old → AreFew channels.new }
 {
     while let Some((_, kind)) = objects.pop_unheld() {
-        if let OpenKind::Process(pid) = kind {
-            kill(pid, objects, tables, processes, statuses);
-        } else if let Some(node) = node_of(&kind) {
-            forget_unused(tree, objects, node);
+        match kind {
+            OpenKind::Process(pid) => kill(pid, objects, tables, processes, statuses),
+            OpenKind::End { .. } => leave(objects, channels, &kind),
+            _ => {
+                if let Some(node) = node_of(&kind) {
+                    forget_unused(tree, objects, node);
+                }
+            }
         }
     }
 }

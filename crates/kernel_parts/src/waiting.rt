@@ -1,11 +1,18 @@
 //! Calls that wait: until when, and whether they are over.
-ghost use Rattle.std.specs.Prelude.{◌≡◌, option_copied};
+ghost use Rattle.std.specs.Prelude.{◌≡◌, ℕ, option_copied};
+ghost use Rattle.std.specs.FinMap as map;
+ghost use Rattle.abi_types.specs.Families.{call_of_offset, call_of_socket, fd_of_offset};
+ghost use Rattle.channel_calls.specs.Calls.{HasAllSent};
+ghost use Rattle.kernel_model.specs.Outcome.{is_parked};
 ghost use Rattle.kernel_model.specs.Waits as model;
-ghost use Rattle.kernel_parts.specs.Waiting.{is_over};
+ghost use Rattle.kernel_parts.specs.Entries.{open_in};
+ghost use Rattle.kernel_parts.specs.Waiting.{end_at, fd_of_socket, is_over, socket_at};
 
 use crate::polls::{poll_deadline, poll_waits};
-use abi_types::{Call, Constants};
+use abi_types::{Call, Constants, Family, OffsetCall, SocketCall};
+use channel_calls::{Channels, end_waits, socket_waits};
 use fd_table::FdTable;
+use object_store::Objects;
 use right_rules::refusal;
 
 /// By which moment a call is over that was made at the moment `since`, if there is such a moment that counts.
@@ -18,16 +25,57 @@ pub fn deadline_of(constants: &Constants, call: &Call, since: u64) -> Option<u64
     }
 }
 
-/// Whether a call would be done at the moment `now` and not wait, which was made at the moment `since` by a thread of the process that
-/// has this table.
-pub fn is_over(
-    constants: &Constants,
-    table: Option<&FdTable>,
-    since: u64,
-    now: u64,
-    call: &Call,
-) -> bool
-    ensures { result ≡ is_over constants.now (option_copied table.entry) since now call.now }
+/// What a call that may wait looks at of a kernel beside its process's descriptors.
+#[derive(Clone, Copy)]
+pub struct Surroundings<'a> {
+    pub constants: &'a Constants,
+    pub objects: &'a Objects,
+    pub channels: &'a Channels,
+    /// The moment.
+    pub now: u64,
+}
+
+// Whether a call at the offset of a descriptor's open waits now.
+fn offset_waits(around: Surroundings<'_>, table: &FdTable, call: OffsetCall<'_>) -> bool
+    ensures { result ≡ is_parked (end_at around.entry.channels.now (open_in around.entry.objects.now.kinds (map.get table.now (fd_of_offset call.entry))) (call_of_offset call.entry)).answer }
+{
+    let Some(descriptor) = table.get(call.fd()) else {
+        return false;
+    };
+    match around.objects.get(descriptor.id) {
+        Some(kind) => end_waits(around.channels, kind, call),
+        None => false,
+    }
+}
+
+// The descriptor of a call on a socket.
+fn socket_fd(call: SocketCall<'_>) -> u32
+    ensures { result ≡ fd_of_socket call.entry }
+{
+    match call {
+        SocketCall::SockRecv { fd, .. } => fd,
+        SocketCall::SockSend { fd, .. } => fd,
+        SocketCall::SockShutdown { fd, .. } => fd,
+    }
+}
+
+// Whether a call on a socket waits now, whose sent descriptors the table has.
+fn socket_call_waits(around: Surroundings<'_>, table: &FdTable, call: SocketCall<'_>) -> bool
+    requires { HasAllSent table.now (call_of_socket call) }
+    ensures { (p : ℕ) → result ≡ is_parked (socket_at p table.now around.entry.channels.now (open_in around.entry.objects.now.kinds (map.get table.now (fd_of_socket call.entry))) (call_of_socket call.entry)).answer }
+{
+    let Some(descriptor) = table.get(socket_fd(call)) else {
+        return false;
+    };
+    match around.objects.get(descriptor.id) {
+        Some(kind) => socket_waits(around.channels, table, kind, call),
+        None => false,
+    }
+}
+
+/// Whether a call would be done now and not wait, which was made at the moment `since` by a thread of the process that has this table.
+pub fn is_over(around: Surroundings<'_>, table: Option<&FdTable>, since: u64, call: &Call) -> bool
+    ensures { result ≡ is_over around.entry.constants.now around.entry.objects.now.kinds around.entry.channels.now around.entry.now (option_copied table.entry) since call.now }
 {
     let Some(table) = table else {
         return true;
@@ -35,10 +83,12 @@ pub fn is_over(
     if refusal(table, call).is_some() {
         return true;
     }
-    match call {
-        Call::Poll { subscriptions } => {
-            !poll_waits(constants, since, now, subscriptions.as_slice())
+    match call.family() {
+        Family::Poll(subscriptions) => {
+            !poll_waits(around.constants, since, around.now, subscriptions)
         }
+        Family::Offset(view) => !offset_waits(around, table, view),
+        Family::Socket(view) => !socket_call_waits(around, table, view),
         _ => true,
     }
 }

@@ -3,15 +3,17 @@
 --     call_tells      what contracts see after a call
 --     finish_tells      after a wake
 --     end_tells      after an end from outside
-use Rattle.std.proofs.Common.{◌≡◌, ℕ, false, List, [], ◌∷◌, ◌++◌, Option, None, Some, IsSome, inl, inr, refl, sym, ap, subst, ◌∙◌}
+use Rattle.std.proofs.Common.{◌≡◌, ◌≢◌, ℕ, Bool, true, false, List, [], ◌∷◌, ◌++◌, Option, None, Some, IsSome, inl, inr, refl, sym, ap, subst, ◌∙◌}
 use Rattle.std.specs.FinMap.{get, insert, remove}
 use Rattle.abi_types.specs.declared.reply.Answer.{Answer}
 use Rattle.abi_types.specs.declared.call.Call.{Call}
+use Rattle.abi_types.specs.declared.call.Call.TheVariants.{ThreadYield}
 use Rattle.abi_types.specs.declared.wake.WakeIn.{WakeIn}
 use Rattle.run_types.specs.declared.history.Entry.{Entry}
 use Rattle.run_types.specs.declared.launch.Launch.{Launch}
 use Rattle.maps.specs.Maps.{get-insert-same}
 use Rattle.kernel_model.specs.State.{thread_of}
+use Rattle.kernel_model.proofs.Tests.{not_true}
 use Rattle.run_model.specs.Legal.{Fits, Legal}
 use Rattle.run_model.specs.Own.{is_idle, own, IsLiveIn, Same}
 use Rattle.run_model.specs.World.{World, Guest, world, apply, turned, or_no_guest, guest_of, turned_guest_by, called_guest}
@@ -27,7 +29,7 @@ use Rattle.kernel_cell.specs.declared.results.Stopped.{Stopped}
 use Rattle.kernel_cell.specs.declared.results.Stopped.TheVariants as stopped
 use Rattle.kernel_cell.specs.declared.results.Woken.{Woken}
 use Rattle.kernel_cell.specs.declared.results.Woken.TheVariants as woken
-use Rattle.process_cell.specs.Phases.{Threads, phase_after, did_after_act, did_after_end, did_after_wake, threads_after_act, threads_after_wake}
+use Rattle.process_cell.specs.Phases.{Threads, phase_after, did_after_act, did_after_end, did_after_wake, is_yield, threads_after_act, threads_after_wake}
 use Rattle.process_cell.specs.Places.{Moved}
 use Rattle.process_cell.specs.Process.{Stands, Tied, WaitsIn, standing_of}
 use Rattle.process_cell.specs.Standing.{Standing}
@@ -86,6 +88,10 @@ own_none launch v w looked = ap (λ (p : ℕ). own p w.seen) looked.pid ∙ sym 
 
 -- ---- a call
 
+-- a thread that doesn't give way after its call, as it would if it had asked, made another call than thread_yield
+no_yield : (call : Call) → (is_yield call ≡ true → false ≡ true) → call ≢ ThreadYield
+no_yield call gives is = not_true (gives (ap is_yield is))
+
 module _ (launch : Launch) (v w : Passing) (t : ℕ) (threads : Threads) (turns : List ℕ) (call : Call) (was guest : Guest) (now : Phase) where
   -- the turns that were taken out for the entry are those of the process
   acted_by : (taken : List ℕ) (outcome : Acted) → taken ≡ turns → IsActed launch v t taken call guest w outcome
@@ -114,32 +120,38 @@ module _ (launch : Launch) (v w : Passing) (t : ℕ) (threads : Threads) (turns 
       → LivesOn (standing_of v threads turns was now) (standing_of w threads' [] guest phase.Lives) threads'
   call_lives threads' stands told guest_is = record { lives = refl; left = call_left stands told guest_is; threads_are = refl }
 
-  call_by : (outcome : Acted) → Stands (world launch v.seen) v.pid threads turns was → IsActed launch v t turns call guest w outcome
-      → IsCalled t (standing_of v threads turns was now) (standing_of w (threads_after_act threads t outcome) [] guest (phase_after (did_after_act outcome)))
-      (did_after_act outcome)
-  call_by acted.Runs stands told = (call_lives threads stands told.0 told.1.guest_is, enters_call threads phase.Lives told.0)
-  call_by (acted.Starts u) stands told = (
+  call_by : (yields : Bool) (outcome : Acted) → (is_yield call ≡ true → yields ≡ true) → Stands (world launch v.seen) v.pid threads turns was
+      → IsActed launch v t turns call guest w outcome
+      → IsCalled t (standing_of v threads turns was now)
+      (standing_of w (threads_after_act threads t outcome) [] guest (phase_after (did_after_act yields outcome))) (did_after_act yields outcome)
+  unfolding enters_call
+  call_by true acted.Runs gives stands told =
+      (call_lives threads stands told.0 told.1.guest_is, enters_call threads phase.Lives told.0)
+  call_by false acted.Runs gives stands told =
+      (call_lives threads stands told.0 told.1.guest_is, (enters_call threads phase.Lives told.0, no_yield call gives))
+  call_by yields (acted.Starts u) gives stands told = (
     call_lives (insert threads u doing.Runs) stands told.0 told.1.guest_is,
     does_none (get threads u) (thread_of (world launch v.seen).state v.pid u) (stands.are u) told.2.absent,
     enters_call (insert threads u doing.Runs) phase.Lives told.0,
   )
-  call_by acted.Parks stands told = (
+  call_by yields acted.Parks gives stands told = (
     call_lives (insert threads t doing.Waits) stands told.0 told.1.guest_is,
     enters_call (insert threads t doing.Waits) phase.Lives told.0,
   )
-  call_by acted.Leaves stands told = (call_lives (remove threads t) stands told.0 told.1.guest_is, enters_call (remove threads t) phase.Lives told.0)
-  call_by acted.Ends stands told = (refl, inl (enters_call threads phase.Gone told.0))
-  call_by acted.Gone stands told = (refl, inr (own_none launch v w told.0))
-  call_by acted.NoMemory stands told = (refl, own_none launch v w told.0)
+  call_by yields acted.Leaves gives stands told =
+      (call_lives (remove threads t) stands told.0 told.1.guest_is, enters_call (remove threads t) phase.Lives told.0)
+  call_by yields acted.Ends gives stands told = (refl, inl (enters_call threads phase.Gone told.0))
+  call_by yields acted.Gone gives stands told = (refl, inr (own_none launch v w told.0))
+  call_by yields acted.NoMemory gives stands told = (refl, own_none launch v w told.0)
 
-  call_made : (threads' : Threads) (taken none : List ℕ) (later : Phase) (done : Did) (outcome : Acted) → Stands (world launch v.seen) v.pid threads turns was
-      → taken ≡ turns → IsActed launch v t taken call guest w outcome → none ≡ [] → threads' ≡ threads_after_act threads t outcome
-      → done ≡ did_after_act outcome → later ≡ phase_after done
+  call_made : (threads' : Threads) (taken none : List ℕ) (later : Phase) (done : Did) (yields : Bool) (outcome : Acted) → (is_yield call ≡ true → yields ≡ true)
+      → Stands (world launch v.seen) v.pid threads turns was → taken ≡ turns → IsActed launch v t taken call guest w outcome → none ≡ []
+      → threads' ≡ threads_after_act threads t outcome → done ≡ did_after_act yields outcome → later ≡ phase_after done
       → IsCalled t (standing_of v threads turns was now) (standing_of w threads' none guest later) done
-  call_made threads' taken none later done outcome stands all told no_turns threads_are done_is after =
+  call_made threads' taken none later done yields outcome gives stands all told no_turns threads_are done_is after =
       subst (λ (x : Threads × List ℕ × Phase × Did). IsCalled t (standing_of v threads turns was now) (standing_of w x.0 x.1 guest x.2) x.3)
       (λ i. (sym threads_are i, sym no_turns i, sym (after ∙ ap phase_after done_is) i, sym done_is i))
-      (call_by outcome stands (acted_by taken outcome all told))
+      (call_by yields outcome gives stands (acted_by taken outcome all told))
 
 -- the history that was seen before a call doesn't matter
 module _ (t : ℕ) (before after : Standing) (seen : List Entry) where
@@ -157,7 +169,9 @@ module _ (t : ℕ) (before after : Standing) (seen : List Entry) where
   lives_earlier threads made = record { lives = made.lives; left = made.left; threads_are = made.threads_are }
 
   called_earlier : (done : Did) → IsCalled t before after done → IsCalled t earlier after done
-  called_earlier did.Runs made = (lives_earlier before.threads made.0, enters_earlier made.1)
+  unfolding enters_earlier
+  called_earlier did.Runs made = (lives_earlier before.threads made.0, (enters_earlier made.1.0, made.1.1))
+  called_earlier did.Yields made = (lives_earlier before.threads made.0, enters_earlier made.1)
   called_earlier (did.Started u) made = (lives_earlier (insert before.threads u doing.Runs) made.0, made.1, enters_earlier made.2)
   called_earlier did.Parks made = (lives_earlier (insert before.threads t doing.Waits) made.0, enters_earlier made.1)
   called_earlier did.NotReady made = absurd made
@@ -178,14 +192,16 @@ module _ (launch : Launch) (v w : Passing) (t : ℕ) (threads : Threads) (turns 
       (λ i. (looked.0.pid i, own_none launch v w looked.0 i)) made)
 
   module _ (x : Passing) (call : Call) (guest : Guest) where
-    pub call_tells : (threads' : Threads) (taken none : List ℕ) (later : Phase) (done : Did) (outcome : Acted) (old : Standing) → Moved launch v w
-        → Tied launch w threads turns was (phase.Calls t) → taken ≡ turns → IsActed launch w t taken call guest x outcome → none ≡ []
-        → threads' ≡ threads_after_act threads t outcome → done ≡ did_after_act outcome → later ≡ phase_after done
-        → standing_of v threads turns was now ≡ old → IsCalled t old (standing_of x threads' none guest later) done
-    call_tells threads' taken none later done outcome old moved tied all told no_turns threads_are done_is after is =
+    pub call_tells : (threads' : Threads) (taken none : List ℕ) (later : Phase) (done : Did) (yields : Bool) (outcome : Acted) (old : Standing)
+        → (is_yield call ≡ true → yields ≡ true) → Moved launch v w → Tied launch w threads turns was (phase.Calls t) → taken ≡ turns
+        → IsActed launch w t taken call guest x outcome → none ≡ [] → threads' ≡ threads_after_act threads t outcome
+        → done ≡ did_after_act yields outcome → later ≡ phase_after done → standing_of v threads turns was now ≡ old
+        → IsCalled t old (standing_of x threads' none guest later) done
+    call_tells threads' taken none later done yields outcome old gives moved tied all told no_turns threads_are done_is after is =
         subst (λ (s : Standing). IsCalled t s (standing_of x threads' none guest later) done) is
         (called_moved (standing_of x threads' none guest later) done moved
-        (call_made launch w x t threads turns call was guest now threads' taken none later done outcome tied.0 all told no_turns threads_are done_is after))
+        (call_made launch w x t threads turns call was guest now threads' taken none later done yields outcome gives tied.0 all told no_turns threads_are
+        done_is after))
 
 -- ---- a wake
 

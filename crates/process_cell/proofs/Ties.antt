@@ -1,7 +1,7 @@
 -- A process stays tied to its world.
 --     tied_first, tied_turn, tied_moved, tied_act, tied_wake, tied_end      after each of what a process does
 --     asks_call, asks_wake, asks_end      what it asks the kernel for
-use Rattle.std.proofs.Common.{◌≡◌, ◌≢◌, ℕ, ◌<◌, List, [], ◌∷◌, ◌++◌, Option, None, Some, IsSome, inl, inr, refl, sym, ap, subst, ◌∙◌}
+use Rattle.std.proofs.Common.{◌≡◌, ◌≢◌, ℕ, ◌<◌, Bool, true, false, List, [], ◌∷◌, ◌++◌, Option, None, Some, IsSome, inl, inr, refl, sym, ap, subst, ◌∙◌}
 use Rattle.std.proofs.lemmas.Bool.Decides.{eqb_tells}
 use Rattle.std.specs.FinMap.{FinMap, empty, get, insert, remove, get-empty}
 use Rattle.std.specs.Ordering.{nat_cmp}
@@ -40,7 +40,8 @@ use Rattle.kernel_cell.specs.declared.results.Stopped.{Stopped}
 use Rattle.kernel_cell.specs.declared.results.Stopped.TheVariants as stopped
 use Rattle.kernel_cell.specs.declared.results.Woken.{Woken}
 use Rattle.kernel_cell.specs.declared.results.Woken.TheVariants as woken
-use Rattle.process_cell.specs.Phases.{Threads, phase_after, phase_after_turn, did_after_act, did_after_end, did_after_wake, threads_after_act, threads_after_wake}
+use Rattle.process_cell.specs.Phases.{Threads, phase_after, phase_after_turn, did_after_act, did_after_end, did_after_wake, did_running}
+use Rattle.process_cell.specs.Phases.{threads_after_act, threads_after_wake}
 use Rattle.process_cell.specs.Places.{Moved}
 use Rattle.process_cell.specs.Process.{AreThreads, DoesSo, IsDue, RunsIn, Stands, TiedIn, Tied, Waits, WaitsIn, new_pass, standing_of}
 use Rattle.process_cell.specs.Standing.{Standing}
@@ -335,38 +336,44 @@ starts_do : (launch : Launch) (v w : Passing) (u : ℕ) (threads : Threads) → 
     → HasStarted launch v.seen w.seen v.pid u → AreThreads (world launch w.seen) v.pid (insert threads u doing.Runs)
 starts_do launch v w u threads are started = put_do launch v w u threads are doing.Runs started.others started.runs
 
+-- a thread that goes on leaves its process between two steps
+running_lives : (yields : Bool) → phase_after (did_running yields) ≡ phase.Lives
+running_lives true = refl
+running_lives false = refl
+
 module _ (launch : Launch) (v w : Passing) (t : ℕ) (threads : Threads) (turns : List ℕ) (call : Call) (guest : Guest)
     (are : AreThreads (world launch v.seen) v.pid threads) (runs : get threads t ≡ Some doing.Runs) where
-  acted_at : (outcome : Acted) → IsActed launch v t turns call guest w outcome
-      → Tied launch w (threads_after_act threads t outcome) [] guest (phase_after (did_after_act outcome))
-  acted_at acted.Runs told =
-      at_pass launch w v.pid threads [] guest phase.Lives told.0.added.pid
+  acted_at : (yields : Bool) (outcome : Acted) → IsActed launch v t turns call guest w outcome
+      → Tied launch w (threads_after_act threads t outcome) [] guest (phase_after (did_after_act yields outcome))
+  acted_at yields acted.Runs told =
+      subst (Tied launch w threads [] guest) (sym (running_lives yields))
+      (at_pass launch w v.pid threads [] guest phase.Lives told.0.added.pid
       (lives_there launch w.seen v.pid threads guest told.0.added.seen.legal told.1.live (runs_do launch v w t threads are runs guest told.1 told.2)
-      told.1.guest_is)
-  acted_at (acted.Starts u) told =
+      told.1.guest_is))
+  acted_at yields (acted.Starts u) told =
       at_pass launch w v.pid (insert threads u doing.Runs) [] guest phase.Lives told.0.added.pid
       (lives_there launch w.seen v.pid (insert threads u doing.Runs) guest told.0.added.seen.legal told.1.live
       (starts_do launch v w u threads are told.2) told.1.guest_is)
-  acted_at acted.Parks told =
+  acted_at yields acted.Parks told =
       at_pass launch w v.pid (insert threads t doing.Waits) [] guest phase.Lives told.0.added.pid
       (lives_there launch w.seen v.pid (insert threads t doing.Waits) guest told.0.added.seen.legal told.1.live
       (put_do launch v w t threads are doing.Waits told.2 (told.1.waits.thread, told.1.waits.there, told.1.waits.waits)) told.1.guest_is)
-  acted_at acted.Leaves told =
+  acted_at yields acted.Leaves told =
       at_pass launch w v.pid (remove threads t) [] guest phase.Lives told.0.added.pid
       (lives_there launch w.seen v.pid (remove threads t) guest told.0.added.seen.legal told.1.live
       (left_do launch v w t threads are told.2 told.1.gone) told.1.guest_is)
-  acted_at acted.Ends told = at_pass launch w v.pid threads [] guest phase.Gone told.0.added.pid told.1
-  acted_at acted.Gone told = at_pass launch w v.pid threads [] guest phase.Gone told.0.pid told.1
-  acted_at acted.NoMemory told = tt
+  acted_at yields acted.Ends told = at_pass launch w v.pid threads [] guest phase.Gone told.0.added.pid told.1
+  acted_at yields acted.Gone told = at_pass launch w v.pid threads [] guest phase.Gone told.0.pid told.1
+  acted_at yields acted.NoMemory told = tt
 
 pub tied_act : (launch : Launch) (v w : Passing) (t : ℕ) (threads threads' : Threads) (turns taken none : List ℕ) (call : Call) (was guest : Guest)
-    (later : Phase) (outcome : Acted) (done : Did) → Tied launch v threads turns was (phase.Calls t) → IsActed launch v t taken call guest w outcome
-    → threads' ≡ threads_after_act threads t outcome → done ≡ did_after_act outcome → none ≡ [] → later ≡ phase_after done
-    → Tied launch w threads' none guest later
-tied_act launch v w t threads threads' turns taken none call was guest later outcome done tied told threads_are done_is no_turns phase_is =
+    (later : Phase) (yields : Bool) (outcome : Acted) (done : Did) → Tied launch v threads turns was (phase.Calls t)
+    → IsActed launch v t taken call guest w outcome → threads' ≡ threads_after_act threads t outcome → done ≡ did_after_act yields outcome
+    → none ≡ [] → later ≡ phase_after done → Tied launch w threads' none guest later
+tied_act launch v w t threads threads' turns taken none call was guest later yields outcome done tied told threads_are done_is no_turns phase_is =
     subst (λ (x : Threads × List ℕ × Phase). Tied launch w x.0 x.1 guest x.2)
     (λ i. (sym threads_are i, sym no_turns i, sym (phase_is ∙ ap phase_after done_is) i))
-    (acted_at launch v w t threads taken call guest tied.0.are tied.1 outcome told)
+    (acted_at launch v w t threads taken call guest tied.0.are tied.1 yields outcome told)
 
 -- ---- a wake
 

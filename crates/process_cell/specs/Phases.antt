@@ -1,7 +1,9 @@
 -- In which phase a process is after a step of a thread, what its threads do then, and what came of it.
-use Rattle.std.specs.Prelude.{ℕ}
+use Rattle.std.specs.Prelude.{ℕ, Bool, true, false}
 use Rattle.std.specs.Ordering.{nat_cmp}
 use Rattle.std.specs.FinMap.{FinMap, insert, remove}
+use Rattle.abi_types.specs.declared.call.Call.{Call}
+use Rattle.abi_types.specs.declared.call.Call.TheVariants.{ThreadYield}
 use Rattle.kernel_cell.specs.declared.results.Acted.{Acted}
 use Rattle.kernel_cell.specs.declared.results.Acted.TheVariants as acted
 use Rattle.kernel_cell.specs.declared.results.Stopped.{Stopped}
@@ -30,6 +32,7 @@ phase_after_turn t (turn_end_is.Trap signal) = phase.Traps t signal
 -- after a call, a wake or an end from outside that came to this
 abbrev pub phase_after : Did → Phase
 phase_after did.Runs = phase.Lives
+phase_after did.Yields = phase.Lives
 phase_after (did.Started u) = phase.Lives
 phase_after did.Parks = phase.Lives
 phase_after did.NotReady = phase.Lives
@@ -47,14 +50,24 @@ threads_after_act threads t acted.Ends = threads
 threads_after_act threads t acted.Gone = threads
 threads_after_act threads t acted.NoMemory = threads
 
-abbrev pub did_after_act : Acted → Did
-did_after_act acted.Runs = did.Runs
-did_after_act (acted.Starts u) = did.Started u
-did_after_act acted.Parks = did.Parks
-did_after_act acted.Leaves = did.ThreadGone
-did_after_act acted.Ends = did.ProcessGone
-did_after_act acted.Gone = did.ProcessGone
-did_after_act acted.NoMemory = did.NoMemory
+-- the thread that makes this call gives way to others, whatever comes of it
+abbrev pub is_yield : Call → Bool
+is_yield ThreadYield = true
+is_yield other = false
+
+-- what came of a call after which its thread goes on, by whether it gives way
+abbrev pub did_running : Bool → Did
+did_running true = did.Yields
+did_running false = did.Runs
+
+abbrev pub did_after_act : Bool → Acted → Did
+did_after_act yields acted.Runs = did_running yields
+did_after_act yields (acted.Starts u) = did.Started u
+did_after_act yields acted.Parks = did.Parks
+did_after_act yields acted.Leaves = did.ThreadGone
+did_after_act yields acted.Ends = did.ProcessGone
+did_after_act yields acted.Gone = did.ProcessGone
+did_after_act yields acted.NoMemory = did.NoMemory
 
 -- what threads do after the wake of thread t that came to this
 abbrev pub threads_after_wake : Threads → ℕ → Woken → Threads
@@ -64,8 +77,9 @@ threads_after_wake threads t woken.NotReady = threads
 threads_after_wake threads t woken.Gone = threads
 threads_after_wake threads t woken.NoMemory = threads
 
+-- a thread that was woken gives way
 abbrev pub did_after_wake : Woken → Did
-did_after_wake woken.Runs = did.Runs
+did_after_wake woken.Runs = did.Yields
 did_after_wake woken.Ends = did.ProcessGone
 did_after_wake woken.NotReady = did.NotReady
 did_after_wake woken.Gone = did.ProcessGone

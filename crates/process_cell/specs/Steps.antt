@@ -3,10 +3,11 @@
 --     IsCalled, IsFinished, IsEnded      a call, a wake, and an end from outside, by what came of it
 --     IsRun      a turn and what it ends in
 --     IsStepped      a step
-use Rattle.std.specs.Prelude.{◌≡◌, ◌⊎◌, ◌<◌, ◌-◌, ℕ, [], ◌∷◌, ◌++◌, Option, None, Some}
+use Rattle.std.specs.Prelude.{◌≡◌, ◌≢◌, ◌⊎◌, ◌<◌, ◌-◌, ℕ, [], ◌∷◌, ◌++◌, Option, None, Some}
 use Rattle.std.specs.FinMap.{get, insert, remove}
 use Rattle.abi_types.specs.declared.reply.Answer.{Answer}
 use Rattle.abi_types.specs.declared.call.Call.{Call}
+use Rattle.abi_types.specs.declared.call.Call.TheVariants.{ThreadYield}
 use Rattle.abi_types.specs.declared.wake.WakeIn.{WakeIn}
 use Rattle.run_types.specs.declared.history.Act.{Act}
 use Rattle.run_types.specs.declared.history.Act.TheVariants as act
@@ -58,10 +59,13 @@ pub record LivesOn (before after : Standing) (threads : Threads) : Type 0 where
   pub left : after.left ≡ before.left
   pub threads_are : after.threads ≡ threads
 
--- The call is an entry, and the process lives on: its thread goes on, maybe beside one that was not there before, or waits in the call, or
--- has ended. Or the process has ended, by this call or before it; or memory ran out before the entry.
+-- The call is an entry, and the process lives on: its thread goes on, and gives way to others or not, but after thread_yield it always does;
+-- or it goes on beside one that was not there before, or waits in the call, or has ended. Or the process has ended, by this call or before it;
+-- or memory ran out before the entry.
 abbrev pub IsCalled : ℕ → Standing → Standing → Did → Type 0
-IsCalled t before after did.Runs = LivesOn before after before.threads × EntersCall t before after
+IsCalled t before after did.Runs =
+    LivesOn before after before.threads × ((entered : EntersCall t before after) × (entered.call ≢ ThreadYield))
+IsCalled t before after did.Yields = LivesOn before after before.threads × EntersCall t before after
 IsCalled t before after (did.Started u) =
     LivesOn before after (insert before.threads u doing.Runs) × (get before.threads u ≡ None) × EntersCall t before after
 IsCalled t before after did.Parks = LivesOn before after (insert before.threads t doing.Waits) × EntersCall t before after
@@ -70,10 +74,11 @@ IsCalled t before after did.ThreadGone = LivesOn before after (remove before.thr
 IsCalled t before after did.ProcessGone = (after.phase ≡ phase.Gone) × (EntersCall t before after ⊎ EntersNone before after)
 IsCalled t before after did.NoMemory = (after.phase ≡ phase.Lost) × EntersNone before after
 
--- The wake is an entry, and the thread goes on; or it isn't ready, and then nothing of the process changed but the history that it has
+-- The wake is an entry, and the thread goes on and gives way; or it isn't ready, and then nothing of the process changed but the history that it has
 -- seen, in which others alone did entries; or the process has ended, by this wake or before it; or memory ran out before the entry.
 abbrev pub IsFinished : Launch → ℕ → Standing → Standing → Did → Type 0
-IsFinished launch t before after did.Runs = LivesOn before after (insert before.threads t doing.Runs) × EntersWake t before after
+IsFinished launch t before after did.Runs = ⊥
+IsFinished launch t before after did.Yields = LivesOn before after (insert before.threads t doing.Runs) × EntersWake t before after
 IsFinished launch t before after (did.Started u) = ⊥
 IsFinished launch t before after did.Parks = ⊥
 IsFinished launch t before after did.NotReady = (after ≡ record before { seen = after.seen }) × IsNotReady launch after.seen after.pid t

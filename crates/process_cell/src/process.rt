@@ -1,6 +1,6 @@
 //! A process: its guest, what its threads do, the turns that no entry has yet, and its pass. What it has is always what the world of the
 //! history that its pass has seen says, after those turns.
-ghost use Rattle.std.specs.Prelude.{◌≡◌, ◌<◌, IfOk, IfErr, OnErr};
+ghost use Rattle.std.specs.Prelude.{◌≡◌, ◌<◌, true, IfOk, IfErr, OnErr};
 ghost use Rattle.std.specs.FinMap as map;
 ghost use Rattle.call_codec.specs.Bounded.{IsBounded};
 ghost use Rattle.kernel_cell.specs.declared.results.EndBy.TheVariants as end_by;
@@ -11,7 +11,8 @@ ghost use Rattle.process_cell.specs.Steps.{IsCalled, IsFinished, IsEnded, IsRun,
 use crate::gate::Gate;
 use crate::place::{Place, leave_place, make_place};
 use crate::results::{
-    Did, Doing, Phase, did_after_end, phase_after, phase_after_turn, take_acted, take_woken,
+    Did, Doing, Phase, did_after_end, gives_way, may_wake, phase_after, phase_after_turn,
+    take_acted, take_woken,
 };
 use abi_types::{Pid, Signal, Tid, TidList};
 use guest_process::{FIRST_THREAD, Guest};
@@ -47,6 +48,14 @@ impl<J: Naming> Model for Process<J> {
     ghost view = { λ p. standing_of p.pass p.threads p.turns p.guest p.phase };
 
     ghost invariant = { λ p. Tied J.launch p.pass p.threads p.turns p.guest p.phase };
+}
+
+// Whether a thread gives way after its call: where it asked for that, and where the call may have woken others and some are to be looked at.
+// After no other call is the kernel asked, which costs its lock.
+fn yields_after<J: Naming, R: Wait>(rt: &R, cell: &Cell<J>, asked: bool, wakes: bool) -> bool
+    ensures { asked ≡ true → result ≡ true }
+{
+    asked || (wakes && cell.has_wakes(rt))
 }
 
 impl<J: Naming> Process<J> {
@@ -139,16 +148,19 @@ impl<J: Naming> Process<J> {
                 return Did::NoMemory;
             }
         };
+        let asked = gives_way(&call);
+        let wakes = may_wake(&call);
         let turns = mem::replace(&mut self.turns, TidList::new(alloc));
         let acted = cell.act(rt, &mut self.pass, alloc, tid, turns, call, &mut self.guest);
         leave_place(&mut self.threads, made, &acted);
-        let did = take_acted(&mut self.threads, tid, acted);
+        let yields = yields_after(rt, cell, asked, wakes);
+        let did = take_acted(&mut self.threads, tid, yields, acted);
         self.phase = phase_after(&did);
         did
     }
 
-    /// The wake of a thread, which waits in a call: where it is ready, its call is answered, and that is an entry of the history. Else the
-    /// process stays as it is.
+    /// The wake of a thread, which waits in a call: where it is ready, its call is answered, and that is an entry of the history, after which
+    /// it gives way. Else the process stays as it is.
     pub fn finish<R: Wait>(&mut self, rt: &R, alloc: Global, cell: &Cell<J>, tid: Tid) -> Did
         requires { WaitsIn tid self.old }
         ensures same { self.new.pid ≡ self.old.pid }

@@ -270,6 +270,8 @@ pub may_can : (call : Call) → may_wait call ≡ true → CanWait call
 may_can (call.Poll subscriptions) may = tt
 may_can (call.FdRead fd size) may = tt
 may_can (call.FdWrite fd bytes) may = tt
+may_can (call.SockRecv fd size fds flags) may = tt
+may_can (call.SockSend fd bytes fds flags) may = tt
 may_can (call.MemMap place size prot flags fd offset) may =
     absurd (not_true (sym (map_never_waits (map_zeros place) (on_open (map_row fd prot) (mapping place size offset)) (is_anonymous flags) refl refl) ∙ may))
 may_can _ may = absurd (not_true may)

@@ -1,12 +1,13 @@
--- The first ticket that is of a thread.
-use Rattle.std.proofs.Common.{◌≡◌, ℕ, ◌<◌, ◌≤◌, Bool, true, false, cond, nat_lt, List, [], ◌∷◌, ◌++◌, Option, Some, None, length, take, drop, position, slice_index_or, refl, sym, ap, subst, ◌∙◌, suc, arith}
+-- The first ticket that is of a thread, and the first whose process is free.
+use Rattle.std.proofs.Common.{◌≡◌, ℕ, ◌<◌, Bool, true, false, cond, nat_lt, List, [], ◌∷◌, ◌++◌, Option, Some, None, length, take, drop, position, slice_index_or, refl, sym, ap, subst, ◌∙◌, suc, arith}
 use Rattle.std.specs.List.{All, position_or_len, remove}
+use Rattle.std.specs.Option.{IfSome, OnSome}
 use Rattle.std.proofs.Math.ListN.{get_or}
 use Rattle.std.proofs.Math.Seq.{split_at}
 use Rattle.std.proofs.lemmas.List.{get_or-take, length-take}
 use Rattle.std.proofs.lemmas.List.Sums.{fails_before_first, passes_at_first}
 use borrow.Author.Tests.{ltb-true, ltb-false}
-use Rattle.turn_queue.specs.Tickets.{Tickets, Revives, NoneIs, is_ticket_of}
+use Rattle.turn_queue.specs.Tickets.{Tickets, Revives, TakesFree, is_free, is_ticket_of}
 use Rattle.turn_queue.specs.declared.queue.Parked.{Parked}
 
 found : (test : Bool) (n at : ℕ) → cond test (Some n) None ≡ Some at → (test ≡ true) × (n ≡ at)
@@ -62,3 +63,24 @@ revives process thread p t at entry old new place there parked ready = record {
   parked = parked;
   ready = ready;
 }
+
+-- the ticket at that place is taken
+takes_at : {T : Type 0} (process : T → ℕ) (busy : List ℕ) (at : ℕ) (ticket : T) (old new : Tickets T)
+    → position (is_free process busy) old.ready ≡ Some at → ticket ≡ slice_index_or old.ready at ticket
+    → new.ready ≡ remove old.ready at → new.parked ≡ old.parked → TakesFree process busy ticket old new
+takes_at process busy at ticket old new place there ready parked = record {
+  front = take at old.ready;
+  back = drop (suc at) old.ready;
+  was = splits (is_free process busy) old.ready at ticket place there;
+  is = passes (is_free process busy) old.ready at ticket place there;
+  first = front_fails (is_free process busy) old.ready at ticket place there;
+  ready = ready;
+  parked = parked;
+}
+
+pub takes_free : {T : Type 0} (process : T → ℕ) (busy : List ℕ) (at : ℕ) (removed : Option T) (old new : Tickets T)
+    → position (is_free process busy) old.ready ≡ Some at → IfSome removed (λ ticket. ticket ≡ slice_index_or old.ready at ticket)
+    → OnSome removed (new.ready ≡ remove old.ready at) → new.parked ≡ old.parked
+    → IfSome removed (λ ticket. TakesFree process busy ticket old new)
+takes_free process busy at None old new place there ready parked = tt
+takes_free process busy at (Some ticket) old new place there ready parked = takes_at process busy at ticket old new place there ready parked

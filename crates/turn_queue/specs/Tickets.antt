@@ -1,6 +1,6 @@
 -- Tickets of threads, those that are ready and those that are parked.
-use Rattle.std.specs.Prelude.{◌≡◌, ℕ, ◌+◌, ◌-◌, ◌^◌, ◌<◌, ◌≤◌, ◌==◌, ◌&&◌, Bool, true, false, List, [], ◌∷◌, ◌++◌, length, map, drop, All, Option, None, Some}
-use Rattle.std.specs.List.{insert}
+use Rattle.std.specs.Prelude.{◌≡◌, ℕ, ◌+◌, ◌-◌, ◌^◌, ◌<◌, ◌≤◌, ◌==◌, ◌&&◌, Bool, true, false, not, List, [], ◌∷◌, ◌++◌, length, map, drop, All, Option, None, Some}
+use Rattle.std.specs.List.{insert, list_any}
 use Rattle.std.specs.List.Sorted.{IsNonDecreasingBy, IsPartitionPoint}
 use Rattle.turn_queue.specs.declared.queue.Parked.{Parked}
 
@@ -55,6 +55,26 @@ pub record RevivesDue {T : Type 0} (now : ℕ) (old new : Tickets T) : Type 0 wh
   pub due : IsPlace now old.parked count
   pub parked : new.parked ≡ drop count old.parked
   pub same : new.ready ++ map ticket_of new.parked ≡ old.ready ++ map ticket_of old.parked
+
+-- ---- a free process
+
+-- whether the ticket's process is none of these, where process says whose a ticket is
+abbrev pub is_free : {T : Type 0} → (T → ℕ) → List ℕ → T → Bool
+is_free process busy ticket = not (list_any (λ p. p == process ticket) busy)
+
+-- none of these tickets is of another process
+abbrev pub NoneFree : {T : Type 0} → (T → ℕ) → List ℕ → List T → Type 0
+NoneFree process busy tickets = All (λ ticket. is_free process busy ticket ≡ false) tickets
+
+-- This ticket was the first whose process is none of these, and was taken. The others are what they were.
+pub record TakesFree {T : Type 0} (process : T → ℕ) (busy : List ℕ) (ticket : T) (old new : Tickets T) : Type 0 where
+  pub front : List T
+  pub back : List T
+  pub was : old.ready ≡ front ++ ticket ∷ back
+  pub is : is_free process busy ticket ≡ true
+  pub first : NoneFree process busy front
+  pub ready : new.ready ≡ front ++ back
+  pub parked : new.parked ≡ old.parked
 
 -- ---- one thread
 

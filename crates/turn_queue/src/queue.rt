@@ -1,6 +1,7 @@
 //! A queue of tickets: those that are ready, first come first served, and those that are parked until they are revived.
-ghost use Rattle.std.specs.Prelude.{◌≡◌, ℕ, [], ◌∷◌, ◌++◌, length, map, position, OnOk, IfErr, IfSome, IfNone};
-ghost use Rattle.turn_queue.specs.Tickets.{none, is_ticket_of, ticket_of, moment_of, AreInOrder, IsPlace, Parks, RevivesDue, IsRevived};
+ghost use Rattle.std.specs.Prelude.{◌≡◌, ◌==◌, ℕ, [], ◌∷◌, ◌++◌, length, map, position, OnOk, IfErr, IfSome, IfNone};
+ghost use Rattle.std.specs.List.{list_any};
+ghost use Rattle.turn_queue.specs.Tickets.{none, is_free, is_ticket_of, ticket_of, moment_of, AreInOrder, IsPlace, NoneFree, Parks, RevivesDue, IsRevived, TakesFree};
 
 use abi_base::{Pid, Tid};
 use std::alloc::Global;
@@ -64,11 +65,11 @@ impl<T: Ticket> Queue<T> {
         }
     }
 
-    /// How many tickets are ready.
-    pub fn ready_count(&self) -> usize
-        ensures { result ≡ length self.now.ready }
+    /// Whether a ticket is ready whose process is none of these.
+    pub fn has_free(&self, busy: &[Pid]) -> bool
+        ensures { result ≡ list_any (is_free T.process busy.now) self.now.ready }
     {
-        self.ready.len()
+        self.ready.iter().any(|ticket| !has(busy, ticket.pid()))
     }
 
     /// How many tickets are parked.
@@ -90,12 +91,16 @@ impl<T: Ticket> Queue<T> {
         Ok(())
     }
 
-    /// Takes the ticket that has been ready longest. `None` exactly where no ticket is ready.
-    pub fn take(&mut self) -> Option<T>
-        ensures some { IfSome result (λ ticket. self.old ≡ record { ready = ticket ∷ self.new.ready; parked = self.new.parked }) }
-        ensures none { IfNone result ((self.old.ready ≡ []) × (self.new ≡ self.old)) }
+    /// Takes the ticket that has been ready longest of those whose process is none of these. The others keep their order. `None` exactly where
+    /// there is no such ticket. It looks at none behind the one that it takes.
+    pub fn take_free(&mut self, busy: &[Pid]) -> Option<T>
+        ensures some { IfSome result (λ ticket. TakesFree T.process busy.now ticket self.old self.new) }
+        ensures none { IfNone result (NoneFree T.process busy.now self.old.ready × (self.new ≡ self.old)) }
     {
-        self.ready.pop_front()
+        let Some(at) = free_place(&self.ready, busy) else {
+            return None;
+        };
+        self.ready.remove(at)
     }
 
     /// Parks a ticket until this moment, behind those that are parked no longer. One that is parked until no moment stands behind all that
@@ -166,4 +171,18 @@ fn place_of<T: Ticket>(tickets: &VecDeque<Parked<T>, Global>, pid: Pid, tid: Tid
 {
     tickets.iter().position(|parked| parked.ticket.pid().0 == pid.0
         && parked.ticket.tid().0 == tid.0)
+}
+
+// Whether the process is one of these.
+fn has(busy: &[Pid], pid: Pid) -> bool
+    ensures { result ≡ list_any (λ p. p == pid) busy.now }
+{
+    busy.iter().any(|other| other.0 == pid.0)
+}
+
+// The place of the first ticket whose process is none of these.
+fn free_place<T: Ticket>(tickets: &VecDeque<T, Global>, busy: &[Pid]) -> Option<usize>
+    ensures { result ≡ position (is_free T.process busy.now) tickets.now.items }
+{
+    tickets.iter().position(|ticket| !has(busy, ticket.pid()))
 }

@@ -42,6 +42,7 @@ fd_close fd = record {
   takes_memory = false;
   may_wait = false;
   deadline = λ constants since. None;
+  sends = [];
 }
 
 -- ---- fd_datasync and fd_sync: what is written stands at once
@@ -90,6 +91,7 @@ fd_dup fd = record {
   takes_memory = true;
   may_wait = false;
   deadline = λ constants since. None;
+  sends = [];
 }
 
 -- ---- fd_replace
@@ -113,6 +115,7 @@ fd_replace from to = record {
   takes_memory = false;
   may_wait = false;
   deadline = λ constants since. None;
+  sends = [];
 }
 
 -- ---- fd_stat_get
@@ -160,6 +163,7 @@ fd_stat_get fd = record {
   takes_memory = false;
   may_wait = false;
   deadline = λ constants since. None;
+  sends = [];
 }
 
 -- ---- fd_stat_put
@@ -221,4 +225,5 @@ fd_stat_put fd stat flags = record {
   takes_memory = false;
   may_wait = false;
   deadline = λ constants since. None;
+  sends = [];
 }

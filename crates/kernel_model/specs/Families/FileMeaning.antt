@@ -43,4 +43,5 @@ on_open row m = record {
   takes_memory = m.takes_memory;
   may_wait = false;
   deadline = λ constants since. None;
+  sends = [];
 }

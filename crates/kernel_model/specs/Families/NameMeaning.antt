@@ -62,6 +62,7 @@ by_name row m = record {
   takes_memory = true;
   may_wait = false;
   deadline = λ constants since. None;
+  sends = [];
 }
 
 -- and by the paths of two
@@ -82,6 +83,7 @@ by_names first second m = record {
   takes_memory = true;
   may_wait = false;
   deadline = λ constants since. None;
+  sends = [];
 }
 
 -- ---- parts of what such calls do

@@ -1,6 +1,6 @@
 -- The numbers of the objects that a process makes: its own number, and how many it has made so far.
 use Rattle.std.specs.Prelude.{ℕ, zero, suc, ◌+◌, ◌*◌, ◌^◌, ◌&&◌, nat_lt, Bool, true, false, List, [], ◌∷◌, ◌++◌, Option, None, Some}
-use Rattle.kernel_model.specs.State.{ProcessState, Part, Update, at_open, at_node, at_names, set_process, counts_in}
+use Rattle.kernel_model.specs.State.{ProcessState, Part, Update, at_open, at_node, at_names, at_chan, set_process, counts_in}
 
 -- the object that a process numbers so
 abbrev pub object_of : ℕ → ℕ → ℕ
@@ -28,7 +28,7 @@ process_updates p (suc count) (Some own) = set_process p (made_more (suc count) 
 
 -- the parts that an object of this number may be
 abbrev pub object_parts : ℕ → List Part
-object_parts o = at_open o ∷ at_node o ∷ at_names o ∷ []
+object_parts o = at_open o ∷ at_node o ∷ at_names o ∷ at_chan o ∷ []
 
 -- the parts of the objects that a process makes next, so many
 abbrev pub new_parts : ℕ → ℕ → Option ProcessState → List Part

@@ -1,6 +1,6 @@
 -- What a call means that works on the open of one descriptor, and may make another one of it: all of it hangs on the time, on that
 -- open, and on what stands behind it.
-use Rattle.std.specs.Prelude.{ℕ, Bool, false, List, [], ◌∷◌, ◌++◌, Option, None, Some}
+use Rattle.std.specs.Prelude.{ℕ, Bool, List, [], ◌∷◌, ◌++◌, Option, None, Some}
 use Rattle.std.specs.FinMap.{get}
 use Rattle.abi_base.specs.declared.errno.Errno.{Errno}
 use Rattle.abi_base.specs.declared.errno.Errno.TheVariants.{Badf}
@@ -24,6 +24,8 @@ pub record OpenMeaning : Type 0 where
   pub touched : Option OpenKind → List Part
   pub errors : List Errno
   pub takes_memory : Bool
+  -- whether its thread may wait in it, for what others do to what stands behind the open
+  pub may_wait : Bool
 
 -- what is done with the open of a descriptor
 abbrev pub at_descriptor : (ℕ → Option OpenKind → Outcome) → View → Option Descriptor → Outcome
@@ -43,6 +45,7 @@ by_open row m = record {
   own = keeps_own;
   errors = m.errors;
   takes_memory = m.takes_memory;
-  may_wait = false;
+  may_wait = m.may_wait;
   deadline = λ constants since. None;
+  sends = [];
 }

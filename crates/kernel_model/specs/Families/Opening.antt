@@ -186,4 +186,5 @@ file_open lookup path oflags stat = record {
   takes_memory = true;
   may_wait = false;
   deadline = λ constants since. None;
+  sends = [];
 }

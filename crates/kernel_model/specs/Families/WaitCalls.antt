@@ -111,4 +111,5 @@ poll subscriptions =
       touched = λ S table. [];
       numbers = 0;
       own = keeps_own;
+      sends = [];
     }

@@ -1,5 +1,5 @@
 //! What a thread that waited is given where its memory changed meanwhile, and what its answer leaves.
-use crate::calls::showing::{DATA, LEFT, memory_of, registers_of};
+use crate::calls::showing::{ABSENT, DATA, LEFT, memory_of, registers_of};
 use abi_base::{GUEST_END, PAGE_SIZE};
 use abi_types::{
     Answer, Call, Errno, Event, EventList, Payload, Prot, Reply, SubscriptionList, WakeIn,
@@ -17,11 +17,22 @@ const CONDVAR: u64 = DATA + 0x2000;
 // A page of its own, for events or for bytes that are read.
 const PLACE: u64 = DATA + 0x1000;
 
+// Pages of their own, for descriptors that are received, and for how much was received or sent.
+const FDS: u64 = DATA + 0x2000;
+
+const OUT: u64 = DATA + 0x3000;
+
 const CLOCK: &[u64] = &[9, 1, 0, 1, 1000, 0, 0];
 
 const WRLOCK: &[u64] = &[9, 6, LOCK, 4, 0, 0, 0];
 
 const WAIT: &[u64] = &[9, 2, CONDVAR, LOCK, 0x404, 0, 0];
+
+// Room for 100 bytes and two descriptors, and behind it the range.
+const ROOM: &[u64] = &[DATA + 40, 1, FDS, 2, 0, PLACE, 100];
+
+// 100 bytes and a descriptor, and behind them the range and its number.
+const SENT: &[u64] = &[DATA + 40, 1, DATA + 56, 1, 0, PLACE, 100, 5];
 
 // What happens to the memory while the thread waits.
 #[derive(Clone, Copy)]
@@ -110,6 +121,50 @@ const ROWS: &[Row] = &[
     ),
     (16, &[0, DATA, 1], &[PLACE, 100], Unmapped(DATA), PLAIN),
     (48, &[], &[], Unmapped(DATA), PLAIN),
+    (43, &[0, DATA, OUT], ROOM, Nothing, PLAIN),
+    (43, &[0, DATA, OUT], ROOM, Unmapped(DATA), WakeIn::Fault),
+    (43, &[0, DATA, OUT], ROOM, ReadOnly(DATA), PLAIN),
+    (43, &[0, DATA, OUT], ROOM, ReadOnly(PLACE), WakeIn::Fault),
+    (43, &[0, DATA, OUT], ROOM, ReadOnly(FDS), WakeIn::Fault),
+    (43, &[0, DATA, OUT], ROOM, ReadOnly(OUT), WakeIn::Fault),
+    (43, &[0, DATA, OUT], ROOM, Unmapped(OUT), WakeIn::Fault),
+    (
+        43,
+        &[0, DATA, OUT],
+        ROOM,
+        Stored(DATA + 24, 1),
+        WakeIn::Fault,
+    ),
+    (43, &[0, DATA, OUT], ROOM, Stored(DATA + 24, 3), PLAIN),
+    (
+        43,
+        &[0, DATA, OUT],
+        ROOM,
+        Stored(DATA + 16, ABSENT),
+        WakeIn::Fault,
+    ),
+    (
+        43,
+        &[0, DATA, OUT],
+        ROOM,
+        Stored(DATA + 48, 99),
+        WakeIn::Fault,
+    ),
+    (43, &[0, DATA, OUT], ROOM, Stored(DATA + 48, 101), PLAIN),
+    (
+        43,
+        &[0, DATA, OUT],
+        ROOM,
+        Stored(DATA + 8, 0),
+        WakeIn::Fault,
+    ),
+    (43, &[0, DATA, OUT], ROOM, Stored(DATA + 8, 2000), PLAIN),
+    (43, &[0, DATA, OUT], ROOM, Stored(DATA + 32, 0xff), PLAIN),
+    (44, &[0, DATA, OUT], SENT, Nothing, PLAIN),
+    (44, &[0, DATA, OUT], SENT, Unmapped(DATA), PLAIN),
+    (44, &[0, DATA, OUT], SENT, Unmapped(PLACE), PLAIN),
+    (44, &[0, DATA, OUT], SENT, ReadOnly(OUT), WakeIn::Fault),
+    (44, &[0, DATA, OUT], SENT, Unmapped(OUT), WakeIn::Fault),
 ];
 
 const READ: Prot = Prot {

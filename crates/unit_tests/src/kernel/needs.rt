@@ -40,12 +40,6 @@ const CASES: &[Case] = &[
         rows: &[],
     },
     Case {
-        name: "fd_create2",
-        number: 5,
-        named: &[],
-        rows: &[],
-    },
-    Case {
         name: "lock_unlock",
         number: 31,
         named: &[],
@@ -78,24 +72,6 @@ const CASES: &[Case] = &[
         number: 41,
         named: &[],
         rows: &[],
-    },
-    Case {
-        name: "sock_recv",
-        number: 43,
-        named: &[0],
-        rows: &[(0, &[Rights::FD_READ])],
-    },
-    Case {
-        name: "sock_send",
-        number: 44,
-        named: &[0, 1, 2],
-        rows: &[(0, &[Rights::FD_WRITE])],
-    },
-    Case {
-        name: "sock_shutdown",
-        number: 45,
-        named: &[0],
-        rows: &[(0, &[Rights::SOCK_SHUTDOWN])],
     },
 ];
 
@@ -146,8 +122,7 @@ fn calls_from_0(place: usize) -> Option<Call> {
             n: 1,
         },
         1 => Call::FdCreate1 { kind: 48 },
-        2 => Call::FdCreate2 { kind: 48 },
-        3 => Call::LockUnlock {
+        2 => Call::LockUnlock {
             lock: 0,
             word: 0,
             scope: 4,
@@ -156,49 +131,28 @@ fn calls_from_0(place: usize) -> Option<Call> {
     })
 }
 
-// The calls of the cases from 4 on.
-fn calls_from_4(alloc: Global, place: usize) -> Result<Option<Call>, AllocError> {
+// The calls of the cases from 3 on.
+fn calls_from_3(alloc: Global, place: usize) -> Result<Option<Call>, AllocError> {
     Ok(Some(match place {
-        4 => Call::Poll {
+        3 => Call::Poll {
             subscriptions: waits(alloc)?,
         },
-        5 => Call::ProcExec {
+        4 => Call::ProcExec {
             fd: 0,
             bytes: text(alloc)?,
             fds: listed(alloc)?,
         },
-        6 => Call::ProcFork { left: 100 },
-        7 => Call::ProcRaise { signal: 4 },
-        _ => return Ok(None),
-    }))
-}
-
-// The calls of the cases from 8 on.
-fn calls_from_8(alloc: Global, place: usize) -> Result<Option<Call>, AllocError> {
-    Ok(Some(match place {
-        8 => Call::SockRecv {
-            fd: 0,
-            length: 1,
-            fds: 0,
-            flags: 0,
-        },
-        9 => Call::SockSend {
-            fd: 0,
-            bytes: text(alloc)?,
-            fds: listed(alloc)?,
-            flags: 0,
-        },
-        10 => Call::SockShutdown { fd: 0, how: 1 },
+        5 => Call::ProcFork { left: 100 },
+        6 => Call::ProcRaise { signal: 4 },
         _ => return Ok(None),
     }))
 }
 
 // The call of a case.
 fn call_at(alloc: Global, place: usize) -> Result<Option<Call>, AllocError> {
-    match place / 4 {
-        0 => Ok(calls_from_0(place)),
-        1 => calls_from_4(alloc, place),
-        _ => calls_from_8(alloc, place),
+    match place {
+        0..3 => Ok(calls_from_0(place)),
+        _ => calls_from_3(alloc, place),
     }
 }
 
@@ -385,11 +339,8 @@ fn needs(rt: HostRuntime) -> Result<(), Fail> {
     Ok(())
 }
 
-// The rights of the types of which no program has a descriptor yet, by their bits.
-const TYPES: &[(OpenType, &[u32])] = &[
-    (OpenType::Stream, &[1, 6, 3, 19, 28, 39]),
-    (OpenType::Process, &[19, 30]),
-];
+// The rights of the type of which no program has a descriptor yet, by their bits.
+const TYPES: &[(OpenType, &[u32])] = &[(OpenType::Process, &[19, 30])];
 
 // The set of the rights with these bits.
 fn bits(places: &[u32]) -> Rights {

@@ -45,12 +45,17 @@ enum Step {
     Park(char),
     ParkUntil(char, u64),
     Take(Option<char>),
+    // Of those whose process is none of these.
+    TakeFree(&'static [u32], Option<char>),
     // Of the thread that has the ticket.
     Revive(char, bool),
     ReviveAll,
     // Of the threads whose moment has come by this one.
     ReviveDue(u64),
 }
+
+// More tickets than any of these queues has.
+const MANY: usize = 8;
 
 // The steps of a queue, in their order, and the names of the tickets that are then ready and parked, longest first.
 struct Case {
@@ -80,6 +85,30 @@ const CASES: &[Case] = &[
         ],
         ready: "bc",
         parked: "",
+    },
+    Case {
+        steps: &[
+            Step::Put('a'),
+            Step::Put('b'),
+            Step::Put('c'),
+            Step::TakeFree(&[7, 0], None),
+            Step::TakeFree(&[1, 0], Some('c')),
+            Step::TakeFree(&[0], None),
+        ],
+        ready: "ab",
+        parked: "",
+    },
+    Case {
+        steps: &[
+            Step::Put('c'),
+            Step::Put('a'),
+            Step::Park('b'),
+            Step::Put('c'),
+            Step::TakeFree(&[7], Some('a')),
+            Step::TakeFree(&[7], None),
+        ],
+        ready: "cc",
+        parked: "b",
     },
     Case {
         steps: &[
@@ -162,15 +191,30 @@ const CASES: &[Case] = &[
     },
 ];
 
+// The processes of these numbers.
+fn processes(alloc: Global, numbers: &[u32]) -> Result<Vec<Pid>, AllocError> {
+    let mut pids = Vec::new(alloc);
+    for number in numbers {
+        pids.push(Pid(*number))?;
+    }
+    Ok(pids)
+}
+
 // Does a step. Whether its answer is the step's.
-fn follow(queue: &mut Queue<Named>, step: Step) -> Result<bool, AllocError> {
+fn follow(alloc: Global, queue: &mut Queue<Named>, step: Step) -> Result<bool, AllocError> {
     match step {
         Step::Put(name) => queue.put(ticket(name)).map_err(|_| AllocError)?,
         Step::Park(name) => queue.park(ticket(name), None).map_err(|_| AllocError)?,
         Step::ParkUntil(name, until) => queue
             .park(ticket(name), Some(until))
             .map_err(|_| AllocError)?,
-        Step::Take(name) => return Ok(queue.take().map(|ticket| ticket.name) == name),
+        Step::Take(name) => return Ok(queue.take_free(&[]).map(|ticket| ticket.name) == name),
+        Step::TakeFree(busy, name) => {
+            let busy = processes(alloc, busy)?;
+            let has = queue.has_free(&busy);
+            let took = queue.take_free(&busy).map(|ticket| ticket.name);
+            return Ok(has == name.is_some() && took == name);
+        }
         Step::Revive(name, answer) => {
             let Named { pid, tid, .. } = ticket(name);
             return Ok(queue.revive(pid, tid) == answer);
@@ -184,8 +228,8 @@ fn follow(queue: &mut Queue<Named>, step: Step) -> Result<bool, AllocError> {
 // The names of the tickets that are ready, which are taken.
 fn taken(alloc: Global, queue: &mut Queue<Named>) -> Result<String, AllocError> {
     let mut names = String::new(alloc);
-    for _ in 0..queue.ready_count() {
-        if let Some(ticket) = queue.take() {
+    for _ in 0..MANY {
+        if let Some(ticket) = queue.take_free(&[]) {
             names.push(ticket.name)?;
         }
     }
@@ -198,14 +242,13 @@ fn tickets_are_served_in_order(rt: HostRuntime) -> Result<(), Fail> {
         let mut queue = Queue::new(rt.alloc());
         for step in case.steps {
             assert!(rt;
-                follow(&mut queue, *step)?,
+                follow(rt.alloc(), &mut queue, *step)?,
                 "before {} and {}",
                 case.ready,
                 case.parked
             );
         }
-        let counts = (queue.ready_count(), queue.parked_count());
-        assert_eq!(rt; counts, (case.ready.len(), case.parked.len()));
+        assert_eq!(rt; queue.parked_count(), case.parked.len());
         assert_eq!(rt; taken(rt.alloc(), &mut queue)?.as_str(), case.ready);
         queue.revive_all();
         assert_eq!(rt; taken(rt.alloc(), &mut queue)?.as_str(), case.parked);

@@ -1,7 +1,7 @@
 use Rattle.call_codec.proofs.Mappings.{mapping_filled}
 use Rattle.call_codec.proofs.Outputs.{entries_written, found_state_written, link_written, open_state_written, pread_written, read_written, state_written}
 use Rattle.call_codec.proofs.ThreadOutputs.{exit_word_written, random_written}
-use Rattle.call_codec.proofs.WokenOutputs.{events_written, words_written}
+use Rattle.call_codec.proofs.WokenOutputs.{events_written, message_written, sent_written, words_written}
 use Rattle.call_codec.proofs.laws.output_is_written.Goals as goal
 
 pub returns-clause-pread : goal.returns-clause-pread
@@ -39,3 +39,9 @@ returns-clause-random c = random_written
 
 pub returns-clause-exit_word : goal.returns-clause-exit_word
 returns-clause-exit_word c = exit_word_written
+
+pub returns-clause-message : goal.returns-clause-message
+returns-clause-message c = message_written
+
+pub returns-clause-sent : goal.returns-clause-sent
+returns-clause-sent c = sent_written

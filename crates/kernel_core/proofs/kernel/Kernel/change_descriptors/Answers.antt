@@ -1,4 +1,4 @@
-use Rattle.std.proofs.Common.{◌≡◌, ℕ, ◌^◌, ◌<◌, List, Some, is_some, sym, ap, subst, ◌∙◌}
+use Rattle.std.proofs.Common.{◌≡◌, ℕ, ◌^◌, List, Some, is_some, sym, ap, subst, ◌∙◌}
 use Rattle.std.specs.Ordering.{nat_cmp}
 use Rattle.std.specs.FinMap.{FinMap, get, insert}
 use Rattle.abi_types.specs.declared.open_kind.OpenKind.{OpenKind}
@@ -13,23 +13,26 @@ use Rattle.kernel_model.specs.State.{State, Table, Update, put_all}
 use Rattle.kernel_model.specs.Valid.{IsValid}
 use Rattle.kernel_model.proofs.Valids.{release_restores, same_value, some_again}
 use Rattle.kernel_parts.specs.Released.{state_by}
-use Rattle.kernel_parts.proofs.Releases.{covered, release_besides}
+use Rattle.kernel_parts.proofs.Releases.{release_besides}
 use Rattle.kernel_parts.specs.Changes.{change_outcome, opens_after, table_after}
 use Rattle.kernel_core.specs.Kernel.{IsKept}
 use Rattle.kernel_core.specs.contracts.kernel.Kernel.{the_view}
-use Rattle.kernel_core.proofs.Changes.{change_of_own, change_small, change_valid, moved_holders, puts_are}
-use Rattle.kernel_core.proofs.Kept.{AreSmall, below_released, holders_few, small_released, small_set}
+use Rattle.kernel_core.proofs.Changes.{change_of_own, change_small, change_valid, puts_are}
+use Rattle.kernel_core.proofs.Channels.{counts_few, covered_alone, table_counts}
+use Rattle.kernel_core.proofs.Kept.{AreSmall, below_released, small_released, small_set}
 use Rattle.kernel_parts.proofs.Tests.{on_err}
 use Rattle.kernel_core.proofs.Uses.{change_use}
 use Rattle.kernel_core.proofs.kernel.Kernel.change_descriptors.Goals as goal
 use Rattle.kernel_core.proofs.kernel.Kernel.change_descriptors.Goals.{In_err-reply, After-release}
 
 pub change_table-requires-clause-covered : goal.change_table-requires-clause-covered
-change_table-requires-clause-covered c = λ o. rw c.self.invariant.counted (covered _ _ _ (sym c.get_mut.ensures.value) o)
+change_table-requires-clause-covered c =
+    covered_alone c.self.inside.tables c.from-p.result c.get_mut.result.now (sym c.get_mut.ensures.value) c.self.inside.channels c.self.inside.objects.counts
+    c.self.invariant.counted
 
 pub change_table-requires-clause-few : goal.change_table-requires-clause-few
-change_table-requires-clause-few c = λ o.
-    subst (λ (n : ℕ). n < 2 ^ 63) (sym (c.self.invariant.counted o)) (holders_few (the_view c.self.inside) o c.self.invariant.small c.self.invariant.processes)
+change_table-requires-clause-few c =
+    counts_few (the_view c.self.inside) c.self.inside.objects.counts c.self.invariant.counted c.self.invariant.small c.self.invariant.processes c.self.invariant.few
 
 -- ---- where memory runs out nothing has changed
 
@@ -90,6 +93,7 @@ fields c = record (the_view c.self.inside) {
   opens = c.release.new.objects.kinds;
   nodes = c.release.new.tree.nodes;
   names = c.release.new.tree.names;
+  chans = c.release.new.channels;
 }
 
 -- the state with the change alone
@@ -112,11 +116,11 @@ puts c =
 released : (c : After-release) → fields c ≡ release (changed c)
 released c =
     let k = c.self.inside in
-    let given : state_by (insert k.tables c.from-p.result c.change_table.new.table) k.processes k.statuses c.change_table.new.objects.kinds k.tree
-    ≡ state_by (changed c).tables k.processes k.statuses (changed c).opens k.tree =
-    λ i. state_by (set c i) k.processes k.statuses (c.in_ok-reply.ensures.kinds c.args.pid i) k.tree in
+    let given : state_by (insert k.tables c.from-p.result c.change_table.new.table) k.processes k.statuses c.change_table.new.objects.kinds k.channels k.tree
+    ≡ state_by (changed c).tables k.processes k.statuses (changed c).opens k.channels k.tree =
+    λ i. state_by (set c i) k.processes k.statuses (c.in_ok-reply.ensures.kinds c.args.pid i) k.channels k.tree in
     ap (λ (S : State). record S { clock = k.clock; terms = k.terms }) (c.release.ensures.state ∙ ap release given)
-    ∙ sym (release_besides (state_by (changed c).tables k.processes k.statuses (changed c).opens k.tree) k.clock k.terms)
+    ∙ sym (release_besides (state_by (changed c).tables k.processes k.statuses (changed c).opens k.channels k.tree) k.clock k.terms)
 
 after : (c : After-release) → fields c ≡ release (put_all (us c) (the_view c.self.inside))
 after c = released c ∙ sym (ap release (puts c))
@@ -126,9 +130,9 @@ tables_are : (c : After-release) → c.release.new.tables ≡ (release (changed 
 tables_are c = ap (λ (S : State). S.tables) (released c)
 
 pub release-requires-clause-counted : goal.release-requires-clause-counted
-release-requires-clause-counted c = λ o.
-    moved_holders c.self.inside.tables c.from-p.result c.get_mut.result.now c.change_table.new.table c.self.inside.objects.counts c.change_table.new.objects.counts
-    (sym c.get_mut.ensures.value) c.self.invariant.counted c.in_ok-reply.ensures.counts o
+release-requires-clause-counted c =
+    table_counts c.self.inside.tables c.from-p.result c.get_mut.result.now (sym c.get_mut.ensures.value) c.self.inside.channels c.self.inside.objects.counts
+    c.self.invariant.counted c.change_table.new.table c.change_table.new.objects.counts c.in_ok-reply.ensures.counts
 
 pub release-requires-clause-tables : goal.release-requires-clause-tables
 release-requires-clause-tables c = λ q.
@@ -143,6 +147,9 @@ pub release-requires-clause-used : goal.release-requires-clause-used
 release-requires-clause-used c = λ n there.
     ap (λ (m : FinMap nat_cmp OpenKind). is_used m c.self.inside.tree n) (c.in_ok-reply.ensures.kinds c.args.pid)
     ∙ change_use c.args.pid c.self.inside.objects.kinds c.get_mut.result.now c.self.inside.tree n c.args.change ∙ c.self.invariant.valid.kept n there
+
+pub release-requires-clause-going : goal.release-requires-clause-going
+release-requires-clause-going c = c.self.invariant.valid.going
 
 pub release-requires-clause-tree : goal.release-requires-clause-tree
 release-requires-clause-tree c = c.self.invariant.valid.nearly.tree
@@ -161,6 +168,7 @@ invariant_of-self-2 d =
     record {
       valid = subst IsValid (sym (after c)) (release_restores _ (change_valid (the_view k) c.args.pid table c.args.change (there c) c.self.invariant.valid.nearly));
       counted = c.release.ensures.counted;
+      few = c.release.ensures.few c.self.invariant.few;
       small = subst AreSmall (sym (tables_are c)) (small_released (changed c) (small_set k.tables c.args.pid (table_after table (us c)) c.self.invariant.small fits));
       processes = subst (KeysBelow (2 ^ 32)) (sym (tables_are c))
           (below_released (changed c) (2 ^ 32)

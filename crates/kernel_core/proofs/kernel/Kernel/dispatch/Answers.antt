@@ -1,7 +1,7 @@
 use Rattle.std.proofs.Common.{◌≡◌, true, Some, None, refl, sym, ap, subst, ◌∙◌}
 use Rattle.std.proofs.lemmas.Result.{IfOk-weaker}
 use Rattle.std.specs.FinMap.{get}
-use Rattle.abi_types.specs.Families.{call_of_change, call_of_entry, call_of_file, call_of_offset, call_of_open}
+use Rattle.abi_types.specs.Families.{call_of_change, call_of_entry, call_of_file, call_of_offset, call_of_open, call_of_socket}
 use Rattle.abi_types.specs.declared.call.Call.{Call}
 use Rattle.abi_types.specs.declared.call.Call.TheVariants as call
 use Rattle.abi_types.specs.declared.reply.Answer.{Answer}
@@ -13,6 +13,7 @@ use Rattle.kernel_model.specs.Families.ClockCalls.{drawn_by, real_time}
 use Rattle.kernel_model.specs.Families.DescriptorCalls.{stat_get}
 use Rattle.kernel_model.specs.Families.LockWords.{unlocked}
 use Rattle.kernel_model.specs.Families.ProcessCalls.{exit_of, left_with, made_in}
+use Rattle.kernel_model.specs.Families.SocketCalls.{create, made_of}
 use Rattle.kernel_model.specs.Laws.{HasAll}
 use Rattle.kernel_model.specs.Outcome.{Outcome, IsSuccess, replies}
 use Rattle.kernel_model.specs.Release.{release}
@@ -23,13 +24,16 @@ use Rattle.kernel_model.specs.View.{whole}
 use Rattle.kernel_model.proofs.Valids.{release_valid, same_value}
 use Rattle.kernel_parts.specs.Changes.{change_outcome}
 use Rattle.kernel_parts.specs.Polls.{poll_outcome}
+use Rattle.kernel_parts.specs.Waiting.{fd_of_socket}
 use Rattle.kernel_core.specs.Entries.{entry_outcome}
 use Rattle.kernel_core.specs.Files.{file_outcome}
 use Rattle.kernel_core.specs.OffsetCalls.{offset_outcome}
 use Rattle.kernel_core.specs.Opening.{open_outcome}
+use Rattle.kernel_core.specs.Sockets.{socket_on}
 use Rattle.kernel_core.proofs.Acts.{act_allowed, act_refused, by_outcome, stat_get_sets_nothing}
+use Rattle.kernel_core.proofs.Channels.{socket_does}
 use Rattle.kernel_core.proofs.EntryCalls.{entries_does, first_is_named}
-use Rattle.kernel_core.proofs.Families.{all_named, answered_does, answered_is, change_does, change_is, change_replaces, change_takes_memory, entries_is, entries_on, exit_is, file_is, file_on, new_thread_is, offset_is, offset_on, on_err_all, on_err_both, open_is, poll_does, poll_is, poll_sets_nothing, poll_takes_memory, random_is, resolution_is, state_is, thread_exit_is, time_is, unbuilt_does, unbuilt_is, zeros_does, zeros_is}
+use Rattle.kernel_core.proofs.Families.{all_named, answered_does, answered_is, change_does, change_is, change_replaces, change_takes_memory, ends_is, entries_is, entries_on, exit_is, file_is, file_on, new_thread_is, offset_is, offset_on, on_err_all, on_err_both, open_is, poll_does, poll_is, poll_sets_nothing, poll_takes_memory, random_is, resolution_is, socket_is, state_is, thread_exit_is, time_is, unbuilt_does, unbuilt_is, zeros_does, zeros_is}
 use Rattle.kernel_core.proofs.FileCalls.{file_does}
 use Rattle.kernel_core.proofs.OffsetCalls.{offset_does}
 use Rattle.kernel_core.proofs.OpenCalls.{open_does}
@@ -264,6 +268,58 @@ returns-in-Open-clause-err c =
     (open_does c.args.constants.now S who c.in-Some.table.now view.lookup view.path.now view.oflags view.stat) in
     on_err_both c.file_open.result c.file_open.ensures.only c.file_open.ensures.err
     (λ succeeds unchanged. lacks a c.file_open.new.self (call_of_open view) o same is refl (succeeds c.in-Some.table.now (there a)) unchanged)
+
+-- ---- ends of channels, and sockets
+
+pub fd_create2-requires-clause-valid : goal.fd_create2-requires-clause-valid
+fd_create2-requires-clause-valid c = valid (goal.at.fd_create2-requires-clause-valid c).After-refusal
+
+pub returns-in-Ends-clause-ok : goal.returns-in-Ends-clause-ok
+returns-in-Ends-clause-ok c =
+    let a = (goal.at.returns-in-Ends-clause-ok c).After-refusal in
+    let S = c.args.self.now in
+    let who = c.args.who.now in
+    let kind = c.in-Ends.kind in
+    let o = create (made_of kind) who.pid who.tid (get S.processes who.pid) c.in-Some.table.now in
+    let is = allowed a (call.FdCreate2 kind) o c.in_default-refusal.is (ends_is c.args.call.now c.family.result c.family.ensures kind c.in-Ends.is) refl in
+    IfOk-weaker _ _ _ (λ given done. by_outcome c.args.constants.now S c.fd_create2.new.self who c.args.call.now given o is (done c.in-Some.table.now (there a)))
+    c.fd_create2.ensures.ok
+
+pub returns-in-Ends-clause-err : goal.returns-in-Ends-clause-err
+returns-in-Ends-clause-err c =
+    let a = (goal.at.returns-in-Ends-clause-err c).After-refusal in
+    let S = c.args.self.now in
+    let who = c.args.who.now in
+    let kind = c.in-Ends.kind in
+    let same = ends_is c.args.call.now c.family.result c.family.ensures kind c.in-Ends.is in
+    let o = create (made_of kind) who.pid who.tid (get S.processes who.pid) c.in-Some.table.now in
+    let is = allowed a (call.FdCreate2 kind) o c.in_default-refusal.is same refl in
+    on_err_both c.fd_create2.result c.fd_create2.ensures.only c.fd_create2.ensures.err
+    (λ succeeds unchanged. lacks a c.fd_create2.new.self (call.FdCreate2 kind) o same is refl (succeeds c.in-Some.table.now (there a)) unchanged)
+
+pub returns-in-Socket-clause-ok : goal.returns-in-Socket-clause-ok
+returns-in-Socket-clause-ok c =
+    let a = (goal.at.returns-in-Socket-clause-ok c).After-refusal in
+    let S = c.args.self.now in
+    let who = c.args.who.now in
+    let view = c.in-Socket.view in
+    let o = socket_on S who.pid c.in-Some.table.now (fd_of_socket view) (call_of_socket view) in
+    let is = allowed a (call_of_socket view) o c.in_default-refusal.is (socket_is c.args.call.now c.family.result c.family.ensures view c.in-Socket.is)
+    (socket_does c.args.constants.now S who c.in-Some.table.now view) in
+    IfOk-weaker _ _ _ (λ given done. by_outcome c.args.constants.now S c.socket_call.new.self who c.args.call.now given o is (done c.in-Some.table.now (there a)))
+    c.socket_call.ensures.ok
+
+pub returns-in-Socket-clause-err : goal.returns-in-Socket-clause-err
+returns-in-Socket-clause-err c =
+    let a = (goal.at.returns-in-Socket-clause-err c).After-refusal in
+    let S = c.args.self.now in
+    let who = c.args.who.now in
+    let view = c.in-Socket.view in
+    let same = socket_is c.args.call.now c.family.result c.family.ensures view c.in-Socket.is in
+    let o = socket_on S who.pid c.in-Some.table.now (fd_of_socket view) (call_of_socket view) in
+    let is = allowed a (call_of_socket view) o c.in_default-refusal.is same (socket_does c.args.constants.now S who c.in-Some.table.now view) in
+    on_err_all c.socket_call.result c.socket_call.ensures.takes c.socket_call.ensures.only c.socket_call.ensures.err
+    (λ takes succeeds unchanged. lacks a c.socket_call.new.self (call_of_socket view) o same is takes (succeeds c.in-Some.table.now (there a)) unchanged)
 
 -- ---- what the process has of its own
 

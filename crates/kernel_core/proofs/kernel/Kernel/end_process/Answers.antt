@@ -2,24 +2,27 @@ use Rattle.std.proofs.Common.{◌≡◌, ℕ, ◌^◌, Some, IsSome, is_some, sy
 use Rattle.std.specs.Ordering.{nat_cmp}
 use Rattle.std.specs.FinMap.{FinMap, get, insert, empty}
 use Rattle.abi_types.specs.declared.status.Status.{Status}
-use Rattle.maps.specs.Maps.{total}
 use Rattle.kernel_model.specs.Families.ProcessCalls.{ended_process, end_updates}
 use Rattle.abi_types.specs.declared.open_kind.OpenKind.{OpenKind}
 use Rattle.tree_model.specs.Opens.{is_used}
-use Rattle.kernel_model.specs.Release.{count_in, release}
+use Rattle.kernel_model.specs.Release.{release}
 use Rattle.kernel_model.specs.State.{State, Table, put_all}
 use Rattle.kernel_model.specs.Valid.{IsNearlyValid, IsValid}
-use Rattle.kernel_model.proofs.Valids.{end_nearly_valid, release_restores, same_keys_inserted}
+use Rattle.kernel_model.proofs.EndedValid.{end_nearly_valid}
+use Rattle.kernel_model.proofs.Valids.{release_restores, same_keys_inserted}
 use Rattle.kernel_parts.specs.Released.{state_by}
-use Rattle.kernel_parts.proofs.Releases.{covered, left_holders, release_besides}
+use Rattle.kernel_parts.proofs.Releases.{release_besides}
 use Rattle.kernel_core.specs.contracts.kernel.Kernel.{the_view}
 use Rattle.fd_table.specs.Sizes.{KeysBelow, below-insert_again}
+use Rattle.kernel_core.proofs.Channels.{AreCounted, covered_alone, emptied_counts}
 use Rattle.kernel_core.proofs.Kept.{AreSmall, below_released, small_empty, small_released, small_set}
 use Rattle.kernel_core.proofs.kernel.Kernel.end_process.Goals as goal
 use Rattle.kernel_core.proofs.kernel.Kernel.end_process.Goals.{After-release}
 
 pub let_go_all-requires : goal.let_go_all-requires
-let_go_all-requires c = λ o. rw c.self.invariant.counted (covered _ _ _ (sym c.get_mut-2.ensures.value) o)
+let_go_all-requires c =
+    covered_alone c.self.inside.tables c.from-p.result c.get_mut-2.result.now (sym c.get_mut-2.ensures.value) c.self.inside.channels c.self.inside.objects.counts
+    c.self.invariant.counted
 
 -- the fields as they are in the end
 abbrev fields : After-release → State
@@ -30,6 +33,7 @@ fields c = record (the_view c.self.inside) {
   opens = c.release.new.objects.kinds;
   nodes = c.release.new.tree.nodes;
   names = c.release.new.tree.names;
+  chans = c.release.new.channels;
 }
 
 -- before anything is released
@@ -57,11 +61,11 @@ after c =
     let statuses : c.replace.new.self ≡ insert k.statuses c.args.pid c.args.status =
     c.replace.ensures.new ∙ ap (λ (p : ℕ). insert k.statuses p c.args.status) same in
     let given : state_by (insert k.tables c.from-p.result c.let_go_all.new.table) (insert k.processes c.from-p.result c.end.new.self) c.replace.new.self
-    c.let_go_all.new.objects.kinds k.tree
-    ≡ state_by (unreleased c).tables (unreleased c).processes (unreleased c).statuses (unreleased c).opens k.tree =
-    λ i. state_by (emptied c i) (own i) (statuses i) (c.let_go_all.ensures.kinds i) k.tree in
+    c.let_go_all.new.objects.kinds k.channels k.tree
+    ≡ state_by (unreleased c).tables (unreleased c).processes (unreleased c).statuses (unreleased c).opens k.channels k.tree =
+    λ i. state_by (emptied c i) (own i) (statuses i) (c.let_go_all.ensures.kinds i) k.channels k.tree in
     ap (λ (S : State). record S { clock = k.clock; terms = k.terms }) (c.release.ensures.state ∙ ap release given)
-    ∙ sym (release_besides (state_by (unreleased c).tables (unreleased c).processes (unreleased c).statuses (unreleased c).opens k.tree) k.clock k.terms)
+    ∙ sym (release_besides (state_by (unreleased c).tables (unreleased c).processes (unreleased c).statuses (unreleased c).opens k.channels k.tree) k.clock k.terms)
 
 k_has : (c : After-release) → IsSome (get c.self.inside.tables c.args.pid)
 k_has c = ap (λ p. is_some (get c.self.inside.tables p)) (sym (c.from-p.ensures ∙ c.pid.view_is)) ∙ ap is_some (sym c.get_mut-2.ensures.value)
@@ -71,10 +75,11 @@ tables_are : (c : After-release) → c.release.new.tables ≡ (release (unreleas
 tables_are c = ap (λ (S : State). S.tables) (after c)
 
 pub release-requires-clause-counted : goal.release-requires-clause-counted
-release-requires-clause-counted c = λ o.
-    left_holders c.self.inside.tables c.from-p.result c.get_mut-2.result.now c.self.inside.objects.counts c.let_go_all.new.objects.counts
-    (sym c.get_mut-2.ensures.value) c.self.invariant.counted c.let_go_all.ensures.counts o
-    ∙ sym (ap (λ (t : Table). total (count_in o) (insert c.self.inside.tables c.from-p.result t)) c.let_go_all.ensures.empty)
+release-requires-clause-counted c =
+    subst (λ (t : Table). AreCounted c.let_go_all.new.objects.counts (insert c.self.inside.tables c.from-p.result t) c.self.inside.channels)
+    (sym c.let_go_all.ensures.empty)
+    (emptied_counts c.self.inside.tables c.from-p.result c.get_mut-2.result.now (sym c.get_mut-2.ensures.value) c.self.inside.channels c.self.inside.objects.counts
+    c.self.invariant.counted c.let_go_all.new.objects.counts c.let_go_all.ensures.counts)
 
 pub release-requires-clause-tables : goal.release-requires-clause-tables
 release-requires-clause-tables c = λ q.
@@ -91,6 +96,9 @@ pub release-requires-clause-used : goal.release-requires-clause-used
 release-requires-clause-used c = λ n there.
     ap (λ (m : FinMap nat_cmp OpenKind). is_used m c.self.inside.tree n) c.let_go_all.ensures.kinds ∙ c.self.invariant.valid.kept n there
 
+pub release-requires-clause-going : goal.release-requires-clause-going
+release-requires-clause-going c = c.self.invariant.valid.going
+
 pub release-requires-clause-tree : goal.release-requires-clause-tree
 release-requires-clause-tree c = c.self.invariant.valid.nearly.tree
 
@@ -102,6 +110,7 @@ invariant_of-self c =
     record {
       valid = subst IsValid (sym (after a)) (release_restores _ (nearly a));
       counted = a.release.ensures.counted;
+      few = a.release.ensures.few a.self.invariant.few;
       small = subst AreSmall (sym (tables_are a)) (small_released (unreleased a) (small_set k.tables a.args.pid empty a.self.invariant.small small_empty));
       processes = subst (KeysBelow (2 ^ 32)) (sym (tables_are a))
           (below_released (unreleased a) (2 ^ 32) (below-insert_again (2 ^ 32) k.tables a.args.pid empty a.self.invariant.processes there));

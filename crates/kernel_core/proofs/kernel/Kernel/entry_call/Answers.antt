@@ -149,6 +149,7 @@ invariant_of-self-2 d =
           (entries_valid d.args.constants.now S d.args.pid (table_of (goal.at.invariant_of-self-2 d).In_ok-done) d.args.fd d.args.other (call_of_entry d.args.call) d.requires.on (there (goal.at.invariant_of-self-2 d).In_ok-done)
           d.self.invariant.valid.nearly));
       counted = d.self.invariant.counted;
+      few = d.self.invariant.few;
       small = d.self.invariant.small;
       processes = d.self.invariant.processes;
     }

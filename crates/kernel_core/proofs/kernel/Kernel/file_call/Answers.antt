@@ -41,6 +41,7 @@ invariant_of-self-2 d =
           d.in-Some.field-0-0.id d.in-Some.kind (found c).opened d.self.invariant.valid d.on_open.new.tree
           d.in_ok-reply.ensures.ok.1 d.in_ok-reply.ensures.nodes;
       counted = d.self.invariant.counted;
+      few = d.self.invariant.few;
       small = d.self.invariant.small;
       processes = d.self.invariant.processes;
     }

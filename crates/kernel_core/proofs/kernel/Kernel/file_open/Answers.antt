@@ -9,7 +9,7 @@ use Rattle.tree_model.specs.Opens.{is_used}
 use Rattle.tree_model.specs.Retained.{retained}
 use Rattle.kernel_model.specs.Families.Numbers.{made_more, next_object}
 use Rattle.kernel_model.specs.Outcome.{Outcome, IsSuccess}
-use Rattle.kernel_model.specs.Release.{holders, release}
+use Rattle.kernel_model.specs.Release.{carriers, holders, release}
 use Rattle.kernel_model.specs.Reply.{success}
 use Rattle.kernel_model.specs.State.{State, Table, Tree, counts_in, put_all, tree_of}
 use Rattle.kernel_model.specs.Valid.{IsValid}
@@ -17,7 +17,7 @@ use Rattle.kernel_model.proofs.Valids.{release_restores, release_valid, same_val
 use Rattle.entry_calls.specs.Plans.{change_of, new_nodes_of}
 use Rattle.kernel_core.specs.Opening.{IsOpening, open_outcome}
 use Rattle.kernel_core.specs.contracts.kernel.Kernel.{the_view}
-use Rattle.kernel_core.proofs.Changes.{moved_holders}
+use Rattle.kernel_core.proofs.Channels.{table_counts}
 use Rattle.kernel_core.proofs.Kept.{AreSmall, small_set}
 use Rattle.kernel_core.proofs.OpenCalls.{none_holds_it, node_is_new, open_answer, open_fits, open_is_new, open_keeps, open_released, open_valid, planned_before}
 use Rattle.kernel_parts.proofs.Tests.{on_err}
@@ -93,7 +93,8 @@ invariant_of-self d =
     let same = sym (as_before c) in
     record {
       valid = subst IsValid same d.self.invariant.valid;
-      counted = λ o. d.in_err-put_opening.ensures.same_counts o ∙ d.self.invariant.counted o ∙ ap (λ (S : State). holders S o) same;
+      counted = λ o. d.in_err-put_opening.ensures.same_counts o ∙ d.self.invariant.counted o ∙ ap (λ (S : State). holders S o + carriers S o) same;
+      few = d.self.invariant.few;
       small = subst (λ (S : State). AreSmall S.tables) same d.self.invariant.small;
       processes = subst (λ (S : State). KeysBelow (2 ^ 32) S.tables) same d.self.invariant.processes;
     }
@@ -185,8 +186,9 @@ invariant_of-self-2 d =
       valid = subst IsValid (sym (after c plan)) (release_restores _
           (open_valid d.args.constants.now (the_view d.self.inside) d.args.pid table d.args.call.now.lookup d.args.call.now.path.now d.args.call.now.oflags d.args.call.now.stat (there c)
           d.self.invariant.valid.nearly));
-      counted = moved_holders d.self.inside.tables d.from-p.result table d.put_opening.new.table d.self.inside.objects.counts d.put_opening.new.objects.counts
-          (sym d.get_mut-table.ensures.value) d.self.invariant.counted d.in_ok-put_opening.ensures.counts;
+      counted = table_counts d.self.inside.tables d.from-p.result table (sym d.get_mut-table.ensures.value) d.self.inside.channels d.self.inside.objects.counts
+          d.self.invariant.counted d.put_opening.new.table d.put_opening.new.objects.counts d.in_ok-put_opening.ensures.counts;
+      few = d.self.invariant.few;
       small = small_set d.self.inside.tables d.from-p.result d.put_opening.new.table d.self.invariant.small fits;
       processes = below-insert_again (2 ^ 32) d.self.inside.tables d.from-p.result d.put_opening.new.table d.self.invariant.processes
           (ap is_some (sym d.get_mut-table.ensures.value));

@@ -7,9 +7,9 @@ use Rattle.abi_types.specs.declared.thread.Thread.TheVariants.{Waits}
 use Rattle.abi_types.specs.declared.who.Who.{Who}
 use Rattle.kernel_model.specs.State.{State}
 use Rattle.kernel_model.specs.Waits.{deadline_of, thread_set, waiting, with_thread}
+use Rattle.kernel_parts.proofs.Tests.{on_err}
 use Rattle.kernel_core.specs.Kernel.{IsKept}
 use Rattle.kernel_core.specs.contracts.kernel.Kernel.{the_view}
-use Rattle.kernel_core.proofs.Families.{on_err_both}
 use Rattle.kernel_core.proofs.Parks.{either_kept, same_after, set_after}
 use Rattle.kernel_core.proofs.kernel.Kernel.park.Goals as goal
 use Rattle.kernel_core.proofs.kernel.Kernel.park.Goals.{After-park}
@@ -35,22 +35,30 @@ put : (c : After-park) → record (the_view c.self.inside) { processes = insert 
     ≡ record (the_view c.self.inside) { processes = insert c.self.inside.processes c.args.who.now.pid c.park.new.self }
 put c = λ i. record (the_view c.self.inside) { processes = insert c.self.inside.processes (same c i) c.park.new.self }
 
-pub invariant_of-self : goal.invariant_of-self
-invariant_of-self d =
-    let c = (goal.at.invariant_of-self d).After-park in
+-- the state is kept, whether the thread waits or memory ran out
+kept : (c : After-park) → IsKept (record (the_view c.self.inside) { processes = insert c.self.inside.processes c.from.result c.park.new.self }) c.self.inside.objects.counts
+kept c =
     subst (λ (S : State). IsKept S c.self.inside.objects.counts) (sym (put c))
     (either_kept (the_view c.self.inside) c.args.who.now.pid c.args.who.now.tid (thread c) c.get_mut-own.result.now c.park.new.self (there c) c.park.result
     c.self.inside.objects.counts c.requires.may c.self.invariant (set c) c.park.ensures.err)
 
+pub invariant_of-self : goal.invariant_of-self
+invariant_of-self d = kept (goal.at.invariant_of-self d).After-park
+
+pub invariant_of-self-2 : goal.invariant_of-self-2
+invariant_of-self-2 d = kept (goal.at.invariant_of-self-2 d).After-park
+
 pub returns-clause-ok : goal.returns-clause-ok
 returns-clause-ok d =
     let c = (goal.at.returns-clause-ok d).After-park in
-    on_ok_weaker c.park.result (λ is.
-    put c ∙ set_after (the_view c.self.inside) c.args.who.now.pid c.args.who.now.tid (thread c) c.get_mut-own.result.now c.park.new.self (there c) is
-    ∙ ap (λ S. with_thread S c.args.who.now.pid c.args.who.now.tid (thread c)) c.self.view_is) (set c)
+    let is = subst (λ r. OnOk r (c.park.new.self ≡ thread_set c.args.who.now.tid (thread c) c.get_mut-own.result.now)) d.in_ok-park.was (set c) in
+    d.note.ensures
+    ∙ put c ∙ set_after (the_view c.self.inside) c.args.who.now.pid c.args.who.now.tid (thread c) c.get_mut-own.result.now c.park.new.self (there c) is
+    ∙ ap (λ S. with_thread S c.args.who.now.pid c.args.who.now.tid (thread c)) c.self.view_is
 
-pub returns-clause-err : goal.returns-clause-err
-returns-clause-err d =
-    let c = (goal.at.returns-clause-err d).After-park in
-    on_err_both c.park.result c.park.ensures.err c.park.ensures.err (λ is _.
-    put c ∙ same_after (the_view c.self.inside) c.args.who.now.pid c.args.who.now.tid (thread c) c.get_mut-own.result.now c.park.new.self (there c) is ∙ c.self.view_is)
+pub returns-in_err-park-clause-err : goal.returns-in_err-park-clause-err
+returns-in_err-park-clause-err d =
+    let c = (goal.at.returns-in_err-park-clause-err d).After-park in
+    on_err d.from_residual.result
+    (put c ∙ same_after (the_view c.self.inside) c.args.who.now.pid c.args.who.now.tid (thread c) c.get_mut-own.result.now c.park.new.self (there c) d.in_err-park.ensures.err
+    ∙ c.self.view_is)

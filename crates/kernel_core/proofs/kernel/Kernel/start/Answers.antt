@@ -10,10 +10,10 @@ use Rattle.kernel_model.specs.Valid.{IsValid}
 use Rattle.kernel_model.proofs.Starts.{start_valid}
 use Rattle.kernel_core.proofs.Starts.{start_kept}
 use Rattle.kernel_core.proofs.kernel.Kernel.start.Goals as goal
-use Rattle.kernel_core.proofs.kernel.Kernel.start.Goals.{In_ok-streams}
+use Rattle.kernel_core.proofs.kernel.Kernel.start.Goals.{After-new}
 
 -- the fields as they are made
-abbrev fields : In_ok-streams → State
+abbrev fields : After-new → State
 fields c = record no_state {
   tables = c.in_ok-single.field-0;
   processes = c.in_ok-single-2.field-0;
@@ -22,12 +22,13 @@ fields c = record no_state {
   nodes = c.in_ok-copy.field-0.nodes;
   names = c.in_ok-copy.field-0.names;
   terms = c.in_ok-streams.field-0;
+  chans = c.new.result;
 }
 
-held : (c : In_ok-streams) → the_view c.objects.inside ≡ granted_objects c.args.launch.now.tree c.args.launch.now.grants
+held : (c : After-new) → the_view c.objects.inside ≡ granted_objects c.args.launch.now.tree c.args.launch.now.grants
 held c = c.objects.view_is ∙ c.in_ok-table.ensures.1 ∙ ap (granted_objects c.args.launch.now.tree) c.as_slice.ensures
 
-made : (c : In_ok-streams) → fields c ≡ start_state c.args.launch.now.tree c.args.launch.now.grants c.args.launch.now.stdin
+made : (c : After-new) → fields c ≡ start_state c.args.launch.now.tree c.args.launch.now.grants c.args.launch.now.stdin
 made c =
     let tables : c.in_ok-single.field-0 ≡ insert empty 0 (granted_table c.args.launch.now.tree c.args.launch.now.grants) =
     c.in_ok-single.ensures ∙ ap (λ (t : Table). insert (empty {R = nat_cmp}) 0 t) (c.in_ok-table.ensures.0 ∙ ap (granted_table c.args.launch.now.tree) c.as_slice.ensures) in
@@ -36,7 +37,8 @@ made c =
     let opens = ap (λ (h : Held). h.kinds) (held c) in
     let terms = c.in_ok-streams.ensures in
     let tree = c.in_ok-copy.ensures in
-    λ i. record no_state { tables = tables i; processes = own i; statuses = statuses i; opens = opens i; nodes = (tree i).nodes; names = (tree i).names; terms = terms i }
+    let channels = c.new.ensures in
+    λ i. record no_state { tables = tables i; processes = own i; statuses = statuses i; opens = opens i; nodes = (tree i).nodes; names = (tree i).names; terms = terms i; chans = channels i }
 
 pub invariant_of-result-2 : goal.invariant_of-result-2
 invariant_of-result-2 c = start_kept c.args.launch.now.tree c.args.launch.now.grants c.args.launch.now.stdin (fields c) (the_view c.objects.inside).counts c.requires (made c) (ap (λ (h : Held). h.counts) (held c))

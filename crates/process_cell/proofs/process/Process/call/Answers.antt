@@ -41,8 +41,9 @@ invariant_of-self-2 g c =
     c.in-Ok.call c.act-acted.new.guest c.in-Made.made c.in-Made.ensures c.leave_place.new.threads c.take_acted-did.new.threads c.act-acted.result
     c.act-acted.ensures c.leave_place.ensures c.take_acted-did.ensures.threads in
     tied_act g.J.Naming.launch c.make_place.new.pass c.act-acted.new.pass c.args.tid v.threads c.take_acted-did.new.threads v.turns c.replace-turns.result
-    c.replace-turns.new.dest c.in-Ok.call v.guest c.act-acted.new.guest c.phase_after-self-inside.result c.act-acted.result c.take_acted-did.result
-    tied c.act-acted.ensures takes c.take_acted-did.ensures.did (c.replace-turns.ensures.after ∙ c.new.ensures) c.phase_after-self-inside.ensures
+    c.replace-turns.new.dest c.in-Ok.call v.guest c.act-acted.new.guest c.phase_after-self-inside.result c.yields_after-yields.result c.act-acted.result
+    c.take_acted-did.result tied c.act-acted.ensures takes c.take_acted-did.ensures.did (c.replace-turns.ensures.after ∙ c.new.ensures)
+    c.phase_after-self-inside.ensures
 
 pub returns-clause-called : goal.returns-clause-called
 returns-clause-called g c =
@@ -56,5 +57,6 @@ returns-clause-called g c =
     c.act-acted.ensures c.leave_place.ensures c.take_acted-did.ensures.threads in
     call_tells g.J.Naming.launch v.pass c.make_place.new.pass c.args.tid v.threads v.turns v.guest v.phase c.act-acted.new.pass c.in-Ok.call
     c.act-acted.new.guest c.take_acted-did.new.threads c.replace-turns.result c.replace-turns.new.dest c.phase_after-self-inside.result
-    c.take_acted-did.result c.act-acted.result c.args.self.now c.in-Made.ensures.moved tied c.replace-turns.ensures.value c.act-acted.ensures
-    (c.replace-turns.ensures.after ∙ c.new.ensures) takes c.take_acted-did.ensures.did c.phase_after-self-inside.ensures c.self.view_is
+    c.take_acted-did.result c.yields_after-yields.result c.act-acted.result c.args.self.now (λ is. c.yields_after-yields.ensures (c.gives_way-asked.ensures ∙ is)) c.in-Made.ensures.moved tied
+    c.replace-turns.ensures.value c.act-acted.ensures (c.replace-turns.ensures.after ∙ c.new.ensures) takes c.take_acted-did.ensures.did
+    c.phase_after-self-inside.ensures c.self.view_is

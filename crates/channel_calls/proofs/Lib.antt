@@ -1,0 +1,11 @@
+pub mod Holders
+pub mod Installs
+pub mod Lefts
+pub mod PairCounts
+pub mod Parks
+pub mod Received
+pub mod Results
+pub mod Sends
+pub mod Shuts
+pub mod Tables
+pub mod Takes

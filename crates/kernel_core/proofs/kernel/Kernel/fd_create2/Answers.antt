@@ -1,0 +1,315 @@
+use Rattle.std.proofs.Common.{◌≡◌, ℕ, ◌+◌, ◌^◌, true, Option, Some, is_some, refl, sym, ap, subst, ◌∙◌, arith}
+use Rattle.std.specs.Ordering.{nat_cmp}
+use Rattle.std.specs.FinMap.{FinMap, get, insert}
+use Rattle.abi_types.specs.declared.open_kind.OpenKind.{OpenKind}
+use Rattle.abi_types.specs.declared.reply.Answer.TheVariants as answer
+use Rattle.abi_types.specs.declared.who.Who.{Who}
+use Rattle.channel_calls.specs.Calls.{AllGoOn}
+use Rattle.channel_calls.specs.Pairs.{AreFree, AreNew, model_of, table_with}
+use Rattle.channel_calls.specs.declared.pairs.PairKind.{PairKind}
+use Rattle.fd_table.specs.Sizes.{KeysBelow, below-insert_again}
+use Rattle.maps.specs.Maps.{insert_self}
+use Rattle.tree_model.specs.Opens.{is_used}
+use Rattle.kernel_model.specs.Families.Numbers.{can_number, made_more, object_of, next_object}
+use Rattle.kernel_model.specs.Families.SocketCalls as model
+use Rattle.kernel_model.specs.Outcome.{IsSuccess, Outcome}
+use Rattle.kernel_model.specs.Release.{release}
+use Rattle.kernel_model.specs.Reply.{success}
+use Rattle.kernel_model.specs.State.{ProcessState, State, Table, counts_in, put_all}
+use Rattle.kernel_model.specs.Valid.{IsValid}
+use Rattle.kernel_model.proofs.Valids.{release_restores, release_valid, same_value, some_again}
+use Rattle.kernel_parts.specs.Released.{state_by}
+use Rattle.kernel_parts.proofs.Releases.{release_besides}
+use Rattle.kernel_parts.proofs.Tests.{on_err}
+use Rattle.kernel_core.specs.Ends.{IsPair}
+use Rattle.kernel_core.specs.contracts.kernel.Kernel.{the_view}
+use Rattle.kernel_core.proofs.Channels.{AreCounted, moved_counts}
+use Rattle.kernel_core.proofs.EndCalls.{create_is, create_nearly, numbers_can, pair_fits, pair_free, pair_going, pair_new, pair_put, pair_small, pair_table, pair_used, with_pair}
+use Rattle.kernel_core.proofs.Kept.{AreSmall, below_released, small_released, small_set}
+use Rattle.kernel_core.proofs.OpenCalls.{planned_before}
+use Rattle.kernel_core.proofs.kernel.Kernel.fd_create2.Goals as goal
+use Rattle.kernel_core.proofs.kernel.Kernel.fd_create2.Goals.{After-get_mut-table, After-put_pair, After-release}
+
+-- ---- nothing is made
+
+pub returns-in_default-clause-ok : goal.returns-in_default-clause-ok
+returns-in_default-clause-ok c = λ table here.
+    let S = c.args.self.now in
+    let none : model.create (model.made_of c.args.kind) c.args.who.now.pid c.args.who.now.tid (get S.processes c.args.who.now.pid) table
+    ≡ model.create Option.None c.args.who.now.pid c.args.who.now.tid (get S.processes c.args.who.now.pid) table =
+    ap (λ m. model.create m c.args.who.now.pid c.args.who.now.tid (get S.processes c.args.who.now.pid) table) (sym c.in_default.ensures) in (
+      ap answer.Reply c.refused.ensures ∙ sym (ap (λ (o : Outcome). o.answer) none),
+      sym (ap (λ (o : Outcome). release (put_all o.updates S)) none ∙ release_valid S c.requires.valid),
+    )
+
+pub returns-in-Err-clause-ok : goal.returns-in-Err-clause-ok
+returns-in-Err-clause-ok c = λ table here.
+    let S = c.args.self.now in
+    let who = c.args.who.now in
+    let outcome : model.create (model.made_of c.args.kind) who.pid who.tid (get S.processes who.pid) table ≡ _ =
+    ap (λ m. model.create m who.pid who.tid (get S.processes who.pid) table) (sym c.in-Some.ensures) ∙ c.in-Err.ensures.refused table here in (
+      sym (ap (λ (o : Outcome). o.answer) outcome),
+      sym (ap (λ (o : Outcome). release (put_all o.updates S)) outcome ∙ release_valid S (subst IsValid c.self.view_is c.self.invariant.valid)),
+    )
+
+-- ---- what is made was planned for this state
+
+same : (c : After-get_mut-table) → c.from-p.result ≡ c.args.who.now.pid
+same c = c.from-p.ensures ∙ ap (λ (w : Who). w.pid) c.who.view_is
+
+there : (c : After-get_mut-table) → get c.self.inside.tables c.args.who.now.pid ≡ Some c.get_mut-table.result.now
+there c = ap (get c.self.inside.tables) (sym (same c)) ∙ sym c.get_mut-table.ensures.value
+
+planned : (c : After-get_mut-table) → IsPair (the_view c.self.inside) c.args.who.now c.get_mut-table.result.now c.in-Some.kind c.in-Ok.pair
+planned c =
+    planned_before (λ S t. IsPair S c.args.who.now t c.in-Some.kind c.in-Ok.pair) (the_view c.self.inside) c.args.self.now c.args.who.now.pid c.from-p.result
+    c.get_mut-table.result.now c.self.view_is (same c) c.get_mut-table.ensures.value c.in-Ok.ensures.ok
+
+-- the process that has it, and that it has numbers for so many
+record Owner (S : State) (p : ℕ) (f : ℕ) (k : PairKind) : Type 0 where
+  own : ProcessState
+  there : get S.processes p ≡ Some own
+  can : can_number p (model.count_of (model_of k)) (Some own) ≡ true
+  first : f ≡ object_of p (own.counts.objects + 1)
+
+some_there : (o : Option ProcessState) → is_some o ≡ true → (own : ProcessState) × (o ≡ Some own)
+some_there Option.None is = cc
+some_there (Some own) is = (own, refl)
+
+owner : (c : After-get_mut-table) → Owner (the_view c.self.inside) c.args.who.now.pid c.in-Ok.pair.first c.in-Ok.pair.kind
+owner c =
+    let S = the_view c.self.inside in
+    let p = c.args.who.now.pid in
+    let v = c.self.invariant.valid.nearly in
+    let some = some_there (get S.processes p) (v.owns p ∙ sym (v.tables p) ∙ ap is_some (there c)) in
+    let plan = planned c in
+    let can : model.can_create p c.args.who.now.tid (model.count_of (model_of c.in-Ok.pair.kind)) (get S.processes p) ≡ true =
+    ap (λ k. model.can_create p c.args.who.now.tid (model.count_of (model_of k)) (get S.processes p)) plan.kind_is ∙ plan.can in
+    record {
+      own = some.0;
+      there = some.1;
+      can = numbers_can p c.args.who.now.tid (model_of c.in-Ok.pair.kind) (get S.processes p) some.0 some.1 can;
+      first = plan.first ∙ ap (λ o. next_object p o 1) some.1;
+    }
+
+new : (c : After-get_mut-table) → AreNew c.in-Ok.pair c.self.inside.channels c.self.inside.objects.kinds c.self.inside.objects.counts
+new c =
+    let is = owner c in
+    pair_new (the_view c.self.inside) c.args.who.now.pid is.own is.there c.self.invariant.valid.nearly c.self.inside.objects.counts c.self.invariant.counted
+    c.in-Ok.pair.kind c.in-Ok.pair.first c.in-Ok.pair.one c.in-Ok.pair.two is.can is.first
+
+free : (c : After-get_mut-table) → AreFree c.in-Ok.pair c.get_mut-table.result.now
+free c = pair_free c.get_mut-table.result.now c.in-Ok.pair.one c.in-Ok.pair.two (planned c).one (planned c).two c.in-Ok.pair.kind c.in-Ok.pair.first
+
+pub put_pair-requires-clause-small : goal.put_pair-requires-clause-small
+put_pair-requires-clause-small d =
+    let c = (goal.at.put_pair-requires-clause-small d).After-get_mut-table in
+    let is = owner c in
+    pair_small d.in-Ok.pair.kind d.args.who.now.pid d.in-Ok.pair.first is.own is.can is.first
+
+pub put_pair-requires-clause-free : goal.put_pair-requires-clause-free
+put_pair-requires-clause-free d = free (goal.at.put_pair-requires-clause-free d).After-get_mut-table
+
+pub put_pair-requires-clause-new : goal.put_pair-requires-clause-new
+put_pair-requires-clause-new d = new (goal.at.put_pair-requires-clause-new d).After-get_mut-table
+
+-- the counts are those of what holds the opens
+counted : (c : After-put_pair) → AreCounted c.put_pair.new.objects.counts (insert c.self.inside.tables c.from-p.result c.put_pair.new.table) c.put_pair.new.channels
+counted c =
+    moved_counts c.self.inside.tables c.from-p.result c.get_mut-table.result.now (sym c.get_mut-table.ensures.value) c.self.inside.channels
+    c.self.inside.objects.counts c.self.invariant.counted c.put_pair.new.table c.put_pair.new.channels c.put_pair.new.objects.counts c.put_pair.ensures.counts
+
+-- ---- where memory runs out nothing has changed
+
+pub invariant_of-self : goal.invariant_of-self
+invariant_of-self d =
+    let k = d.self.inside in
+    let tables : insert k.tables d.from-p.result d.put_pair.new.table ≡ k.tables =
+    ap (insert k.tables d.from-p.result) d.in_err-put_pair.ensures.same_table ∙ insert_self k.tables d.from-p.result d.get_mut-table.result.now (sym d.get_mut-table.ensures.value) in
+    let before : the_view k ≡ record (the_view k) {
+      tables = insert k.tables d.from-p.result d.put_pair.new.table;
+      opens = d.put_pair.new.objects.kinds;
+      chans = d.put_pair.new.channels;
+    } = λ i. record (the_view k) {
+      tables = sym tables i;
+      opens = sym d.in_err-put_pair.ensures.same_kinds i;
+      chans = sym d.in_err-put_pair.ensures.same_channels i;
+    } in
+    record {
+      valid = subst IsValid before d.self.invariant.valid;
+      counted = counted (goal.at.invariant_of-self d).After-put_pair;
+      few = d.put_pair.ensures.few d.self.invariant.few;
+      small = subst (λ (S : State). AreSmall S.tables) before d.self.invariant.small;
+      processes = subst (λ (S : State). KeysBelow (2 ^ 32) S.tables) before d.self.invariant.processes;
+    }
+
+-- what was planned succeeds
+outcome_is : (c : After-get_mut-table) → model.create (model.made_of c.args.kind) c.args.who.now.pid c.args.who.now.tid (get c.self.inside.processes c.args.who.now.pid) c.get_mut-table.result.now
+    ≡ record {
+      answer = answer.Reply (success c.in-Ok.pair.one c.in-Ok.pair.two);
+      updates = model.create_updates (model_of c.in-Ok.pair.kind) c.args.who.now.pid (get c.self.inside.processes c.args.who.now.pid) c.get_mut-table.result.now c.in-Ok.pair.one c.in-Ok.pair.two;
+    }
+outcome_is c =
+    let S = the_view c.self.inside in
+    let who = c.args.who.now in
+    let plan = planned c in
+    ap (λ m. model.create m who.pid who.tid (get S.processes who.pid) c.get_mut-table.result.now) (sym c.in-Some.ensures ∙ ap (λ k. Some (model_of k)) (sym plan.kind_is))
+    ∙ create_is who.pid who.tid (get S.processes who.pid) c.get_mut-table.result.now (model_of c.in-Ok.pair.kind) c.in-Ok.pair.one c.in-Ok.pair.two plan.one plan.two
+    (ap (λ k. model.can_create who.pid who.tid (model.count_of (model_of k)) (get S.processes who.pid)) plan.kind_is ∙ plan.can)
+
+-- by the state as it is seen
+abbrev Comes : ℕ → Who → State → Table → Outcome
+Comes kind who S table = model.create (model.made_of kind) who.pid who.tid (get S.processes who.pid) table
+
+seen : (c : After-get_mut-table) (table : Table) → get c.args.self.now.tables c.args.who.now.pid ≡ Some table
+    → Comes c.args.kind c.args.who.now (the_view c.self.inside) c.get_mut-table.result.now ≡ Comes c.args.kind c.args.who.now c.args.self.now table
+seen c table here =
+    let had : get c.args.self.now.tables c.args.who.now.pid ≡ Some c.get_mut-table.result.now =
+    ap (λ (S : State). get S.tables c.args.who.now.pid) (sym c.self.view_is) ∙ there c in
+    ap (λ S. Comes c.args.kind c.args.who.now S c.get_mut-table.result.now) c.self.view_is
+    ∙ ap (Comes c.args.kind c.args.who.now c.args.self.now) (same_value _ _ _ had here)
+
+pub returns-in_err-put_pair-clause-only : goal.returns-in_err-put_pair-clause-only
+returns-in_err-put_pair-clause-only d = on_err d.from_residual.result (λ table here.
+    let c = (goal.at.returns-in_err-put_pair-clause-only d).After-get_mut-table in
+    subst (λ (o : Outcome). IsSuccess o.answer) (sym (outcome_is c) ∙ seen c table here) refl)
+
+pub returns-in_err-put_pair-clause-err : goal.returns-in_err-put_pair-clause-err
+returns-in_err-put_pair-clause-err d = on_err d.from_residual.result
+    (let k = d.self.inside in
+    let tables : insert k.tables d.from-p.result d.put_pair.new.table ≡ k.tables =
+    ap (insert k.tables d.from-p.result) d.in_err-put_pair.ensures.same_table ∙ insert_self k.tables d.from-p.result d.get_mut-table.result.now (sym d.get_mut-table.ensures.value) in
+    (λ i. record (the_view k) {
+      tables = tables i;
+      opens = d.in_err-put_pair.ensures.same_kinds i;
+      chans = d.in_err-put_pair.ensures.same_channels i;
+    }) ∙ d.self.view_is)
+
+-- ---- a pair is made
+
+pub make-requires : goal.make-requires
+make-requires d =
+    let c = (goal.at.make-requires d).After-get_mut-table in
+    let is = owner c in
+    let fits = (pair_fits d.in-Ok.pair.kind d.args.who.now.pid is.own is.can).1 in
+    let own : Some is.own ≡ Some d.get_mut.result.now = sym is.there ∙ ap (get d.self.inside.processes) (sym (same c)) ∙ sym d.get_mut.ensures.value in
+    let made = ap (λ o. (counts_in o).objects) own in
+    let count : d.count_of.result ≡ model.count_of (model_of d.in-Ok.pair.kind) =
+    d.count_of.ensures ∙ ap (λ k. model.count_of (model_of k)) (sym (planned c).kind_is) in
+    omega (arith, fits, made, count)
+
+pub release-requires-clause-counted : goal.release-requires-clause-counted
+release-requires-clause-counted d = counted (goal.at.release-requires-clause-counted d).After-put_pair
+
+pub release-requires-clause-tables : goal.release-requires-clause-tables
+release-requires-clause-tables c = λ q.
+    some_again c.self.inside.tables c.from-p.result c.get_mut-table.result.now c.put_pair.new.table q (sym c.get_mut-table.ensures.value)
+    ∙ c.self.invariant.valid.nearly.tables q
+
+pub release-requires-clause-processes : goal.release-requires-clause-processes
+release-requires-clause-processes c = λ q.
+    some_again c.self.inside.processes c.from-p.result c.get_mut.result.now c.make.new.self q (sym c.get_mut.ensures.value) ∙ c.self.invariant.valid.nearly.owns q
+
+pub release-requires-clause-used : goal.release-requires-clause-used
+release-requires-clause-used d = λ n some.
+    let c = (goal.at.release-requires-clause-used d).After-get_mut-table in
+    ap (λ (m : FinMap nat_cmp OpenKind). is_used m d.self.inside.tree n) d.in_ok-put_pair.ensures.kinds
+    ∙ pair_used d.in-Ok.pair.kind d.in-Ok.pair.first d.in-Ok.pair.one d.in-Ok.pair.two d.self.inside.channels d.self.inside.objects.kinds
+    d.self.inside.objects.counts d.self.inside.tree n (new c)
+    ∙ d.self.invariant.valid.kept n some
+
+pub release-requires-clause-going : goal.release-requires-clause-going
+release-requires-clause-going d =
+    subst AllGoOn (sym d.in_ok-put_pair.ensures.channels)
+    (pair_going d.in-Ok.pair.kind d.in-Ok.pair.first d.in-Ok.pair.one d.in-Ok.pair.two d.self.inside.channels d.self.invariant.valid.going)
+
+pub release-requires-clause-tree : goal.release-requires-clause-tree
+release-requires-clause-tree c = c.self.invariant.valid.nearly.tree
+
+-- the fields as they are in the end
+abbrev fields : After-release → State
+fields c = record (the_view c.self.inside) {
+  tables = c.release.new.tables;
+  processes = c.release.new.processes;
+  statuses = c.release.new.statuses;
+  opens = c.release.new.objects.kinds;
+  nodes = c.release.new.tree.nodes;
+  names = c.release.new.tree.names;
+  chans = c.release.new.channels;
+}
+
+-- what its process had
+owned : (c : After-release) → c.from-p.result ≡ c.args.who.now.pid → get c.self.inside.processes c.args.who.now.pid ≡ Some c.get_mut.result.now
+owned c at = ap (get c.self.inside.processes) (sym at) ∙ sym c.get_mut.ensures.value
+
+-- before anything is released
+abbrev left : After-release → State
+left c = with_pair (the_view c.self.inside) c.args.who.now.pid c.get_mut.result.now c.get_mut-table.result.now c.in-Ok.pair
+
+released : (c : After-release) (g : After-get_mut-table) → c.from-p.result ≡ c.args.who.now.pid → c.in-Ok.pair.kind ≡ c.in-Some.kind → fields c ≡ release (left c)
+released c g at kind =
+    let k = c.self.inside in
+    let p = c.args.who.now.pid in
+    let tables : insert k.tables c.from-p.result c.put_pair.new.table ≡ insert k.tables p (table_with c.in-Ok.pair c.get_mut-table.result.now) =
+    ap (insert k.tables c.from-p.result) c.in_ok-put_pair.ensures.table ∙ ap (λ (q : ℕ). insert k.tables q (table_with c.in-Ok.pair c.get_mut-table.result.now)) at in
+    let count : c.count_of.result ≡ model.count_of (model_of c.in-Ok.pair.kind) = c.count_of.ensures ∙ ap (λ x. model.count_of (model_of x)) (sym kind) in
+    let own : insert k.processes c.from-p.result c.make.new.self ≡ insert k.processes p (made_more (model.count_of (model_of c.in-Ok.pair.kind)) c.get_mut.result.now) =
+    ap (insert k.processes c.from-p.result) (c.make.ensures ∙ ap (λ n. made_more n c.get_mut.result.now) count)
+    ∙ ap (λ (q : ℕ). insert k.processes q (made_more (model.count_of (model_of c.in-Ok.pair.kind)) c.get_mut.result.now)) at in
+    let given : state_by (insert k.tables c.from-p.result c.put_pair.new.table) (insert k.processes c.from-p.result c.make.new.self) k.statuses c.put_pair.new.objects.kinds
+    c.put_pair.new.channels k.tree
+    ≡ state_by (left c).tables (left c).processes k.statuses (left c).opens (left c).chans k.tree =
+    λ i. state_by (tables i) (own i) k.statuses (c.in_ok-put_pair.ensures.kinds i) (c.in_ok-put_pair.ensures.channels i) k.tree in
+    ap (λ (S : State). record S { clock = k.clock; terms = k.terms }) (c.release.ensures.state ∙ ap release given)
+    ∙ sym (release_besides (state_by (left c).tables (left c).processes k.statuses (left c).opens (left c).chans k.tree) k.clock k.terms)
+
+put : (c : After-release) (g : After-get_mut-table) → c.from-p.result ≡ c.args.who.now.pid → c.in-Ok.pair.first ≡ next_object c.args.who.now.pid (get c.self.inside.processes c.args.who.now.pid) 1
+    → left c ≡ put_all (model.create_updates (model_of c.in-Ok.pair.kind) c.args.who.now.pid (get c.self.inside.processes c.args.who.now.pid) c.get_mut-table.result.now c.in-Ok.pair.one c.in-Ok.pair.two) (the_view c.self.inside)
+put c g at first =
+    let own = owned c at in
+    pair_put (the_view c.self.inside) c.args.who.now.pid c.get_mut.result.now c.get_mut-table.result.now c.in-Ok.pair.kind c.in-Ok.pair.first c.in-Ok.pair.one c.in-Ok.pair.two
+    own (first ∙ ap (λ o. next_object c.args.who.now.pid o 1) own)
+
+-- the state is the release of what the call comes to
+after : (c : After-release) (g : After-get_mut-table) → IsPair (the_view c.self.inside) c.args.who.now c.get_mut-table.result.now c.in-Some.kind c.in-Ok.pair
+    → c.from-p.result ≡ c.args.who.now.pid
+    → Comes c.args.kind c.args.who.now (the_view c.self.inside) c.get_mut-table.result.now
+    ≡ record {
+      answer = answer.Reply (success c.in-Ok.pair.one c.in-Ok.pair.two);
+      updates = model.create_updates (model_of c.in-Ok.pair.kind) c.args.who.now.pid (get c.self.inside.processes c.args.who.now.pid) c.get_mut-table.result.now c.in-Ok.pair.one c.in-Ok.pair.two;
+    }
+    → fields c ≡ release (put_all (Comes c.args.kind c.args.who.now (the_view c.self.inside) c.get_mut-table.result.now).updates (the_view c.self.inside))
+after c g plan at is =
+    released c g at plan.kind_is ∙ ap release (put c g at plan.first) ∙ sym (ap (λ (o : Outcome). release (put_all o.updates (the_view c.self.inside))) is)
+
+pub invariant_of-self-2 : goal.invariant_of-self-2
+invariant_of-self-2 d =
+    let c = (goal.at.invariant_of-self-2 d).After-release in
+    let g = (goal.at.invariant_of-self-2 d).After-get_mut-table in
+    let k = d.self.inside in
+    let p = d.args.who.now.pid in
+    let table = d.get_mut-table.result.now in
+    let rel = released c g (same g) (planned g).kind_is in
+    let tables = ap (λ (S : State). S.tables) rel in
+    record {
+      valid = subst IsValid (sym (after c g (planned g) (same g) (outcome_is g))) (release_restores _
+          (create_nearly (the_view k) d.args.who.now table d.args.kind (there g) d.self.invariant.valid.nearly));
+      counted = d.release.ensures.counted;
+      few = d.release.ensures.few (d.put_pair.ensures.few d.self.invariant.few);
+      small = subst AreSmall (sym tables) (small_released (left c) (small_set k.tables p (table_with d.in-Ok.pair table) d.self.invariant.small
+          (pair_table table d.in-Ok.pair.kind d.in-Ok.pair.first d.in-Ok.pair.one d.in-Ok.pair.two (free g) (d.self.invariant.small p table (there g)))));
+      processes = subst (KeysBelow (2 ^ 32)) (sym tables) (below_released (left c) (2 ^ 32)
+          (below-insert_again (2 ^ 32) k.tables p (table_with d.in-Ok.pair table) d.self.invariant.processes (ap is_some (there g))));
+    }
+
+pub returns-clause-ok : goal.returns-clause-ok
+returns-clause-ok d = λ table here.
+    let c = (goal.at.returns-clause-ok d).After-release in
+    let g = (goal.at.returns-clause-ok d).After-get_mut-table in
+    let is = seen g table here in
+    let one = d.from.ensures in
+    let two = d.from-2.ensures in (
+      ap answer.Reply (d.success-reply.ensures ∙ (λ i. success (one i) (two i))) ∙ ap (λ (o : Outcome). o.answer) (sym (outcome_is g) ∙ is),
+      after c g (planned g) (same g) (outcome_is g) ∙ ap (λ (o : Outcome). release (put_all o.updates (the_view d.self.inside))) is
+          ∙ ap (λ S. release (put_all (Comes d.args.kind d.args.who.now d.args.self.now table).updates S)) d.self.view_is,
+    )

@@ -1,0 +1,69 @@
+//! The calls on sockets.
+ghost use Rattle.std.specs.Prelude.{◌≡◌, Some, IsSome, IfOk, OnErr, true};
+ghost use Rattle.std.specs.FinMap as map;
+ghost use Rattle.abi_types.specs.Families.{call_of_socket};
+ghost use Rattle.kernel_core.specs.Sockets.{socket_on};
+ghost use Rattle.kernel_model.specs.Calls.{takes_memory};
+ghost use Rattle.kernel_model.specs.Outcome.{IsSuccess};
+ghost use Rattle.kernel_model.specs.Release.{release};
+ghost use Rattle.kernel_model.specs.State.{put_all, Table};
+ghost use Rattle.kernel_parts.specs.Waiting.{fd_of_socket};
+
+use crate::kernel::Kernel;
+use abi_types::{Answer, Errno, Pid, SocketCall};
+use channel_calls::on_socket;
+use kernel_parts::{open_of, release};
+use right_rules::refused;
+use std::alloc::AllocError;
+
+// The descriptor of the socket.
+pub(crate) fn socket_fd(call: SocketCall<'_>) -> u32
+    ensures { result ≡ fd_of_socket call.entry }
+{
+    match call {
+        SocketCall::SockRecv { fd, .. }
+        | SocketCall::SockSend { fd, .. }
+        | SocketCall::SockShutdown { fd, .. } => fd,
+    }
+}
+
+impl Kernel {
+    // Does a call on a socket. What nothing holds any more ends. `Err` changes nothing.
+    pub(crate) fn socket_call(
+        &mut self,
+        pid: Pid,
+        call: SocketCall<'_>,
+    ) -> Result<Answer, AllocError>
+        requires there { IsSome (map.get self.old.statuses pid) }
+        ensures ok { IfOk result (λ given. (table : Table) → map.get self.old.tables pid ≡ Some table →
+            (given ≡ (socket_on self.old pid table (fd_of_socket call.entry) (call_of_socket call.entry)).answer)
+            × (self.new ≡ release (put_all (socket_on self.old pid table (fd_of_socket call.entry) (call_of_socket call.entry)).updates self.old))) }
+        ensures takes { OnErr result (takes_memory (call_of_socket call.entry) ≡ true) }
+        ensures only { OnErr result ((table : Table) → map.get self.old.tables pid ≡ Some table →
+            IsSuccess (socket_on self.old pid table (fd_of_socket call.entry) (call_of_socket call.entry)).answer) }
+        ensures err { OnErr result (self.new ≡ self.old) }
+    {
+        let fd = socket_fd(call);
+        let Some((_, kind)) = open_of(&self.tables, &self.objects, pid, fd) else {
+            return Ok(Answer::Reply(refused(Errno::Badf)));
+        };
+        let table = self.tables.get_mut(u64::from(pid.0));
+        let answer = on_socket(
+            self.alloc,
+            table,
+            &mut self.objects,
+            &mut self.channels,
+            &kind,
+            call,
+        )?;
+        release(
+            &mut self.objects,
+            &mut self.tree,
+            &mut self.tables,
+            &mut self.processes,
+            &mut self.statuses,
+            &mut self.channels,
+        );
+        Ok(answer)
+    }
+}
